@@ -232,8 +232,10 @@ impl TablePlace {
     /// Goes to the place after a cell of this column, or after an item of the open value.
     #[inline(always)]
     fn pass_item(&mut self, column: u32)
-        ensures { self.new ≡ record self.old { page =
-            record self.old.page { column = column; open_values = with_item self.old.page.open_values } } }
+        ensures { self.new ≡ record self.old {
+          page =
+              record self.old.page { column = column; open_values = with_item self.old.page.open_values };
+        } }
     {
         self.column = column;
         self.count_item();
@@ -241,8 +243,10 @@ impl TablePlace {
 
     #[inline]
     fn pass_part(&mut self, column: u32, last: bool)
-        ensures { self.new ≡ record self.old { page =
-            record self.old.page { column = column; open_values = with_item_if last self.old.page.open_values } } }
+        ensures { self.new ≡ record self.old {
+          page =
+              record self.old.page { column = column; open_values = with_item_if last self.old.page.open_values };
+        } }
     {
         self.column = column;
         if last {
@@ -253,8 +257,10 @@ impl TablePlace {
     /// Goes to the place after an item of the open value, if there is one.
     #[inline(always)]
     fn count_item(&mut self)
-        ensures { self.new ≡ record self.old { page =
-            record self.old.page { open_values = with_item self.old.page.open_values } } }
+        ensures { self.new ≡ record self.old {
+          page =
+              record self.old.page { open_values = with_item self.old.page.open_values };
+        } }
     {
         if self.free < ROOM {
             self.open_values[self.free] = self.open_values[self.free].after_item();
@@ -264,8 +270,12 @@ impl TablePlace {
     /// Goes into a value of this kind, an item of the one that was open.
     #[inline]
     fn enter(&mut self, column: u32, kind: Kind)
-        ensures { self.new ≡ record self.old { page = record self.old.page {
-            column = column; open_values = with_open kind (with_item self.old.page.open_values) } } }
+        ensures { self.new ≡ record self.old {
+          page = record self.old.page {
+            column = column;
+            open_values = with_open kind (with_item self.old.page.open_values);
+          };
+        } }
     {
         self.pass_item(column);
         self.push(kind);
@@ -273,8 +283,10 @@ impl TablePlace {
 
     #[inline]
     fn push(&mut self, kind: Kind)
-        ensures { self.new ≡ record self.old { page =
-            record self.old.page { open_values = with_open kind self.old.page.open_values } } }
+        ensures { self.new ≡ record self.old {
+          page =
+              record self.old.page { open_values = with_open kind self.old.page.open_values };
+        } }
     {
         if self.free == 0 {
             return;
@@ -288,8 +300,10 @@ impl TablePlace {
 
     #[inline]
     fn leave(&mut self)
-        ensures { self.new ≡ record self.old { page =
-            record self.old.page { open_values = without_open self.old.page.open_values } } }
+        ensures { self.new ≡ record self.old {
+          page =
+              record self.old.page { open_values = without_open self.old.page.open_values };
+        } }
     {
         if self.free < ROOM {
             self.free += 1;

@@ -53,12 +53,7 @@ fn put_doubled<P: Pen>(
 
 /// Takes a byte, twice where it is one of these two.
 #[inline]
-fn put_byte<P: Pen>(
-    a: u8,
-    b: u8,
-    byte: u8,
-    writer: &mut TextWriter<P>,
-) -> Result<(), SinkFault>
+fn put_byte<P: Pen>(a: u8, b: u8, byte: u8, writer: &mut TextWriter<P>) -> Result<(), SinkFault>
     ensures { Writes writer.old (doubled a b (byte ∷ [])) result writer.new }
 {
     if byte == a || byte == b {

@@ -70,10 +70,7 @@ pub(crate) fn put_shown<P: Pen>(
 }
 
 #[inline]
-fn put_content<P: Pen>(
-    content: &Content<'_>,
-    writer: &mut TextWriter<P>,
-) -> Result<(), SinkFault>
+fn put_content<P: Pen>(content: &Content<'_>, writer: &mut TextWriter<P>) -> Result<(), SinkFault>
     ensures { Writes writer.old (content_text content.now) result writer.new }
 {
     match *content {
