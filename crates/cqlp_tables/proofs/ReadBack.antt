@@ -1,7 +1,7 @@
 -- A reader of CSV reads the text of a field back.
 use Rattle.std.proofs.Common.{◌≡◌, ℕ, ◌==◌, ◌||◌, Bool, true, false, if◌then◌else◌, List, [], ◌∷◌, ◌++◌, Some, refl, ap, ◌∙◌, append_assoc, arith}
 use Rattle.std.proofs.lemmas.Bool.Decides.{nat_tests}
-use Rattle.cqlp_tables.specs.Quotes.{doubled}
+use Rattle.cqlp_tables.specs.Quotes.{doubled, is_mark}
 use Rattle.cqlp_tables.specs.Reading.{after, begins_with_quote, read_field}
 
 end_read : (rest : List ℕ) → begins_with_quote rest ≡ false → read_field (34 ∷ rest) ≡ Some ([], rest)
@@ -23,5 +23,5 @@ step x (y ∷ later) text rest false e more = plain_read x y later e ∙ ap (aft
 pub reads_back : (text rest : List ℕ) → begins_with_quote rest ≡ false → read_field (doubled 34 34 text ++ 34 ∷ rest) ≡ Some (text, rest)
 reads_back [] rest other = end_read rest other
 reads_back (x ∷ text) rest other =
-    ap read_field (append_assoc (if (x == 34) || (x == 34) then x ∷ x ∷ [] else x ∷ []) (doubled 34 34 text) (34 ∷ rest))
+    ap read_field (append_assoc (if is_mark 34 34 x then x ∷ x ∷ [] else x ∷ []) (doubled 34 34 text) (34 ∷ rest))
     ∙ step x (doubled 34 34 text ++ 34 ∷ rest) text rest (x == 34) refl (reads_back text rest other)

@@ -2,9 +2,13 @@
 use Rattle.std.specs.Prelude.{ℕ, Bool, ◌||◌, ◌==◌, if◌then◌else◌, List, [], ◌∷◌, ◌++◌, codes}
 use Rattle.std.specs.List.{flat_map}
 
+-- one of these two bytes
+abbrev pub is_mark : (a b : ℕ) → ℕ → Bool
+is_mark a b x = (x == a) || (x == b)
+
 -- a text with each of these two bytes twice
 abbrev pub doubled : (a b : ℕ) → List ℕ → List ℕ
-doubled a b = flat_map (λ x. if (x == a) || (x == b) then x ∷ x ∷ [] else x ∷ [])
+doubled a b = flat_map (λ x. if is_mark a b x then x ∷ x ∷ [] else x ∷ [])
 
 -- a field: in quotes, where a quote stands twice
 abbrev pub text_field : List ℕ → List ℕ
