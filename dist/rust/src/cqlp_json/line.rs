@@ -2,11 +2,10 @@
 //! The line of an event.
 
 use crate::cqlp_json::member::{Member, Value, bigint, int, number, put_members, smallint};
-use crate::cqlp_json::names::{field_name, kind_name};
 use crate::cqlp_grammar::{Event, SinkFault};
 use crate::cqlp_kind::{Kind, Scalar};
 use crate::cqlp_note::{Address, BoundValue, Field, Header, Target};
-use crate::cqlp_text::{Pen, TextWriter, opcode_name};
+use crate::cqlp_text::{Pen, TextWriter, field_name, kind_name, opcode_name};
 
 /// Appends the JSON line of an event at an offset. A fault is the target's own.
 #[inline]
