@@ -1,4 +1,4 @@
-//! Events as JSON: an object a line.
+//! Events as JSON: an object a line. Scalars as JSON values.
 #![tactic(auto)]
 
 pub mod laws;
@@ -7,3 +7,4 @@ mod member;
 mod string;
 
 pub use line::{json_line, put_json_line};
+pub use member::put_scalar;

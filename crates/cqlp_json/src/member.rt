@@ -81,8 +81,8 @@ fn put_value<P: Pen>(value: Value<'_>, writer: &mut TextWriter<P>) -> Result<(),
     }
 }
 
-/// Takes a scalar. Those of at most 32 bits are numbers, booleans are such, and all others texts.
-fn put_scalar<P: Pen>(scalar: &Scalar<'_>, writer: &mut TextWriter<P>) -> Result<(), SinkFault>
+/// Has a writer take a scalar as a JSON value. Those of at most 32 bits are numbers, booleans are such, and all others texts.
+pub fn put_scalar<P: Pen>(scalar: &Scalar<'_>, writer: &mut TextWriter<P>) -> Result<(), SinkFault>
     ensures { Writes writer.old (scalar_text (value_of scalar.now)) result writer.new }
 {
     match *scalar {

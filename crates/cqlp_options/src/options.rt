@@ -34,6 +34,10 @@ pub enum Task {
     ShowJson,
     /// Writes its pages, and the verdict beside them.
     Rows(AtRefusal),
+    /// Writes the rows of its pages as JSON, and the verdict beside them.
+    RowsJson,
+    /// Writes the rows of its pages as CSV, and the verdict beside them.
+    RowsCsv,
     /// Writes the verdict alone.
     Check(AtRefusal),
 }
@@ -45,6 +49,8 @@ impl Task {
         match name {
             "show" if matches.get_flag("json") => Some(Task::ShowJson),
             "show" => Some(Task::Show(at_refusal)),
+            "rows" if matches.get_flag("json") => Some(Task::RowsJson),
+            "rows" if matches.get_flag("csv") => Some(Task::RowsCsv),
             "rows" => Some(Task::Rows(at_refusal)),
             "check" => Some(Task::Check(at_refusal)),
             _ => None,

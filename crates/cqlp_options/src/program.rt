@@ -14,21 +14,16 @@ const HELP: &str = "Each of show, rows and check takes a FILE, where - is standa
     \x20 --raw          each cell as raw bytes\n\
     \x20 --parts        longer blob, custom and raw cells in parts\n\
     \x20 --skip         where the body of a frame is refused, pass over it and read on\n\
-    \x20 --json         of show: each event as a JSON object in a line of its own\n\
+    \x20 --json         of show: each event as a JSON object in a line of its own;\n\
+    \x20                of rows: each row as a JSON array in a line of its own\n\
+    \x20 --csv          of rows: each row as a record of CSV\n\
     \n\
     Without words it does what `cqlp show -` does.\n\
     Example: cqlp rows capture.bin";
 
 /// The program's command line. Each task is handed on as it is made, so that no other is alive at a `?`.
 pub(crate) fn program<'a>(alloc: Global) -> Result<Command<'a>, AllocError> {
-    let program = with_showing(alloc, without_tasks(alloc)?)?;
-    let program = with_task(
-        alloc,
-        program,
-        "rows",
-        "Write the pages of a stream as text, and a verdict to standard error",
-        "Example: cqlp rows --parts capture.bin",
-    )?;
+    let program = with_rows(alloc, with_showing(alloc, without_tasks(alloc)?)?)?;
     let program = with_task(
         alloc,
         program,
@@ -57,7 +52,35 @@ fn with_showing<'a>(alloc: Global, program: Command<'a>) -> Result<Command<'a>, 
     program.subcommand(showing(alloc)?)
 }
 
-/// The subcommand `show`, which alone can write JSON.
+fn with_rows<'a>(alloc: Global, program: Command<'a>) -> Result<Command<'a>, AllocError> {
+    program.subcommand(rows(alloc)?)
+}
+
+/// The subcommand `rows`, which can write JSON and CSV.
+fn rows<'a>(alloc: Global) -> Result<Command<'a>, AllocError> {
+    let task = subcommand(
+        alloc,
+        "rows",
+        "Write the pages of a stream as text, and a verdict to standard error",
+        "Example: cqlp rows --parts capture.bin",
+    )?;
+    task.arg(json_rows(alloc)?)?.arg(csv_rows(alloc)?)
+}
+
+fn json_rows<'a>(alloc: Global) -> Result<Arg<'a>, AllocError> {
+    flag(alloc, "json")
+        .help("Write each row as a JSON array in a line of its own, after a line for its page")
+        .conflicts_with("skip")?
+        .conflicts_with("csv")
+}
+
+fn csv_rows<'a>(alloc: Global) -> Result<Arg<'a>, AllocError> {
+    flag(alloc, "csv")
+        .help("Write each row as a record of CSV, after one with the names of the columns")
+        .conflicts_with("skip")
+}
+
+/// The subcommand `show`, which can write JSON.
 fn showing<'a>(alloc: Global) -> Result<Command<'a>, AllocError> {
     let task = subcommand(
         alloc,

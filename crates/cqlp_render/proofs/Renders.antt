@@ -27,12 +27,16 @@ pub text-nil : (form : TextForm) → text form [] ≡ []
 text-nil forms.Lines = refl
 text-nil forms.JsonLines = refl
 text-nil (forms.Pages place) = refl
+text-nil (forms.JsonRows place) = refl
+text-nil (forms.CsvRows place) = refl
 text-nil forms.Nothing = refl
 
 pub text-cons : (form : TextForm) (at : ℕ) (e : Event) (es : List (ℕ × Event)) → text_of form at e ++ text (form_after form e) es ≡ text form ((at, e) ∷ es)
 text-cons forms.Lines at e es = refl
 text-cons forms.JsonLines at e es = refl
 text-cons (forms.Pages place) at e es = refl
+text-cons (forms.JsonRows place) at e es = refl
+text-cons (forms.CsvRows place) at e es = refl
 text-cons forms.Nothing at e es = refl
 
 -- the text of events, and of others after them

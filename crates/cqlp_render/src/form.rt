@@ -10,6 +10,7 @@ ghost use Rattle.cqlp_render.specs.declared.text_form.TextForm.TheVariants as fo
 use cqlp_decode::{Event, SinkFault};
 use cqlp_json::{json_line, put_json_line};
 use cqlp_note::Target;
+use cqlp_tables::{TablePlace, csv_part, json_part, put_csv_part, put_json_part};
 use cqlp_text::{PagePlace, Pen, TextWriter, event_line, page_part};
 
 /// A form of text. Each has a type of its own, so that no event asks for its form.
@@ -119,6 +120,62 @@ impl Form for PagePlace {
         writer: &mut TextWriter<P>,
     ) -> Result<(), SinkFault> {
         writer.put_page_part(self, event)
+    }
+}
+
+/// The rows of pages as JSON, from a place in a page.
+#[derive(Drop)]
+pub(crate) struct JsonRows(pub TablePlace);
+
+impl Form for JsonRows {
+    ghost form = { λ rows. forms.JsonRows rows.0 };
+
+    #[inline]
+    fn put<W: Target>(
+        &mut self,
+        _at: u64,
+        event: &Event<'_>,
+        target: &mut W,
+    ) -> Result<(), SinkFault> {
+        json_part(&mut self.0, event, target)
+    }
+
+    #[inline]
+    fn write<P: Pen>(
+        &mut self,
+        _at: u64,
+        event: &Event<'_>,
+        writer: &mut TextWriter<P>,
+    ) -> Result<(), SinkFault> {
+        put_json_part(&mut self.0, event, writer)
+    }
+}
+
+/// The rows of pages as CSV, from a place in a page.
+#[derive(Drop)]
+pub(crate) struct CsvRows(pub TablePlace);
+
+impl Form for CsvRows {
+    ghost form = { λ rows. forms.CsvRows rows.0 };
+
+    #[inline]
+    fn put<W: Target>(
+        &mut self,
+        _at: u64,
+        event: &Event<'_>,
+        target: &mut W,
+    ) -> Result<(), SinkFault> {
+        csv_part(&mut self.0, event, target)
+    }
+
+    #[inline]
+    fn write<P: Pen>(
+        &mut self,
+        _at: u64,
+        event: &Event<'_>,
+        writer: &mut TextWriter<P>,
+    ) -> Result<(), SinkFault> {
+        put_csv_part(&mut self.0, event, writer)
     }
 }
 

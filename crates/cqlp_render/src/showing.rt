@@ -5,6 +5,7 @@ ghost use Rattle.cqlp_decode.specs.Streams.{After, state};
 ghost use Rattle.cqlp_note.specs.Limits.{first_bad, rules_of};
 ghost use Rattle.cqlp_text.specs.Endings.{IsStatusOfTask};
 ghost use Rattle.cqlp_text.specs.PageText.{no_page};
+ghost use Rattle.cqlp_tables.specs.Places.{no_table};
 ghost use Rattle.cqlp_text.specs.Outputs.{Output, written};
 ghost use Rattle.cqlp_render.specs.Rendering.{ReadsOnlyAfterText};
 ghost use Rattle.cqlp_render.specs.Streams.{IfKnown, streams, unread};
@@ -14,10 +15,11 @@ ghost use Rattle.cqlp_text.specs.declared.ending.Ending.{Ending};
 ghost use Rattle.cqlp_render.specs.declared.text_form.TextForm.TheVariants as forms;
 
 use crate::buffered_sink::BufferedSink;
-use crate::form::{Form, JsonLines, Lines, Nothing};
+use crate::form::{CsvRows, Form, JsonLines, JsonRows, Lines, Nothing};
 use crate::render::{TextSink, run_flushing};
 use cqlp_decode::{Decoder, NewError, Outcome, SinkFault, run};
 use cqlp_note::{Limits, Source, Target};
+use cqlp_tables::TablePlace;
 use cqlp_text::exit_status::FAULT;
 use cqlp_text::{Buffered, Ending, PagePlace, ending_line};
 use std::alloc::Allocator;
@@ -83,6 +85,46 @@ pub fn rows<R: Source, O: Target, E: Target, A: Allocator>(
         (view input.old out err) result.0 (view input.new result.1 result.2) }
 {
     let (ending, out) = write_text(alloc, limits, PagePlace::new(), input, out);
+    let (status, err) = conclude(ending, err);
+    (status, out, err)
+}
+
+/// Writes the rows of the pages of a stream to `out`, each as a JSON array in a line of its own after a line for the page,
+/// and the verdict line or fault line to `err`. Answers the exit status, and the two outputs.
+pub fn rows_json<R: Source, O: Target, E: Target, A: Allocator>(
+    alloc: &A,
+    limits: Limits,
+    input: &mut R,
+    out: O,
+    err: E,
+) -> (u8, O, E)
+    requires { first_bad limits ≡ Ok tt }
+    ensures status { IsStatusOfTask result.0 }
+    ensures shows { let view = streams R.Source O.Target E.Target in
+        ShowsAndReports (forms.JsonRows no_table) limits TURNS
+        (view input.old out err) result.0 (view input.new result.1 result.2) }
+{
+    let (ending, out) = write_text(alloc, limits, JsonRows(TablePlace::new()), input, out);
+    let (status, err) = conclude(ending, err);
+    (status, out, err)
+}
+
+/// Writes the rows of the pages of a stream to `out` as CSV, and the verdict line or fault line to `err`. Answers the exit
+/// status, and the two outputs.
+pub fn rows_csv<R: Source, O: Target, E: Target, A: Allocator>(
+    alloc: &A,
+    limits: Limits,
+    input: &mut R,
+    out: O,
+    err: E,
+) -> (u8, O, E)
+    requires { first_bad limits ≡ Ok tt }
+    ensures status { IsStatusOfTask result.0 }
+    ensures shows { let view = streams R.Source O.Target E.Target in
+        ShowsAndReports (forms.CsvRows no_table) limits TURNS
+        (view input.old out err) result.0 (view input.new result.1 result.2) }
+{
+    let (ending, out) = write_text(alloc, limits, CsvRows(TablePlace::new()), input, out);
     let (status, err) = conclude(ending, err);
     (status, out, err)
 }

@@ -1,5 +1,6 @@
 //! Forms of text.
 
+use cqlp_tables::TablePlace;
 use cqlp_text::PagePlace;
 
 /// What is written of the events of a stream. The clauses of the calls of this crate speak of it.
@@ -11,5 +12,9 @@ pub enum TextForm {
     JsonLines,
     /// The text of pages, from a place in a page.
     Pages(PagePlace),
+    /// The rows of pages as JSON, from a place in a page.
+    JsonRows(TablePlace),
+    /// The rows of pages as CSV, from a place in a page.
+    CsvRows(TablePlace),
     Nothing,
 }

@@ -53,12 +53,16 @@ afresh_one : (form : TextForm) (e : Event) → afresh (form_after form e) ≡ af
 afresh_one forms.Lines e = refl
 afresh_one forms.JsonLines e = refl
 afresh_one (forms.Pages place) e = refl
+afresh_one (forms.JsonRows place) e = refl
+afresh_one (forms.CsvRows place) e = refl
 afresh_one forms.Nothing e = refl
 
 break_one : (form : TextForm) (e : Event) → break_of (form_after form e) ≡ break_of form
 break_one forms.Lines e = refl
 break_one forms.JsonLines e = refl
 break_one (forms.Pages place) e = refl
+break_one (forms.JsonRows place) e = refl
+break_one (forms.CsvRows place) e = refl
 break_one forms.Nothing e = refl
 
 pub afresh_after : (form : TextForm) (es : List (ℕ × Event)) → afresh (form_after_all form es) ≡ afresh form

@@ -10,6 +10,7 @@ use Rattle.cqlp_skip.specs.Stretches.{Stretch, base_after, told, told_at}
 use Rattle.cqlp_text.specs.Lines.{spaced}
 use Rattle.cqlp_text.specs.Names.{reason_name}
 use Rattle.cqlp_text.specs.PageText.{no_page}
+use Rattle.cqlp_tables.specs.Places.{no_table}
 
 -- ---- to the output
 
@@ -18,6 +19,8 @@ abbrev pub afresh : TextForm → TextForm
 afresh forms.Lines = forms.Lines
 afresh forms.JsonLines = forms.JsonLines
 afresh (forms.Pages place) = forms.Pages no_page
+afresh (forms.JsonRows place) = forms.JsonRows no_table
+afresh (forms.CsvRows place) = forms.CsvRows no_table
 afresh forms.Nothing = forms.Nothing
 
 -- What ends the text of a stretch that was given up: of pages a line break, which ends a row that is under way, and else
@@ -26,6 +29,8 @@ abbrev pub break_of : TextForm → List ℕ
 break_of forms.Lines = []
 break_of forms.JsonLines = []
 break_of (forms.Pages place) = codes "\n"
+break_of (forms.JsonRows place) = codes "\n"
+break_of (forms.CsvRows place) = codes "\n"
 break_of forms.Nothing = []
 
 -- the text of stretches that were given up, of which the last stands first

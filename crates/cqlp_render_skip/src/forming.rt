@@ -9,6 +9,7 @@ ghost use Rattle.cqlp_render_skip.specs.Texts.{afresh, break_of};
 use cqlp_decode::{Event, SinkFault};
 use cqlp_json::put_json_line;
 use cqlp_render::TextForm;
+use cqlp_tables::{TablePlace, put_csv_part, put_json_part};
 use cqlp_text::{PagePlace, Pen, TextWriter};
 
 /// Takes the text of the event at an offset.
@@ -26,6 +27,8 @@ pub(crate) fn write_event<P: Pen>(
         TextForm::Lines => writer.put_event(at, event),
         TextForm::JsonLines => put_json_line(at, event, writer),
         TextForm::Pages(place) => writer.put_page_part(place, event),
+        TextForm::JsonRows(place) => put_json_part(place, event, writer),
+        TextForm::CsvRows(place) => put_csv_part(place, event, writer),
         TextForm::Nothing => Ok(()),
     }
 }
@@ -42,6 +45,10 @@ pub(crate) fn break_off<P: Pen>(
         TextForm::Lines | TextForm::JsonLines => Ok(()),
         TextForm::Pages(place) => {
             *place = PagePlace::new();
+            writer.put(b"\n")
+        }
+        TextForm::JsonRows(place) | TextForm::CsvRows(place) => {
+            *place = TablePlace::new();
             writer.put(b"\n")
         }
         TextForm::Nothing => Ok(()),

@@ -12,6 +12,7 @@ use Rattle.cqlp_options.specs.declared.options.Task.TheVariants as task
 use Rattle.cqlp_text.specs.declared.ending.Ending.TheVariants as ending
 use Rattle.cqlp_text.specs.Outputs.{Output, with_text, StopsWithin}
 use Rattle.cqlp_text.specs.PageText.{no_page}
+use Rattle.cqlp_tables.specs.Places.{no_table}
 use Rattle.cqlp_render.specs.declared.text_form.TextForm.TheVariants as forms
 use Rattle.cqlp_render.specs.Showing.{ChecksAndReports, Concludes, ShowsAndReports}
 use Rattle.cqlp_render.specs.Streams.{Streams}
@@ -71,6 +72,9 @@ DoesTask (task.Rows at.End) limits before status after =
     ShowsAndReports (forms.Pages no_page) limits turns before status after
 DoesTask (task.Rows at.Skip) limits before status after =
     skipping.ShowsAndReports (forms.Pages no_page) limits turns before status after
+DoesTask task.RowsJson limits before status after =
+    ShowsAndReports (forms.JsonRows no_table) limits turns before status after
+DoesTask task.RowsCsv limits before status after = ShowsAndReports (forms.CsvRows no_table) limits turns before status after
 DoesTask (task.Check at.End) limits before status after = ChecksAndReports limits turns before status after
 DoesTask (task.Check at.Skip) limits before status after = skipping.ChecksAndReports limits turns before status after
 

@@ -22,7 +22,7 @@ use cqlp_options::{
     AtRefusal, CaptureOptions, CaptureTask, CommandLine, DEFAULT_LIMITS, ExchangeOptions, NoTask,
     Options, Task,
 };
-use cqlp_render::{check, conclude, rows, show, show_json};
+use cqlp_render::{check, conclude, rows, rows_csv, rows_json, show, show_json};
 use cqlp_render_skip::{check_skipping, rows_skipping, show_skipping};
 use cqlp_streams::write_streams;
 use cqlp_text::exit_status::{BAD_COMMAND_LINE, DONE, FAULT};
@@ -234,6 +234,8 @@ fn perform<A: Allocator, I: Source, O: Target, E: Target>(
         Task::ShowJson => show_json(heap, limits, input, out, err),
         Task::Rows(AtRefusal::End) => rows(heap, limits, input, out, err),
         Task::Rows(AtRefusal::Skip) => rows_skipping(heap, limits, input, out, err),
+        Task::RowsJson => rows_json(heap, limits, input, out, err),
+        Task::RowsCsv => rows_csv(heap, limits, input, out, err),
         Task::Check(AtRefusal::End) => check(heap, limits, input, out, err),
         Task::Check(AtRefusal::Skip) => check_skipping(heap, limits, input, out, err),
     }

@@ -17,6 +17,7 @@ use Rattle.cqlp_text.specs.declared.ending.Ending.TheVariants as ending
 use Rattle.cqlp_text.specs.Endings.{cannot_open_line}
 use Rattle.cqlp_text.specs.Outputs.{Output, output, with_text, StopsWithin}
 use Rattle.cqlp_text.specs.PageText.{no_page}
+use Rattle.cqlp_tables.specs.Places.{no_table}
 use Rattle.cqlp_loop.specs.declared.fault.LoopFault.{LoopFault}
 use Rattle.cqlp_loop.specs.Script.{Wires}
 use Rattle.cqlp_loop_laws.specs.OneAnswer.{SaidTheSame, SaidMore}
@@ -88,6 +89,8 @@ module _ (limits : Limits) (before : Streams) (status status' : ℕ) (after afte
   task_once (task.Show at.End) known a b alike = showing_once forms.Lines known.bytes (a known.bytes known.left known.out known.err) (b known.bytes known.left known.out known.err) alike
   task_once task.ShowJson known a b alike = showing_once forms.JsonLines known.bytes (a known.bytes known.left known.out known.err) (b known.bytes known.left known.out known.err) alike
   task_once (task.Rows at.End) known a b alike = showing_once (forms.Pages no_page) known.bytes (a known.bytes known.left known.out known.err) (b known.bytes known.left known.out known.err) alike
+  task_once task.RowsJson known a b alike = showing_once (forms.JsonRows no_table) known.bytes (a known.bytes known.left known.out known.err) (b known.bytes known.left known.out known.err) alike
+  task_once task.RowsCsv known a b alike = showing_once (forms.CsvRows no_table) known.bytes (a known.bytes known.left known.out known.err) (b known.bytes known.left known.out known.err) alike
   task_once (task.Check at.End) known a b alike = checking_once known.bytes (a known.bytes known.left known.out known.err) (b known.bytes known.left known.out known.err) alike
   task_once (task.Show at.Skip) known a b alike = skipping_once limits known.bytes before status status' after after' known.err forms.Lines (a known.bytes known.left known.out known.err) (b known.bytes known.left known.out known.err) alike.0 alike.1
   task_once (task.Rows at.Skip) known a b alike = skipping_once limits known.bytes before status status' after after' known.err (forms.Pages no_page) (a known.bytes known.left known.out known.err) (b known.bytes known.left known.out known.err) alike.0 alike.1

@@ -17,6 +17,7 @@ use Rattle.cqlp_options.specs.declared.options.Task.TheVariants as task
 use Rattle.cqlp_text.specs.declared.ending.Ending.TheVariants as ending
 use Rattle.cqlp_text.specs.Outputs.{Output}
 use Rattle.cqlp_text.specs.PageText.{no_page}
+use Rattle.cqlp_tables.specs.Places.{no_table}
 use Rattle.cqlp_loop.specs.declared.fault.LoopFault.{LoopFault}
 use Rattle.cqlp_loop.specs.Script.{Wires}
 use Rattle.cqlp_loop_laws.specs.OneAnswer.{IsDecided}
@@ -90,6 +91,12 @@ module _ (limits : Limits) (before : Streams) (status status' : ℕ) (after afte
       (does known.bytes known.left known.out known.err) (does' known.bytes known.left known.out known.err)
   IsTaskMetAlike (task.Rows at.End) known does does' =
       AreShownAlike (forms.Pages no_page) limits known.bytes before status status' after after'
+      (does known.bytes known.left known.out known.err) (does' known.bytes known.left known.out known.err)
+  IsTaskMetAlike task.RowsJson known does does' =
+      AreShownAlike (forms.JsonRows no_table) limits known.bytes before status status' after after'
+      (does known.bytes known.left known.out known.err) (does' known.bytes known.left known.out known.err)
+  IsTaskMetAlike task.RowsCsv known does does' =
+      AreShownAlike (forms.CsvRows no_table) limits known.bytes before status status' after after'
       (does known.bytes known.left known.out known.err) (does' known.bytes known.left known.out known.err)
   IsTaskMetAlike (task.Check at.End) known does does' =
       AreCheckedAlike limits known.bytes before status status' after after'

@@ -10,6 +10,9 @@ use Rattle.cqlp_text.specs.Endings.{ending_line, cannot_open_line}
 use Rattle.cqlp_text.specs.Lines.{line}
 use Rattle.cqlp_text.specs.Outputs.{Offered, Output, with_text, WritesText}
 use Rattle.cqlp_text.specs.PageText.{PagePlace, page_part}
+use Rattle.cqlp_tables.specs.CsvRows.{csv_part}
+use Rattle.cqlp_tables.specs.JsonRows.{json_part}
+use Rattle.cqlp_tables.specs.Places.{TablePlace}
 
 -- The target failed in both of two calls or in neither: it counts as many failures, and had not counted all
 -- that it can.
@@ -42,6 +45,12 @@ JsonLineIsWrittenOnce = (at : ℕ) (event : Event) → WritesOnce (json_line at 
 
 abbrev pub PagePartIsWrittenOnce : Type 0
 PagePartIsWrittenOnce = (place : PagePlace) (event : Event) → WritesOnce (page_part place event)
+
+abbrev pub JsonPartIsWrittenOnce : Type 0
+JsonPartIsWrittenOnce = (place : TablePlace) (event : Event) → WritesOnce (json_part place event)
+
+abbrev pub CsvPartIsWrittenOnce : Type 0
+CsvPartIsWrittenOnce = (place : TablePlace) (event : Event) → WritesOnce (csv_part place event)
 
 abbrev pub EndingLineIsWrittenOnce : Type 0
 EndingLineIsWrittenOnce = (ending : Ending) → WritesOnce (ending_line ending)

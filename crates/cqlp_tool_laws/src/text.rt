@@ -2,7 +2,7 @@
 
 ghost use Rattle.cqlp_tool_laws.specs.Text.{BytesAreOfferedOnce, CannotOpenLineIsWrittenOnce, CellTextIsWrittenOnce};
 ghost use Rattle.cqlp_tool_laws.specs.Text.{EndingLineIsWrittenOnce, EventLineIsWrittenOnce, JsonLineIsWrittenOnce, PagePartIsWrittenOnce};
-ghost use Rattle.cqlp_tool_laws.specs.Text.{TextIsWrittenOnce};
+ghost use Rattle.cqlp_tool_laws.specs.Text.{CsvPartIsWrittenOnce, JsonPartIsWrittenOnce, TextIsWrittenOnce};
 
 /// Of a cell there is one text; at a fault of the target, a front of it was written.
 pub fn one_answer_of_cell_text()
@@ -23,6 +23,18 @@ pub fn one_answer_of_json_line()
 /// after the event is one equation of the call.
 pub fn one_answer_of_page_part()
     ensures { PagePartIsWrittenOnce }
+{}
+
+/// Of an event at a place of a page there is one text as JSON; at a fault of the target, a front of it was written. The
+/// place after the event is one equation of the call.
+pub fn one_answer_of_json_part()
+    ensures { JsonPartIsWrittenOnce }
+{}
+
+/// Of an event at a place of a page there is one text as CSV; at a fault of the target, a front of it was written. The
+/// place after the event is one equation of the call.
+pub fn one_answer_of_csv_part()
+    ensures { CsvPartIsWrittenOnce }
 {}
 
 /// Of an ending there is one line; at a fault of the target, a front of it was written.

@@ -2,6 +2,7 @@
 //! outside decides.
 
 ghost use Rattle.cqlp_text.specs.PageText.{no_page};
+ghost use Rattle.cqlp_tables.specs.Places.{no_table};
 ghost use Rattle.cqlp_tool_laws.specs.Tool.{ChecksEndOnce, EndsOnce, IsCheckedOnce, IsCheckedRightly, IsRenderedOnce, IsRenderedWhole};
 ghost use Rattle.cqlp_tool_laws.specs.Tool.{IsReadAfterText, IsReadUnrefused, IsShownOnce, IsShownRightly};
 ghost use Rattle.cqlp_render.specs.declared.text_form.TextForm.TheVariants as forms;
@@ -42,6 +43,22 @@ pub fn one_answer_of_rows()
     ensures once { IsShownOnce (forms.Pages no_page) }
 {}
 
+/// A stream has one text of JSON rows, one verdict line and one status; two commands to which the outside did the same end
+/// alike, and two that end alike wrote the same.
+pub fn one_answer_of_rows_json()
+    ensures right { IsShownRightly (forms.JsonRows no_table) }
+    ensures ends { EndsOnce (forms.JsonRows no_table) }
+    ensures once { IsShownOnce (forms.JsonRows no_table) }
+{}
+
+/// A stream has one text of CSV, one verdict line and one status; two commands to which the outside did the same end
+/// alike, and two that end alike wrote the same.
+pub fn one_answer_of_rows_csv()
+    ensures right { IsShownRightly (forms.CsvRows no_table) }
+    ensures ends { EndsOnce (forms.CsvRows no_table) }
+    ensures once { IsShownOnce (forms.CsvRows no_table) }
+{}
+
 /// A stream has one verdict line and one status, also where `execute` checks standard input; two commands to which the
 /// outside did the same end alike, and two that end alike wrote the same.
 pub fn one_answer_of_check()
@@ -56,5 +73,7 @@ pub fn reads_after_text()
     ensures show { IsReadAfterText forms.Lines }
     ensures show_json { IsReadAfterText forms.JsonLines }
     ensures rows { IsReadAfterText (forms.Pages no_page) }
+    ensures rows_json { IsReadAfterText (forms.JsonRows no_table) }
+    ensures rows_csv { IsReadAfterText (forms.CsvRows no_table) }
     ensures check { IsReadUnrefused }
 {}

@@ -214,6 +214,7 @@ mod cqlp_reassembly;
 mod cqlp_render;
 mod cqlp_segment;
 mod cqlp_session;
+mod cqlp_tables;
 mod cqlp_text;
 mod cqlp_type;
 mod cqlp_value;
@@ -299,10 +300,11 @@ pub mod capture {
     pub use crate::cqlp_segment::{Address, Endpoint, Flags, LinkType, NoSegment, Segment, SegmentHead, read_segment};
 }
 
-/// The text of events, cells, pages and verdicts, and the JSON of events, as the program `cqlp` writes it.
+/// The text of events, cells, pages and verdicts, the JSON of events, and rows as JSON and CSV, as the program `cqlp` writes it.
 pub mod text {
     pub use crate::cqlp_json::json_line;
     pub use crate::cqlp_render::{render_events, render_rows};
+    pub use crate::cqlp_tables::{TablePlace, csv_part, json_part};
     pub use crate::cqlp_text::{Ending, PagePlace, cell_text, ending_line, event_line, opcode_name, page_part};
 }
 

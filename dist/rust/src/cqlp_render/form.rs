@@ -4,6 +4,7 @@
 use crate::cqlp_decode::{Event, SinkFault};
 use crate::cqlp_json::{json_line, put_json_line};
 use crate::cqlp_note::Target;
+use crate::cqlp_tables::{TablePlace, csv_part, json_part, put_csv_part, put_json_part};
 use crate::cqlp_text::{PagePlace, Pen, TextWriter, event_line, page_part};
 
 /// A form of text. Each has a type of its own, so that no event asks for its form.
@@ -95,6 +96,56 @@ impl Form for PagePlace {
         writer: &mut TextWriter<P>,
     ) -> Result<(), SinkFault> {
         writer.put_page_part(self, event)
+    }
+}
+
+/// The rows of pages as JSON, from a place in a page.
+pub(crate) struct JsonRows(pub TablePlace);
+
+impl Form for JsonRows {
+    #[inline]
+    fn put<W: Target>(
+        &mut self,
+        _at: u64,
+        event: &Event<'_>,
+        target: &mut W,
+    ) -> Result<(), SinkFault> {
+        json_part(&mut self.0, event, target)
+    }
+
+    #[inline]
+    fn write<P: Pen>(
+        &mut self,
+        _at: u64,
+        event: &Event<'_>,
+        writer: &mut TextWriter<P>,
+    ) -> Result<(), SinkFault> {
+        put_json_part(&mut self.0, event, writer)
+    }
+}
+
+/// The rows of pages as CSV, from a place in a page.
+pub(crate) struct CsvRows(pub TablePlace);
+
+impl Form for CsvRows {
+    #[inline]
+    fn put<W: Target>(
+        &mut self,
+        _at: u64,
+        event: &Event<'_>,
+        target: &mut W,
+    ) -> Result<(), SinkFault> {
+        csv_part(&mut self.0, event, target)
+    }
+
+    #[inline]
+    fn write<P: Pen>(
+        &mut self,
+        _at: u64,
+        event: &Event<'_>,
+        writer: &mut TextWriter<P>,
+    ) -> Result<(), SinkFault> {
+        put_csv_part(&mut self.0, event, writer)
     }
 }
 

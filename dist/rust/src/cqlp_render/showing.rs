@@ -3,10 +3,11 @@
 
 use crate::kit_std::prelude::{Vec, vec};
 use crate::cqlp_render::buffered_sink::BufferedSink;
-use crate::cqlp_render::form::{Form, JsonLines, Lines, Nothing};
+use crate::cqlp_render::form::{CsvRows, Form, JsonLines, JsonRows, Lines, Nothing};
 use crate::cqlp_render::render::{TextSink, run_flushing};
 use crate::cqlp_decode::{Decoder, NewError, Outcome, SinkFault, run};
 use crate::cqlp_note::{Limits, Source, Target};
+use crate::cqlp_tables::TablePlace;
 use crate::cqlp_text::exit_status::FAULT;
 use crate::cqlp_text::{Buffered, Ending, PagePlace, ending_line};
 use crate::kit_std::alloc::Allocator;
@@ -58,6 +59,36 @@ pub(crate) fn rows<R: Source, O: Target, E: Target, A: Allocator>(
 ) -> (u8, O, E)
 {
     let (ending, out) = write_text(alloc, limits, PagePlace::new(), input, out);
+    let (status, err) = conclude(ending, err);
+    (status, out, err)
+}
+
+/// Writes the rows of the pages of a stream to `out`, each as a JSON array in a line of its own after a line for the page,
+/// and the verdict line or fault line to `err`. Answers the exit status, and the two outputs.
+pub(crate) fn rows_json<R: Source, O: Target, E: Target, A: Allocator>(
+    alloc: &A,
+    limits: Limits,
+    input: &mut R,
+    out: O,
+    err: E,
+) -> (u8, O, E)
+{
+    let (ending, out) = write_text(alloc, limits, JsonRows(TablePlace::new()), input, out);
+    let (status, err) = conclude(ending, err);
+    (status, out, err)
+}
+
+/// Writes the rows of the pages of a stream to `out` as CSV, and the verdict line or fault line to `err`. Answers the exit
+/// status, and the two outputs.
+pub(crate) fn rows_csv<R: Source, O: Target, E: Target, A: Allocator>(
+    alloc: &A,
+    limits: Limits,
+    input: &mut R,
+    out: O,
+    err: E,
+) -> (u8, O, E)
+{
+    let (ending, out) = write_text(alloc, limits, CsvRows(TablePlace::new()), input, out);
     let (status, err) = conclude(ending, err);
     (status, out, err)
 }
