@@ -1,6 +1,7 @@
 //! What is told of a message.
 
 ghost use Rattle.std.specs.Prelude.{◌≡◌};
+ghost use Rattle.cqlp_facts.specs.Facts.{known_or};
 
 /// What a message says beside its first field, as far as the bytes of its body say it.
 #[derive(Clone, Copy, Debug, PartialEq, Eq)]
@@ -55,43 +56,53 @@ impl Facts {
         }
     }
 
-    /// These, and one more.
+    /// These, and one more. One that is known stays.
     pub(crate) fn with(self, fact: Fact) -> Facts
         ensures { result ≡ with_fact fact self }
     {
         match fact {
             Fact::Consistency(level) => Facts {
-                consistency: Some(level),
+                consistency: known_or(self.consistency, level),
                 ..self
             },
             Fact::PageSize(size) => Facts {
-                page_size: Some(size),
+                page_size: known_or(self.page_size, size),
                 ..self
             },
             Fact::TraceId(id) => Facts {
-                trace_id: Some(id),
+                trace_id: known_or(self.trace_id, id),
                 ..self
             },
             Fact::Warnings(count) => Facts {
-                warnings: Some(count),
+                warnings: known_or(self.warnings, count),
                 ..self
             },
             Fact::Result(kind) => Facts {
-                result: Some(kind),
+                result: known_or(self.result, kind),
                 ..self
             },
             Fact::Error(code) => Facts {
-                error: Some(code),
+                error: known_or(self.error, code),
                 ..self
             },
             Fact::Rows(count) => Facts {
-                rows: Some(count),
+                rows: known_or(self.rows, count),
                 ..self
             },
             Fact::Columns(count) => Facts {
-                columns: Some(count),
+                columns: known_or(self.columns, count),
                 ..self
             },
         }
+    }
+}
+
+/// What is known, or else what is said.
+fn known_or<T: Copy>(known: Option<T>, said: T) -> Option<T>
+    ensures { result ≡ known_or known said }
+{
+    match known {
+        Some(value) => Some(value),
+        None => Some(said),
     }
 }

@@ -49,7 +49,7 @@ right_hears came b s used what g at le fits knows ends =
 
 -- ---- a header
 
-within_nine : (responses : Bool) (bytes : List ℕ) (h : Header) → length bytes ≤ 9 → head_within responses bytes ≡ Some h → (length bytes ≡ 9) × (head_of responses bytes ≡ Some h)
+pub within_nine : (responses : Bool) (bytes : List ℕ) (h : Header) → length bytes ≤ 9 → head_within responses bytes ≡ Some h → (length bytes ≡ 9) × (head_of responses bytes ≡ Some h)
 within_nine responses bytes h le e = elim (cases_Bool (nat_lt (length bytes) 9)) [
   | inl short ↦ absurd (let f = rw short at e in cc f)
   | inr long ↦ (let nine = ltb-false (length bytes) 9 long in omega arith, rw long at e)

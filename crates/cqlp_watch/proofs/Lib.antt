@@ -4,3 +4,4 @@ pub mod Exchanged
 pub mod Stood
 pub mod Came
 pub mod Fed
+pub mod Few

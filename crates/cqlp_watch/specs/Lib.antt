@@ -3,6 +3,7 @@ pub mod Heads
 pub mod Directions
 pub mod Whole
 pub mod Sent
+pub mod Steps
 pub mod Subjects
 pub mod Waiting
 pub mod Pairings

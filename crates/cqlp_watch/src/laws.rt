@@ -2,6 +2,7 @@
 
 ghost use Rattle.cqlp_watch.specs.Laws.{KeepsThoseThatWait, OneAnswerOfPairing, OneAnswerOfWatch, TellsTheExchanges};
 ghost use Rattle.cqlp_watch.specs.Sent.{TellsEachFrame};
+ghost use Rattle.cqlp_watch.specs.Steps.{TakesFewSteps};
 ghost use Rattle.cqlp_watch.specs.Whole.{TellsWholeFrames};
 
 /// Of any messages in any order: the requests that a [`Pairing`](crate::Pairing) holds are those under whose stream id nothing was said since.
@@ -25,6 +26,12 @@ pub fn whole_frames()
 /// whatever pieces their bytes come, and tells nothing else.
 pub fn each_frame()
     ensures { TellsEachFrame }
+{}
+
+/// Each call of [`Heads::take`](crate::Heads::take) that does not say `More` leaves fewer to be made: it uses some byte of the piece, or ends a frame that is
+/// over. So all of a piece of n bytes is told by 2 n + 2 calls.
+pub fn few_steps()
+    ensures { TakesFewSteps }
 {}
 
 /// `Pairing::new` and `Watch::new` have one answer where memory is granted. The clauses of all other calls are equations.
