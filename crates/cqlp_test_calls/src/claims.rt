@@ -80,7 +80,7 @@ static CLAIMS: [&str; 54] = [
 
 /// How many requests a decoder makes that is asked for all events of a stream in pieces, where none after those of `new` is
 /// granted.
-fn requests(alloc: Global, stream: &[u8]) -> Result<u64, Fail> {
+fn requests_of(alloc: Global, stream: &[u8]) -> Result<u64, Fail> {
     let heap = Rationed::new(alloc, Refusals::From(REQUESTS + 1));
     let mut decoder = Decoder::new(&heap, LIMITS)?;
     let mut reader = Pieces::new(stream, [11, 3, 7]);
@@ -88,12 +88,17 @@ fn requests(alloc: Global, stream: &[u8]) -> Result<u64, Fail> {
     Ok(heap.requests())
 }
 
+/// The same, of what digits spell.
+fn requests(alloc: Global, words: &str) -> Result<u64, Fail> {
+    let stream = bytes_of(alloc, words)?;
+    requests_of(alloc, &stream)
+}
+
 #[test]
 fn no_request_is_made_for_what_is_claimed(rt: HostRuntime) -> Result<(), Fail> {
     let mut wrong = 0_u32;
-    for words in CLAIMS {
-        let stream = bytes_of(rt.alloc(), words)?;
-        if requests(rt.alloc(), &stream)? != REQUESTS {
+    for words in &CLAIMS {
+        if requests(rt.alloc(), words)? != REQUESTS {
             wrong = wrong.saturating_add(1);
         }
     }

@@ -11,7 +11,7 @@ use cqlp_test_heaps::{Rationed, Refusals};
 use cqlp_type::{TypeReader, TypeTable};
 use cqlp_value::CellReader;
 use linked_list_allocator::LocalHeap;
-use std::alloc::{Allocator, Global};
+use std::alloc::Allocator;
 use std::test::Fail;
 
 const LIMITS: Limits = Limits {
@@ -24,7 +24,7 @@ const LIMITS: Limits = Limits {
 };
 
 /// A call that asks for memory.
-#[derive(Clone, Copy, Debug)]
+#[derive(Clone, Copy)]
 enum Call {
     Partial,
     TypeTable,
@@ -60,7 +60,7 @@ static CALLS: [(Call, u64); 12] = [
 ];
 
 /// What a call said of memory.
-#[derive(Clone, Copy, Debug, PartialEq, Eq)]
+#[derive(Clone, Copy, PartialEq, Eq)]
 enum Answer {
     Granted,
     /// Nothing had changed.
@@ -205,23 +205,22 @@ fn is_right_with_any(heap: &LocalHeap, call: Call, requests: u64, frame: &Frame)
     is_right(heap, call, requests, Refusals::Never, frame)
 }
 
-/// The calls of which it is not so.
-fn wrong_calls(alloc: Global, heap: &LocalHeap, frame: &Frame) -> Result<String, Fail> {
-    let mut wrong = String::new(alloc);
-    for (call, requests) in CALLS {
-        if !is_right_with_any(heap, call, requests, frame) {
-            write!(wrong, "{call:?}, ")?;
+/// Of how many of the calls it is not so.
+fn wrong_calls(heap: &LocalHeap, frame: &Frame) -> u32 {
+    let mut wrong = 0_u32;
+    for (call, requests) in &CALLS {
+        if !is_right_with_any(heap, *call, *requests, frame) {
+            wrong = wrong.saturating_add(1);
         }
     }
-    Ok(wrong)
+    wrong
 }
 
 #[test]
 fn memory_is_missing_just_where_it_was_refused(rt: HostRuntime) -> Result<(), Fail> {
     let frame = Frame::version_error(rt.alloc(), &[5, 0, 0, 0, 5, 0, 0, 0, 0])?;
     let heap = LocalHeap::new(rt.alloc(), 1 << 16)?;
-    let wrong = wrong_calls(rt.alloc(), &heap, &frame)?;
-    assert_eq!(rt; wrong.as_str(), "");
+    assert_eq!(rt; wrong_calls(&heap, &frame), 0);
     Ok(())
 }
 

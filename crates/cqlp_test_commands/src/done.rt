@@ -36,6 +36,11 @@ impl Invocation<'_> {
         Pieces::new(self.bytes, sizes)
     }
 
+    /// Whether frames are to be passed over.
+    pub fn skips(&self) -> bool {
+        self.words.iter().any(|word| *word == "--skip")
+    }
+
     /// With this standard input, and room for this many bytes in each output.
     pub fn done(&self, rt: &HostRuntime, input: &mut impl Source, out: usize, err: usize) -> Done {
         let out = Narrow::new(rt.alloc(), out, 7);

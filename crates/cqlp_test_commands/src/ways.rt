@@ -20,9 +20,6 @@ const SIZES: [usize; 3] = [9; 3];
 /// For how many parts of a long text there is room in turn; of a short text for each number of its bytes.
 const SHARES: usize = 64;
 
-/// How many bytes of standard input are cut at each place; a longer one is read byte by byte.
-const CUT: usize = 200;
-
 pub fn all(rt: &HostRuntime, call: &Invocation<'_>, whole: &Done) -> io::Result<()> {
     in_pieces(rt, call, whole)?;
     after_read_faults(rt, call, whole)?;
@@ -31,10 +28,10 @@ pub fn all(rt: &HostRuntime, call: &Invocation<'_>, whole: &Done) -> io::Result<
     with_room_for_fault(rt, call, whole)
 }
 
-/// In pieces of each size, and in two cut at each place.
+/// In pieces of each size, and in two cut at each place, if frames are to be passed over; else byte by byte.
 fn in_pieces(rt: &HostRuntime, call: &Invocation<'_>, whole: &Done) -> io::Result<()> {
-    let len = call.bytes.len();
-    for size in 1..if len > CUT { 2 } else { len } {
+    let end = if call.skips() { call.bytes.len() } else { 2 };
+    for size in 1..end {
         for sizes in [[size; 3], [size, usize::MAX, usize::MAX]] {
             let done = call.done(rt, &mut call.pieces(sizes), usize::MAX, usize::MAX);
             if !done.is_like(whole) {
