@@ -77,7 +77,7 @@ pub fn put_facts(facts: &Facts, said: &mut String) -> io::Result<()> {
         write!(said, " page {size}")?;
     }
     if let Some(id) = facts.trace_id {
-        write!(said, " trace {}", fold(0, &id))?;
+        write!(said, " trace {}", sum_of_id(id))?;
     }
     if let Some(count) = facts.warnings {
         write!(said, " warnings {count}")?;
@@ -95,4 +95,9 @@ pub fn put_facts(facts: &Facts, said: &mut String) -> io::Result<()> {
         write!(said, " rows {count}")?;
     }
     Ok(())
+}
+
+/// The number of a tracing id.
+fn sum_of_id(id: [u8; 16]) -> u32 {
+    fold(0, &id)
 }
