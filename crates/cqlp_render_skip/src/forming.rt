@@ -47,7 +47,11 @@ pub(crate) fn break_off<P: Pen>(
             *place = PagePlace::new();
             writer.put(b"\n")
         }
-        TextForm::JsonRows(place) | TextForm::CsvRows(place) => {
+        TextForm::JsonRows(place) => {
+            *place = TablePlace::new();
+            writer.put(b"\n")
+        }
+        TextForm::CsvRows(place) => {
             *place = TablePlace::new();
             writer.put(b"\n")
         }
