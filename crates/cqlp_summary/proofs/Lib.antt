@@ -1,4 +1,5 @@
 mod Bounds
+mod Gathered
 mod Lists
 mod Names
 mod Orders
