@@ -1,16 +1,15 @@
 -- What is counted at each place, over all that was noted.
-use Rattle.std.proofs.Common.{◌≡◌, ◌∙◌, ◌+◌, ◌<◌, ◌≤◌, ◌==◌, ◌&&◌, ℕ, zero, suc, Bool, true, false, List, [], ◌∷◌, ◌++◌, length, Option, Some, None, inl, inr, refl, sym, ap, subst, arith, nat_lt, nat_eq, if◌then◌else◌, append_assoc, append-nil, length-append, replicate, rules, slice_set}
-use Rattle.std.proofs.lemmas.Bool.{cases_lt, lt-ltb, le-ltb, eq-eqb, eqb-true, eqb-false}
+use Rattle.std.proofs.Common.{◌≡◌, ◌∙◌, ◌+◌, ◌<◌, ◌≤◌, ℕ, suc, Bool, true, false, List, [], ◌∷◌, ◌++◌, length, Option, Some, None, inl, inr, refl, sym, ap, arith, if◌then◌else◌, append_assoc, append-nil, length-append, rules, slice_set}
+use Rattle.std.proofs.lemmas.Bool.{cases_lt, lt-ltb, le-ltb, eqb-true, eqb-false}
 use Rattle.std.proofs.lemmas.List.{get_or-set_same, get_or-set_other, length-set, length-replicate, get_or-replicate}
 use Rattle.std.proofs.lemmas.List.Recursion.{is_position_or_len}
-use Rattle.std.proofs.lemmas.Slice.Eq.{bytes_eq-Decides}
 use Rattle.std.specs.List.{filter, position, position_or_len}
 use Rattle.std.specs.Str.{bytes_eq}
 use Rattle.cqlp_summary.specs.Counts.{Entry, Tally}
 use Rattle.cqlp_summary.specs.Laws.{CountsEachByItsName, all_noted, is_at, place_in, tallied_all}
 use Rattle.cqlp_summary.specs.Names.{Name, is_equal, is_same}
 use Rattle.cqlp_summary.specs.Order.{tally_at}
-use Rattle.cqlp_summary.specs.Summaries.{Summary, entry_name, names_with, new_summary, noted, place_of, place_or, summary, with_name}
+use Rattle.cqlp_summary.specs.Summaries.{Summary, entry_name, names_with, new_summary, noted, place_of, place_or}
 use Rattle.cqlp_summary.specs.Tallies.{none_counted, tallied}
 
 -- ---- the place of the first that passes, or the place behind all

@@ -4,5 +4,5 @@ mod Lists
 mod Names
 mod Orders
 mod Ranks
-mod Texts
+pub mod Texts
 mod Told

@@ -1,5 +1,5 @@
 -- Laws of summaries.
-use Rattle.std.specs.Prelude.{◌≡◌, ℕ, ◌+◌, ◌-◌, ◌*◌, ◌^◌, ◌<◌, ◌≤◌, ◌==◌, Bool, nat_le, nat_lt, List, [], ◌∷◌, ◌++◌, Option, Some, None, length}
+use Rattle.std.specs.Prelude.{◌≡◌, ℕ, ◌-◌, ◌*◌, ◌^◌, ◌<◌, ◌≤◌, ◌==◌, Bool, nat_le, nat_lt, List, [], ◌∷◌, Option, Some, None, length}
 use Rattle.std.specs.List.{filter, All, position}
 use Rattle.cqlp_summary.specs.Buckets.{bucket_of, greatest_in}
 use Rattle.cqlp_summary.specs.Counts.{Entry, Tally}
