@@ -1,9 +1,8 @@
 -- Numbers of buckets.
-use Rattle.std.proofs.Common.{◌≡◌, ◌∙◌, ◌+◌, ◌-◌, ◌*◌, ◌/◌, ◌%◌, ◌^◌, ◌<◌, ◌≤◌, ℕ, zero, suc, refl, sym, ap, arith, Fits, w64}
+use Rattle.std.proofs.Common.{◌≡◌, ◌∙◌, ◌+◌, ◌-◌, ◌*◌, ◌/◌, ◌%◌, ◌^◌, ◌<◌, ◌≤◌, ℕ, zero, suc, ap, arith, Fits, w64}
 use Rattle.std.proofs.Math.Nat.{div-lt_iff_lt-mul, le-div_iff_mul-le, pow-le-pow_right, one-le-pow, mul-le-mul, mul-le-mul_right, div-mul-le_self, lt-div-mul-add}
 use Rattle.std.proofs.lemmas.Nat.{leading_top, pow-add}
 use Rattle.std.specs.Int.Count.{count_leading_zeros, leading_of_zero}
-use Rattle.std.specs.Int.{leading_zeros}
 use Rattle.cqlp_summary.specs.Buckets.{bucket_of, digits_in, dropped, greatest_in, least_in}
 
 six : (d : ℕ) → 2 ^ (d + 6) ≡ 64 * 2 ^ d

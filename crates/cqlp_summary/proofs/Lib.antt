@@ -1,7 +1,8 @@
 mod Bounds
+mod Gathered
 mod Lists
 mod Names
 mod Orders
 mod Ranks
-mod Texts
+pub mod Texts
 mod Told

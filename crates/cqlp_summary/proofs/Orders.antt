@@ -1,11 +1,10 @@
 -- The order of statements.
-use Rattle.std.proofs.Common.{◌≡◌, ◌∙◌, ◌+◌, ◌<◌, ◌≤◌, ℕ, zero, suc, Bool, true, false, List, [], ◌∷◌, length, ◌⊎◌, inl, inr, refl, sym, ap, subst, arith, nat_le, nat_lt, take, drop, slice_index_or}
+use Rattle.std.proofs.Common.{◌≡◌, ◌+◌, ◌<◌, ◌≤◌, ℕ, zero, suc, Bool, true, false, List, [], ◌∷◌, length, ◌⊎◌, inl, inr, refl, sym, ap, subst, arith, nat_le, nat_lt, take}
 use Rattle.std.proofs.lemmas.Bool.{cases_lt, lt-ltb, le-ltb, le-leb, lt-leb}
 use Rattle.std.specs.List.{filter}
 use Rattle.cqlp_summary.specs.Counts.{Tally}
 use Rattle.cqlp_summary.specs.Laws.{DearerComesFirst, EachHasItsRank, FirstComesFirst}
 use Rattle.cqlp_summary.specs.Order.{is_as_dear, is_dearer, rank_among, rank_of, tally_at}
-use Rattle.cqlp_summary.specs.Tallies.{none_counted}
 
 abbrev one_if : Bool → ℕ
 one_if true = 1

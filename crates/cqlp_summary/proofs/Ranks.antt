@@ -1,15 +1,15 @@
 -- The time at a rank.
-use Rattle.std.proofs.Common.{◌≡◌, ◌∙◌, ◌+◌, ◌-◌, ◌*◌, ◌/◌, ◌%◌, ◌^◌, ◌<◌, ◌≤◌, ℕ, zero, suc, Bool, true, false, List, [], ◌∷◌, length, replicate, Option, Some, None, inl, inr, refl, sym, ap, arith, nat_le, nat_lt, min, max, if◌then◌else◌, slice_index_or, slice_set}
+use Rattle.std.proofs.Common.{◌≡◌, ◌∙◌, ◌+◌, ◌-◌, ◌*◌, ◌%◌, ◌^◌, ◌<◌, ◌≤◌, ℕ, zero, suc, Bool, true, false, List, [], ◌∷◌, length, Some, inl, inr, refl, sym, ap, arith, nat_le, nat_lt, slice_index_or, slice_set}
 use Rattle.std.proofs.Math.Nat.{add-mul}
 use Rattle.std.proofs.lemmas.Bool.{cases_lt, lt-ltb, le-ltb, ltb-true, le-leb, lt-leb, leb-true}
 use Rattle.std.proofs.lemmas.List.{length-set}
 use Rattle.std.proofs.lemmas.Nat.{pow-add}
 use Rattle.std.proofs.lemmas.List.Elements.{All-head, All-tail}
 use Rattle.std.specs.List.{filter, All}
-use Rattle.cqlp_summary.specs.Buckets.{bucket_of, digits_in, dropped, greatest_in, least_in}
+use Rattle.cqlp_summary.specs.Buckets.{bucket_of, digits_in, least_in}
 use Rattle.cqlp_summary.specs.Laws.{IsAtRank}
 use Rattle.cqlp_summary.specs.Tallies.{bucket_at, counted, with_bucket}
-use Rattle.cqlp_summary.proofs.Bounds.{InBucket, bucket_within, in_bucket, width_some}
+use Rattle.cqlp_summary.proofs.Bounds.{bucket_within, in_bucket, width_some}
 
 -- ---- buckets lie one behind the other
 

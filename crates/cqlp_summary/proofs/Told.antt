@@ -1,5 +1,5 @@
 -- What is told of the time at a rank.
-use Rattle.std.proofs.Common.{◌≡◌, ◌∙◌, ◌+◌, ◌-◌, ◌*◌, ◌^◌, ◌<◌, ◌≤◌, ℕ, zero, suc, Bool, true, List, [], ◌∷◌, length, replicate, Option, Some, None, inl, inr, refl, sym, ap, subst, arith, nat_le, nat_lt, min, max, slice_index_or}
+use Rattle.std.proofs.Common.{◌≡◌, ◌∙◌, ◌-◌, ◌*◌, ◌≤◌, ℕ, zero, suc, List, [], ◌∷◌, replicate, Option, Some, None, inl, inr, refl, ap, arith, nat_le, nat_lt, min, max, slice_index_or}
 use Rattle.std.proofs.lemmas.Bool.{cases_lt, lt-ltb}
 use Rattle.std.proofs.lemmas.List.{length-replicate}
 use Rattle.std.proofs.lemmas.List.Elements.{All-cons, All-nil}
@@ -7,7 +7,7 @@ use Rattle.std.specs.List.{All}
 use Rattle.cqlp_summary.specs.Buckets.{bucket_of, greatest_in}
 use Rattle.cqlp_summary.specs.Counts.{Entry, Tally}
 use Rattle.cqlp_summary.specs.Laws.{IsAtRank, TellsTimeAtRank, tallied_all, times_in, with_known}
-use Rattle.cqlp_summary.specs.Tallies.{bucket_at, none_counted, tallied, time_at, time_in, with_time_if}
+use Rattle.cqlp_summary.specs.Tallies.{bucket_at, none_counted, tallied, time_in, with_time_if}
 use Rattle.cqlp_summary.proofs.Bounds.{in_bucket}
 use Rattle.cqlp_summary.proofs.Ranks.{buckets_after, filter_all, filter_some, found_in, front_sum}
 

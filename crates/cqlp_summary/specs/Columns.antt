@@ -1,5 +1,5 @@
 -- Columns of a line.
-use Rattle.std.specs.Prelude.{ℕ, ◌+◌, ◌-◌, ◌*◌, ◌/◌, List, [], ◌∷◌, ◌++◌, codes, decimal, length, max, min, replicate}
+use Rattle.std.specs.Prelude.{ℕ, ◌-◌, ◌*◌, ◌/◌, List, [], ◌∷◌, ◌++◌, codes, decimal, length, max, min, replicate}
 use Rattle.cqlp_text.specs.CellText.{digits}
 
 -- texts one after the other

@@ -1,5 +1,5 @@
 -- What a summary says.
-use Rattle.std.specs.Prelude.{ℕ, ◌==◌, nat_lt, Bool, true, false, List, [], ◌∷◌, ◌++◌, Option, Some, None, codes, length, slice_index_or, take, if◌then◌else◌}
+use Rattle.std.specs.Prelude.{ℕ, ◌==◌, Bool, true, false, List, [], ◌∷◌, Option, Some, None, codes, length, slice_index_or, take, if◌then◌else◌}
 use Rattle.std.specs.List.{flat_map}
 use Rattle.std.specs.Str.Lossy.{utf8_valid_len}
 use Rattle.cqlp_summary.specs.declared.tally.Figures.{Figures}
@@ -10,7 +10,7 @@ use Rattle.cqlp_summary.specs.Names.{Name, name}
 use Rattle.cqlp_summary.specs.Order.{rank_of, tally_at, upto}
 use Rattle.cqlp_summary.specs.Shown.{shown_text}
 use Rattle.cqlp_summary.specs.Summaries.{Summary}
-use Rattle.cqlp_summary.specs.Tallies.{counted, figures_of, none_counted}
+use Rattle.cqlp_summary.specs.Tallies.{counted, figures_of}
 
 abbrev pub header : List ℕ
 header = codes "share          %    time_ms    count errors      rows       bytes   p50_ms   p99_ms    max_ms statement\n"

@@ -1,6 +1,6 @@
 //! Laws of summaries. No code needs them.
 
-ghost use Rattle.cqlp_summary.specs.Laws.{DearerComesFirst, EachHasItsRank, FirstComesFirst, LiesInItsBucket, OneAnswerOfNew, OneAnswerOfNote, TellsTimeAtRank};
+ghost use Rattle.cqlp_summary.specs.Laws.{CountsEachByItsName, DearerComesFirst, EachHasItsRank, FirstComesFirst, LiesInItsBucket, OneAnswerOfNew, OneAnswerOfNote, TellsTimeAtRank};
 
 /// Where memory is granted `Summary::new` has one answer, and so has `note`.
 pub fn one_answer()
@@ -23,4 +23,9 @@ pub fn each_has_its_rank()
     ensures within { EachHasItsRank }
     ensures dearer { DearerComesFirst }
     ensures first { FirstComesFirst }
+{}
+
+/// What is counted of a statement is what was noted under its name, and what is counted of the others is what was noted under none of the names.
+pub fn counts_each_by_its_name()
+    ensures { CountsEachByItsName }
 {}

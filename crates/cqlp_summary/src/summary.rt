@@ -16,7 +16,7 @@ use std::alloc::{AllocError, Allocator, Global};
 use std::marker::Model;
 
 /// How often the statements of a capture were asked for, and how long they took. The statements beyond a bound are counted together. All memory is taken
-/// in `new`: 15,744 bytes for each statement and one more.
+/// in `new`: for each statement 280 bytes, and for each and one more 15,416; 4 MB for 256.
 #[derive(Drop)]
 pub struct Summary<A: Allocator = Global> {
     statements: usize,
@@ -40,7 +40,7 @@ impl<A: Allocator> Summary<A> {
     ghost use Rattle.cqlp_summary.specs.Counts.{entry_of};
     ghost use Rattle.cqlp_summary.specs.Summaries.{new_summary, noted, place_of, with_name};
 
-    /// Nothing is noted. At most so many statements will be told apart. All memory is taken here, in two requests.
+    /// Nothing is noted. At most so many statements will be told apart. All memory is taken here, in two requests, or in one where there are none.
     pub fn new(alloc: A, statements: usize) -> Result<Self, AllocError>
     where
         A: Clone,
