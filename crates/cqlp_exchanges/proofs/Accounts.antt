@@ -7,11 +7,12 @@ use Rattle.cqlp_text.specs.Written.{Written, Writes}
 use Rattle.cqlp_text.proofs.Writing.{known_text}
 use Rattle.cqlp_watch.specs.declared.paired.Paired.{Paired}
 use Rattle.cqlp_exchanges.specs.declared.filter.ExchangeFilter.{ExchangeFilter}
+use Rattle.cqlp_exchanges.specs.declared.form.ExchangeForm.{ExchangeForm}
 use Rattle.cqlp_exchanges.specs.declared.prepared.Preparation.{Preparation}
 use Rattle.cqlp_exchanges.specs.declared.sums.ExchangeSums.{ExchangeSums}
 use Rattle.cqlp_exchanges.specs.Accounts.{Account, Stops, StopsAmong, Tells, TellsAll, account, learned, with_all, with_one, with_shown, with_told}
 use Rattle.cqlp_exchanges.specs.Filters.{shows}
-use Rattle.cqlp_exchanges.specs.Lines.{line}
+use Rattle.cqlp_exchanges.specs.Forms.{text_of}
 
 pub with_others : (n : ℕ) (ts us : List (Paired (List ℕ))) (a : Account) → with_all n (ts ++ us) a ≡ with_all n us (with_all n ts a)
 with_others n [] us a = refl
@@ -26,7 +27,7 @@ known_shown true o text a b e f k = subst (λ z. IsSome z) (sym e) (known_more o
 known_shown false o text a b e f k = subst (λ z. IsSome z) (sym f) k
 
 known_told : (n : ℕ) (t : Paired (List ℕ)) (a : Account) → IsSome a.output.given → IsSome (with_told n t a).output.given
-known_told n t a k = known_shown (shows a.filter n t) a.output.given (line a.known a.first n t) _ _ refl refl k
+known_told n t a k = known_shown (shows a.filter n t) a.output.given (text_of a.form a.known a.first n t) _ _ refl refl k
 
 -- it is still known what the output was given
 pub still_known : (n : ℕ) (ts : List (Paired (List ℕ))) (a : Account) → IsSome a.output.given → IsSome (with_all n ts a).output.given
@@ -84,25 +85,25 @@ hidden_is : {X : Type 0} (d : Bool) (x y : X) → d ≡ false → (if d then x e
 hidden_is true x y e = absurd cc
 hidden_is false x y e = refl
 
-told_text : (f : ExchangeFilter) (first : Option ℕ) (kn : List Preparation) (s : ExchangeSums) (old new : Output) (n : ℕ) (t : Paired (List ℕ)) (r : Result (Unit {0}) SinkFault) → shows f n t ≡ true → WritesText old (line kn first n t) r new → Tells n t (account f first kn s old) r (account f first kn (with_one t s) new)
-told_text f first kn s old new n t (Ok u) is writes =
-    ap (λ (o : Output). account f first kn (with_one t s) o) writes ∙ sym (shown_is (shows f n t) (account f first kn (with_one t s) (with_text old (line kn first n t))) (account f first kn (with_one t s) old) is)
-told_text f first kn s old new n t (Err e) is writes = record { is_shown = is; rest = refl; within = writes }
+told_text : (f : ExchangeFilter) (form : ExchangeForm) (first : Option ℕ) (kn : List Preparation) (s : ExchangeSums) (old new : Output) (n : ℕ) (t : Paired (List ℕ)) (r : Result (Unit {0}) SinkFault) → shows f n t ≡ true → WritesText old (text_of form kn first n t) r new → Tells n t (account f form first kn s old) r (account f form first kn (with_one t s) new)
+told_text f form first kn s old new n t (Ok u) is writes =
+    ap (λ (o : Output). account f form first kn (with_one t s) o) writes ∙ sym (shown_is (shows f n t) (account f form first kn (with_one t s) (with_text old (text_of form kn first n t))) (account f form first kn (with_one t s) old) is)
+told_text f form first kn s old new n t (Err e) is writes = record { is_shown = is; rest = refl; within = writes }
 
 -- a line was passed on, before and after which nothing waits
 wrote : (w v : Written) (text : List ℕ) (r : Result (Unit {0}) SinkFault) → w.waiting ≡ [] → v.waiting ≡ [] → Writes w text r v → IsSome w.given → WritesText (output w.given w.failures) text r (output v.given v.failures)
 wrote w v text r e g writes known =
     known_text w v w.given v.given w.failures v.failures w.lender text r (λ i. record { given = w.given; failures = w.failures; waiting = e i; lender = w.lender }) refl g writes known
 
-pub told_shown : (self : Account) (f : ExchangeFilter) (first : Option ℕ) (kn : List Preparation) (s s' : ExchangeSums) (w v : Written) (n : ℕ) (t : Paired (List ℕ)) (r : Result (Unit {0}) SinkFault) → account f first kn s (output w.given w.failures) ≡ self → s' ≡ with_one t s → w.waiting ≡ [] → v.waiting ≡ [] → shows f n t ≡ true → Writes w (line kn first n t) r v → IsSome self.output.given → Tells n t self r (account f first kn s' (output v.given v.failures))
-told_shown self f first kn s s' w v n t r view sums e g is writes known =
-    let holds : IsSome w.given → Tells n t (account f first kn s (output w.given w.failures)) r (account f first kn s' (output v.given v.failures)) =
-    λ k. subst (λ (z : ExchangeSums). Tells n t (account f first kn s (output w.given w.failures)) r (account f first kn z (output v.given v.failures))) (sym sums)
-    (told_text f first kn s (output w.given w.failures) (output v.given v.failures) n t r is (wrote w v (line kn first n t) r e g writes k)) in
-    subst (λ (a : Account). IsSome a.output.given → Tells n t a r (account f first kn s' (output v.given v.failures))) view holds known
+pub told_shown : (self : Account) (f : ExchangeFilter) (form : ExchangeForm) (first : Option ℕ) (kn : List Preparation) (s s' : ExchangeSums) (w v : Written) (n : ℕ) (t : Paired (List ℕ)) (r : Result (Unit {0}) SinkFault) → account f form first kn s (output w.given w.failures) ≡ self → s' ≡ with_one t s → w.waiting ≡ [] → v.waiting ≡ [] → shows f n t ≡ true → Writes w (text_of form kn first n t) r v → IsSome self.output.given → Tells n t self r (account f form first kn s' (output v.given v.failures))
+told_shown self f form first kn s s' w v n t r view sums e g is writes known =
+    let holds : IsSome w.given → Tells n t (account f form first kn s (output w.given w.failures)) r (account f form first kn s' (output v.given v.failures)) =
+    λ k. subst (λ (z : ExchangeSums). Tells n t (account f form first kn s (output w.given w.failures)) r (account f form first kn z (output v.given v.failures))) (sym sums)
+    (told_text f form first kn s (output w.given w.failures) (output v.given v.failures) n t r is (wrote w v (text_of form kn first n t) r e g writes k)) in
+    subst (λ (a : Account). IsSome a.output.given → Tells n t a r (account f form first kn s' (output v.given v.failures))) view holds known
 
-pub told_hidden : (self : Account) (f : ExchangeFilter) (first : Option ℕ) (kn : List Preparation) (s s' : ExchangeSums) (o : Output) (n : ℕ) (t : Paired (List ℕ)) → account f first kn s o ≡ self → s' ≡ with_one t s → shows f n t ≡ false → account f first kn s' o ≡ with_shown n t self
-told_hidden self f first kn s s' o n t view sums is =
-    ap (λ (z : ExchangeSums). account f first kn z o) sums
-    ∙ sym (hidden_is (shows f n t) (account f first kn (with_one t s) (with_text o (line kn first n t))) (account f first kn (with_one t s) o) is)
+pub told_hidden : (self : Account) (f : ExchangeFilter) (form : ExchangeForm) (first : Option ℕ) (kn : List Preparation) (s s' : ExchangeSums) (o : Output) (n : ℕ) (t : Paired (List ℕ)) → account f form first kn s o ≡ self → s' ≡ with_one t s → shows f n t ≡ false → account f form first kn s' o ≡ with_shown n t self
+told_hidden self f form first kn s s' o n t view sums is =
+    ap (λ (z : ExchangeSums). account f form first kn z o) sums
+    ∙ sym (hidden_is (shows f n t) (account f form first kn (with_one t s) (with_text o (text_of form kn first n t))) (account f form first kn (with_one t s) o) is)
     ∙ ap (with_shown n t) view

@@ -6,6 +6,9 @@ pub mod Replies
 pub mod Shown
 pub mod Prepared
 pub mod Lines
+pub mod Members
+pub mod Objects
+pub mod Forms
 pub mod Accounts
 pub mod Talks
 pub mod Tables

@@ -5,6 +5,7 @@ ghost use Rattle.cqlp_text.specs.Outputs.{written};
 ghost use Rattle.cqlp_exchanges.specs.Tables.{unused};
 
 use crate::filter::ExchangeFilter;
+use crate::form::ExchangeForm;
 use crate::prepared::{MOST, Preparation};
 use crate::sums::ExchangeSums;
 use crate::table::Table;
@@ -26,18 +27,18 @@ pub struct ExchangeLimits {
 }
 
 impl ExchangeLimits {
-    /// As many connections as `cqlp_streams::LIMITS` has, and 256 requests of each: some 21 MB.
+    /// 1,024 connections, and 80 requests of each.
     pub const DEFAULT: ExchangeLimits = ExchangeLimits {
-        connections: 256,
-        waiting: 256,
+        connections: 1_024,
+        waiting: 80,
     };
 }
 
 /// How many bytes of a line wait at most.
 const ROOM: usize = 4096;
 
-/// Pairs the requests on the connections of a capture with their responses, and writes the line of each that its filter shows, when the last
-/// byte of the response is there. A connection that begins where as many are watched as there may be is not. All memory is taken in `new`.
+/// Pairs the requests on the connections of a capture with their responses, and writes each that its filter shows, when the last byte of
+/// the response is there. A connection that begins where as many are watched as there may be is not. All memory is taken in `new`.
 #[derive(Drop)]
 pub struct Exchanges<O: Target, A: Allocator = Global> {
     table: Table<A>,
@@ -58,20 +59,26 @@ impl<O: Target, A: Allocator> Exchanges<O, A> {
     ghost use Rattle.cqlp_streams.specs.Sayings.{Left, New, Of, Packet, saying_of};
     ghost use Rattle.cqlp_exchanges.specs.Listening.{Hears, new_listening, with_saying};
 
-    /// Nothing is watched, and lines go to this output. All memory is taken here, in one request for each connection of the limit and three more; where
+    /// Nothing is watched, and exchanges go to this output in this form. All memory is taken here, in one request for each connection of the limit and three more; where
     /// it is not granted, the output is given back.
-    pub fn new(alloc: A, limits: ExchangeLimits, filter: ExchangeFilter, out: O) -> Result<Self, O>
+    pub fn new(
+        alloc: A,
+        limits: ExchangeLimits,
+        filter: ExchangeFilter,
+        form: ExchangeForm,
+        out: O,
+    ) -> Result<Self, O>
     where
         A: Clone,
         requires { 1 ≤ limits.waiting }
-        ensures ok { IfOk result (λ e. e ≡ new_listening limits filter (written O.Target out)) }
+        ensures ok { IfOk result (λ e. e ≡ new_listening limits filter form (written O.Target out)) }
         ensures err { IfErr result (λ o. written O.Target o ≡ written O.Target out) }
     {
         match take_memory(alloc, limits) {
             Ok((table, buffer, known)) => Ok(Exchanges {
                 table,
                 time: None,
-                teller: Teller::new(filter, out, buffer, known),
+                teller: Teller::new(filter, form, out, buffer, known),
             }),
             Err(AllocError) => Err(out),
         }

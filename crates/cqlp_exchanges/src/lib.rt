@@ -4,8 +4,11 @@
 mod capturing;
 mod exchanges;
 mod filter;
+mod form;
 pub mod laws;
 mod lines;
+mod member;
+mod object;
 mod prepared;
 mod reply;
 mod shown;
@@ -19,5 +22,6 @@ mod teller;
 pub use capturing::write_exchanges;
 pub use exchanges::{ExchangeLimits, Exchanges};
 pub use filter::ExchangeFilter;
+pub use form::ExchangeForm;
 pub use statement::{Statement, statement_of};
 pub use sums::ExchangeSums;

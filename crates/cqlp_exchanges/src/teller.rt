@@ -1,10 +1,14 @@
-//! What is told of requests and responses, on its way to lines.
+//! What is told of requests and responses, on its way to an output.
 
-ghost use Rattle.std.specs.Prelude.{◌≡◌, IsSome};
+ghost use Rattle.std.specs.Prelude.{◌≡◌, [], IsSome};
+ghost use Rattle.cqlp_text.specs.Written.{Writes};
+ghost use Rattle.cqlp_exchanges.specs.Forms.{text_of};
 ghost use Rattle.cqlp_text.specs.Outputs.{written};
 
 use crate::filter::ExchangeFilter;
+use crate::form::ExchangeForm;
 use crate::lines::put_line;
+use crate::object::put_json_line;
 use crate::prepared::{Preparation, add_known, is_news};
 use crate::sums::ExchangeSums;
 use cqlp_grammar::SinkFault;
@@ -14,10 +18,11 @@ use cqlp_watch::{Kept, Message, Paired};
 use std::alloc::{Allocator, Global};
 use std::marker::Model;
 
-/// Counts what is told of requests and responses, and writes a line of what is shown. Takes no memory.
+/// Counts what is told of requests and responses, and writes what is shown. Takes no memory.
 #[derive(Drop)]
 pub(crate) struct Teller<O: Target, A: Allocator = Global> {
     filter: ExchangeFilter,
+    form: ExchangeForm,
     /// When the first packet was captured.
     first: Option<u64>,
     /// The statements that were prepared last.
@@ -33,7 +38,7 @@ impl<O: Target, A: Allocator> Model for Teller<O, A> {
 
     ghost Value = { Account };
 
-    ghost view = { λ t. account t.filter t.first t.known.items t.sums (output t.writer.given t.writer.failures) };
+    ghost view = { λ t. account t.filter t.form t.first t.known.items t.sums (output t.writer.given t.writer.failures) };
 
     ghost invariant = { λ t. (t.writer.waiting ≡ []) × (length t.known.items ≤ 256) × (256 ≤ vec_capacity t.known) };
 }
@@ -47,6 +52,7 @@ impl<O: Target, A: Allocator> Teller<O, A> {
     /// Of an output, with nothing told. A line waits in the buffer until it is whole, as far as there is room for it.
     pub(crate) fn new(
         filter: ExchangeFilter,
+        form: ExchangeForm,
         out: O,
         buffer: Vec<u8, A>,
         known: Vec<Preparation, A>,
@@ -54,10 +60,11 @@ impl<O: Target, A: Allocator> Teller<O, A> {
         requires buffer { 128 ≤ vec_len buffer }
         requires none { known.items ≡ [] }
         requires room { 256 ≤ vec_capacity known }
-        ensures { result ≡ account filter None [] no_sums (written O.Target out) }
+        ensures { result ≡ account filter form None [] no_sums (written O.Target out) }
     {
         Teller {
             filter,
+            form,
             first: None,
             known,
             sums: ExchangeSums::none(),
@@ -72,6 +79,7 @@ impl<O: Target, A: Allocator> Teller<O, A> {
     {
         let Teller {
             filter: _,
+            form: _,
             first: _,
             known: _,
             sums,
@@ -93,7 +101,14 @@ impl<O: Target, A: Allocator> Teller<O, A> {
     {
         self.sums.count(told);
         if self.filter.shows(number, told) {
-            put_line(&mut self.writer, &self.known, self.first, number, told)
+            put_told(
+                &mut self.writer,
+                self.form,
+                &self.known,
+                self.first,
+                number,
+                told,
+            )
         } else {
             Ok(())
         }
@@ -134,5 +149,23 @@ impl<O: Target, A: Allocator> Teller<O, A> {
             let one = Preparation { request, response };
             add_known(&mut self.known, one);
         }
+    }
+}
+
+/// Takes what is written of what is told of the connection with this number, and passes it on.
+fn put_told<W: Target, A: Allocator>(
+    writer: &mut TextWriter<Buffered<W, A>>,
+    form: ExchangeForm,
+    known: &[Preparation],
+    first: Option<u64>,
+    number: u64,
+    told: &Paired<Kept>,
+) -> Result<(), SinkFault>
+    ensures text { Writes writer.old (text_of form known.now first number told.now) result writer.new }
+    ensures passed { writer.new.waiting ≡ [] }
+{
+    match form {
+        ExchangeForm::Lines => put_line(writer, known, first, number, told),
+        ExchangeForm::Json => put_json_line(writer, known, first, number, told),
     }
 }
