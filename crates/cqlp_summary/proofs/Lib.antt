@@ -1,0 +1,4 @@
+mod Bounds
+mod Lists
+mod Names
+mod Texts

@@ -1,0 +1,26 @@
+use Rattle.std.proofs.Common.{refl}
+use Rattle.cqlp_text.proofs.Writing.{progress_starts}
+use Rattle.cqlp_summary.proofs.Texts.{said_last, said_next, said_stops}
+use Rattle.cqlp_summary.proofs.lines.put_name.Goals as goal
+
+pub returns-in_err-put : goal.returns-in_err-put
+returns-in_err-put g c =
+    said_stops _ c.from_residual.result c.from_residual.ensures.0 (progress_starts _ _) refl refl c.in_err-put.ensures
+
+pub returns-in_err-put_in_one_line : goal.returns-in_err-put_in_one_line
+returns-in_err-put_in_one_line g c =
+    let s1 = said_next _ (progress_starts _ _) refl refl c.in_ok-put.ensures in
+    said_stops _ c.from_residual-in_err-put_in_one_line.result c.from_residual-in_err-put_in_one_line.ensures.0 s1 refl refl c.in_err-put_in_one_line.ensures
+
+pub returns-in_err-put_str : goal.returns-in_err-put_str
+returns-in_err-put_str g c =
+    let s1 = said_next _ (progress_starts _ _) refl refl c.in_ok-put.ensures in
+    let s2 = said_next _ s1 refl refl c.in_ok-put_in_one_line.ensures in
+    said_stops _ c.from_residual-in_err-put_str.result c.from_residual-in_err-put_str.ensures.0 s2 refl c.more.ensures c.in_err-put_str.ensures
+
+pub returns : goal.returns
+returns g c =
+    let s1 = said_next _ (progress_starts _ _) refl refl c.in_ok-put.ensures in
+    let s2 = said_next _ s1 refl refl c.in_ok-put_in_one_line.ensures in
+    let s3 = said_next _ s2 refl c.more.ensures c.in_ok-put_str.ensures in
+    said_last _ _ c.put-2.result s3 refl refl c.put-2.ensures

@@ -1,0 +1,18 @@
+-- What is counted of a statement.
+use Rattle.std.specs.Prelude.{ℕ, List}
+
+-- how often it was asked for, how often it was answered by an ERROR, rows, bytes; how many of the times are known, their sum, the greatest of
+-- them, and how many there are in each bucket
+pub record Tally : Type 0 where
+  pub count : ℕ
+  pub errors : ℕ
+  pub rows : ℕ
+  pub bytes : ℕ
+  pub timed : ℕ
+  pub time : ℕ
+  pub greatest : ℕ
+  pub buckets : List ℕ
+
+abbrev pub tally : (count errors rows bytes timed time greatest : ℕ) → List ℕ → Tally
+tally count errors rows bytes timed time greatest buckets =
+    record { count = count; errors = errors; rows = rows; bytes = bytes; timed = timed; time = time; greatest = greatest; buckets = buckets }

@@ -1,0 +1,65 @@
+-- Laws of summaries.
+use Rattle.std.specs.Prelude.{◌≡◌, ℕ, ◌+◌, ◌-◌, ◌*◌, ◌^◌, ◌<◌, ◌≤◌, nat_le, nat_lt, List, [], ◌∷◌, ◌++◌, Option, Some, None, length}
+use Rattle.std.specs.List.{filter, All}
+use Rattle.cqlp_summary.specs.declared.occurrence.Occurrence.{Occurrence}
+use Rattle.cqlp_summary.specs.Buckets.{bucket_of, greatest_in}
+use Rattle.cqlp_summary.specs.Counts.{Tally}
+use Rattle.cqlp_summary.specs.Order.{rank_of, tally_at}
+use Rattle.cqlp_summary.specs.Summaries.{Summary, new_summary, noted}
+use Rattle.cqlp_summary.specs.Tallies.{none_counted, tallied, time_at}
+
+-- ---- what one call answers is what any call answers
+
+abbrev pub OneAnswerOfNew : Type 0
+OneAnswerOfNew = (n : ℕ) (s t : Summary) → s ≡ new_summary n → t ≡ new_summary n → t ≡ s
+
+abbrev pub OneAnswerOfNote : Type 0
+OneAnswerOfNote = (old s t : Summary) (o : Occurrence) → s ≡ noted o old → t ≡ noted o old → t ≡ s
+
+-- ---- buckets: a time lies in its bucket, and what is told of it is at most 1/32 more
+
+abbrev pub LiesInItsBucket : Type 0
+LiesInItsBucket =
+    (time : ℕ) → time < 2 ^ 64 → (time ≤ greatest_in (bucket_of time)) × (32 * (greatest_in (bucket_of time) - time) ≤ time)
+
+-- ---- the time at a rank
+
+abbrev pub with_known : Option ℕ → List ℕ → List ℕ
+with_known None times = times
+with_known (Some n) times = n ∷ times
+
+-- the known times among occurrences, in order
+abbrev pub times_in : List Occurrence → List ℕ
+times_in [] = []
+times_in (o ∷ os) = with_known o.took (times_in os)
+
+-- what is counted of occurrences, and then of these
+abbrev pub tallied_all : List Occurrence → Tally → Tally
+tallied_all [] t = t
+tallied_all (o ∷ os) t = tallied_all os (tallied o t)
+
+-- Of the times, fewer than so many are less than this one, and at least so many are not above it.
+pub record IsAtRank (rank : ℕ) (times : List ℕ) (time : ℕ) : Type 0 where
+  pub below : length (filter (λ t. nat_lt t time) times) < rank
+  pub within : rank ≤ length (filter (λ t. nat_le t time) times)
+
+-- What is told of a rank is at least the time at this rank, and at most 1/32 more.
+abbrev pub TellsTimeAtRank : Type 0
+TellsTimeAtRank =
+    (os : List Occurrence) (rank time : ℕ) → length (times_in os) < 2 ^ 64 → All (λ t. t < 2 ^ 64) (times_in os) → time < 2 ^ 64
+    → IsAtRank rank (times_in os) time
+    → (time ≤ time_at rank (tallied_all os none_counted)) × (32 * (time_at rank (tallied_all os none_counted) - time) ≤ time)
+
+-- ---- the order
+
+-- Of two places each has its own rank, less than how many there are: the one that took more has the lesser, and of two that took as much the one in front.
+abbrev pub EachHasItsRank : Type 0
+EachHasItsRank = (ts : List Tally) (place : ℕ) → place < length ts → rank_of place ts < length ts
+
+abbrev pub DearerComesFirst : Type 0
+DearerComesFirst =
+    (ts : List Tally) (a b : ℕ) → a < length ts → b < length ts → (tally_at ts b).time < (tally_at ts a).time → rank_of a ts < rank_of b ts
+
+abbrev pub FirstComesFirst : Type 0
+FirstComesFirst =
+    (ts : List Tally) (a b : ℕ) → a < b → b < length ts → (tally_at ts b).time ≡ (tally_at ts a).time → rank_of a ts < rank_of b ts

@@ -1,0 +1,15 @@
+//! How much time the statements of a capture took, in a table of bounded size.
+#![tactic(auto)]
+
+mod buckets;
+mod columns;
+pub mod laws;
+mod lines;
+mod name;
+mod occurrence;
+mod order;
+mod summary;
+mod tally;
+
+pub use occurrence::Occurrence;
+pub use summary::Summary;
