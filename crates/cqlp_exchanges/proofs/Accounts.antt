@@ -5,14 +5,15 @@ use Rattle.cqlp_grammar.specs.declared.sink.SinkFault.{SinkFault}
 use Rattle.cqlp_text.specs.Outputs.{Output, WritesText, output, with_text}
 use Rattle.cqlp_text.specs.Written.{Written, Writes}
 use Rattle.cqlp_text.proofs.Writing.{known_text}
+use Rattle.cqlp_summary.specs.Summaries.{Summary}
 use Rattle.cqlp_watch.specs.declared.paired.Paired.{Paired}
 use Rattle.cqlp_exchanges.specs.declared.filter.ExchangeFilter.{ExchangeFilter}
 use Rattle.cqlp_exchanges.specs.declared.form.ExchangeForm.{ExchangeForm}
 use Rattle.cqlp_exchanges.specs.declared.prepared.Preparation.{Preparation}
 use Rattle.cqlp_exchanges.specs.declared.sums.ExchangeSums.{ExchangeSums}
-use Rattle.cqlp_exchanges.specs.Accounts.{Account, Stops, StopsAmong, Tells, TellsAll, account, learned, with_all, with_one, with_shown, with_told}
+use Rattle.cqlp_exchanges.specs.Accounts.{Account, Finishes, Stops, StopsAmong, Tells, TellsAll, account, learned, with_all, with_one, with_shown, with_told}
 use Rattle.cqlp_exchanges.specs.Filters.{shows}
-use Rattle.cqlp_exchanges.specs.Forms.{text_of}
+use Rattle.cqlp_exchanges.specs.Forms.{ending_of, noted_in, text_of}
 
 pub with_others : (n : ℕ) (ts us : List (Paired (List ℕ))) (a : Account) → with_all n (ts ++ us) a ≡ with_all n us (with_all n ts a)
 with_others n [] us a = refl
@@ -85,25 +86,40 @@ hidden_is : {X : Type 0} (d : Bool) (x y : X) → d ≡ false → (if d then x e
 hidden_is true x y e = absurd cc
 hidden_is false x y e = refl
 
-told_text : (f : ExchangeFilter) (form : ExchangeForm) (first : Option ℕ) (kn : List Preparation) (s : ExchangeSums) (old new : Output) (n : ℕ) (t : Paired (List ℕ)) (r : Result (Unit {0}) SinkFault) → shows f n t ≡ true → WritesText old (text_of form kn first n t) r new → Tells n t (account f form first kn s old) r (account f form first kn (with_one t s) new)
-told_text f form first kn s old new n t (Ok u) is writes =
-    ap (λ (o : Output). account f form first kn (with_one t s) o) writes ∙ sym (shown_is (shows f n t) (account f form first kn (with_one t s) (with_text old (text_of form kn first n t))) (account f form first kn (with_one t s) old) is)
-told_text f form first kn s old new n t (Err e) is writes = record { is_shown = is; rest = refl; within = writes }
+told_text : (f : ExchangeFilter) (form : ExchangeForm) (first : Option ℕ) (kn : List Preparation) (m : Summary) (s : ExchangeSums) (old new : Output) (n : ℕ) (t : Paired (List ℕ)) (r : Result (Unit {0}) SinkFault) → shows f n t ≡ true → WritesText old (text_of form kn first n t) r new → Tells n t (account f form first kn m s old) r (account f form first kn (noted_in form kn t m) (with_one t s) new)
+told_text f form first kn m s old new n t (Ok u) is writes =
+    let m' = noted_in form kn t m in
+    ap (λ (o : Output). account f form first kn m' (with_one t s) o) writes ∙ sym (shown_is (shows f n t) (account f form first kn m' (with_one t s) (with_text old (text_of form kn first n t))) (account f form first kn m (with_one t s) old) is)
+told_text f form first kn m s old new n t (Err e) is writes = record { is_shown = is; rest = refl; within = writes }
 
 -- a line was passed on, before and after which nothing waits
 wrote : (w v : Written) (text : List ℕ) (r : Result (Unit {0}) SinkFault) → w.waiting ≡ [] → v.waiting ≡ [] → Writes w text r v → IsSome w.given → WritesText (output w.given w.failures) text r (output v.given v.failures)
 wrote w v text r e g writes known =
     known_text w v w.given v.given w.failures v.failures w.lender text r (λ i. record { given = w.given; failures = w.failures; waiting = e i; lender = w.lender }) refl g writes known
 
-pub told_shown : (self : Account) (f : ExchangeFilter) (form : ExchangeForm) (first : Option ℕ) (kn : List Preparation) (s s' : ExchangeSums) (w v : Written) (n : ℕ) (t : Paired (List ℕ)) (r : Result (Unit {0}) SinkFault) → account f form first kn s (output w.given w.failures) ≡ self → s' ≡ with_one t s → w.waiting ≡ [] → v.waiting ≡ [] → shows f n t ≡ true → Writes w (text_of form kn first n t) r v → IsSome self.output.given → Tells n t self r (account f form first kn s' (output v.given v.failures))
-told_shown self f form first kn s s' w v n t r view sums e g is writes known =
-    let holds : IsSome w.given → Tells n t (account f form first kn s (output w.given w.failures)) r (account f form first kn s' (output v.given v.failures)) =
-    λ k. subst (λ (z : ExchangeSums). Tells n t (account f form first kn s (output w.given w.failures)) r (account f form first kn z (output v.given v.failures))) (sym sums)
-    (told_text f form first kn s (output w.given w.failures) (output v.given v.failures) n t r is (wrote w v (text_of form kn first n t) r e g writes k)) in
-    subst (λ (a : Account). IsSome a.output.given → Tells n t a r (account f form first kn s' (output v.given v.failures))) view holds known
+pub told_shown : (self : Account) (f : ExchangeFilter) (form : ExchangeForm) (first : Option ℕ) (kn : List Preparation) (m m' : Summary) (s s' : ExchangeSums) (w v : Written) (n : ℕ) (t : Paired (List ℕ)) (r : Result (Unit {0}) SinkFault) → account f form first kn m s (output w.given w.failures) ≡ self → s' ≡ with_one t s → m' ≡ noted_in form kn t m → w.waiting ≡ [] → v.waiting ≡ [] → shows f n t ≡ true → Writes w (text_of form kn first n t) r v → IsSome self.output.given → Tells n t self r (account f form first kn m' s' (output v.given v.failures))
+told_shown self f form first kn m m' s s' w v n t r view sums notes e g is writes known =
+    let old = account f form first kn m s (output w.given w.failures) in
+    let holds : IsSome w.given → Tells n t old r (account f form first kn m' s' (output v.given v.failures)) =
+    λ k. subst (λ (z : ExchangeSums). Tells n t old r (account f form first kn m' z (output v.given v.failures))) (sym sums)
+    (subst (λ (y : Summary). Tells n t old r (account f form first kn y (with_one t s) (output v.given v.failures))) (sym notes)
+    (told_text f form first kn m s (output w.given w.failures) (output v.given v.failures) n t r is (wrote w v (text_of form kn first n t) r e g writes k))) in
+    subst (λ (a : Account). IsSome a.output.given → Tells n t a r (account f form first kn m' s' (output v.given v.failures))) view holds known
 
-pub told_hidden : (self : Account) (f : ExchangeFilter) (form : ExchangeForm) (first : Option ℕ) (kn : List Preparation) (s s' : ExchangeSums) (o : Output) (n : ℕ) (t : Paired (List ℕ)) → account f form first kn s o ≡ self → s' ≡ with_one t s → shows f n t ≡ false → account f form first kn s' o ≡ with_shown n t self
-told_hidden self f form first kn s s' o n t view sums is =
-    ap (λ (z : ExchangeSums). account f form first kn z o) sums
-    ∙ sym (hidden_is (shows f n t) (account f form first kn (with_one t s) (with_text o (text_of form kn first n t))) (account f form first kn (with_one t s) o) is)
+pub told_hidden : (self : Account) (f : ExchangeFilter) (form : ExchangeForm) (first : Option ℕ) (kn : List Preparation) (m : Summary) (s s' : ExchangeSums) (o : Output) (n : ℕ) (t : Paired (List ℕ)) → account f form first kn m s o ≡ self → s' ≡ with_one t s → shows f n t ≡ false → account f form first kn m s' o ≡ with_shown n t self
+told_hidden self f form first kn m s s' o n t view sums is =
+    ap (λ (z : ExchangeSums). account f form first kn m z o) sums
+    ∙ sym (hidden_is (shows f n t) (account f form first kn (noted_in form kn t m) (with_one t s) (with_text o (text_of form kn first n t))) (account f form first kn m (with_one t s) o) is)
     ∙ ap (with_shown n t) view
+
+-- ---- the end
+
+finish_text : (f : ExchangeFilter) (form : ExchangeForm) (first : Option ℕ) (kn : List Preparation) (m : Summary) (s : ExchangeSums) (old new : Output) (r : Result (Unit {0}) SinkFault) → WritesText old (ending_of form m) r new → Finishes (account f form first kn m s old) r (account f form first kn m s new)
+finish_text f form first kn m s old new (Ok u) writes = ap (λ (o : Output). account f form first kn m s o) writes
+finish_text f form first kn m s old new (Err e) writes = (refl, writes)
+
+pub finishes : (self : Account) (f : ExchangeFilter) (form : ExchangeForm) (first : Option ℕ) (kn : List Preparation) (m : Summary) (s : ExchangeSums) (w v : Written) (r : Result (Unit {0}) SinkFault) → account f form first kn m s (output w.given w.failures) ≡ self → w.waiting ≡ [] → v.waiting ≡ [] → Writes w (ending_of form m) r v → IsSome self.output.given → Finishes self r (account f form first kn m s (output v.given v.failures))
+finishes self f form first kn m s w v r view e g writes known =
+    let holds : IsSome w.given → Finishes (account f form first kn m s (output w.given w.failures)) r (account f form first kn m s (output v.given v.failures)) =
+    λ k. finish_text f form first kn m s (output w.given w.failures) (output v.given v.failures) r (wrote w v (ending_of form m) r e g writes k) in
+    subst (λ (a : Account). IsSome a.output.given → Finishes a r (account f form first kn m s (output v.given v.failures))) view holds known

@@ -1,5 +1,5 @@
 -- Texts in parts.
-use Rattle.std.proofs.Common.{◌≡◌, ◌∙◌, ◌+◌, ◌<◌, ℕ, List, [], ◌∷◌, ◌++◌, length, take, drop, get_or, add-one, Result, IsErr, refl, sym, ap, arith}
+use Rattle.std.proofs.Common.{◌≡◌, ◌∙◌, ◌+◌, ◌<◌, ℕ, List, [], ◌∷◌, ◌++◌, length, take, drop, get_or, add-one, Result, Some, IsErr, refl, sym, ap, arith, append-nil}
 use Rattle.std.proofs.Math.Seq.{drop-cons}
 use Rattle.std.proofs.lemmas.Grind.{common_steps}
 use Rattle.std.proofs.lemmas.Str.{chars-nil, chars_past_char, utf8_valid_len-IsUtf8}
@@ -41,3 +41,11 @@ shown_at text rest c is parts = ap (flat_map shown) (chars_past_char text rest c
 pub shown_none : (text : List ℕ) → length text ≡ 0 → shown_text text ≡ []
 shown_none [] none = ap (flat_map shown) chars-nil
 shown_none (b ∷ bs) none = absurd (omega arith)
+
+-- nothing is taken, and nothing changes
+pub nothing_taken : (w : Written) → Receives w [] w
+nothing_taken w = record {
+  passed = λ text is. ([], is ∙ ap (λ z. Some z) (sym (append-nil text)), sym (append-nil w.waiting));
+  failures = refl;
+  lender = refl;
+}

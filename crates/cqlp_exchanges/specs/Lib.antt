@@ -8,6 +8,7 @@ pub mod Prepared
 pub mod Lines
 pub mod Members
 pub mod Objects
+pub mod Notings
 pub mod Forms
 pub mod Accounts
 pub mod Talks

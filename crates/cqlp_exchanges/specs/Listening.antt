@@ -1,6 +1,7 @@
 -- What listens to what is told of the connections of a capture, and writes their exchanges.
 use Rattle.std.specs.Prelude.{◌≡◌, ℕ, List, [], replicate, Option, None, Result, Ok, Err}
 use Rattle.cqlp_text.specs.Outputs.{Output}
+use Rattle.cqlp_summary.specs.Summaries.{new_summary}
 use Rattle.cqlp_streams.specs.declared.fault.StreamsFault.{StreamsFault}
 use Rattle.cqlp_streams.specs.declared.fault.StreamsFault.TheVariants as fault
 use Rattle.cqlp_streams.specs.Sayings.{Saying, Packet, New, Of, Left}
@@ -8,6 +9,7 @@ use Rattle.cqlp_exchanges.specs.declared.exchanges.ExchangeLimits.{ExchangeLimit
 use Rattle.cqlp_exchanges.specs.declared.filter.ExchangeFilter.{ExchangeFilter}
 use Rattle.cqlp_exchanges.specs.declared.form.ExchangeForm.{ExchangeForm}
 use Rattle.cqlp_exchanges.specs.Accounts.{Account, StopsAmong, account, no_sums, since, with_all}
+use Rattle.cqlp_exchanges.specs.Forms.{statements_in}
 use Rattle.cqlp_exchanges.specs.Tables.{Change, Slot, begins, change, leaves, tells, unused}
 
 -- the connections that are watched, when the present packet came, and what was told of them
@@ -21,7 +23,7 @@ listening slots time a = record { slots = slots; time = time; account = a }
 
 abbrev pub new_listening : ExchangeLimits → ExchangeFilter → ExchangeForm → Output → Listening
 new_listening limits filter form out =
-    listening (replicate limits.connections (unused limits.waiting)) None (account filter form None [] no_sums out)
+    listening (replicate limits.connections (unused limits.waiting)) None (account filter form None [] (new_summary (statements_in form)) no_sums out)
 
 -- ---- what a saying does: which connection it is of, what is told of that, and the time
 

@@ -1,17 +1,18 @@
 //! A capture whose exchanges are written.
 
-ghost use Rattle.std.specs.Prelude.{◌≡◌, ℕ, List, IfOk, IsSome, Some, string_bytes};
+ghost use Rattle.std.specs.Prelude.{◌≡◌, ℕ, List, IfOk, IsSome, OnOk, Some, string_bytes};
 ghost use Rattle.cqlp_note.specs.Streams.{CountsUp};
 ghost use Rattle.cqlp_text.specs.Endings.{IsStatusOfTask};
 ghost use Rattle.cqlp_text.specs.Outputs.{written};
 ghost use Rattle.cqlp_streams.specs.Endings.{Concludes};
-ghost use Rattle.cqlp_exchanges.specs.Capturing.{Listens, WritesExchanges, sums_words};
+ghost use Rattle.cqlp_exchanges.specs.Capturing.{Closes, Listens, WritesExchanges, sums_words};
 
 use crate::exchanges::{ExchangeLimits, Exchanges};
 use crate::filter::ExchangeFilter;
 use crate::form::ExchangeForm;
 use crate::sums::ExchangeSums;
 use cqlp_connections::ConnectionLimits;
+use cqlp_grammar::SinkFault;
 use cqlp_note::{Source, Target};
 use cqlp_streams::{CaptureRead, StreamsFault, conclude_capture, read_capture};
 use std::alloc::{AllocError, Allocator, Global};
@@ -63,9 +64,28 @@ fn listen<R: Source, O: Target>(
         Ok(exchanges) => exchanges,
         Err(out) => return (Err(StreamsFault::NoMemory), ExchangeSums::none(), out),
     };
-    let answer = read_capture(alloc, LIMITS, ports, input, &mut exchanges);
+    let read = read_capture(alloc, LIMITS, ports, input, &mut exchanges);
+    let answer = finish(&mut exchanges, read);
     let (out, sums) = exchanges.into_parts();
     (answer, sums, out)
+}
+
+/// Where the capture was read, writes what stands at the end.
+fn finish<O: Target>(
+    exchanges: &mut Exchanges<O>,
+    read: Result<CaptureRead, StreamsFault>,
+) -> Result<CaptureRead, StreamsFault>
+    ensures closes { OnOk read (IsSome exchanges.old.account.output.given) →
+        Closes exchanges.old.account read result exchanges.new.account.output }
+    ensures sums { OnOk read (IsSome exchanges.old.account.output.given) → exchanges.new.account.sums ≡ exchanges.old.account.sums }
+{
+    match read {
+        Ok(read) => match exchanges.finish() {
+            Ok(()) => Ok(read),
+            Err(SinkFault) => Err(StreamsFault::Write),
+        },
+        Err(fault) => Err(fault),
+    }
 }
 
 /// Writes the line of how the reading ended. Answers the exit status.

@@ -1,4 +1,4 @@
-//! The lines of the exchanges on the connections of a capture: each request with its reply.
+//! The exchanges on the connections of a capture: each request with its reply, as lines, as JSON, or in a summary.
 #![tactic(auto)]
 
 mod capturing;
@@ -8,6 +8,7 @@ mod form;
 pub mod laws;
 mod lines;
 mod member;
+mod noting;
 mod object;
 mod prepared;
 mod reply;

@@ -133,13 +133,13 @@ module _ {V : Type 0} (after : V → Saying → V) (faulted : V → Saying → S
       (ok_same r' r same, one.2)
 
 -- the line was written, where nothing failed
-concluded : (words : List ℕ) (r : Result CaptureRead StreamsFault) (err err' : Output) (status : ℕ) → Concludes words r err status err' → status ≢ 3 → (status ≡ status_of r) × (err' ≡ with_text err (line_of words r))
+pub concluded : (words : List ℕ) (r : Result CaptureRead StreamsFault) (err err' : Output) (status : ℕ) → Concludes words r err status err' → status ≢ 3 → (status ≡ status_of r) × (err' ≡ with_text err (line_of words r))
 concluded words r err err' status (inl (inl a)) well = a
 concluded words r err err' status (inl (inr (is, x))) well = absurd (well is)
 concluded words r err err' status (inr (inl (is, x))) well = absurd (well is)
 concluded words r err err' status (inr (inr (is, x))) well = absurd (well is)
 
-well_read : (r : Result CaptureRead StreamsFault) → status_of r ≢ 3 → (x : CaptureRead) × (r ≡ Ok x)
+pub well_read : (r : Result CaptureRead StreamsFault) → status_of r ≢ 3 → (x : CaptureRead) × (r ≡ Ok x)
 well_read (Ok x) well = (x, refl)
 well_read (Err f) well = absurd (well refl)
 
