@@ -1,4 +1,7 @@
 mod Bounds
 mod Lists
 mod Names
+mod Orders
+mod Ranks
 mod Texts
+mod Told

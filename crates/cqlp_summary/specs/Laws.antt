@@ -1,9 +1,8 @@
 -- Laws of summaries.
 use Rattle.std.specs.Prelude.{◌≡◌, ℕ, ◌+◌, ◌-◌, ◌*◌, ◌^◌, ◌<◌, ◌≤◌, nat_le, nat_lt, List, [], ◌∷◌, ◌++◌, Option, Some, None, length}
 use Rattle.std.specs.List.{filter, All}
-use Rattle.cqlp_summary.specs.declared.occurrence.Occurrence.{Occurrence}
 use Rattle.cqlp_summary.specs.Buckets.{bucket_of, greatest_in}
-use Rattle.cqlp_summary.specs.Counts.{Tally}
+use Rattle.cqlp_summary.specs.Counts.{Entry, Tally}
 use Rattle.cqlp_summary.specs.Order.{rank_of, tally_at}
 use Rattle.cqlp_summary.specs.Summaries.{Summary, new_summary, noted}
 use Rattle.cqlp_summary.specs.Tallies.{none_counted, tallied, time_at}
@@ -14,7 +13,7 @@ abbrev pub OneAnswerOfNew : Type 0
 OneAnswerOfNew = (n : ℕ) (s t : Summary) → s ≡ new_summary n → t ≡ new_summary n → t ≡ s
 
 abbrev pub OneAnswerOfNote : Type 0
-OneAnswerOfNote = (old s t : Summary) (o : Occurrence) → s ≡ noted o old → t ≡ noted o old → t ≡ s
+OneAnswerOfNote = (old s t : Summary) (e : Entry) → s ≡ noted e old → t ≡ noted e old → t ≡ s
 
 -- ---- buckets: a time lies in its bucket, and what is told of it is at most 1/32 more
 
@@ -28,15 +27,15 @@ abbrev pub with_known : Option ℕ → List ℕ → List ℕ
 with_known None times = times
 with_known (Some n) times = n ∷ times
 
--- the known times among occurrences, in order
-abbrev pub times_in : List Occurrence → List ℕ
+-- the known times among entries, in order
+abbrev pub times_in : List Entry → List ℕ
 times_in [] = []
-times_in (o ∷ os) = with_known o.took (times_in os)
+times_in (e ∷ es) = with_known e.took (times_in es)
 
--- what is counted of occurrences, and then of these
-abbrev pub tallied_all : List Occurrence → Tally → Tally
+-- what is counted already, and then of these
+abbrev pub tallied_all : List Entry → Tally → Tally
 tallied_all [] t = t
-tallied_all (o ∷ os) t = tallied_all os (tallied o t)
+tallied_all (e ∷ es) t = tallied_all es (tallied e t)
 
 -- Of the times, fewer than so many are less than this one, and at least so many are not above it.
 pub record IsAtRank (rank : ℕ) (times : List ℕ) (time : ℕ) : Type 0 where
@@ -46,7 +45,7 @@ pub record IsAtRank (rank : ℕ) (times : List ℕ) (time : ℕ) : Type 0 where
 -- What is told of a rank is at least the time at this rank, and at most 1/32 more.
 abbrev pub TellsTimeAtRank : Type 0
 TellsTimeAtRank =
-    (os : List Occurrence) (rank time : ℕ) → length (times_in os) < 2 ^ 64 → All (λ t. t < 2 ^ 64) (times_in os) → time < 2 ^ 64
+    (os : List Entry) (rank time : ℕ) → length (times_in os) < 2 ^ 64 → All (λ t. t < 2 ^ 64) (times_in os) → time < 2 ^ 64
     → IsAtRank rank (times_in os) time
     → (time ≤ time_at rank (tallied_all os none_counted)) × (32 * (time_at rank (tallied_all os none_counted) - time) ≤ time)
 

@@ -5,5 +5,6 @@ pub mod Laws
 pub mod Lines
 pub mod Names
 pub mod Order
+pub mod Shown
 pub mod Summaries
 pub mod Tallies

@@ -1,13 +1,14 @@
 -- What a summary says.
 use Rattle.std.specs.Prelude.{ℕ, ◌==◌, nat_lt, Bool, true, false, List, [], ◌∷◌, ◌++◌, Option, Some, None, codes, length, slice_index_or, take, if◌then◌else◌}
 use Rattle.std.specs.List.{flat_map}
-use Rattle.cqlp_text.specs.Text.{in_one_line}
+use Rattle.std.specs.Str.Lossy.{utf8_valid_len}
 use Rattle.cqlp_summary.specs.declared.tally.Figures.{Figures}
 use Rattle.cqlp_summary.specs.declared.tally.Times.{Times}
 use Rattle.cqlp_summary.specs.Columns.{joined, number_column, share_of, share_text, text_column, time_column}
 use Rattle.cqlp_summary.specs.Counts.{Tally}
 use Rattle.cqlp_summary.specs.Names.{Name, name}
 use Rattle.cqlp_summary.specs.Order.{rank_of, tally_at, upto}
+use Rattle.cqlp_summary.specs.Shown.{shown_text}
 use Rattle.cqlp_summary.specs.Summaries.{Summary}
 use Rattle.cqlp_summary.specs.Tallies.{counted, figures_of, none_counted}
 
@@ -19,8 +20,12 @@ abbrev pub more : (is_whole : Bool) → List ℕ
 more true = []
 more false = codes ".."
 
+-- the longest front that is UTF-8
+abbrev pub text_front : List ℕ → List ℕ
+text_front bytes = take (utf8_valid_len bytes) bytes
+
 abbrev pub name_text : Name → List ℕ
-name_text n = joined (codes " " ∷ in_one_line n.bytes ∷ more n.is_whole ∷ codes "\n" ∷ [])
+name_text n = joined (codes " " ∷ shown_text (text_front n.bytes) ∷ more n.is_whole ∷ codes "\n" ∷ [])
 
 abbrev pub counts_text : Figures → List ℕ
 counts_text f =

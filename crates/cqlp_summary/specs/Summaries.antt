@@ -1,8 +1,7 @@
 -- The statements of a capture.
 use Rattle.std.specs.Prelude.{ℕ, ◌+◌, nat_lt, List, [], ◌∷◌, ◌++◌, length, replicate, Option, Some, None, if◌then◌else◌, slice_index_or, slice_set}
 use Rattle.std.specs.List.{position}
-use Rattle.cqlp_summary.specs.declared.occurrence.Occurrence.{Occurrence}
-use Rattle.cqlp_summary.specs.Counts.{Tally}
+use Rattle.cqlp_summary.specs.Counts.{Entry, Tally}
 use Rattle.cqlp_summary.specs.Names.{Name, is_same, name_of}
 use Rattle.cqlp_summary.specs.Tallies.{none_counted, tallied}
 
@@ -34,11 +33,11 @@ names_with None n statements names = if nat_lt (length names) statements then na
 abbrev pub with_name : Name → Summary → Summary
 with_name n s = summary s.statements (names_with (position (is_same n) s.names) n s.statements s.names) s.tallies
 
-abbrev pub with_tally_at : ℕ → Occurrence → Summary → Summary
-with_tally_at at o s = summary s.statements s.names (slice_set s.tallies at (tallied o (slice_index_or s.tallies at none_counted)))
+abbrev pub with_tally_at : ℕ → Entry → Summary → Summary
+with_tally_at at e s = summary s.statements s.names (slice_set s.tallies at (tallied e (slice_index_or s.tallies at none_counted)))
 
-abbrev pub occurrence_name : Occurrence → Name
-occurrence_name o = name_of o.name.now o.is_whole_name
+abbrev pub entry_name : Entry → Name
+entry_name e = name_of e.name e.is_whole_name
 
-abbrev pub noted : Occurrence → Summary → Summary
-noted o s = with_tally_at (place_of (occurrence_name o) s) o (with_name (occurrence_name o) s)
+abbrev pub noted : Entry → Summary → Summary
+noted e s = with_tally_at (place_of (entry_name e) s) e (with_name (entry_name e) s)

@@ -1,10 +1,9 @@
 -- Occurrences of a statement are counted, and what is told of them.
 use Rattle.std.specs.Prelude.{ℕ, ◌+◌, ◌-◌, ◌/◌, ◌^◌, ◌==◌, Bool, true, false, nat_le, List, [], ◌∷◌, replicate, min, max, Option, Some, None, if◌then◌else◌, slice_index_or, slice_set}
-use Rattle.cqlp_summary.specs.declared.occurrence.Occurrence.{Occurrence}
 use Rattle.cqlp_summary.specs.declared.tally.Figures.{Figures}
 use Rattle.cqlp_summary.specs.declared.tally.Times.{Times}
 use Rattle.cqlp_summary.specs.Buckets.{bucket_of, greatest_in}
-use Rattle.cqlp_summary.specs.Counts.{Tally, tally}
+use Rattle.cqlp_summary.specs.Counts.{Entry, Tally, tally}
 
 -- so many more, up to what a number holds
 abbrev pub counted : ℕ → (more : ℕ) → ℕ
@@ -29,7 +28,7 @@ abbrev pub error_count : (is_error : Bool) → ℕ
 error_count true = 1
 error_count false = 0
 
-abbrev pub tallied : Occurrence → Tally → Tally
+abbrev pub tallied : Entry → Tally → Tally
 tallied o t =
     with_time_if o.took
     (tally (counted t.count 1) (counted t.errors (error_count o.is_error)) (counted t.rows o.rows) (counted t.bytes o.bytes)

@@ -8,8 +8,10 @@ mod lines;
 mod name;
 mod occurrence;
 mod order;
+mod shown;
 mod summary;
 mod tally;
 
 pub use occurrence::Occurrence;
+pub use shown::put_shown_text;
 pub use summary::Summary;

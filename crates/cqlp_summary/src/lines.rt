@@ -3,12 +3,13 @@
 ghost use Rattle.std.specs.Prelude.{◌≡◌, ◌<◌, length};
 ghost use Rattle.cqlp_text.specs.Written.{Writes};
 ghost use Rattle.cqlp_summary.specs.Lines.{counts_text, figures_line, known_and_others, line_at, line_if, lines, lines_of_rank};
-ghost use Rattle.cqlp_summary.specs.Lines.{more, name_text, others_line, time_with, times_text};
+ghost use Rattle.cqlp_summary.specs.Lines.{more, name_text, others_line, text_front, time_with, times_text};
 ghost use Rattle.cqlp_summary.specs.Names.{name};
 
 use crate::columns::{put_number_column, put_share, put_text_column, put_time_column, share_of};
 use crate::name::Name;
 use crate::order::rank_of;
+use crate::shown::put_shown_text;
 use crate::tally::{Figures, Tally, Times};
 use cqlp_grammar::SinkFault;
 use cqlp_text::{Pen, TextWriter};
@@ -189,9 +190,20 @@ fn put_name<P: Pen>(
     ensures { Writes writer.old (name_text (name bytes.now is_whole)) result writer.new }
 {
     writer.put(b" ")?;
-    writer.put_in_one_line(bytes)?;
+    put_shown_text(writer, text_front(bytes))?;
     writer.put_str(more(is_whole))?;
     writer.put(b"\n")
+}
+
+/// The longest front of bytes that is UTF-8.
+fn text_front(bytes: &[u8]) -> &str
+    ensures { result.now ≡ text_front bytes.now }
+{
+    match str::from_utf8(bytes) {
+        Ok(text) => text,
+        // SAFETY: the bytes up to there are UTF-8.
+        Err(error) => unsafe { str::from_utf8_unchecked(&bytes[..error.valid_up_to()]) },
+    }
 }
 
 /// What stands behind a name that is not whole.

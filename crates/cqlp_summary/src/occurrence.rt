@@ -3,7 +3,7 @@
 /// One time that a statement was asked for.
 #[derive(Clone, Copy, Debug)]
 pub struct Occurrence<'a> {
-    /// What the statement is called, as it is to stand in a line: what a terminal may obey is escaped by the caller. At most its first 256 bytes are kept.
+    /// What the statement is called, as its text. At most the first 256 bytes are kept.
     pub name: &'a [u8],
     /// Whether `name` is all of the statement's name.
     pub is_whole_name: bool,

@@ -37,6 +37,7 @@ impl<A: Allocator> Model for Summary<A> {
 }
 
 impl<A: Allocator> Summary<A> {
+    ghost use Rattle.cqlp_summary.specs.Counts.{entry_of};
     ghost use Rattle.cqlp_summary.specs.Summaries.{new_summary, noted, place_of, with_name};
 
     /// Nothing is noted. At most so many statements will be told apart. All memory is taken here, in two requests.
@@ -54,7 +55,7 @@ impl<A: Allocator> Summary<A> {
 
     /// Counts one time that a statement was asked for.
     pub fn note(&mut self, occurrence: &Occurrence<'_>)
-        ensures { self.new ≡ noted occurrence.now self.old }
+        ensures { self.new ≡ noted (entry_of occurrence.now) self.old }
     {
         let name = Name::new(occurrence.name, occurrence.is_whole_name);
         let at = self.place_for(name);

@@ -58,6 +58,7 @@ pub(crate) struct Times {
 }
 
 impl Tally {
+    ghost use Rattle.cqlp_summary.specs.Counts.{entry_of};
     ghost use Rattle.cqlp_summary.specs.Tallies.{figures_of, none_counted, tallied, time_at, times_of, with_time};
 
     /// Nothing is counted.
@@ -91,7 +92,7 @@ impl Tally {
 
     /// Counts one time that it was asked for.
     pub(crate) fn add(&mut self, occurrence: &Occurrence<'_>)
-        ensures { self.new ≡ tallied occurrence.now self.old }
+        ensures { self.new ≡ tallied (entry_of occurrence.now) self.old }
     {
         self.count = self.count.saturating_add(1);
         self.errors = self.errors.saturating_add(error_count(occurrence.is_error));
