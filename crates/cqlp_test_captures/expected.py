@@ -371,7 +371,7 @@ class Side:
                 self.frame['left'] -= len(part)
                 self.frame['ended'] = time
                 if self.frame['whole']:
-                    self.frame['kept'] = (self.frame['kept'] + part)[:256]
+                    self.frame['body'] += part
                 self.next += len(part)
             elif self.lost:
                 if begins and header_of(data, self.responses):
@@ -389,7 +389,7 @@ class Side:
                     self.lost = not found
                     if found:
                         opcode, stream, length, flags = found
-                        self.frame = {'opcode': opcode, 'flags': flags, 'stream': stream, 'length': length, 'at': self.at, 'begun': self.begun, 'ended': time, 'whole': True, 'left': length, 'kept': b''}
+                        self.frame = {'opcode': opcode, 'flags': flags, 'stream': stream, 'length': length, 'at': self.at, 'begun': self.begun, 'ended': time, 'whole': True, 'left': length, 'body': b''}
             begins = False
 
     def ended(self):
@@ -408,10 +408,158 @@ class Side:
         return [frame] if frame else []
 
 
+class Short(Exception):
+    """The body ends early, or the reading gives up."""
+
+
+class Body:
+    """Bytes of a body, read from left to right."""
+
+    def __init__(self, data):
+        self.data, self.at = data, 0
+
+    def take(self, size):
+        if len(self.data) < self.at + size:
+            self.at = len(self.data)
+            raise Short
+        self.at += size
+        return self.data[self.at - size:self.at]
+
+    def number(self, size, signed=False):
+        return int.from_bytes(self.take(size), 'big', signed=signed)
+
+    def string(self):
+        return self.take(self.number(2))
+
+    def content(self, least):
+        """A content after its length, which may be negative down to some number."""
+        size = self.number(4, True)
+        if size < least:
+            raise Short
+        self.take(max(size, 0))
+
+    def type(self, depth, more):
+        """A type, after which more is to come, or not, of what lies within so many UDTs of which more is to come. There may be three of these."""
+        kind = self.number(2)
+        if kind == 0:
+            self.string()
+        elif kind in (0x20, 0x22):
+            self.type(depth, more)
+        elif kind == 0x21:
+            self.type(depth, True), self.type(depth, more)
+        elif kind == 0x30:
+            self.string(), self.string()
+            count = self.number(2)
+            if more and depth == 3:
+                raise Short
+            for i in range(count):
+                self.string(), self.type(depth + more, i < count - 1)
+        elif kind == 0x31:
+            count = self.number(2)
+            for i in range(count):
+                self.type(depth, more or i < count - 1)
+        elif kind > 0x14 or kind == 0x0A:
+            raise Short
+
+
+def tell_request(body, kind, said):
+    """Sections 4.1.4 to 4.1.7."""
+    if kind == 'Batch':
+        body.take(1)
+        for _ in range(body.number(2)):
+            entry = body.number(1)
+            if entry > 1:
+                raise Short
+            body.string() if entry else body.content(0)
+            for _ in range(body.number(2)):
+                body.content(-2)
+        said['consistency'] = body.number(2)
+        return
+    body.string() if kind == 'Execute' else body.content(0)
+    said['consistency'] = body.number(2)
+    flags = body.number(1)
+    if flags & 1:
+        for _ in range(body.number(2)):
+            if flags & 0x40:
+                body.string()
+            body.content(-2)
+    if flags & 4:
+        said['page'] = body.number(4, True)
+
+
+def tell_result(body, said):
+    """Sections 4.2.5 and 4.2.5.2."""
+    said['result'] = body.number(4)
+    if said['result'] != 2:
+        return
+    flags, columns = body.number(4), body.number(4, True)
+    if columns < 0:
+        raise Short
+    said['columns'] = columns
+    if flags & 2:
+        body.content(-2**31)
+    if not flags & 4:
+        if flags & 1:
+            body.string(), body.string()
+        for i in range(columns):
+            for _ in range(1 if flags & 1 else 3):
+                body.string()
+            body.type(0, i < columns - 1)
+    rows = body.number(4, True)
+    if rows >= 0:
+        said['rows'] = rows
+
+
+def facts(frame):
+    """How many bytes of a body come before the message proper (section 2.2), and what the body says beside its first field."""
+    kind, flags, said = OPCODES[frame['opcode']], frame['flags'], {}
+    body, is_response, before = Body(frame['body']), frame['opcode'] not in REQUESTS, None
+    try:
+        if not flags & 1:
+            if is_response and flags & 2:
+                said['trace'] = sum_of(body.take(16))
+            if is_response and flags & 8:
+                said['warnings'] = body.number(2)
+                for _ in range(said['warnings']):
+                    body.string()
+            if flags & 4:
+                for _ in range(body.number(2)):
+                    body.string(), body.content(-2**31)
+            before = body.at
+            if kind in ('Query', 'Execute', 'Batch'):
+                tell_request(body, kind, said)
+            elif kind == 'Error':
+                said['error'] = body.number(4)
+            elif kind == 'Result':
+                tell_result(body, said)
+        else:
+            before = 0
+    except Short:
+        before = len(frame['body']) if before is None else before
+    names = ('consistency', 'page', 'trace', 'warnings', 'result', 'error', 'columns', 'rows')
+    return before, ''.join(f' {name} {said[name]}' for name in names if name in said)
+
+
+def front(frame):
+    """The first bytes of the message proper."""
+    return frame['body'][facts(frame)[0]:][:256]
+
+
+def growing(file):
+    """What is said of a frame's body as it grows, where that is something new, and of all of it."""
+    opcode, stream, length, flags = header_of(file, file[0] == 0x84)
+    last = ''
+    for size in range(length + 1):
+        before, said = facts({'opcode': opcode, 'flags': flags, 'body': file[9:9 + size]})
+        if said != last or size == length:
+            yield f'{size}: before {before}{said}'
+        last = said
+
+
 def subject(frame):
     """The text of a QUERY or PREPARE, the id of an EXECUTE, the code of an ERROR or the kind of a RESULT."""
-    kind, body = OPCODES[frame['opcode']], frame['kept']
-    if frame['flags'] & (5 if frame['opcode'] in REQUESTS else 15):
+    kind, body = OPCODES[frame['opcode']], front(frame)
+    if frame['flags'] & 1:
         return ''
     if kind in ('Query', 'Prepare') and len(body) >= 4:
         size = struct.unpack_from('>i', body)[0]
@@ -432,7 +580,7 @@ def exchanges(port, limit, file):
 
     def name(frame):
         cut = '' if frame['whole'] else ' cut'
-        return f"{frame['stream']} {OPCODES[frame['opcode']]} {frame['length']} at {frame['at']}{cut} from {frame['begun']} to {frame['ended']} kept {sum_of(frame['kept'])}{subject(frame)}"
+        return f"{frame['stream']} {OPCODES[frame['opcode']]} {frame['length']} at {frame['at']}{cut} from {frame['begun']} to {frame['ended']} kept {sum_of(front(frame))}{subject(frame)}{facts(frame)[1]}"
 
     def tell(number, side, frames):
         open_requests = waiting[number - 1]
@@ -559,7 +707,8 @@ for line in sys.stdin:
     of_streams, small = line.startswith('streams '), line.startswith('small ')
     of_connections = line.startswith('connections ')
     of_exchanges = line.startswith('exchanges ')
-    name, digits = line.rstrip('\n').removeprefix('streams ').removeprefix('small '), None
+    of_facts = line.startswith('facts ')
+    name, digits = line.rstrip('\n').removeprefix('streams ').removeprefix('small ').removeprefix('facts '), None
     if of_exchanges:
         _, limit, port, connections_limit, early, name = name.split(' ', 5)
     if of_connections:
@@ -567,7 +716,10 @@ for line in sys.stdin:
     if '|' in name:
         name, digits = name.split('|')
     file = bytes.fromhex(digits) if digits is not None else open(f'data/{name}', 'rb').read()
-    if of_exchanges:
+    if of_facts:
+        print('== facts', name.rstrip())
+        print('\n'.join(growing(file)))
+    elif of_exchanges:
         print('== exchanges', limit, 'of', port, name.rstrip())
         print('\n'.join(exchanges(port, int(limit), file)))
     elif of_connections:

@@ -1,6 +1,7 @@
 //! What is told of the requests and responses on the connections of a capture.
 
 use crate::connections::Asked;
+use crate::facts::put_facts;
 use crate::reading::{AMPLE, fold};
 use crate::streams::segment_of;
 use cqlp_capture::{CaptureEvent, CaptureLimits, CaptureReader, CaptureStep};
@@ -250,12 +251,18 @@ fn say(number: u64, told: Option<&Paired<Kept>>, said: &mut String) -> io::Resul
     Ok(())
 }
 
-/// Writes a message's stream id, opcode, length, place, times, the number of what is kept of its body, and what that is about.
+/// Writes what is told of a message.
 fn put(message: &Message<Kept>, said: &mut String) -> io::Result<()> {
+    put_frame(message, said)?;
+    put_facts(&message.kept.facts, said)
+}
+
+/// Writes a message's stream id, opcode, length, place, times, the number of what is kept of it, and what that is about.
+fn put_frame(message: &Message<Kept>, said: &mut String) -> io::Result<()> {
     let frame = message.frame;
     let header = frame.header;
     let whole = if frame.whole { "" } else { " cut" };
-    let kept = fold(0, message.kept.as_slice());
+    let kept = fold(0, message.kept.front.as_slice());
     write!(
         said,
         "{} {:?} {} at {}{whole} from {} to {} kept {kept}",
@@ -266,7 +273,7 @@ fn put(message: &Message<Kept>, said: &mut String) -> io::Result<()> {
         frame.begun.unwrap_or(0),
         frame.ended.unwrap_or(0)
     )?;
-    let Some(field) = subject_of(&header, message.kept.as_slice()) else {
+    let Some(field) = subject_of(&header, message.kept.front.as_slice()) else {
         return Ok(());
     };
     match field.value {

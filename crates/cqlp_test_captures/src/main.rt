@@ -7,6 +7,7 @@
 
 mod connections;
 mod exchanges;
+mod facts;
 mod reading;
 mod segments;
 mod streams;
@@ -15,6 +16,7 @@ use connections::{Asked, said_of_connections};
 use cqlp_capture::CaptureLimits;
 use cqlp_connections::ConnectionLimits;
 use exchanges::{Watched, said_of_exchanges};
+use facts::said_of_facts;
 use reading::said_in_pieces;
 use std::{fs, io};
 use streams::said_of_streams;
@@ -46,6 +48,8 @@ enum Question {
     Connections(Asked),
     /// What is told of the requests and responses on its connections.
     Exchanges(Watched),
+    /// What a frame says beside its first field.
+    Facts,
 }
 
 /// Reads the capture that a line names or has.
@@ -79,14 +83,21 @@ fn execute(rt: &HostRuntime, line: &str) -> io::Result<()> {
                 watched.limit, watched.asked.port
             )
         }
+        Question::Facts => {
+            let said = said_of_facts(rt.alloc(), &bytes)?;
+            print!(rt; "== facts {name}\n{said}")
+        }
     }
 }
 
 /// What a line asks, and of which capture: `streams`, `connections` with a port and limits, or `exchanges` with a limit
-/// and the same, comes before the capture.
+/// and the same, comes before the capture; `facts` comes before a frame.
 fn question_of(line: &str) -> (Question, &str) {
     if let Some(rest) = line.strip_prefix("streams ") {
         return (Question::Streams, rest);
+    }
+    if let Some(rest) = line.strip_prefix("facts ") {
+        return (Question::Facts, rest);
     }
     if let Some((watched, rest)) = line.strip_prefix("exchanges ").and_then(watched_of) {
         return (Question::Exchanges(watched), rest);

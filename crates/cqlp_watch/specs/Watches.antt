@@ -1,5 +1,6 @@
 -- Both sides of one connection, and the requests that wait.
 use Rattle.std.specs.Prelude.{ℕ, Bool, true, false, List, Option, Some, None, if◌then◌else◌}
+use Rattle.cqlp_watch.specs.declared.kept.Kept.{Kept}
 use Rattle.cqlp_watch.specs.declared.message.Message.{Message}
 use Rattle.cqlp_watch.specs.declared.paired.Paired.{Paired}
 use Rattle.cqlp_watch.specs.declared.speaker.Speaker.{Speaker}
@@ -12,9 +13,9 @@ use Rattle.cqlp_watch.specs.Speakers.{Endings, Hears, silent}
 pub record Watched : Type 0 where
   pub requests : Speaker
   pub responses : Speaker
-  pub pairing : Waiting (List ℕ)
+  pub pairing : Waiting Kept
 
-abbrev pub watched : (requests responses : Speaker) → Waiting (List ℕ) → Watched
+abbrev pub watched : (requests responses : Speaker) → Waiting Kept → Watched
 watched requests responses p = record { requests = requests; responses = responses; pairing = p }
 
 -- nothing was seen
@@ -34,16 +35,16 @@ begun responses from_start w = with_side responses (silent responses from_start)
 -- ---- a message that has ended is paired: what is told, and the connection after it
 
 pub record Tells : Type 0 where
-  pub told : Option (Paired (List ℕ))
+  pub told : Option (Paired Kept)
   pub after : Watched
 
-abbrev pub telling : Option (Paired (List ℕ)) → Watched → Tells
+abbrev pub telling : Option (Paired Kept) → Watched → Tells
 telling told w = record { told = told; after = w }
 
-abbrev pub paired_by : Pairs (List ℕ) → Watched → Tells
+abbrev pub paired_by : Pairs Kept → Watched → Tells
 paired_by p w = telling p.told (watched w.requests w.responses p.after)
 
-abbrev pub paired_if : Option (Message (List ℕ)) → Watched → Tells
+abbrev pub paired_if : Option (Message Kept) → Watched → Tells
 paired_if None w = telling None w
 paired_if (Some m) w = paired_by (pairing.taken m w.pairing) w
 
@@ -77,13 +78,13 @@ heard responses time begins b w = heard_by responses (side.heard time begins b (
 -- ---- the end of the connection
 
 pub record Finishes : Type 0 where
-  pub request : Option (Message (List ℕ))
+  pub request : Option (Message Kept)
   pub after : Watched
 
-abbrev pub finishing : Option (Message (List ℕ)) → Watched → Finishes
+abbrev pub finishing : Option (Message Kept) → Watched → Finishes
 finishing request w = record { request = request; after = w }
 
-abbrev pub finished_by : Ends (List ℕ) → Watched → Finishes
+abbrev pub finished_by : Ends Kept → Watched → Finishes
 finished_by e w = finishing e.request (watched w.requests w.responses e.after)
 
 abbrev pub finished : Watched → Finishes

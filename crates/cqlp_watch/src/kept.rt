@@ -1,34 +1,45 @@
-//! What is kept of a body.
+//! What is kept of a message.
 
 ghost use Rattle.std.specs.Prelude.{◌≡◌, ◌-◌, ◌++◌, [], length, take};
 
+use cqlp_facts::Facts;
 use std::marker::Model;
 
-/// The first bytes of a body, at most [`Kept::MOST`].
+/// What is kept of a message, as far as none of its bytes is missing before it.
 #[derive(Drop)]
 pub struct Kept {
+    /// The first bytes of the message proper, behind what the header's flags announce before it: a tracing id, warnings and a custom
+    /// payload. Section 2.2 of `native_protocol_v4.spec`. Where the body is compressed, its first bytes as they are.
+    pub front: Front,
+    /// What the message says; nothing where the body is compressed.
+    pub facts: Facts,
+}
+
+/// The first bytes of a message, at most [`Front::MOST`].
+#[derive(Drop)]
+pub struct Front {
     bytes: [u8; 256],
     len: usize,
 }
 
-impl Model for Kept {
+impl Model for Front {
     ghost use Rattle.std.specs.Prelude.{List, ℕ, ◌≤◌, take};
 
     ghost Value = { List ℕ };
 
-    ghost view = { λ kept. take kept.len kept.bytes };
+    ghost view = { λ front. take front.len front.bytes };
 
-    ghost invariant = { λ kept. kept.len ≤ 256 };
+    ghost invariant = { λ front. front.len ≤ 256 };
 }
 
-impl Kept {
-    /// How many bytes of a body are kept at most.
+impl Front {
+    /// How many bytes of a message are kept at most.
     pub const MOST: usize = 256;
 
     pub(crate) fn new() -> Self
         ensures { result ≡ [] }
     {
-        Kept {
+        Front {
             bytes: [0; 256],
             len: 0,
         }

@@ -12,8 +12,9 @@ mod speaker;
 mod subject;
 mod watch;
 
+pub use cqlp_facts::Facts;
 pub use heads::{Heads, Heard, HeardStep};
-pub use kept::Kept;
+pub use kept::{Front, Kept};
 pub use message::{Frame, Message};
 pub use paired::{NewPairingError, Paired};
 pub use pairing::Pairing;

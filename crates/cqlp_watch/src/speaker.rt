@@ -3,16 +3,20 @@
 ghost use Rattle.std.specs.Prelude.{◌≡◌, ◌≤◌, [], true, length};
 
 use crate::heads::{Heads, Heard};
-use crate::kept::Kept;
+use crate::kept::{Front, Kept};
 use crate::message::{Frame, Message};
+use cqlp_facts::FactsReader;
+use cqlp_note::Header;
 use std::mem;
 
 /// What one side said.
 #[derive(Drop)]
 pub(crate) struct Speaker {
     heads: Heads,
-    /// The first bytes of the present body, as far as none is missing before them.
-    kept: Kept,
+    /// The first bytes of the present message, as far as none is missing before them.
+    front: Front,
+    /// What it says, so far too.
+    reader: FactsReader,
     /// Whether none of the present frame's bytes is missing so far.
     is_sound: bool,
 }
@@ -27,7 +31,8 @@ pub(crate) struct SpeakerStep {
 }
 
 impl Speaker {
-    ghost use Rattle.cqlp_watch.specs.Speakers.{after_end, after_gap, ending, hearing, heard, kept_more, silent, speaker};
+    ghost use Rattle.cqlp_facts.specs.Reading.{begun, idle};
+    ghost use Rattle.cqlp_watch.specs.Speakers.{after_end, after_gap, ending, front_more, hearing, heard, kept, read_more, silent, speaker};
 
     /// A side that said nothing yet: that of the responses, or that of the requests. Its first byte begins a frame, where `from_start`.
     pub(crate) fn new(responses: bool, from_start: bool) -> Speaker
@@ -35,7 +40,8 @@ impl Speaker {
     {
         Speaker {
             heads: Heads::new(responses, from_start),
-            kept: Kept::new(),
+            front: Front::new(),
+            reader: FactsReader::idle(),
             is_sound: true,
         }
     }
@@ -48,7 +54,7 @@ impl Speaker {
         let step = self.heads.take(piece, time, begins);
         let used = step.used;
         match step.heard {
-            Heard::Begins(_) => self.begin(),
+            Heard::Begins(header) => self.begin(&header),
             Heard::Body => self.keep(&piece[..used]),
             Heard::Ends(frame) => {
                 return SpeakerStep {
@@ -91,28 +97,35 @@ impl Speaker {
     }
 
     /// A frame begins.
-    fn begin(&mut self)
-        ensures { self.new ≡ speaker self.old.heads [] true }
+    fn begin(&mut self, header: &Header)
+        ensures { self.new ≡ speaker self.old.heads [] (begun header.now) true }
     {
-        self.kept = Kept::new();
+        self.front = Front::new();
+        self.reader = FactsReader::new(header);
         self.is_sound = true;
     }
 
     /// Keeps bytes of a body.
     fn keep(&mut self, bytes: &[u8])
-        ensures { self.new ≡ speaker self.old.heads (kept_more self.old bytes.now) self.old.is_sound }
+        ensures { self.new ≡ speaker self.old.heads (front_more self.old bytes.now) (read_more self.old bytes.now) self.old.is_sound }
     {
         if self.is_sound {
-            self.kept.add(bytes);
+            let before = self.reader.read(bytes);
+            self.front.add(&bytes[before..]);
         }
     }
 
     /// A frame ends, with what was kept of it.
     fn finish(&mut self, frame: Frame) -> Message<Kept>
-        ensures message { result ≡ record { frame = frame; kept = self.old.kept } }
-        ensures after { self.new ≡ speaker self.old.heads [] self.old.is_sound }
+        ensures message { result ≡ record { frame = frame; kept = kept self.old } }
+        ensures after { self.new ≡ speaker self.old.heads [] idle self.old.is_sound }
     {
-        let kept = mem::replace(&mut self.kept, Kept::new());
-        Message { frame, kept }
+        let front = mem::replace(&mut self.front, Front::new());
+        let reader = mem::replace(&mut self.reader, FactsReader::idle());
+        let facts = reader.facts();
+        Message {
+            frame,
+            kept: Kept { front, facts },
+        }
     }
 }

@@ -1,21 +1,20 @@
-//! What a message is about, by the first field of its body.
+//! What a message is about, by its first field.
 
 ghost use Rattle.std.specs.Prelude.{◌≡◌};
 ghost use Rattle.cqlp_note.specs.Heading.{has as has_bit};
-ghost use Rattle.cqlp_watch.specs.Subjects.{SaysSubject, flags_before, subject_notation};
+ghost use Rattle.cqlp_watch.specs.Subjects.{SaysSubject, subject_notation};
 
-use crate::kept::Kept;
+use crate::kept::Front;
 use cqlp_note::{Header, Notation, Opcode, WholeField, front_field};
 
-/// The first field of a body, if that tells what the message is about, and lies whole in the first bytes of the body: of a QUERY or a PREPARE its
+/// The first field of a message, if that tells what the message is about, and lies whole in the message's first bytes: of a QUERY or a PREPARE its
 /// text, of an EXECUTE the id of its statement, of an ERROR its code and of a RESULT its kind. Sections 4.1.4, 4.1.5, 4.1.6, 4.2.1 and 4.2.5 of
-/// `native_protocol_v4.spec`. `None` also where something comes before that field, by the header's flags: compression, a custom payload, and in a
-/// response a tracing id or warnings.
-pub fn subject_of<'a>(header: &Header, body: &'a [u8]) -> Option<WholeField<'a>>
-    ensures { SaysSubject header.now body.now result }
+/// `native_protocol_v4.spec`. `None` also where the body is compressed, by the header's flags.
+pub fn subject_of<'a>(header: &Header, front: &'a [u8]) -> Option<WholeField<'a>>
+    ensures { SaysSubject header.now front.now result }
 {
     match subject_notation(header) {
-        Some(notation) => front_field(notation, Kept::MOST as u32, Kept::MOST as u64, body),
+        Some(notation) => front_field(notation, Front::MOST as u32, Front::MOST as u64, front),
         None => None,
     }
 }
@@ -24,7 +23,7 @@ pub fn subject_of<'a>(header: &Header, body: &'a [u8]) -> Option<WholeField<'a>>
 fn subject_notation(header: &Header) -> Option<Notation>
     ensures { result ≡ subject_notation header.now }
 {
-    if has(header.flags, flags_before(header.response)) {
+    if has(header.flags, 0x01) {
         return None;
     }
     match header.opcode {
@@ -33,13 +32,6 @@ fn subject_notation(header: &Header) -> Option<Notation>
         Opcode::Error | Opcode::Result => Some(Notation::Int),
         _ => None,
     }
-}
-
-/// The flags of what comes before the first field of a body, or that it is compressed.
-fn flags_before(response: bool) -> u8
-    ensures { result ≡ flags_before response }
-{
-    if response { 0x0F } else { 0x05 }
 }
 
 /// Whether some bit of these is set.

@@ -1,0 +1,12 @@
+pub mod Facts
+pub mod Numbers
+pub mod Due
+pub mod Contents
+pub mod Announced
+pub mod Queries
+pub mod Batches
+pub mod Types
+pub mod Rows
+pub mod Bodies
+pub mod Reading
+pub mod Laws

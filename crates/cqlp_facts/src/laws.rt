@@ -1,0 +1,8 @@
+//! Laws of what is read of bodies. No code needs them.
+
+ghost use Rattle.cqlp_facts.specs.Laws.{ReadsPieces};
+
+/// Handed over in whatever pieces, the bytes say what they say as a whole, and as many of them lie before the message proper.
+pub fn pieces()
+    ensures { ReadsPieces }
+{}
