@@ -3,7 +3,6 @@ pub mod Times
 pub mod Filters
 pub mod Statements
 pub mod Replies
-pub mod Shown
 pub mod Prepared
 pub mod Lines
 pub mod Members

@@ -1,10 +1,10 @@
 -- Requests with their responses, counted in a summary of statements.
-use Rattle.std.specs.Prelude.{ℕ, ◌+◌, Bool, true, List, Option, Some, None, if◌then◌else◌}
-use Rattle.std.specs.Borrow.{Bor}
+use Rattle.std.specs.Prelude.{ℕ, ◌+◌, ℤ, pos, int_lt, unsigned_abs, Bool, true, List, Option, Some, None, if◌then◌else◌}
 use Rattle.cqlp_note.specs.declared.opcode.Opcode.{Opcode}
 use Rattle.cqlp_text.specs.Names.{opcode_name}
-use Rattle.cqlp_summary.specs.declared.occurrence.Occurrence.{Occurrence}
+use Rattle.cqlp_summary.specs.Counts.{Entry}
 use Rattle.cqlp_summary.specs.Summaries.{Summary, noted}
+use Rattle.cqlp_watch.specs.declared.kept.Kept.{Kept}
 use Rattle.cqlp_watch.specs.declared.message.Frame.{Frame}
 use Rattle.cqlp_watch.specs.declared.message.Message.{Message}
 use Rattle.cqlp_watch.specs.declared.paired.Paired.{Paired}
@@ -30,23 +30,24 @@ abbrev pub nanoseconds_in : Option Span → Option ℕ
 nanoseconds_in None = None
 nanoseconds_in (Some s) = if s.is_before then None else Some s.nanoseconds
 
--- bytes, wherever they lie
-abbrev pub lying : List ℕ → Bor (List ℕ)
-lying bytes = record { ref_ptr = (0, 0); now = bytes }
+-- rows, where it is known that there are some
+abbrev pub rows_in : Option ℤ → ℕ
+rows_in None = 0
+rows_in (Some rows) = if int_lt (pos 0) rows then unsigned_abs rows else 0
 
-abbrev pub occurrence : Option Said → (request response : Frame) → Occurrence
-occurrence said q r = record {
-  name = lying (name_in said q.header.opcode);
+abbrev pub entry : Option Said → (rows : Option ℤ) → (request response : Frame) → Entry
+entry said rows q r = record {
+  name = name_in said q.header.opcode;
   is_whole_name = is_whole_in said;
   is_error = is_error r.header.opcode;
-  rows = 0;
+  rows = rows_in rows;
   bytes = (9 + q.header.length) + (9 + r.header.length);
   took = nanoseconds_in (time_between q.begun r.ended);
 }
 
-abbrev pub with_exchange : (known : List Preparation) → (request response : Message (List ℕ)) → Summary → Summary
-with_exchange known q r s = noted (occurrence (named known (statement q.frame.header q.kept)) q.frame r.frame) s
+abbrev pub with_exchange : (known : List Preparation) → (request response : Message Kept) → Summary → Summary
+with_exchange known q r s = noted (entry (named known (statement q.frame.header q.kept.front)) r.kept.facts.rows q.frame r.frame) s
 
-abbrev pub with_told : (known : List Preparation) → Paired (List ℕ) → Summary → Summary
+abbrev pub with_told : (known : List Preparation) → Paired Kept → Summary → Summary
 with_told known (Exchange q r) s = with_exchange known q r s
 with_told known t s = s

@@ -5,8 +5,10 @@ use Rattle.std.specs.Fmt.{signed_decimal}
 use Rattle.cqlp_note.specs.Heading.{has, beside_number}
 use Rattle.cqlp_text.specs.CellText.{boolean_text}
 use Rattle.cqlp_text.specs.Names.{opcode_name}
+use Rattle.cqlp_facts.specs.declared.facts.Facts.{Facts}
 use Rattle.cqlp_json.specs.Lines.{Members, member, texts}
 use Rattle.cqlp_json.specs.Values.{hex, string, word}
+use Rattle.cqlp_watch.specs.declared.kept.Kept.{Kept}
 use Rattle.cqlp_watch.specs.declared.message.Frame.{Frame}
 use Rattle.cqlp_watch.specs.declared.message.Message.{Message}
 use Rattle.cqlp_watch.specs.declared.paired.Paired.{Paired}
@@ -15,9 +17,9 @@ use Rattle.cqlp_exchanges.specs.declared.prepared.Preparation.{Preparation}
 use Rattle.cqlp_exchanges.specs.declared.reply.Reply.{Reply}
 use Rattle.cqlp_exchanges.specs.declared.reply.Reply.TheVariants as reply_as
 use Rattle.cqlp_exchanges.specs.declared.span.Span.{Span}
-use Rattle.cqlp_exchanges.specs.Members.{name_or_code, null, number, seconds_or_null}
+use Rattle.cqlp_exchanges.specs.Members.{consistency_or_null, name_or_code, null, number, number_or_null, seconds_or_null, signed_or_null, uuid_or_null}
 use Rattle.cqlp_exchanges.specs.Prepared.{named}
-use Rattle.cqlp_exchanges.specs.Replies.{error_names, kind_names, reply}
+use Rattle.cqlp_exchanges.specs.Replies.{error_names, kind_names, message, reply}
 use Rattle.cqlp_exchanges.specs.Spans.{time_between}
 use Rattle.cqlp_exchanges.specs.Statements.{Said, Text, Id, statement}
 use Rattle.cqlp_exchanges.specs.Times.{joined}
@@ -49,9 +51,13 @@ request_frame_members f =
     member "request" (word (opcode_name f.header.opcode)) ∷ member "request_bytes" (number (9 + f.header.length))
     ∷ member "request_is_whole" (boolean_text f.whole) ∷ member "request_is_compressed" (boolean_text (has f.header.flags 0x01)) ∷ []
 
-abbrev pub request_members : (known : List Preparation) → Message (List ℕ) → List ℕ
+abbrev pub query_members : Facts → Members
+query_members f = member "consistency" (consistency_or_null f.consistency) ∷ member "page_size" (signed_or_null f.page_size) ∷ []
+
+abbrev pub request_members : (known : List Preparation) → Message Kept → List ℕ
 request_members known m =
-    joined (texts (request_frame_members m.frame) ∷ texts (statement_members (named known (statement m.frame.header m.kept))) ∷ [])
+    joined (texts (request_frame_members m.frame) ∷ texts (statement_members (named known (statement m.frame.header m.kept.front)))
+    ∷ texts (query_members m.kept.facts) ∷ [])
 
 -- ---- a response or an event
 
@@ -69,17 +75,31 @@ reply_members (reply_as.Result kind) = reply_values (name_or_code (beside_number
 reply_members (reply_as.Error code) = reply_values null (name_or_code (beside_number code error_names) code)
 reply_members (reply_as.Other o) = reply_values null null
 
-abbrev pub response_members : Message (List ℕ) → List ℕ
+-- of an ERROR, and whether all of it is there
+abbrev pub message_as : (text is_whole : List ℕ) → Members
+message_as text is_whole = member "message" text ∷ member "message_is_whole" is_whole ∷ []
+
+abbrev pub message_members : Option Said → Members
+message_members (Some (Text text is_whole)) = message_as (string text) (boolean_text is_whole)
+message_members s = message_as null null
+
+abbrev pub result_members : Facts → Members
+result_members f =
+    member "rows" (signed_or_null f.rows) ∷ member "columns" (signed_or_null f.columns) ∷ member "warnings" (number_or_null f.warnings)
+    ∷ member "tracing_id" (uuid_or_null f.trace_id) ∷ []
+
+abbrev pub response_members : Message Kept → List ℕ
 response_members m =
-    joined (texts (response_frame_members m.frame) ∷ texts (reply_members (reply m.frame.header m.kept)) ∷ [])
+    joined (texts (response_frame_members m.frame) ∷ texts (reply_members (reply m.frame.header m.kept.front))
+    ∷ texts (message_members (message (reply m.frame.header m.kept.front) m.kept.front)) ∷ texts (result_members m.kept.facts) ∷ [])
 
 -- ---- the object. Where there is no request, or no response, it has none of its keys.
 
-abbrev pub if_asked : (known : List Preparation) → Option (Message (List ℕ)) → List ℕ
+abbrev pub if_asked : (known : List Preparation) → Option (Message Kept) → List ℕ
 if_asked known None = []
 if_asked known (Some q) = request_members known q
 
-abbrev pub if_answered : Option (Message (List ℕ)) → List ℕ
+abbrev pub if_answered : Option (Message Kept) → List ℕ
 if_answered None = []
 if_answered (Some r) = response_members r
 
@@ -88,11 +108,11 @@ abbrev pub took_members : Option Span → List ℕ
 took_members took = texts (member "took" (seconds_or_null took) ∷ [])
 
 abbrev pub object : (told : List ℕ) → (known : List Preparation) → (first : Option ℕ) → (connection : ℕ) → Frame
-    → (request response : Option (Message (List ℕ))) → (took : Option Span) → List ℕ
+    → (request response : Option (Message Kept)) → (took : Option Span) → List ℕ
 object told known first connection f request response took =
     joined (texts (place_members told first connection f) ∷ if_asked known request ∷ if_answered response ∷ took_members took ∷ codes "}\n" ∷ [])
 
-abbrev pub json_line : (known : List Preparation) → (first : Option ℕ) → (connection : ℕ) → Paired (List ℕ) → List ℕ
+abbrev pub json_line : (known : List Preparation) → (first : Option ℕ) → (connection : ℕ) → Paired Kept → List ℕ
 json_line known first n (Exchange q r) =
     object (codes "exchange") known first n q.frame (Some q) (Some r) (time_between q.frame.begun r.frame.ended)
 json_line known first n (Unanswered q) = object (codes "unanswered") known first n q.frame (Some q) None None

@@ -12,7 +12,6 @@ mod noting;
 mod object;
 mod prepared;
 mod reply;
-mod shown;
 mod slot;
 mod span;
 mod statement;

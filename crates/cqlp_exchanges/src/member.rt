@@ -4,8 +4,10 @@ ghost use Rattle.std.specs.Prelude.{◌≡◌, option_map};
 ghost use Rattle.std.specs.List.{flat_map};
 ghost use Rattle.cqlp_text.specs.CellText.{boolean_text};
 ghost use Rattle.cqlp_text.specs.Written.{Writes};
-ghost use Rattle.cqlp_exchanges.specs.Members.{member_text, name_or_code, number as number_text, quote, seconds, seconds_or_null, value_text};
+ghost use Rattle.cqlp_exchanges.specs.Members.{consistency_or_null, member_text, name_or_code, number as number_text, number_or_null, quote, seconds, seconds_or_null};
+ghost use Rattle.cqlp_exchanges.specs.Members.{signed_or_null, uuid as uuid_text, uuid_or_null, value_text};
 
+use crate::reply::consistency_name;
 use crate::span::{Span, sign};
 use cqlp_grammar::SinkFault;
 use cqlp_json::{put_bytes, put_string, put_word};
@@ -25,6 +27,8 @@ pub(crate) enum Value<'a> {
     Name(&'a str),
     Text(&'a str),
     Hex(&'a [u8]),
+    /// With hyphens.
+    Uuid([u8; 16]),
 }
 
 /// A value, and the text before it: a comma or a bracket, the member's key in quotes and a colon.
@@ -37,6 +41,46 @@ pub(crate) fn seconds_or_null(time: Option<Span>) -> Value<'static>
 {
     match time {
         Some(span) => Value::Seconds(span),
+        None => Value::Null,
+    }
+}
+
+/// A number, where it is known.
+pub(crate) fn signed_or_null(number: Option<i32>) -> Value<'static>
+    ensures { value_text result ≡ signed_or_null number }
+{
+    match number {
+        Some(number) => Value::Signed(number),
+        None => Value::Null,
+    }
+}
+
+/// A number, where it is known.
+pub(crate) fn number_or_null(number: Option<u16>) -> Value<'static>
+    ensures { value_text result ≡ number_or_null number }
+{
+    match number {
+        Some(number) => Value::Number(u64::from(number)),
+        None => Value::Null,
+    }
+}
+
+/// An id, where it is known.
+pub(crate) fn uuid_or_null(id: Option<[u8; 16]>) -> Value<'static>
+    ensures { value_text result ≡ uuid_or_null id }
+{
+    match id {
+        Some(id) => Value::Uuid(id),
+        None => Value::Null,
+    }
+}
+
+/// A consistency level, where it is known.
+pub(crate) fn consistency_or_null(level: Option<u16>) -> Value<'static>
+    ensures { value_text result ≡ consistency_or_null level }
+{
+    match level {
+        Some(level) => name_or_code(consistency_name(level), u32::from(level)),
         None => Value::Null,
     }
 }
@@ -78,6 +122,7 @@ fn put_value<P: Pen>(writer: &mut TextWriter<P>, value: Value<'_>) -> Result<(),
         Value::Name(name) => put_word(name, writer),
         Value::Text(text) => put_string(text, writer),
         Value::Hex(bytes) => put_bytes(bytes, writer),
+        Value::Uuid(id) => put_id(writer, id),
     }
 }
 
@@ -85,6 +130,14 @@ fn boolean_text(flag: bool) -> &'static str
     ensures { result.now ≡ boolean_text flag }
 {
     if flag { "true" } else { "false" }
+}
+
+fn put_id<P: Pen>(writer: &mut TextWriter<P>, id: [u8; 16]) -> Result<(), SinkFault>
+    ensures { Writes writer.old (uuid_text id) result writer.new }
+{
+    writer.put(b"\"")?;
+    writer.put_uuid(id)?;
+    writer.put(b"\"")
 }
 
 /// What stands before and behind a number: quotes, where many readers of JSON do not keep it exactly.

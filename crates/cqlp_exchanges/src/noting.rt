@@ -2,7 +2,7 @@
 
 ghost use Rattle.std.specs.Prelude.{◌≡◌, option_map};
 ghost use Rattle.cqlp_exchanges.specs.Forms.{noted_in};
-ghost use Rattle.cqlp_exchanges.specs.Notings.{is_whole_in, name_in, nanoseconds_in, with_exchange, with_told};
+ghost use Rattle.cqlp_exchanges.specs.Notings.{is_whole_in, name_in, nanoseconds_in, rows_in, with_exchange, with_told};
 ghost use Rattle.cqlp_exchanges.specs.Filters.{is_error};
 ghost use Rattle.cqlp_exchanges.specs.Statements.{said_of};
 
@@ -50,14 +50,14 @@ fn note_exchange<A: Allocator>(
 )
     ensures { summary.new ≡ with_exchange known.now request.now response.now summary.old }
 {
-    let own = statement_of(&request.frame.header, request.kept.as_slice());
+    let own = statement_of(&request.frame.header, request.kept.front.as_slice());
     let statement = named(known, own);
     let took = time_between(request.frame.begun, response.frame.ended);
     summary.note(&Occurrence {
         name: name_in(&statement, request.frame.header.opcode),
         is_whole_name: is_whole_in(&statement),
         is_error: is_error(response.frame.header.opcode),
-        rows: 0,
+        rows: rows_in(response.kept.facts.rows),
         bytes: (9 + request.frame.header.length as u64) + (9 + response.frame.header.length as u64),
         took: nanoseconds_in(took),
     });
@@ -89,6 +89,16 @@ fn is_error(opcode: Opcode) -> bool
     ensures { result ≡ is_error opcode }
 {
     opcode == Opcode::Error
+}
+
+/// Rows, where it is known that there are some.
+fn rows_in(rows: Option<i32>) -> u64
+    ensures { result ≡ rows_in rows }
+{
+    match rows {
+        Some(rows) if rows > 0 => u64::from(rows.unsigned_abs()),
+        _ => 0,
+    }
 }
 
 /// How long something took, where the clock did not go back.

@@ -3,20 +3,23 @@
 ghost use Rattle.std.specs.Prelude.{◌≡◌, [], option_map};
 ghost use Rattle.cqlp_json.specs.Lines.{texts};
 ghost use Rattle.cqlp_text.specs.Written.{Writes};
-ghost use Rattle.cqlp_exchanges.specs.Objects.{if_answered, if_asked, json_line, object, place_members, reply_members};
+ghost use Rattle.cqlp_exchanges.specs.Objects.{if_answered, if_asked, json_line, message_as, message_members, object, place_members, query_members, reply_members, result_members};
 ghost use Rattle.cqlp_exchanges.specs.Objects.{reply_values, request_frame_members, request_members, response_frame_members, response_members, statement_as, statement_members, took_members};
 ghost use Rattle.cqlp_exchanges.specs.Members.{value_text};
 ghost use Rattle.cqlp_exchanges.specs.Statements.{said_of};
 
-use crate::member::{Member, Value, name_or_code, put_members, seconds_or_null};
+use crate::member::{
+    Member, Value, consistency_or_null, name_or_code, number_or_null, put_members, seconds_or_null,
+    signed_or_null, uuid_or_null,
+};
 use crate::prepared::{Preparation, named};
-use crate::reply::{Reply, error_name, kind_name, reply_of};
+use crate::reply::{Reply, error_name, kind_name, message_of, reply_of};
 use crate::span::{Span, time_between};
 use crate::statement::{Statement, has, statement_of};
 use cqlp_grammar::SinkFault;
 use cqlp_note::Target;
 use cqlp_text::{Buffered, Pen, TextWriter, opcode_name};
-use cqlp_watch::{Frame, Kept, Message, Paired};
+use cqlp_watch::{Facts, Frame, Kept, Message, Paired};
 use std::alloc::Allocator;
 
 /// Takes the object of what is told of the connection with this number, in a capture whose first packet came at this time, in a line of its own, and
@@ -183,10 +186,24 @@ fn put_request<P: Pen>(
 ) -> Result<(), SinkFault>
     ensures { Writes writer.old (request_members known.now request.now) result writer.new }
 {
-    let own = statement_of(&request.frame.header, request.kept.as_slice());
+    let own = statement_of(&request.frame.header, request.kept.front.as_slice());
     let statement = named(known, own);
     put_request_frame(writer, &request.frame)?;
-    put_statement(writer, &statement)
+    put_statement(writer, &statement)?;
+    put_query(writer, &request.kept.facts)
+}
+
+/// Takes how a request asks for it to be done.
+fn put_query<P: Pen>(writer: &mut TextWriter<P>, facts: &Facts) -> Result<(), SinkFault>
+    ensures { Writes writer.old (texts (query_members facts.now)) result writer.new }
+{
+    put_members(
+        writer,
+        &[
+            Member(",\"consistency\":", consistency_or_null(facts.consistency)),
+            Member(",\"page_size\":", signed_or_null(facts.page_size)),
+        ],
+    )
 }
 
 fn put_request_frame<P: Pen>(writer: &mut TextWriter<P>, frame: &Frame) -> Result<(), SinkFault>
@@ -259,9 +276,59 @@ fn put_response<P: Pen>(
 ) -> Result<(), SinkFault>
     ensures { Writes writer.old (response_members response.now) result writer.new }
 {
-    let reply = reply_of(&response.frame.header, response.kept.as_slice());
+    let reply = reply_of(&response.frame.header, response.kept.front.as_slice());
+    let message = message_of(reply, response.kept.front.as_slice());
     put_response_frame(writer, &response.frame)?;
-    put_reply(writer, reply)
+    put_reply(writer, reply)?;
+    put_message(writer, &message)?;
+    put_result(writer, &response.kept.facts)
+}
+
+/// Takes the message of an ERROR.
+fn put_message<P: Pen>(
+    writer: &mut TextWriter<P>,
+    message: &Option<Statement<'_>>,
+) -> Result<(), SinkFault>
+    ensures { Writes writer.old (texts (message_members (option_map said_of message.now))) result writer.new }
+{
+    match message {
+        Some(Statement::Text { text, is_whole }) => {
+            put_message_as(writer, Value::Text(text), Value::Flag(*is_whole))
+        }
+        Some(Statement::Id { .. }) => put_message_as(writer, Value::Null, Value::Null),
+        None => put_message_as(writer, Value::Null, Value::Null),
+    }
+}
+
+fn put_message_as<P: Pen>(
+    writer: &mut TextWriter<P>,
+    text: Value<'_>,
+    is_whole: Value<'_>,
+) -> Result<(), SinkFault>
+    ensures { Writes writer.old (texts (message_as (value_text text.entry) (value_text is_whole.entry))) result writer.new }
+{
+    put_members(
+        writer,
+        &[
+            Member(",\"message\":", text),
+            Member(",\"message_is_whole\":", is_whole),
+        ],
+    )
+}
+
+/// Takes what is known of a result.
+fn put_result<P: Pen>(writer: &mut TextWriter<P>, facts: &Facts) -> Result<(), SinkFault>
+    ensures { Writes writer.old (texts (result_members facts.now)) result writer.new }
+{
+    put_members(
+        writer,
+        &[
+            Member(",\"rows\":", signed_or_null(facts.rows)),
+            Member(",\"columns\":", signed_or_null(facts.columns)),
+            Member(",\"warnings\":", number_or_null(facts.warnings)),
+            Member(",\"tracing_id\":", uuid_or_null(facts.trace_id)),
+        ],
+    )
 }
 
 fn put_response_frame<P: Pen>(writer: &mut TextWriter<P>, frame: &Frame) -> Result<(), SinkFault>
