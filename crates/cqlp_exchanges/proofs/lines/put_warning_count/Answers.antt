@@ -1,4 +1,4 @@
-use Rattle.std.proofs.Common.{refl}
+use Rattle.std.proofs.Common.{ap, decimal, refl}
 use Rattle.cqlp_text.proofs.Writing.{progress_starts}
 use Rattle.cqlp_exchanges.proofs.Texts.{said_last, said_next, said_stops}
 use Rattle.cqlp_exchanges.proofs.lines.put_warning_count.Goals as goal
@@ -10,4 +10,4 @@ returns-in_err-put g c =
 pub returns : goal.returns
 returns g c =
     let s1 = said_next _ (progress_starts _ _) refl refl c.in_ok-put.ensures in
-    said_last _ _ c.put_number.result s1 refl c.from.ensures c.put_number.ensures
+    said_last _ _ c.put_number.result s1 refl (ap decimal c.from.ensures) c.put_number.ensures
