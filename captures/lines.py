@@ -1,7 +1,7 @@
 #!/usr/bin/env python3
 """captures/lines.py of NAME <LINES: compares the lines that `cqlp capture` wrote of the capture NAME in crates/cqlp_test_captures/data with
 those that it has to write. They are made of what that crate's stdout has of the exchanges on its connections, which its expected.py writes
-by a reading of its own, and of the driver's own bytes. Of a request that was cut the statement is not compared.
+by a reading of its own, and of the driver's and the server's own bytes. Of a message that was cut what it says is not compared.
 
 captures/lines.py live NAME COMMAND..: gives the capture to the command through a pipe, packet after packet, and each only when all lines
 are there that were due before it.
@@ -13,6 +13,7 @@ import struct
 import subprocess
 import sys
 import time
+import uuid
 from pathlib import Path
 
 CRATE = Path(__file__).resolve().parent.parent / "crates" / "cqlp_test_captures"
@@ -59,26 +60,140 @@ def first_time(name):
     return seconds * 10**9 + microseconds * 1000
 
 
+# What is said where the bytes are not there, or not all of them.
+ANYTHING = "(?: .*)?"
+CONSISTENCIES = ["ANY", "ONE", "TWO", "THREE", "QUORUM", "ALL", "LOCAL_QUORUM", "EACH_QUORUM", "SERIAL", "LOCAL_SERIAL", "LOCAL_ONE"]
+
+
+class Fields:
+    """The fields of a body, from the first on."""
+
+    def __init__(self, body):
+        self.body = body
+
+    def take(self, count):
+        taken, self.body = self.body[:count], self.body[count:]
+        return taken
+
+    def number(self, size=2):
+        return int.from_bytes(self.take(size), "big")
+
+    def text(self, size=2):
+        return self.take(self.number(size))
+
+    def value(self):
+        length = int.from_bytes(self.take(4), "big", signed=True)
+        return self.take(max(length, 0))
+
+    def pass_type(self):
+        kind = self.number()
+        if kind == 0x00:
+            self.text()
+        elif kind in (0x20, 0x22):
+            self.pass_type()
+        elif kind == 0x21:
+            self.pass_type(), self.pass_type()
+        elif kind == 0x30:
+            self.text(), self.text()
+            for _ in range(self.number()):
+                self.text(), self.pass_type()
+        elif kind == 0x31:
+            for _ in range(self.number()):
+                self.pass_type()
+
+
+def body_of(name, number, is_response, message):
+    """The flags and the body of a message, of the bytes that the driver or the server sent. None where the capture does not have their beginning."""
+    session = "driver-sll2" if name.startswith("driver-sll2") else "driver"
+    file = (CRATE / "data" / f"{session}.{int(number) - 1}.{'responses' if is_response else 'requests'}.bin").read_bytes()
+    at, length = int(message["at"]), int(message["length"])
+    stream, found = struct.unpack_from(">hxI", file, at + 2) if at + 9 <= len(file) else (None, None)
+    return (file[at + 1], file[at + 9:at + 9 + length]) if (stream, found) == (int(message["stream"]), length) else None
+
+
+def pass_payload(fields, flags):
+    for _ in range(fields.number() if flags & 0x04 else 0):
+        fields.text(), fields.value()
+
+
+def pass_entries(fields):
+    fields.number(1)
+    for _ in range(fields.number()):
+        fields.text(4 if fields.number(1) == 0 else 2)
+        for _ in range(fields.number()):
+            fields.value()
+
+
+def asked(flags, body, message):
+    """What stands before the statement of a request, and behind it: its consistency, and how many rows a page is to have."""
+    fields = Fields(body)
+    pass_payload(fields, flags)
+    if message["opcode"] == "Batch":
+        pass_entries(fields)
+        return f" {CONSISTENCIES[fields.number()]}", ""
+    if message["opcode"] not in ("Query", "Execute"):
+        return "", ""
+    fields.text(4 if message["opcode"] == "Query" else 2)
+    consistency, parts = CONSISTENCIES[fields.number()], fields.number(1)
+    for _ in range(fields.number() if parts & 0x01 else 0):
+        if parts & 0x40:
+            fields.text()
+        fields.value()
+    return f" {consistency}", f" page {fields.number(4)}" if parts & 0x04 else ""
+
+
+def said_by(fields, message):
+    """Rows and columns, or the message of an ERROR."""
+    if message["opcode"] == "Error":
+        fields.number(4)
+        return f' "{fields.text().decode()}"'
+    if message["opcode"] != "Result" or fields.number(4) != 2:
+        return ""
+    flags, columns = fields.number(4), fields.number(4)
+    if flags & 0x02:
+        fields.value()
+    if flags & 0x05 == 0x01:
+        fields.text(), fields.text()
+    for _ in range(0 if flags & 0x04 else columns):
+        if not flags & 0x01:
+            fields.text(), fields.text()
+        fields.text(), fields.pass_type()
+    return f" {fields.number(4)}x{columns}"
+
+
+def answered(flags, body, message):
+    """What stands behind the kind of a response."""
+    fields = Fields(body)
+    tracing = f" tracing {uuid.UUID(bytes=fields.take(16))}" if flags & 0x02 else ""
+    warnings = [fields.text() for _ in range(fields.number())] if flags & 0x08 else None
+    pass_payload(fields, flags)
+    return said_by(fields, message) + ("" if warnings is None else f" warnings {len(warnings)}") + tracing
+
+
 def bytes_of(message):
     return f" {9 + int(message['length'])}{message['cut'] or ''}"
 
 
-def request(message, known):
+def request(message, known, name, number):
     """A pattern of a request. An EXECUTE has the text that was prepared, where that was seen, or its id."""
     statement = re.escape(f" {message['text']}" if message["text"] else "")
     if message["id"]:
         statement = " (?:" + "|".join(map(re.escape, [known[message["id"]], *known["prepared"]])) + ")"
-    return message["opcode"].upper() + ("(?: .*)?" if message["cut"] else statement) + re.escape(bytes_of(message))
+    body, said = body_of(name, number, False, message), ANYTHING
+    if body is not None and not message["cut"]:
+        before, behind = map(re.escape, asked(*body, message))
+        said = before + statement + behind
+    return message["opcode"].upper() + said + re.escape(bytes_of(message))
 
 
-def response(message):
-    number = int(message["int"]) if message["int"] else None
-    name = message["opcode"].upper()
-    if name == "RESULT" and number is not None:
-        name = KINDS[number]
-    elif name == "ERROR":
-        name = f"ERROR {ERRORS[number]}"
-    return re.escape(name + bytes_of(message))
+def response(message, name, number):
+    body, what = body_of(name, number, True, message), message["opcode"].upper()
+    if what == "RESULT" and message["int"]:
+        what = KINDS[int(message["int"])]
+    elif what == "ERROR":
+        what = f"ERROR {ERRORS[int(message['int'])]}"
+    said = ANYTHING if body is None or message["cut"] else re.escape(answered(*body, message))
+    return re.escape(what) + said + re.escape(bytes_of(message))
 
 
 def patterns(name):
@@ -90,13 +205,13 @@ def patterns(name):
         if kind == "exchange":
             known["prepared"] += [messages[0]["text"]] if messages[0]["opcode"] == "Prepare" and messages[0]["text"] else []
             took = f"{(ended - begun) // 10**6}.{(ended - begun) % 10**6 // 1000:03}"
-            yield start + request(messages[0], known) + " -> " + response(messages[1]) + re.escape(f" {took} ms"), ended
+            yield start + request(messages[0], known, name, number) + " -> " + response(messages[1], name, number) + re.escape(f" {took} ms"), ended
         elif kind == "unanswered":
-            yield start + request(messages[0], known) + " -> nothing", None
+            yield start + request(messages[0], known, name, number) + " -> nothing", None
         elif kind == "unasked":
-            yield start + "nothing -> " + response(messages[0]), ended
+            yield start + "nothing -> " + response(messages[0], name, number), ended
         elif kind == "event":
-            yield start + response(messages[0]), ended
+            yield start + response(messages[0], name, number), ended
 
 
 def compare(name, lines):

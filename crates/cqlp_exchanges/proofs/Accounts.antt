@@ -5,15 +5,18 @@ use Rattle.cqlp_grammar.specs.declared.sink.SinkFault.{SinkFault}
 use Rattle.cqlp_text.specs.Outputs.{Output, WritesText, output, with_text}
 use Rattle.cqlp_text.specs.Written.{Written, Writes}
 use Rattle.cqlp_text.proofs.Writing.{known_text}
+use Rattle.cqlp_summary.specs.Summaries.{Summary}
+use Rattle.cqlp_watch.specs.declared.kept.Kept.{Kept}
 use Rattle.cqlp_watch.specs.declared.paired.Paired.{Paired}
 use Rattle.cqlp_exchanges.specs.declared.filter.ExchangeFilter.{ExchangeFilter}
+use Rattle.cqlp_exchanges.specs.declared.form.ExchangeForm.{ExchangeForm}
 use Rattle.cqlp_exchanges.specs.declared.prepared.Preparation.{Preparation}
 use Rattle.cqlp_exchanges.specs.declared.sums.ExchangeSums.{ExchangeSums}
-use Rattle.cqlp_exchanges.specs.Accounts.{Account, Stops, StopsAmong, Tells, TellsAll, account, learned, with_all, with_one, with_shown, with_told}
+use Rattle.cqlp_exchanges.specs.Accounts.{Account, Finishes, Stops, StopsAmong, Tells, TellsAll, account, learned, with_all, with_one, with_shown, with_told}
 use Rattle.cqlp_exchanges.specs.Filters.{shows}
-use Rattle.cqlp_exchanges.specs.Lines.{line}
+use Rattle.cqlp_exchanges.specs.Forms.{ending_of, noted_in, text_of}
 
-pub with_others : (n : ℕ) (ts us : List (Paired (List ℕ))) (a : Account) → with_all n (ts ++ us) a ≡ with_all n us (with_all n ts a)
+pub with_others : (n : ℕ) (ts us : List (Paired Kept)) (a : Account) → with_all n (ts ++ us) a ≡ with_all n us (with_all n ts a)
 with_others n [] us a = refl
 with_others n (t ∷ ts) us a = with_others n ts us (with_told n t a)
 
@@ -25,25 +28,25 @@ known_shown : (d : Bool) (o : Option (List ℕ)) (text : List ℕ) (a b : Accoun
 known_shown true o text a b e f k = subst (λ z. IsSome z) (sym e) (known_more o text k)
 known_shown false o text a b e f k = subst (λ z. IsSome z) (sym f) k
 
-known_told : (n : ℕ) (t : Paired (List ℕ)) (a : Account) → IsSome a.output.given → IsSome (with_told n t a).output.given
-known_told n t a k = known_shown (shows a.filter n t) a.output.given (line a.known a.first n t) _ _ refl refl k
+known_told : (n : ℕ) (t : Paired Kept) (a : Account) → IsSome a.output.given → IsSome (with_told n t a).output.given
+known_told n t a k = known_shown (shows a.filter n t) a.output.given (text_of a.form a.known a.first n t) _ _ refl refl k
 
 -- it is still known what the output was given
-pub still_known : (n : ℕ) (ts : List (Paired (List ℕ))) (a : Account) → IsSome a.output.given → IsSome (with_all n ts a).output.given
+pub still_known : (n : ℕ) (ts : List (Paired Kept)) (a : Account) → IsSome a.output.given → IsSome (with_all n ts a).output.given
 still_known n [] a k = k
 still_known n (t ∷ ts) a k = still_known n ts (with_told n t a) (known_told n t a k)
 
 -- ---- one, or none
 
-pub stops_one : (n : ℕ) (t : Paired (List ℕ)) (old new : Account) → Stops n t old new → StopsAmong n (t ∷ []) old new
+pub stops_one : (n : ℕ) (t : Paired Kept) (old new : Account) → Stops n t old new → StopsAmong n (t ∷ []) old new
 stops_one n t old new h = record { front = []; one = t; rest = []; parts = refl; stops = h }
 
-pub tells_one : (n : ℕ) (t : Paired (List ℕ)) (old mid new : Account) → mid ≡ with_shown n t old → new ≡ learned t mid → new ≡ with_all n (t ∷ []) old
+pub tells_one : (n : ℕ) (t : Paired Kept) (old mid new : Account) → mid ≡ with_shown n t old → new ≡ learned t mid → new ≡ with_all n (t ∷ []) old
 tells_one n t old mid new h l = l ∙ ap (learned t) h
 
 -- ---- some, and then others
 
-pub tells_more : (n : ℕ) (ts us : List (Paired (List ℕ))) (old mid new : Account) (r : Result (Unit {0}) SinkFault) → mid ≡ with_all n ts old → TellsAll n us mid r new → TellsAll n (ts ++ us) old r new
+pub tells_more : (n : ℕ) (ts us : List (Paired Kept)) (old mid new : Account) (r : Result (Unit {0}) SinkFault) → mid ≡ with_all n ts old → TellsAll n us mid r new → TellsAll n (ts ++ us) old r new
 tells_more n ts us old mid new (Ok u) e h = h ∙ ap (with_all n us) e ∙ sym (with_others n ts us old)
 tells_more n ts us old mid new (Err x) e h = record {
   front = ts ++ h.front;
@@ -54,7 +57,7 @@ tells_more n ts us old mid new (Err x) e h = record {
 }
 
 -- a fault among some is one among more
-pub stops_before : (n : ℕ) (ts us : List (Paired (List ℕ))) (old new : Account) → StopsAmong n ts old new → StopsAmong n (ts ++ us) old new
+pub stops_before : (n : ℕ) (ts us : List (Paired Kept)) (old new : Account) → StopsAmong n ts old new → StopsAmong n (ts ++ us) old new
 stops_before n ts us old new h = record {
   front = h.front;
   one = h.one;
@@ -64,12 +67,12 @@ stops_before n ts us old new h = record {
 }
 
 -- a `?` that ends the function
-pub stops_as : (n : ℕ) (ts : List (Paired (List ℕ))) (old new : Account) (r : Result (Unit {0}) SinkFault) → IsErr r → StopsAmong n ts old new → TellsAll n ts old r new
+pub stops_as : (n : ℕ) (ts : List (Paired Kept)) (old new : Account) (r : Result (Unit {0}) SinkFault) → IsErr r → StopsAmong n ts old new → TellsAll n ts old r new
 stops_as n ts old new (Ok u) stops h = cc
 stops_as n ts old new (Err e) stops h = h
 
 -- after some, a fault among others
-pub stops_after : (n : ℕ) (ts us more : List (Paired (List ℕ))) (old mid new : Account) → mid ≡ with_all n ts old → StopsAmong n us mid new → StopsAmong n (ts ++ (us ++ more)) old new
+pub stops_after : (n : ℕ) (ts us more : List (Paired Kept)) (old mid new : Account) → mid ≡ with_all n ts old → StopsAmong n us mid new → StopsAmong n (ts ++ (us ++ more)) old new
 stops_after n ts us more old mid new e h =
     let fault : SinkFault = record {} in
     tells_more n ts (us ++ more) old mid new (Err fault) e (stops_before n us more mid new h)
@@ -84,25 +87,40 @@ hidden_is : {X : Type 0} (d : Bool) (x y : X) → d ≡ false → (if d then x e
 hidden_is true x y e = absurd cc
 hidden_is false x y e = refl
 
-told_text : (f : ExchangeFilter) (first : Option ℕ) (kn : List Preparation) (s : ExchangeSums) (old new : Output) (n : ℕ) (t : Paired (List ℕ)) (r : Result (Unit {0}) SinkFault) → shows f n t ≡ true → WritesText old (line kn first n t) r new → Tells n t (account f first kn s old) r (account f first kn (with_one t s) new)
-told_text f first kn s old new n t (Ok u) is writes =
-    ap (λ (o : Output). account f first kn (with_one t s) o) writes ∙ sym (shown_is (shows f n t) (account f first kn (with_one t s) (with_text old (line kn first n t))) (account f first kn (with_one t s) old) is)
-told_text f first kn s old new n t (Err e) is writes = record { is_shown = is; rest = refl; within = writes }
+told_text : (f : ExchangeFilter) (form : ExchangeForm) (first : Option ℕ) (kn : List Preparation) (m : Summary) (s : ExchangeSums) (old new : Output) (n : ℕ) (t : Paired Kept) (r : Result (Unit {0}) SinkFault) → shows f n t ≡ true → WritesText old (text_of form kn first n t) r new → Tells n t (account f form first kn m s old) r (account f form first kn (noted_in form kn t m) (with_one t s) new)
+told_text f form first kn m s old new n t (Ok u) is writes =
+    let m' = noted_in form kn t m in
+    ap (λ (o : Output). account f form first kn m' (with_one t s) o) writes ∙ sym (shown_is (shows f n t) (account f form first kn m' (with_one t s) (with_text old (text_of form kn first n t))) (account f form first kn m (with_one t s) old) is)
+told_text f form first kn m s old new n t (Err e) is writes = record { is_shown = is; rest = refl; within = writes }
 
 -- a line was passed on, before and after which nothing waits
 wrote : (w v : Written) (text : List ℕ) (r : Result (Unit {0}) SinkFault) → w.waiting ≡ [] → v.waiting ≡ [] → Writes w text r v → IsSome w.given → WritesText (output w.given w.failures) text r (output v.given v.failures)
 wrote w v text r e g writes known =
     known_text w v w.given v.given w.failures v.failures w.lender text r (λ i. record { given = w.given; failures = w.failures; waiting = e i; lender = w.lender }) refl g writes known
 
-pub told_shown : (self : Account) (f : ExchangeFilter) (first : Option ℕ) (kn : List Preparation) (s s' : ExchangeSums) (w v : Written) (n : ℕ) (t : Paired (List ℕ)) (r : Result (Unit {0}) SinkFault) → account f first kn s (output w.given w.failures) ≡ self → s' ≡ with_one t s → w.waiting ≡ [] → v.waiting ≡ [] → shows f n t ≡ true → Writes w (line kn first n t) r v → IsSome self.output.given → Tells n t self r (account f first kn s' (output v.given v.failures))
-told_shown self f first kn s s' w v n t r view sums e g is writes known =
-    let holds : IsSome w.given → Tells n t (account f first kn s (output w.given w.failures)) r (account f first kn s' (output v.given v.failures)) =
-    λ k. subst (λ (z : ExchangeSums). Tells n t (account f first kn s (output w.given w.failures)) r (account f first kn z (output v.given v.failures))) (sym sums)
-    (told_text f first kn s (output w.given w.failures) (output v.given v.failures) n t r is (wrote w v (line kn first n t) r e g writes k)) in
-    subst (λ (a : Account). IsSome a.output.given → Tells n t a r (account f first kn s' (output v.given v.failures))) view holds known
+pub told_shown : (self : Account) (f : ExchangeFilter) (form : ExchangeForm) (first : Option ℕ) (kn : List Preparation) (m m' : Summary) (s s' : ExchangeSums) (w v : Written) (n : ℕ) (t : Paired Kept) (r : Result (Unit {0}) SinkFault) → account f form first kn m s (output w.given w.failures) ≡ self → s' ≡ with_one t s → m' ≡ noted_in form kn t m → w.waiting ≡ [] → v.waiting ≡ [] → shows f n t ≡ true → Writes w (text_of form kn first n t) r v → IsSome self.output.given → Tells n t self r (account f form first kn m' s' (output v.given v.failures))
+told_shown self f form first kn m m' s s' w v n t r view sums notes e g is writes known =
+    let old = account f form first kn m s (output w.given w.failures) in
+    let holds : IsSome w.given → Tells n t old r (account f form first kn m' s' (output v.given v.failures)) =
+    λ k. subst (λ (z : ExchangeSums). Tells n t old r (account f form first kn m' z (output v.given v.failures))) (sym sums)
+    (subst (λ (y : Summary). Tells n t old r (account f form first kn y (with_one t s) (output v.given v.failures))) (sym notes)
+    (told_text f form first kn m s (output w.given w.failures) (output v.given v.failures) n t r is (wrote w v (text_of form kn first n t) r e g writes k))) in
+    subst (λ (a : Account). IsSome a.output.given → Tells n t a r (account f form first kn m' s' (output v.given v.failures))) view holds known
 
-pub told_hidden : (self : Account) (f : ExchangeFilter) (first : Option ℕ) (kn : List Preparation) (s s' : ExchangeSums) (o : Output) (n : ℕ) (t : Paired (List ℕ)) → account f first kn s o ≡ self → s' ≡ with_one t s → shows f n t ≡ false → account f first kn s' o ≡ with_shown n t self
-told_hidden self f first kn s s' o n t view sums is =
-    ap (λ (z : ExchangeSums). account f first kn z o) sums
-    ∙ sym (hidden_is (shows f n t) (account f first kn (with_one t s) (with_text o (line kn first n t))) (account f first kn (with_one t s) o) is)
+pub told_hidden : (self : Account) (f : ExchangeFilter) (form : ExchangeForm) (first : Option ℕ) (kn : List Preparation) (m : Summary) (s s' : ExchangeSums) (o : Output) (n : ℕ) (t : Paired Kept) → account f form first kn m s o ≡ self → s' ≡ with_one t s → shows f n t ≡ false → account f form first kn m s' o ≡ with_shown n t self
+told_hidden self f form first kn m s s' o n t view sums is =
+    ap (λ (z : ExchangeSums). account f form first kn m z o) sums
+    ∙ sym (hidden_is (shows f n t) (account f form first kn (noted_in form kn t m) (with_one t s) (with_text o (text_of form kn first n t))) (account f form first kn m (with_one t s) o) is)
     ∙ ap (with_shown n t) view
+
+-- ---- the end
+
+finish_text : (f : ExchangeFilter) (form : ExchangeForm) (first : Option ℕ) (kn : List Preparation) (m : Summary) (s : ExchangeSums) (old new : Output) (r : Result (Unit {0}) SinkFault) → WritesText old (ending_of form m) r new → Finishes (account f form first kn m s old) r (account f form first kn m s new)
+finish_text f form first kn m s old new (Ok u) writes = ap (λ (o : Output). account f form first kn m s o) writes
+finish_text f form first kn m s old new (Err e) writes = (refl, writes)
+
+pub finishes : (self : Account) (f : ExchangeFilter) (form : ExchangeForm) (first : Option ℕ) (kn : List Preparation) (m : Summary) (s : ExchangeSums) (w v : Written) (r : Result (Unit {0}) SinkFault) → account f form first kn m s (output w.given w.failures) ≡ self → w.waiting ≡ [] → v.waiting ≡ [] → Writes w (ending_of form m) r v → IsSome self.output.given → Finishes self r (account f form first kn m s (output v.given v.failures))
+finishes self f form first kn m s w v r view e g writes known =
+    let holds : IsSome w.given → Finishes (account f form first kn m s (output w.given w.failures)) r (account f form first kn m s (output v.given v.failures)) =
+    λ k. finish_text f form first kn m s (output w.given w.failures) (output v.given v.failures) r (wrote w v (ending_of form m) r e g writes k) in
+    subst (λ (a : Account). IsSome a.output.given → Finishes a r (account f form first kn m s (output v.given v.failures))) view holds known

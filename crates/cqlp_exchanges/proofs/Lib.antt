@@ -1,5 +1,6 @@
 pub mod Accounts
 pub mod Heard
+pub mod Members
 pub mod Talks
 pub mod Texts
 pub mod WrittenOnce

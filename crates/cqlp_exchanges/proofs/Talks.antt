@@ -2,6 +2,7 @@
 use Rattle.std.proofs.Common.{◌≡◌, ◌∙◌, ◌-◌, ◌<◌, ◌&&◌, ◌==◌, length, ℕ, zero, suc, Bool, true, false, List, [], ◌∷◌, ◌++◌, drop, if◌then◌else◌, Option, Some, None, IsSome, OnOk, Result, Ok, Err, IsErr, refl, sym, ap, subst, append_assoc, append-nil, take, ◌≤◌, arith}
 use Rattle.std.proofs.lemmas.Grind.{common_steps}
 use Rattle.cqlp_grammar.specs.declared.sink.SinkFault.{SinkFault}
+use Rattle.cqlp_watch.specs.declared.kept.Kept.{Kept}
 use Rattle.cqlp_watch.specs.declared.paired.Paired.{Paired}
 use Rattle.cqlp_watch.specs.declared.message.Message.{Message}
 use Rattle.cqlp_watch.specs.declared.paired.Paired.TheVariants.{Unanswered}
@@ -25,7 +26,7 @@ heard_next (suc k) responses time begins b w v x some e =
 
 -- Of all that is told, some was, and the rest is still to be told.
 pub record Hearing (n : ℕ) (start : Account) (whole rest : Talk) (now : Account) : Type 0 where
-  pub done : List (Paired (List ℕ))
+  pub done : List (Paired Kept)
   pub told : now ≡ with_all n done start
   pub all : whole.told ≡ done ++ rest.told
   pub after : whole.after ≡ rest.after
@@ -34,7 +35,7 @@ pub hearing_starts : (n : ℕ) (start : Account) (whole : Talk) → Hearing n st
 hearing_starts n start whole = record { done = []; told = refl; all = refl; after = refl }
 
 -- a step tells something first
-first_told : (x : WatchStep) (v : Watched) (k : Talk) (d : Bool) → (more : List (Paired (List ℕ))) × ((if d then talk (told_or_none x.told) v else before x.told k).told ≡ told_or_none x.told ++ more)
+first_told : (x : WatchStep) (v : Watched) (k : Talk) (d : Bool) → (more : List (Paired Kept)) × ((if d then talk (told_or_none x.told) v else before x.told k).told ≡ told_or_none x.told ++ more)
 first_told x v k true = ([], sym (append-nil (told_or_none x.told)))
 first_told x v k false = (k.told, refl)
 
@@ -52,7 +53,7 @@ more_is : (x : WatchStep) (v : Watched) (k : Talk) (d : Bool) → d ≡ false �
 more_is x v k true e = absurd cc
 more_is x v k false e = refl
 
-told_parts : (n : ℕ) (done more : List (Paired (List ℕ))) (start now new : Account) → now ≡ with_all n done start → new ≡ with_all n more now → new ≡ with_all n (done ++ more) start
+told_parts : (n : ℕ) (done more : List (Paired Kept)) (start now new : Account) → now ≡ with_all n done start → new ≡ with_all n more now → new ≡ with_all n (done ++ more) start
 told_parts n done more start now new e h = h ∙ ap (with_all n more) e ∙ sym (with_others n done more start)
 
 pub hearing_is_done : (n : ℕ) (start now new : Account) (whole rest k : Talk) (x : WatchStep) (v : Watched) → Hearing n start whole rest now → rest ≡ next x v k → x.is_done ≡ true → new ≡ with_all n (told_or_none x.told) now → (new ≡ with_all n whole.told start) × (v ≡ whole.after)
@@ -81,7 +82,7 @@ hearing_ends n start now whole rest v h e =
 pub hearing_known : (n : ℕ) (start now : Account) (whole rest : Talk) → Hearing n start whole rest now → IsSome start.output.given → IsSome now.output.given
 hearing_known n start now whole rest h k = subst (λ (z : Account). IsSome z.output.given) (sym h.told) (still_known n h.done start k)
 
-pub hearing_more : (n : ℕ) (start now new : Account) (whole rest k : Talk) (t : Option (Paired (List ℕ))) → Hearing n start whole rest now → rest ≡ before t k → new ≡ with_all n (told_or_none t) now → Hearing n start whole k new
+pub hearing_more : (n : ℕ) (start now new : Account) (whole rest k : Talk) (t : Option (Paired Kept)) → Hearing n start whole rest now → rest ≡ before t k → new ≡ with_all n (told_or_none t) now → Hearing n start whole k new
 hearing_more n start now new whole rest k t h is s = record {
   done = h.done ++ told_or_none t;
   told = told_parts n h.done (told_or_none t) start now new h.told s;
@@ -89,7 +90,7 @@ hearing_more n start now new whole rest k t h is s = record {
   after = h.after ∙ ap (λ (z : Talk). z.after) is;
 }
 
-pub hearing_stopped : (n : ℕ) (start now new : Account) (whole rest k : Talk) (t : Option (Paired (List ℕ))) (r : Result (Unit {0}) SinkFault) → IsErr r → Hearing n start whole rest now → rest ≡ before t k → StopsAmong n (told_or_none t) now new → TellsAll n whole.told start r new
+pub hearing_stopped : (n : ℕ) (start now new : Account) (whole rest k : Talk) (t : Option (Paired Kept)) (r : Result (Unit {0}) SinkFault) → IsErr r → Hearing n start whole rest now → rest ≡ before t k → StopsAmong n (told_or_none t) now new → TellsAll n whole.told start r new
 hearing_stopped n start now new whole rest k t r stops h is s =
     let parts : whole.told ≡ h.done ++ (told_or_none t ++ k.told) = h.all ∙ ap (λ z. h.done ++ z) (ap (λ (z : Talk). z.told) is) in
     stops_as n whole.told start new r stops (subst (λ z. StopsAmong n z start new) (sym parts) (stops_after n h.done (told_or_none t) k.told start now new h.told s))
@@ -103,20 +104,20 @@ on_ok_after (Err e) v n start now whole rest h is = tt
 
 -- ---- the requests that wait
 
-pub go_next : (q p : Speaker) (limit : ℕ) (ms : List (Message (List ℕ))) (v : Watched) (r : Message (List ℕ)) → finishing (Some r) v ≡ finished (watched q p (held limit ms)) → let_go (watched q p (held limit ms)) ≡ before (Some (Unanswered r)) (let_go v)
-go_next q p limit [] v r e = let no : ◌≡◌ {A = Option (Message (List ℕ))} (Some r) None = ap (λ (z : Finishes). z.request) e in absurd cc
+pub go_next : (q p : Speaker) (limit : ℕ) (ms : List (Message Kept)) (v : Watched) (r : Message Kept) → finishing (Some r) v ≡ finished (watched q p (held limit ms)) → let_go (watched q p (held limit ms)) ≡ before (Some (Unanswered r)) (let_go v)
+go_next q p limit [] v r e = let no : ◌≡◌ {A = Option (Message Kept)} (Some r) None = ap (λ (z : Finishes). z.request) e in absurd cc
 go_next q p limit (m ∷ ms) v r e =
-    let same : ◌≡◌ {A = Option (Message (List ℕ))} (Some r) (Some m) = ap (λ (z : Finishes). z.request) e in
+    let same : ◌≡◌ {A = Option (Message Kept)} (Some r) (Some m) = ap (λ (z : Finishes). z.request) e in
     let is : r ≡ m = cc in
     let after : v ≡ watched q p (held limit ms) = ap (λ (z : Finishes). z.after) e in
     λ i. before (Some (Unanswered (sym is i))) (let_go (sym after i))
 
-pub go_none : (q p : Speaker) (limit : ℕ) (ms : List (Message (List ℕ))) (v : Watched) → finishing None v ≡ finished (watched q p (held limit ms)) → let_go (watched q p (held limit ms)) ≡ talk [] v
+pub go_none : (q p : Speaker) (limit : ℕ) (ms : List (Message Kept)) (v : Watched) → finishing None v ≡ finished (watched q p (held limit ms)) → let_go (watched q p (held limit ms)) ≡ talk [] v
 go_none q p limit [] v e = let after : v ≡ watched q p (held limit []) = ap (λ (z : Finishes). z.after) e in ap (talk []) (sym after)
-go_none q p limit (m ∷ ms) v e = let no : ◌≡◌ {A = Option (Message (List ℕ))} None (Some m) = ap (λ (z : Finishes). z.request) e in absurd cc
+go_none q p limit (m ∷ ms) v e = let no : ◌≡◌ {A = Option (Message Kept)} None (Some m) = ap (λ (z : Finishes). z.request) e in absurd cc
 
-pub go_fewer : (q p : Speaker) (limit : ℕ) (ms : List (Message (List ℕ))) (v : Watched) (r : Message (List ℕ)) → finishing (Some r) v ≡ finished (watched q p (held limit ms)) → length v.pairing.waiting < length ms
-go_fewer q p limit [] v r e = let no : ◌≡◌ {A = Option (Message (List ℕ))} (Some r) None = ap (λ (z : Finishes). z.request) e in absurd cc
+pub go_fewer : (q p : Speaker) (limit : ℕ) (ms : List (Message Kept)) (v : Watched) (r : Message Kept) → finishing (Some r) v ≡ finished (watched q p (held limit ms)) → length v.pairing.waiting < length ms
+go_fewer q p limit [] v r e = let no : ◌≡◌ {A = Option (Message Kept)} (Some r) None = ap (λ (z : Finishes). z.request) e in absurd cc
 go_fewer q p limit (m ∷ ms) v r e =
     let after : v.pairing.waiting ≡ ms = ap (λ (z : Finishes). z.after.pairing.waiting) e in
     rw after (omega arith)
@@ -127,10 +128,10 @@ go_fewer q p limit (m ∷ ms) v r e =
 abbrev pub rest_of_end : Watched → Talk
 rest_of_end v = and_then (talk_of (after_end true v)) let_go
 
-pub end_first : (w v : Watched) (t : Option (Paired (List ℕ))) → telling t v ≡ after_end false w → left w ≡ before t (rest_of_end v)
+pub end_first : (w v : Watched) (t : Option (Paired Kept)) → telling t v ≡ after_end false w → left w ≡ before t (rest_of_end v)
 end_first w v t e = ap (λ (z : Tells). and_then (talk_of z) rest_of_end) (sym e)
 
-pub end_second : (w v : Watched) (t : Option (Paired (List ℕ))) → telling t v ≡ after_end true w → rest_of_end w ≡ before t (let_go v)
+pub end_second : (w v : Watched) (t : Option (Paired Kept)) → telling t v ≡ after_end true w → rest_of_end w ≡ before t (let_go v)
 end_second w v t e = ap (λ (z : Tells). and_then (talk_of z) let_go) (sym e)
 
 -- ---- what is not used, and where no step is left

@@ -1,5 +1,5 @@
 -- Texts in parts.
-use Rattle.std.proofs.Common.{◌≡◌, ◌∙◌, ◌+◌, ◌<◌, ℕ, List, [], ◌∷◌, ◌++◌, length, take, drop, get_or, add-one, Result, IsErr, refl, sym, ap, arith}
+use Rattle.std.proofs.Common.{◌≡◌, ◌∙◌, ◌+◌, ◌<◌, ℕ, List, [], ◌∷◌, ◌++◌, length, take, drop, get_or, add-one, Result, Some, IsErr, refl, sym, ap, arith, append-nil}
 use Rattle.std.proofs.Math.Seq.{drop-cons}
 use Rattle.std.proofs.lemmas.Grind.{common_steps}
 use Rattle.std.proofs.lemmas.Str.{chars-nil, chars_past_char, utf8_valid_len-IsUtf8}
@@ -10,7 +10,6 @@ use Rattle.std.specs.Str.Lossy.{utf8_valid_len}
 use Rattle.cqlp_grammar.specs.declared.sink.SinkFault.{SinkFault}
 use Rattle.cqlp_text.specs.Written.{Written, BreaksOff, Receives, Writes}
 use Rattle.cqlp_text.proofs.Writing.{Progress, progress_goes_on, progress_last, progress_stops}
-use Rattle.cqlp_exchanges.specs.Shown.{escape, shown, shown_text}
 
 -- a text is its own longest front that is UTF-8
 pub front_of_text : (text b : List ℕ) → text ≡ b → IsUtf8 b → text ≡ take (utf8_valid_len b) b
@@ -29,15 +28,10 @@ said_stops {a} {b} {c} {text} {left} {x} {y} later r stops here parts same break
 pub said_last : {a b : Written} (c : Written) {text left : List ℕ} {y : List ℕ} (x : List ℕ) (r : Result (Unit {0}) SinkFault) → Progress a text left b → left ≡ y ++ [] → x ≡ y → Writes b x r c → Writes a text r c
 said_last {a} {b} c {text} {left} {y} x r here parts same writes = progress_last c x r here (parts ∙ ap (λ z. z ++ []) (sym same)) writes
 
--- ---- bytes that are escaped, and characters
-
-pub escapes_at : (bytes : List ℕ) (i : ℕ) → i < length bytes → flat_map escape (drop i bytes) ≡ escape (get_or bytes i 0) ++ flat_map escape (drop (i + 1) bytes)
-escapes_at bytes i within = rw (drop-cons bytes i 0 within, add-one) refl
-
--- the first character, and then the others
-pub shown_at : (text rest : List ℕ) (c : ℕ) → IsUtf8 text → text ≡ encode_utf8 c ++ rest → shown_text text ≡ shown c ++ shown_text rest
-shown_at text rest c is parts = ap (flat_map shown) (chars_past_char text rest c is parts)
-
-pub shown_none : (text : List ℕ) → length text ≡ 0 → shown_text text ≡ []
-shown_none [] none = ap (flat_map shown) chars-nil
-shown_none (b ∷ bs) none = absurd (omega arith)
+-- nothing is taken, and nothing changes
+pub nothing_taken : (w : Written) → Receives w [] w
+nothing_taken w = record {
+  passed = λ text is. ([], is ∙ ap (λ z. Some z) (sym (append-nil text)), sym (append-nil w.waiting));
+  failures = refl;
+  lender = refl;
+}

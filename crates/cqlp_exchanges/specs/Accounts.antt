@@ -1,16 +1,19 @@
--- What is told of requests and responses is counted, and becomes a line or none.
+-- What is told of requests and responses is counted, and is written or not.
 use Rattle.std.specs.Prelude.{◌≡◌, ℕ, true, List, [], ◌∷◌, ◌++◌, Option, Some, None, if◌then◌else◌, Result, Ok, Err, IsSome}
 use Rattle.cqlp_grammar.specs.declared.sink.SinkFault.{SinkFault}
 use Rattle.cqlp_text.specs.Outputs.{Output, StopsWithin, with_text}
+use Rattle.cqlp_summary.specs.Summaries.{Summary}
+use Rattle.cqlp_watch.specs.declared.kept.Kept.{Kept}
 use Rattle.cqlp_watch.specs.declared.message.Message.{Message}
 use Rattle.cqlp_watch.specs.declared.paired.Paired.{Paired}
 use Rattle.cqlp_watch.specs.declared.paired.Paired.TheVariants.{Exchange, Unanswered, Unasked, Event}
 use Rattle.cqlp_connections.specs.Totals.{counted}
 use Rattle.cqlp_exchanges.specs.declared.filter.ExchangeFilter.{ExchangeFilter}
+use Rattle.cqlp_exchanges.specs.declared.form.ExchangeForm.{ExchangeForm}
 use Rattle.cqlp_exchanges.specs.declared.prepared.Preparation.{Preparation}
 use Rattle.cqlp_exchanges.specs.declared.sums.ExchangeSums.{ExchangeSums}
 use Rattle.cqlp_exchanges.specs.Filters.{shows}
-use Rattle.cqlp_exchanges.specs.Lines.{line}
+use Rattle.cqlp_exchanges.specs.Forms.{ending_of, noted_in, text_of}
 use Rattle.cqlp_exchanges.specs.Prepared.{known_after}
 
 -- ---- numbers, each up to 2^64 - 1
@@ -19,27 +22,30 @@ abbrev pub no_sums : ExchangeSums
 no_sums = record { exchanges = 0; unanswered = 0; unasked = 0; events = 0; cut = 0 }
 
 -- a message that is not whole
-abbrev pub with_message : Message (List ℕ) → ExchangeSums → ExchangeSums
+abbrev pub with_message : Message Kept → ExchangeSums → ExchangeSums
 with_message m s = if m.frame.whole then s else record s { cut = counted s.cut 1 }
 
-abbrev pub with_one : Paired (List ℕ) → ExchangeSums → ExchangeSums
+abbrev pub with_one : Paired Kept → ExchangeSums → ExchangeSums
 with_one (Exchange q r) s = with_message r (with_message q (record s { exchanges = counted s.exchanges 1 }))
 with_one (Unanswered q) s = with_message q (record s { unanswered = counted s.unanswered 1 })
 with_one (Unasked r) s = with_message r (record s { unasked = counted s.unasked 1 })
 with_one (Event e) s = with_message e (record s { events = counted s.events 1 })
 
--- ---- what is shown, when the first packet came, the statements that are known, what was told so far, and the output
+-- ---- what is shown and in which form, when the first packet came, the statements that are known, the
+-- summary of those that were asked for, what was told so far, and the output
 
 pub record Account : Type 0 where
   pub filter : ExchangeFilter
+  pub form : ExchangeForm
   pub first : Option ℕ
   pub known : List Preparation
+  pub summary : Summary
   pub sums : ExchangeSums
   pub output : Output
 
-abbrev pub account : ExchangeFilter → Option ℕ → List Preparation → ExchangeSums → Output → Account
-account filter first known sums output =
-    record { filter = filter; first = first; known = known; sums = sums; output = output }
+abbrev pub account : ExchangeFilter → ExchangeForm → Option ℕ → List Preparation → Summary → ExchangeSums → Output → Account
+account filter form first known summary sums output =
+    record { filter = filter; form = form; first = first; known = known; summary = summary; sums = sums; output = output }
 
 -- the first time that is known
 abbrev pub first_of : (first time : Option ℕ) → Option ℕ
@@ -47,58 +53,71 @@ first_of None time = time
 first_of (Some t) time = Some t
 
 abbrev pub since : (time : Option ℕ) → Account → Account
-since time a = account a.filter (first_of a.first time) a.known a.sums a.output
+since time a = account a.filter a.form (first_of a.first time) a.known a.summary a.sums a.output
 
 -- It is counted, whether it is shown or not.
-abbrev pub with_count : Paired (List ℕ) → Account → Account
-with_count t a = account a.filter a.first a.known (with_one t a.sums) a.output
+abbrev pub with_count : Paired Kept → Account → Account
+with_count t a = account a.filter a.form a.first a.known a.summary (with_one t a.sums) a.output
 
 abbrev pub with_output : Output → Account → Account
-with_output o a = account a.filter a.first a.known a.sums o
+with_output o a = account a.filter a.form a.first a.known a.summary a.sums o
 
-abbrev pub with_line : (number : ℕ) → Paired (List ℕ) → Account → Account
-with_line n t a = if shows a.filter n t then with_output (with_text a.output (line a.known a.first n t)) a else a
+-- It is counted in the summary, where that is the form.
+abbrev pub with_note : Paired Kept → Account → Account
+with_note t a = account a.filter a.form a.first a.known (noted_in a.form a.known t a.summary) a.sums a.output
 
-abbrev pub with_shown : (number : ℕ) → Paired (List ℕ) → Account → Account
+abbrev pub with_line : (number : ℕ) → Paired Kept → Account → Account
+with_line n t a = if shows a.filter n t then with_output (with_text a.output (text_of a.form a.known a.first n t)) (with_note t a) else a
+
+abbrev pub with_shown : (number : ℕ) → Paired Kept → Account → Account
 with_shown n t a = with_line n t (with_count t a)
 
 -- A statement that is prepared is known from then on.
-abbrev pub learned : Paired (List ℕ) → Account → Account
-learned t a = account a.filter a.first (known_after t a.known) a.sums a.output
+abbrev pub learned : Paired Kept → Account → Account
+learned t a = account a.filter a.form a.first (known_after t a.known) a.summary a.sums a.output
 
-abbrev pub with_told : (number : ℕ) → Paired (List ℕ) → Account → Account
+abbrev pub with_told : (number : ℕ) → Paired Kept → Account → Account
 with_told n t a = learned t (with_shown n t a)
 
 -- all of it, in order
-abbrev pub with_all : (number : ℕ) → List (Paired (List ℕ)) → Account → Account
+abbrev pub with_all : (number : ℕ) → List (Paired Kept) → Account → Account
 with_all n [] a = a
 with_all n (t ∷ ts) a = with_all n ts (with_told n t a)
 
 -- ---- a fault
 
--- It is shown, and the output failed within its line.
-pub record Stops (n : ℕ) (t : Paired (List ℕ)) (old new : Account) : Type 0 where
+-- It is shown, and the output failed within its text.
+pub record Stops (n : ℕ) (t : Paired Kept) (old new : Account) : Type 0 where
   pub is_shown : shows old.filter n t ≡ true
-  pub rest : new ≡ with_output new.output (with_count t old)
-  pub within : StopsWithin old.output (line old.known old.first n t) new.output
+  pub rest : new ≡ with_output new.output (with_note t (with_count t old))
+  pub within : StopsWithin old.output (text_of old.form old.known old.first n t) new.output
 
-abbrev pub Tells : (number : ℕ) → Paired (List ℕ) → Account → Result (Unit {0}) SinkFault → Account → Type 0
+abbrev pub Tells : (number : ℕ) → Paired Kept → Account → Result (Unit {0}) SinkFault → Account → Type 0
 Tells n t old (Ok u) new = new ≡ with_shown n t old
 Tells n t old (Err e) new = Stops n t old new
 
--- The output failed within the line of one of these, after all before it.
-pub record StopsAmong (n : ℕ) (ts : List (Paired (List ℕ))) (old new : Account) : Type 0 where
-  pub front : List (Paired (List ℕ))
-  pub one : Paired (List ℕ)
-  pub rest : List (Paired (List ℕ))
+-- The output failed within the text of one of these, after all before it.
+pub record StopsAmong (n : ℕ) (ts : List (Paired Kept)) (old new : Account) : Type 0 where
+  pub front : List (Paired Kept)
+  pub one : Paired Kept
+  pub rest : List (Paired Kept)
   pub parts : ts ≡ front ++ one ∷ rest
   pub stops : Stops n one (with_all n front old) new
 
 -- All were told, or the output failed.
-abbrev pub TellsAll : (number : ℕ) → List (Paired (List ℕ)) → Account → Result (Unit {0}) SinkFault → Account → Type 0
+abbrev pub TellsAll : (number : ℕ) → List (Paired Kept) → Account → Result (Unit {0}) SinkFault → Account → Type 0
 TellsAll n ts old (Ok u) new = new ≡ with_all n ts old
 TellsAll n ts old (Err e) new = StopsAmong n ts old new
 
 -- Where it is known what the output was given.
-abbrev pub ToldAll : (number : ℕ) → List (Paired (List ℕ)) → Account → Result (Unit {0}) SinkFault → Account → Type 0
+abbrev pub ToldAll : (number : ℕ) → List (Paired Kept) → Account → Result (Unit {0}) SinkFault → Account → Type 0
 ToldAll n ts old r new = IsSome old.output.given → TellsAll n ts old r new
+
+-- ---- the end: what is written then, or the output failed within it
+
+abbrev pub ending : Account → List ℕ
+ending a = ending_of a.form a.summary
+
+abbrev pub Finishes : Account → Result (Unit {0}) SinkFault → Account → Type 0
+Finishes old (Ok u) new = new ≡ with_output (with_text old.output (ending old)) old
+Finishes old (Err e) new = (new ≡ with_output new.output old) × StopsWithin old.output (ending old) new.output

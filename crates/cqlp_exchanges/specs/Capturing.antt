@@ -1,18 +1,26 @@
 -- What becomes of a capture whose exchanges are written.
-use Rattle.std.specs.Prelude.{◌≡◌, ◌≢◌, ℕ, List, ◌++◌, codes, decimal, Option, Result}
-use Rattle.cqlp_text.specs.Outputs.{Output}
+use Rattle.std.specs.Prelude.{◌≡◌, ◌≢◌, ℕ, List, ◌++◌, codes, decimal, Option, Result, Ok, Err}
+use Rattle.cqlp_text.specs.Outputs.{Output, StopsWithin, with_text}
+use Rattle.cqlp_connections.specs.declared.limits.ConnectionLimits.{ConnectionLimits}
 use Rattle.cqlp_streams.specs.declared.capturing.CaptureRead.{CaptureRead}
 use Rattle.cqlp_streams.specs.declared.fault.StreamsFault.{StreamsFault}
+use Rattle.cqlp_streams.specs.declared.fault.StreamsFault.TheVariants as fault
 use Rattle.cqlp_streams.specs.Streams.{ReadsCapture}
 use Rattle.cqlp_streams.specs.Endings.{Concludes}
 use Rattle.cqlp_exchanges.specs.declared.exchanges.ExchangeLimits.{ExchangeLimits}
 use Rattle.cqlp_exchanges.specs.declared.filter.ExchangeFilter.{ExchangeFilter}
+use Rattle.cqlp_exchanges.specs.declared.form.ExchangeForm.{ExchangeForm}
 use Rattle.cqlp_exchanges.specs.declared.sums.ExchangeSums.{ExchangeSums}
+use Rattle.cqlp_exchanges.specs.Accounts.{Account, ending}
 use Rattle.cqlp_exchanges.specs.Listening.{Listening, StopsAt, new_listening, with_saying}
 
 -- how much is watched at one time
 abbrev pub default_limits : ExchangeLimits
-default_limits = record { connections = 256; waiting = 256 }
+default_limits = record { connections = 1024; waiting = 80 }
+
+-- so many connections, and bytes of each direction that came early
+abbrev pub connection_limits : ConnectionLimits
+connection_limits = record { connections = 1024; early = 4096 }
 
 -- what was told of requests and responses, in the last line
 abbrev pub sums_words : ExchangeSums → List ℕ
@@ -20,26 +28,33 @@ sums_words s =
     codes "exchanges " ++ decimal s.exchanges ++ codes " unanswered " ++ decimal s.unanswered ++ codes " unasked " ++ decimal s.unasked
     ++ codes " events " ++ decimal s.events ++ codes " cut " ++ decimal s.cut
 
--- What was heard of an input with the bytes xs by so many reads, what that was, and the lines that were written.
-abbrev pub Listens : ExchangeFilter → (ports : List ℕ) → (xs : List ℕ) → (made : ℕ) → Result CaptureRead StreamsFault
-    → (left : Option (List ℕ)) → (out : Output) → ExchangeSums → (out' : Output) → Type 0
-Listens filter ports xs made r left out sums out' =
-    (w : Listening) × ReadsCapture with_saying StopsAt ports xs made r left (new_listening default_limits filter out) w
-    × (sums ≡ w.account.sums) × (out' ≡ w.account.output)
+-- Where the capture was read, what is written at the end was, or the output failed within it.
+abbrev pub Closes : Account → (read : Result CaptureRead StreamsFault) → Result CaptureRead StreamsFault → Output → Type 0
+Closes a (Err f) r out = (r ≡ Err f) × (out ≡ a.output)
+Closes a (Ok x) (Ok y) out = (y ≡ x) × (out ≡ with_text a.output (ending a))
+Closes a (Ok x) (Err f) out = (f ≡ fault.Write) × StopsWithin a.output (ending a) out
 
--- The lines of its exchanges were written, and then the line of how it ended, with its status.
-abbrev pub WritesExchanges : ExchangeFilter → (ports : List ℕ) → (xs : List ℕ) → (made : ℕ) → (left : Option (List ℕ)) → (out err : Output)
+-- What was heard of an input with the bytes xs by so many reads, what that was, and what was written.
+abbrev pub Listens : ExchangeFilter → ExchangeForm → (ports : List ℕ) → (xs : List ℕ) → (made : ℕ) → Result CaptureRead StreamsFault
+    → (left : Option (List ℕ)) → (out : Output) → ExchangeSums → (out' : Output) → Type 0
+Listens filter form ports xs made r left out sums out' =
+    (w : Listening) × (read : Result CaptureRead StreamsFault)
+    × ReadsCapture with_saying StopsAt connection_limits ports xs made read left (new_listening default_limits filter form out) w
+    × (sums ≡ w.account.sums) × Closes w.account read r out'
+
+-- Its exchanges were written, and then the line of how it ended, with its status.
+abbrev pub WritesExchanges : ExchangeFilter → ExchangeForm → (ports : List ℕ) → (xs : List ℕ) → (made : ℕ) → (left : Option (List ℕ)) → (out err : Output)
     → (status : ℕ) → (out' err' : Output) → Type 0
-WritesExchanges filter ports xs made left out err status out' err' =
-    (r : Result CaptureRead StreamsFault) × (sums : ExchangeSums) × Listens filter ports xs made r left out sums out'
+WritesExchanges filter form ports xs made left out err status out' err' =
+    (r : Result CaptureRead StreamsFault) × (sums : ExchangeSums) × Listens filter form ports xs made r left out sums out'
     × Concludes (sums_words sums) r err status err'
 
--- Where nothing outside fails, so that the status is not that of a fault, the same bytes, ports, filter and outputs lead to the same
--- status, the same lines and the same last line.
+-- Where nothing outside fails, so that the status is not that of a fault, the same bytes, ports, filter, form and outputs lead to the
+-- same status, the same text and the same last line.
 abbrev pub OneAnswerOfWriteExchanges : Type 0
 OneAnswerOfWriteExchanges =
-    (filter : ExchangeFilter) (ports xs : List ℕ) (out err : Output) (made made' : ℕ) (left left' : Option (List ℕ))
+    (filter : ExchangeFilter) (form : ExchangeForm) (ports xs : List ℕ) (out err : Output) (made made' : ℕ) (left left' : Option (List ℕ))
     (status status' : ℕ) (out' out'' err' err'' : Output)
-    → WritesExchanges filter ports xs made left out err status out' err' → status ≢ 3
-    → WritesExchanges filter ports xs made' left' out err status' out'' err'' → status' ≢ 3
+    → WritesExchanges filter form ports xs made left out err status out' err' → status ≢ 3
+    → WritesExchanges filter form ports xs made' left' out err status' out'' err'' → status' ≢ 3
     → (status' ≡ status) × (out'' ≡ out') × (err'' ≡ err')

@@ -5,14 +5,15 @@ use Rattle.cqlp_text.specs.Outputs.{Output}
 use Rattle.cqlp_streams.specs.Sayings.{Saying}
 use Rattle.cqlp_exchanges.specs.declared.exchanges.ExchangeLimits.{ExchangeLimits}
 use Rattle.cqlp_exchanges.specs.declared.filter.ExchangeFilter.{ExchangeFilter}
+use Rattle.cqlp_exchanges.specs.declared.form.ExchangeForm.{ExchangeForm}
 use Rattle.cqlp_exchanges.specs.declared.statement.Statement.{Statement}
 use Rattle.cqlp_exchanges.specs.Statements.{said_of, statement}
 use Rattle.cqlp_exchanges.specs.Listening.{Hears, Listening, new_listening}
 
 abbrev pub OneAnswerOfNew : Type 0
 OneAnswerOfNew =
-    (limits : ExchangeLimits) (filter : ExchangeFilter) (out : Output) (e f : Listening)
-    → e ≡ new_listening limits filter out → f ≡ new_listening limits filter out → f ≡ e
+    (limits : ExchangeLimits) (filter : ExchangeFilter) (form : ExchangeForm) (out : Output) (e f : Listening)
+    → e ≡ new_listening limits filter form out → f ≡ new_listening limits filter form out → f ≡ e
 
 -- where the output does not fail
 abbrev pub OneAnswerOfHear : Type 0

@@ -3,9 +3,12 @@ pub mod Times
 pub mod Filters
 pub mod Statements
 pub mod Replies
-pub mod Shown
 pub mod Prepared
 pub mod Lines
+pub mod Members
+pub mod Objects
+pub mod Notings
+pub mod Forms
 pub mod Accounts
 pub mod Talks
 pub mod Tables

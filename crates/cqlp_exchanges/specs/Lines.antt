@@ -1,11 +1,13 @@
 -- The line of what is told of a request, a response, or both.
-use Rattle.std.specs.Prelude.{ℕ, ◌+◌, Bool, true, false, List, [], ◌∷◌, codes, decimal, Option, Some, None}
+use Rattle.std.specs.Prelude.{ℕ, ℤ, ◌+◌, Bool, true, false, List, [], ◌∷◌, codes, decimal, Option, Some, None}
 use Rattle.std.specs.Fmt.{signed_decimal}
-use Rattle.std.specs.Int.{w32, to_be_bytes}
+use Rattle.std.specs.Int.{w16, w32, to_be_bytes}
 use Rattle.hex.specs.Hex.{encode_lower}
+use Rattle.uuid.specs.Text.{hyphenated_text, lower}
 use Rattle.cqlp_note.specs.Heading.{has, beside_number}
 use Rattle.cqlp_text.specs.Names.{opcode_name}
 use Rattle.cqlp_text.specs.Text.{hex_text}
+use Rattle.cqlp_watch.specs.declared.kept.Kept.{Kept}
 use Rattle.cqlp_watch.specs.declared.message.Frame.{Frame}
 use Rattle.cqlp_watch.specs.declared.message.Message.{Message}
 use Rattle.cqlp_watch.specs.declared.paired.Paired.{Paired}
@@ -15,8 +17,8 @@ use Rattle.cqlp_exchanges.specs.declared.reply.Reply.TheVariants as reply_as
 use Rattle.cqlp_exchanges.specs.declared.span.Unit.TheVariants.{Second, Millisecond}
 use Rattle.cqlp_exchanges.specs.declared.prepared.Preparation.{Preparation}
 use Rattle.cqlp_exchanges.specs.Prepared.{named}
-use Rattle.cqlp_exchanges.specs.Replies.{error_names, kind_names, reply}
-use Rattle.cqlp_exchanges.specs.Shown.{shown_text}
+use Rattle.cqlp_exchanges.specs.Replies.{consistency_names, error_names, kind_names, message, reply}
+use Rattle.cqlp_summary.specs.Shown.{shown_text}
 use Rattle.cqlp_exchanges.specs.Spans.{time_between}
 use Rattle.cqlp_exchanges.specs.Statements.{Said, Text, Id, statement}
 use Rattle.cqlp_exchanges.specs.Times.{joined, time_text}
@@ -52,6 +54,36 @@ reply_text (reply_as.Result kind) = kind_text (beside_number kind kind_names) ki
 reply_text (reply_as.Error code) = joined (codes "ERROR " ∷ name_or_number (beside_number code error_names) code ∷ [])
 reply_text (reply_as.Other o) = opcode_name o
 
+-- ---- what is known of a request and a response beside that
+
+-- the name of a consistency level, or its two bytes
+abbrev pub short_name : Option (List ℕ) → ℕ → List ℕ
+short_name (Some name) n = name
+short_name None n = hex_text (to_be_bytes w16 n)
+
+abbrev pub consistency_text : Option ℕ → List ℕ
+consistency_text None = []
+consistency_text (Some level) = joined (codes " " ∷ short_name (beside_number level consistency_names) level ∷ [])
+
+-- how many rows a page is to have
+abbrev pub page_text : Option ℤ → List ℕ
+page_text None = []
+page_text (Some size) = joined (codes " page " ∷ signed_decimal size ∷ [])
+
+-- rows and columns of a result
+abbrev pub counts_text : (rows columns : Option ℤ) → List ℕ
+counts_text (Some rows) (Some columns) = joined (codes " " ∷ signed_decimal rows ∷ codes "x" ∷ signed_decimal columns ∷ [])
+counts_text rows columns = []
+
+-- how many warnings a response has
+abbrev pub warnings_text : Option ℕ → List ℕ
+warnings_text None = []
+warnings_text (Some n) = joined (codes " warnings " ∷ decimal n ∷ [])
+
+abbrev pub tracing_text : Option (List ℕ) → List ℕ
+tracing_text None = []
+tracing_text (Some id) = joined (codes " tracing " ∷ hyphenated_text lower id ∷ [])
+
 -- ---- a frame: its bytes, with those of its header; and whether some of them were not captured, or its body is compressed
 
 abbrev pub cut_mark : (is_whole : Bool) → List ℕ
@@ -67,12 +99,16 @@ frame_text f =
     joined (codes " " ∷ decimal (9 + f.header.length) ∷ cut_mark f.whole ∷ compressed_mark (has f.header.flags 0x01) ∷ [])
 
 -- with the text of a statement that is known in place of its id
-abbrev pub request_text : (known : List Preparation) → Message (List ℕ) → List ℕ
+abbrev pub request_text : (known : List Preparation) → Message Kept → List ℕ
 request_text known m =
-    joined (opcode_name m.frame.header.opcode ∷ statement_text (named known (statement m.frame.header m.kept)) ∷ frame_text m.frame ∷ [])
+    joined (opcode_name m.frame.header.opcode ∷ consistency_text m.kept.facts.consistency
+    ∷ statement_text (named known (statement m.frame.header m.kept.front)) ∷ page_text m.kept.facts.page_size ∷ frame_text m.frame ∷ [])
 
-abbrev pub response_text : Message (List ℕ) → List ℕ
-response_text m = joined (reply_text (reply m.frame.header m.kept) ∷ frame_text m.frame ∷ [])
+abbrev pub response_text : Message Kept → List ℕ
+response_text m =
+    joined (reply_text (reply m.frame.header m.kept.front) ∷ counts_text m.kept.facts.rows m.kept.facts.columns
+    ∷ statement_text (message (reply m.frame.header m.kept.front) m.kept.front) ∷ warnings_text m.kept.facts.warnings
+    ∷ tracing_text m.kept.facts.trace_id ∷ frame_text m.frame ∷ [])
 
 -- ---- the line
 
@@ -86,7 +122,7 @@ place_text first number f =
 abbrev pub took_text : (request response : Frame) → List ℕ
 took_text q r = joined (codes " " ∷ time_text Millisecond (time_between q.begun r.ended) ∷ codes " ms\n" ∷ [])
 
-abbrev pub line : (known : List Preparation) → (first : Option ℕ) → (number : ℕ) → Paired (List ℕ) → List ℕ
+abbrev pub line : (known : List Preparation) → (first : Option ℕ) → (number : ℕ) → Paired Kept → List ℕ
 line known first number (Exchange q r) =
     joined (place_text first number q.frame ∷ request_text known q ∷ codes " -> " ∷ response_text r ∷ took_text q.frame r.frame ∷ [])
 line known first number (Unanswered q) = joined (place_text first number q.frame ∷ request_text known q ∷ codes " -> nothing\n" ∷ [])

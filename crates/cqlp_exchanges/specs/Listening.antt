@@ -1,12 +1,15 @@
--- What listens to what is told of the connections of a capture, and writes the lines of their exchanges.
+-- What listens to what is told of the connections of a capture, and writes their exchanges.
 use Rattle.std.specs.Prelude.{◌≡◌, ℕ, List, [], replicate, Option, None, Result, Ok, Err}
 use Rattle.cqlp_text.specs.Outputs.{Output}
+use Rattle.cqlp_summary.specs.Summaries.{new_summary}
 use Rattle.cqlp_streams.specs.declared.fault.StreamsFault.{StreamsFault}
 use Rattle.cqlp_streams.specs.declared.fault.StreamsFault.TheVariants as fault
 use Rattle.cqlp_streams.specs.Sayings.{Saying, Packet, New, Of, Left}
 use Rattle.cqlp_exchanges.specs.declared.exchanges.ExchangeLimits.{ExchangeLimits}
 use Rattle.cqlp_exchanges.specs.declared.filter.ExchangeFilter.{ExchangeFilter}
+use Rattle.cqlp_exchanges.specs.declared.form.ExchangeForm.{ExchangeForm}
 use Rattle.cqlp_exchanges.specs.Accounts.{Account, StopsAmong, account, no_sums, since, with_all}
+use Rattle.cqlp_exchanges.specs.Forms.{statements_in}
 use Rattle.cqlp_exchanges.specs.Tables.{Change, Slot, begins, change, leaves, tells, unused}
 
 -- the connections that are watched, when the present packet came, and what was told of them
@@ -18,9 +21,9 @@ pub record Listening : Type 0 where
 abbrev pub listening : List Slot → Option ℕ → Account → Listening
 listening slots time a = record { slots = slots; time = time; account = a }
 
-abbrev pub new_listening : ExchangeLimits → ExchangeFilter → Output → Listening
-new_listening limits filter out =
-    listening (replicate limits.connections (unused limits.waiting)) None (account filter None [] no_sums out)
+abbrev pub new_listening : ExchangeLimits → ExchangeFilter → ExchangeForm → Output → Listening
+new_listening limits filter form out =
+    listening (replicate limits.connections (unused limits.waiting)) None (account filter form None [] (new_summary (statements_in form)) no_sums out)
 
 -- ---- what a saying does: which connection it is of, what is told of that, and the time
 
@@ -50,7 +53,7 @@ after_change x s w = listening x.slots (time_after s w.time) (with_all (number_o
 abbrev pub with_saying : Listening → Saying → Listening
 with_saying w s = after_change (change_of s w) s w
 
--- ---- a fault: the output failed within the line of one of the exchanges that are told, after all before it
+-- ---- a fault: the output failed within the text of one of the exchanges that are told, after all before it
 
 abbrev pub StopsAt : Listening → Saying → StreamsFault → Listening → Type 0
 StopsAt old s fault.Write new = StopsAmong (number_of s) (change_of s old).told old.account new.account

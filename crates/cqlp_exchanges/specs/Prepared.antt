@@ -4,7 +4,7 @@ use Rattle.std.specs.List.{list_any}
 use Rattle.std.specs.Str.{bytes_eq}
 use Rattle.cqlp_note.specs.declared.opcode.Opcode.{Opcode}
 use Rattle.cqlp_note.specs.declared.opcode.Opcode.TheVariants as opcode
-use Rattle.cqlp_note.specs.Heading.{has}
+use Rattle.cqlp_watch.specs.declared.kept.Kept.{Kept}
 use Rattle.cqlp_watch.specs.declared.message.Message.{Message}
 use Rattle.cqlp_watch.specs.declared.paired.Paired.{Paired}
 use Rattle.cqlp_watch.specs.declared.paired.Paired.TheVariants.{Exchange}
@@ -20,16 +20,13 @@ abbrev pub id_of_said : Option Said → Option (List ℕ)
 id_of_said (Some (Id id true)) = Some id
 id_of_said s = None
 
--- behind the kind of the result, and a tracing id (02)
-abbrev pub after_number : (flags : ℕ) → List ℕ → List ℕ
-after_number flags b = drop (if has flags 0x02 then 20 else 4) b
+-- behind the kind of the result
+abbrev pub prepared_by : Reply → (front : List ℕ) → Option (List ℕ)
+prepared_by (reply_as.Result kind) b = if kind == 4 then id_of_said (short_bytes (drop 4 b)) else None
+prepared_by r b = None
 
-abbrev pub prepared_by : Reply → (flags : ℕ) → List ℕ → Option (List ℕ)
-prepared_by (reply_as.Result kind) flags b = if kind == 4 then id_of_said (short_bytes (after_number flags b)) else None
-prepared_by r flags b = None
-
-abbrev pub prepared_id : Message (List ℕ) → Option (List ℕ)
-prepared_id m = prepared_by (reply m.frame.header m.kept) m.frame.header.flags m.kept
+abbrev pub prepared_id : Message Kept → Option (List ℕ)
+prepared_id m = prepared_by (reply m.frame.header m.kept.front) m.kept.front
 
 -- ---- the text of the statement with an id
 
@@ -42,7 +39,7 @@ is_of id p = has_id id (prepared_id p.response)
 
 abbrev pub text_for : List Preparation → List ℕ → Option Said
 text_for [] id = None
-text_for (p ∷ ps) id = if is_of id p then statement p.request.frame.header p.request.kept else text_for ps id
+text_for (p ∷ ps) id = if is_of id p then statement p.request.frame.header p.request.kept.front else text_for ps id
 
 abbrev pub or_id : Option Said → List ℕ → Option Said
 or_id (Some s) id = Some s
@@ -65,13 +62,13 @@ abbrev pub is_known : List Preparation → Option (List ℕ) → Bool
 is_known known None = true
 is_known known (Some id) = list_any (is_of id) known
 
-abbrev pub is_news : List Preparation → (request response : Message (List ℕ)) → Bool
+abbrev pub is_news : List Preparation → (request response : Message Kept) → Bool
 is_news known q r = is_prepare q.frame.header.opcode && not (is_known known (prepared_id r))
 
 abbrev pub with_one_more : Preparation → List Preparation → List Preparation
 with_one_more p known = (if nat_lt (length known) 256 then known else drop 1 known) ++ p ∷ []
 
-abbrev pub known_after : Paired (List ℕ) → List Preparation → List Preparation
+abbrev pub known_after : Paired Kept → List Preparation → List Preparation
 known_after (Exchange q r) known =
     if is_news known q r then with_one_more (record { request = q; response = r }) known else known
 known_after t known = known

@@ -7,19 +7,16 @@ use Rattle.cqlp_note.specs.declared.opcode.Opcode.TheVariants as opcode
 use Rattle.cqlp_note.specs.Heading.{has}
 use Rattle.cqlp_exchanges.specs.declared.reply.Reply.{Reply}
 use Rattle.cqlp_exchanges.specs.declared.reply.Reply.TheVariants as reply_as
+use Rattle.cqlp_exchanges.specs.Statements.{Said, string_in}
 
 -- ---- the first number
 
 abbrev pub number_in : List ℕ → Option ℕ
 number_in b = if nat_lt (length b) 4 then None else Some (from_be_bytes w32 (take 4 b))
 
--- Section 2.2: it is not to be seen in a body that is compressed (01), or in which a custom payload (04) or warnings (08) come first. A
--- tracing id (02) is 16 bytes.
-abbrev pub first_number : (flags : ℕ) → (body : List ℕ) → Option ℕ
-first_number flags b =
-    if has flags 0x0D then None
-    else if has flags 0x02 then number_in (drop 16 b)
-    else number_in b
+-- Section 2.2: it is not to be seen in a body that is compressed (01). What comes before the message is passed over.
+abbrev pub first_number : (flags : ℕ) → (front : List ℕ) → Option ℕ
+first_number flags b = if has flags 0x01 then None else number_in b
 
 abbrev pub reply_with : Opcode → Option ℕ → Reply
 reply_with opcode.Result (Some kind) = reply_as.Result kind
@@ -46,3 +43,16 @@ error_names =
     ∷ (0x1300, codes "ReadFailure") ∷ (0x1400, codes "FunctionFailure") ∷ (0x1500, codes "WriteFailure")
     ∷ (0x2000, codes "SyntaxError") ∷ (0x2100, codes "Unauthorized") ∷ (0x2200, codes "Invalid")
     ∷ (0x2300, codes "ConfigError") ∷ (0x2400, codes "AlreadyExists") ∷ (0x2500, codes "Unprepared") ∷ []
+
+-- section 3
+abbrev pub consistency_names : List (ℕ × List ℕ)
+consistency_names =
+    (0x0000, codes "ANY") ∷ (0x0001, codes "ONE") ∷ (0x0002, codes "TWO") ∷ (0x0003, codes "THREE") ∷ (0x0004, codes "QUORUM")
+    ∷ (0x0005, codes "ALL") ∷ (0x0006, codes "LOCAL_QUORUM") ∷ (0x0007, codes "EACH_QUORUM") ∷ (0x0008, codes "SERIAL")
+    ∷ (0x0009, codes "LOCAL_SERIAL") ∷ (0x000A, codes "LOCAL_ONE") ∷ []
+
+-- ---- the message of an ERROR
+
+abbrev pub message : Reply → (front : List ℕ) → Option Said
+message (reply_as.Error code) b = string_in (drop 4 b)
+message r b = None

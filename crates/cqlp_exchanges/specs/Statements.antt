@@ -48,6 +48,13 @@ statement_in opcode.Prepare b = long_string b
 statement_in opcode.Execute b = short_bytes b
 statement_in o b = None
 
--- Section 2.2: not of a body that is compressed (01), or in which a custom payload (04) comes first.
-abbrev pub statement : Header → (body : List ℕ) → Option Said
-statement h b = if has h.flags 0x05 then None else statement_in h.opcode b
+-- Section 2.2: not of a body that is compressed (01). A custom payload is passed over.
+abbrev pub statement : Header → (front : List ℕ) → Option Said
+statement h b = if has h.flags 0x01 then None else statement_in h.opcode b
+
+-- ---- Section 3: a [string] is a length of two bytes and a text. Section 9: the message of an ERROR is behind its code.
+
+abbrev pub string_in : List ℕ → Option Said
+string_in b =
+    if nat_lt (length b) 2 then None
+    else Some (said_text (from_be_bytes w16 (take 2 b)) (text_front (take (from_be_bytes w16 (take 2 b)) (drop 2 b))))

@@ -2,6 +2,7 @@
 use Rattle.std.specs.Prelude.{ℕ, ◌==◌, Bool, true, false, List, [], Option, Some, None, slice_index_or, slice_set}
 use Rattle.std.specs.List.{position}
 use Rattle.cqlp_connections.specs.declared.told.Told.{Told}
+use Rattle.cqlp_watch.specs.declared.kept.Kept.{Kept}
 use Rattle.cqlp_watch.specs.declared.paired.Paired.{Paired}
 use Rattle.cqlp_watch.specs.Watches.{Watched, new_watched}
 use Rattle.cqlp_exchanges.specs.Talks.{Talk, begun_anew, left, told_heard}
@@ -32,10 +33,10 @@ place_of number slots = position (has_number number) slots
 
 -- what is told of a connection, and the table after it
 pub record Change : Type 0 where
-  pub told : List (Paired (List ℕ))
+  pub told : List (Paired Kept)
   pub slots : List Slot
 
-abbrev pub change : List (Paired (List ℕ)) → List Slot → Change
+abbrev pub change : List (Paired Kept) → List Slot → Change
 change told slots = record { told = told; slots = slots }
 
 abbrev pub slot_at : List Slot → ℕ → Slot

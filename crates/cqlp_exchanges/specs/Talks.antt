@@ -5,6 +5,7 @@ use Rattle.cqlp_reassembly.specs.declared.stream.StreamStep.TheVariants as step
 use Rattle.cqlp_connections.specs.declared.ends.Way.{Way}
 use Rattle.cqlp_connections.specs.declared.ends.Way.TheVariants.{Requests, Responses}
 use Rattle.cqlp_connections.specs.declared.told.Told.{Told}
+use Rattle.cqlp_watch.specs.declared.kept.Kept.{Kept}
 use Rattle.cqlp_watch.specs.declared.paired.Paired.{Paired}
 use Rattle.cqlp_watch.specs.declared.paired.Paired.TheVariants.{Unanswered}
 use Rattle.cqlp_watch.specs.Pairings.{held, told_or_none}
@@ -12,16 +13,16 @@ use Rattle.cqlp_watch.specs.Watches.{Tells, Watched, after_end, after_gap, begun
 
 -- what is told, in order, and the connection after it
 pub record Talk : Type 0 where
-  pub told : List (Paired (List ℕ))
+  pub told : List (Paired Kept)
   pub after : Watched
 
-abbrev pub talk : List (Paired (List ℕ)) → Watched → Talk
+abbrev pub talk : List (Paired Kept) → Watched → Talk
 talk told w = record { told = told; after = w }
 
 abbrev pub talk_of : Tells → Talk
 talk_of t = talk (told_or_none t.told) t.after
 
-abbrev pub before : Option (Paired (List ℕ)) → Talk → Talk
+abbrev pub before : Option (Paired Kept) → Talk → Talk
 before told t = talk (told_or_none told ++ t.told) t.after
 
 -- ---- bytes, step by step. Their first one begins a segment or not.

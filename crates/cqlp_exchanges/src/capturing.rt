@@ -1,27 +1,37 @@
 //! A capture whose exchanges are written.
 
-ghost use Rattle.std.specs.Prelude.{◌≡◌, ℕ, List, IfOk, IsSome, Some, string_bytes};
+ghost use Rattle.std.specs.Prelude.{◌≡◌, ℕ, List, IfOk, IsSome, OnOk, Some, string_bytes};
 ghost use Rattle.cqlp_note.specs.Streams.{CountsUp};
 ghost use Rattle.cqlp_text.specs.Endings.{IsStatusOfTask};
 ghost use Rattle.cqlp_text.specs.Outputs.{written};
 ghost use Rattle.cqlp_streams.specs.Endings.{Concludes};
-ghost use Rattle.cqlp_exchanges.specs.Capturing.{Listens, WritesExchanges, sums_words};
+ghost use Rattle.cqlp_exchanges.specs.Capturing.{Closes, Listens, WritesExchanges, sums_words};
 
 use crate::exchanges::{ExchangeLimits, Exchanges};
 use crate::filter::ExchangeFilter;
+use crate::form::ExchangeForm;
 use crate::sums::ExchangeSums;
+use cqlp_connections::ConnectionLimits;
+use cqlp_grammar::SinkFault;
 use cqlp_note::{Source, Target};
 use cqlp_streams::{CaptureRead, StreamsFault, conclude_capture, read_capture};
 use std::alloc::{AllocError, Allocator, Global};
 
-/// Pairs the requests on the connections of a capture with their responses, of nodes that listen on these ports. Writes the line of each
-/// that the filter shows to `out`, and what the capture was, or the fault line, to `err`. Answers the exit status and the two outputs.
+/// How many connections there are at one time, and how many bytes that came early each direction holds: as many connections as `ExchangeLimits::DEFAULT` has.
+const LIMITS: ConnectionLimits = ConnectionLimits {
+    connections: 1_024,
+    early: 4_096,
+};
+
+/// Pairs the requests on the connections of a capture with their responses, of nodes that listen on these ports. Writes each that the
+/// filter shows to `out` in this form, and what the capture was, or the fault line, to `err`. Answers the exit status and the two outputs.
 ///
 /// After a fault nothing more is asked of what failed.
 pub fn write_exchanges<R: Source, O: Target, E: Target>(
     alloc: Global,
     ports: &[u16],
     filter: ExchangeFilter,
+    form: ExchangeForm,
     input: &mut R,
     out: O,
     err: E,
@@ -29,10 +39,10 @@ pub fn write_exchanges<R: Source, O: Target, E: Target>(
     ensures task { IsStatusOfTask result.0 }
     ensures exchanges { (xs : List ℕ) → R.left input.old ≡ Some xs → IsSome (O.contents out) → IsSome (E.contents err) →
         (made : ℕ) × CountsUp made (R.reads input.old) (R.reads input.new)
-        × WritesExchanges filter ports.now xs made (R.left input.new) (written O.Target out) (written E.Target err)
+        × WritesExchanges filter form ports.now xs made (R.left input.new) (written O.Target out) (written E.Target err)
         result.0 (written O.Target result.1) (written E.Target result.2) }
 {
-    let (answer, sums, out) = listen(alloc, ports, filter, input, out);
+    let (answer, sums, out) = listen(alloc, ports, filter, form, input, out);
     let (status, err) = conclude(alloc, &answer, &sums, err);
     (status, out, err)
 }
@@ -42,20 +52,40 @@ fn listen<R: Source, O: Target>(
     alloc: Global,
     ports: &[u16],
     filter: ExchangeFilter,
+    form: ExchangeForm,
     input: &mut R,
     out: O,
 ) -> (Result<CaptureRead, StreamsFault>, ExchangeSums, O)
     ensures { (xs : List ℕ) → R.left input.old ≡ Some xs → IsSome (O.contents out) →
         (made : ℕ) × CountsUp made (R.reads input.old) (R.reads input.new)
-        × Listens filter ports.now xs made result.0 (R.left input.new) (written O.Target out) result.1 (written O.Target result.2) }
+        × Listens filter form ports.now xs made result.0 (R.left input.new) (written O.Target out) result.1 (written O.Target result.2) }
 {
-    let mut exchanges = match Exchanges::new(alloc, ExchangeLimits::DEFAULT, filter, out) {
+    let mut exchanges = match Exchanges::new(alloc, ExchangeLimits::DEFAULT, filter, form, out) {
         Ok(exchanges) => exchanges,
         Err(out) => return (Err(StreamsFault::NoMemory), ExchangeSums::none(), out),
     };
-    let answer = read_capture(alloc, ports, input, &mut exchanges);
+    let read = read_capture(alloc, LIMITS, ports, input, &mut exchanges);
+    let answer = finish(&mut exchanges, read);
     let (out, sums) = exchanges.into_parts();
     (answer, sums, out)
+}
+
+/// Where the capture was read, writes what stands at the end.
+fn finish<O: Target>(
+    exchanges: &mut Exchanges<O>,
+    read: Result<CaptureRead, StreamsFault>,
+) -> Result<CaptureRead, StreamsFault>
+    ensures closes { OnOk read (IsSome exchanges.old.account.output.given) →
+        Closes exchanges.old.account read result exchanges.new.account.output }
+    ensures sums { OnOk read (IsSome exchanges.old.account.output.given) → exchanges.new.account.sums ≡ exchanges.old.account.sums }
+{
+    match read {
+        Ok(read) => match exchanges.finish() {
+            Ok(()) => Ok(read),
+            Err(SinkFault) => Err(StreamsFault::Write),
+        },
+        Err(fault) => Err(fault),
+    }
 }
 
 /// Writes the line of how the reading ended. Answers the exit status.

@@ -2,9 +2,12 @@
 
 ghost use Rattle.std.specs.Prelude.{◌≡◌, ◌≤◌, [], IfErr, IfOk, IsSome, replicate, vec_capacity, vec_len};
 ghost use Rattle.cqlp_text.specs.Outputs.{written};
+ghost use Rattle.cqlp_summary.specs.Summaries.{new_summary};
+ghost use Rattle.cqlp_exchanges.specs.Forms.{statements_in};
 ghost use Rattle.cqlp_exchanges.specs.Tables.{unused};
 
 use crate::filter::ExchangeFilter;
+use crate::form::ExchangeForm;
 use crate::prepared::{MOST, Preparation};
 use crate::sums::ExchangeSums;
 use crate::table::Table;
@@ -13,6 +16,7 @@ use cqlp_connections::{ConnectionTotals, Told};
 use cqlp_grammar::SinkFault;
 use cqlp_note::Target;
 use cqlp_streams::{Listener, Saying, StreamsFault};
+use cqlp_summary::Summary;
 use std::alloc::{AllocError, Allocator, Global};
 use std::marker::Model;
 
@@ -26,18 +30,18 @@ pub struct ExchangeLimits {
 }
 
 impl ExchangeLimits {
-    /// As many connections as `cqlp_streams::LIMITS` has, and 256 requests of each: some 21 MB.
+    /// 1,024 connections, and 80 requests of each.
     pub const DEFAULT: ExchangeLimits = ExchangeLimits {
-        connections: 256,
-        waiting: 256,
+        connections: 1_024,
+        waiting: 80,
     };
 }
 
 /// How many bytes of a line wait at most.
 const ROOM: usize = 4096;
 
-/// Pairs the requests on the connections of a capture with their responses, and writes the line of each that its filter shows, when the last
-/// byte of the response is there. A connection that begins where as many are watched as there may be is not. All memory is taken in `new`.
+/// Pairs the requests on the connections of a capture with their responses, and writes each that its filter shows, when the last byte of
+/// the response is there. A connection that begins where as many are watched as there may be is not. All memory is taken in `new`.
 #[derive(Drop)]
 pub struct Exchanges<O: Target, A: Allocator = Global> {
     table: Table<A>,
@@ -56,25 +60,46 @@ impl<O: Target, A: Allocator> Model for Exchanges<O, A> {
 
 impl<O: Target, A: Allocator> Exchanges<O, A> {
     ghost use Rattle.cqlp_streams.specs.Sayings.{Left, New, Of, Packet, saying_of};
+    ghost use Rattle.cqlp_exchanges.specs.Accounts.{Finishes};
     ghost use Rattle.cqlp_exchanges.specs.Listening.{Hears, new_listening, with_saying};
 
-    /// Nothing is watched, and lines go to this output. All memory is taken here, in one request for each connection of the limit and three more; where
+    /// Nothing is watched, and exchanges go to this output in this form. All memory is taken here, in one request for each connection of the limit and five more; where
     /// it is not granted, the output is given back.
-    pub fn new(alloc: A, limits: ExchangeLimits, filter: ExchangeFilter, out: O) -> Result<Self, O>
+    pub fn new(
+        alloc: A,
+        limits: ExchangeLimits,
+        filter: ExchangeFilter,
+        form: ExchangeForm,
+        out: O,
+    ) -> Result<Self, O>
     where
         A: Clone,
         requires { 1 ≤ limits.waiting }
-        ensures ok { IfOk result (λ e. e ≡ new_listening limits filter (written O.Target out)) }
+        ensures ok { IfOk result (λ e. e ≡ new_listening limits filter form (written O.Target out)) }
         ensures err { IfErr result (λ o. written O.Target o ≡ written O.Target out) }
     {
-        match take_memory(alloc, limits) {
-            Ok((table, buffer, known)) => Ok(Exchanges {
+        match take_memory(alloc, limits, form) {
+            Ok(
+                Room {
+                    table,
+                    buffer,
+                    known,
+                    summary,
+                },
+            ) => Ok(Exchanges {
                 table,
                 time: None,
-                teller: Teller::new(filter, out, buffer, known),
+                teller: Teller::new(filter, form, out, buffer, known, summary),
             }),
             Err(AllocError) => Err(out),
         }
+    }
+
+    /// Writes what stands at the end: the lines of a summary.
+    pub fn finish(&mut self) -> Result<(), SinkFault>
+        ensures { IsSome self.old.account.output.given → Finishes self.old.account result self.new.account }
+    {
+        self.teller.finish()
     }
 
     /// The output, and what was told.
@@ -140,19 +165,35 @@ impl<O: Target, A: Allocator> Exchanges<O, A> {
     }
 }
 
-/// A table of free slots, the buffer of a line, and room for statements.
+/// A table of free slots, the buffer of a line, room for statements that are prepared, and a summary of those that are asked for.
+#[derive(Drop)]
+struct Room<A: Allocator> {
+    table: Table<A>,
+    buffer: Vec<u8, A>,
+    known: Vec<Preparation, A>,
+    summary: Summary<A>,
+}
+
 fn take_memory<A: Allocator + Clone>(
     alloc: A,
     limits: ExchangeLimits,
-) -> Result<(Table<A>, Vec<u8, A>, Vec<Preparation, A>), AllocError>
-    ensures table { IfOk result (λ p. p.0 ≡ replicate limits.connections (unused limits.waiting)) }
-    ensures buffer { IfOk result (λ p. 128 ≤ vec_len p.1) }
-    ensures known { IfOk result (λ p. (p.2.items ≡ []) × (256 ≤ vec_capacity p.2)) }
+    form: ExchangeForm,
+) -> Result<Room<A>, AllocError>
+    ensures table { IfOk result (λ p. p.table ≡ replicate limits.connections (unused limits.waiting)) }
+    ensures buffer { IfOk result (λ p. 128 ≤ vec_len p.buffer) }
+    ensures known { IfOk result (λ p. (p.known.items ≡ []) × (256 ≤ vec_capacity p.known)) }
+    ensures summary { IfOk result (λ p. p.summary ≡ new_summary (statements_in form)) }
 {
     let table = Table::new(alloc.clone()?, limits.connections, limits.waiting)?;
     let buffer = vec![in alloc.clone()?; 0; ROOM]?;
-    let known = Vec::with_capacity(alloc, MOST)?;
-    Ok((table, buffer, known))
+    let known = Vec::with_capacity(alloc.clone()?, MOST)?;
+    let summary = Summary::new(alloc, form.statements())?;
+    Ok(Room {
+        table,
+        buffer,
+        known,
+        summary,
+    })
 }
 
 impl<O: Target, A: Allocator> Listener for Exchanges<O, A> {

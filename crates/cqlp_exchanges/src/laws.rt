@@ -11,7 +11,7 @@ pub fn one_answer()
     ensures statement { OneAnswerOfStatement }
 {}
 
-/// Where nothing outside fails, `write_exchanges` has one answer: from the same bytes, ports and filter the same lines and the same status.
+/// Where nothing outside fails, `write_exchanges` has one answer: from the same bytes, ports, filter and form the same text and the same status.
 pub fn one_answer_of_write_exchanges()
     ensures { OneAnswerOfWriteExchanges }
 {}

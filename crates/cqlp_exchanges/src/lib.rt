@@ -1,14 +1,17 @@
-//! The lines of the exchanges on the connections of a capture: each request with its reply.
+//! The exchanges on the connections of a capture: each request with its reply, as lines, as JSON, or in a summary.
 #![tactic(auto)]
 
 mod capturing;
 mod exchanges;
 mod filter;
+mod form;
 pub mod laws;
 mod lines;
+mod member;
+mod noting;
+mod object;
 mod prepared;
 mod reply;
-mod shown;
 mod slot;
 mod span;
 mod statement;
@@ -19,5 +22,6 @@ mod teller;
 pub use capturing::write_exchanges;
 pub use exchanges::{ExchangeLimits, Exchanges};
 pub use filter::ExchangeFilter;
+pub use form::ExchangeForm;
 pub use statement::{Statement, statement_of};
 pub use sums::ExchangeSums;

@@ -1,21 +1,23 @@
 //! The line of what is told of a request, a response, or both.
 
-ghost use Rattle.std.specs.Prelude.{◌≡◌, [], None};
+ghost use Rattle.std.specs.Prelude.{◌≡◌, [], None, Some};
 ghost use Rattle.std.specs.Fmt.{signed_decimal};
 ghost use Rattle.cqlp_text.specs.Written.{Writes};
-ghost use Rattle.cqlp_exchanges.specs.Lines.{compressed_mark, cut_mark, frame_text, kind_text, line, more, name_or_number, place_text};
+ghost use Rattle.cqlp_exchanges.specs.Lines.{compressed_mark, consistency_text, counts_text, cut_mark, frame_text, kind_text, line, more, name_or_number, page_text, place_text};
+ghost use Rattle.cqlp_exchanges.specs.Lines.{short_name, tracing_text, warnings_text};
 ghost use Rattle.cqlp_exchanges.specs.Lines.{reply_text, request_text, response_text, said_text, statement_text, took_text};
 ghost use Rattle.cqlp_exchanges.specs.Statements.{said_of};
 ghost use Rattle.std.specs.Prelude.{option_map};
 ghost use Rattle.cqlp_watch.specs.declared.paired.Paired.TheVariants.{Exchange, Unanswered, Unasked, Event};
 
+use crate::member::{Member, Value, put_members};
 use crate::prepared::{Preparation, named};
-use crate::reply::{Reply, error_name, kind_name, reply_of};
-use crate::shown::put_shown_text;
+use crate::reply::{Reply, consistency_name, error_name, kind_name, message_of, reply_of};
 use crate::span::{Unit, put_time, time_between};
 use crate::statement::{Statement, has, statement_of};
 use cqlp_grammar::SinkFault;
 use cqlp_note::{Header, Target};
+use cqlp_summary::put_shown_text;
 use cqlp_text::{Buffered, Pen, TextWriter, opcode_name};
 use cqlp_watch::{Frame, Kept, Message, Paired};
 use std::alloc::Allocator;
@@ -159,10 +161,12 @@ fn put_request<P: Pen>(
 ) -> Result<(), SinkFault>
     ensures { Writes writer.old (request_text known.now request.now) result writer.new }
 {
-    let own = statement_of(&request.frame.header, request.kept.as_slice());
+    let own = statement_of(&request.frame.header, request.kept.front.as_slice());
     let statement = named(known, own);
     writer.put_str(opcode_name(request.frame.header.opcode))?;
+    put_consistency(writer, request.kept.facts.consistency)?;
     put_statement(writer, &statement)?;
+    put_page_size(writer, request.kept.facts.page_size)?;
     put_frame(writer, &request.frame)
 }
 
@@ -172,9 +176,113 @@ fn put_response<P: Pen>(
 ) -> Result<(), SinkFault>
     ensures { Writes writer.old (response_text response.now) result writer.new }
 {
-    let reply = reply_of(&response.frame.header, response.kept.as_slice());
+    let reply = reply_of(&response.frame.header, response.kept.front.as_slice());
+    let message = message_of(reply, response.kept.front.as_slice());
     put_reply(writer, reply)?;
+    put_counts(
+        writer,
+        response.kept.facts.rows,
+        response.kept.facts.columns,
+    )?;
+    put_statement(writer, &message)?;
+    put_warnings(writer, response.kept.facts.warnings)?;
+    put_tracing(writer, response.kept.facts.trace_id)?;
     put_frame(writer, &response.frame)
+}
+
+/// Takes a consistency level, after a space.
+fn put_consistency<P: Pen>(writer: &mut TextWriter<P>, level: Option<u16>) -> Result<(), SinkFault>
+    ensures { Writes writer.old (consistency_text level) result writer.new }
+{
+    match level {
+        Some(level) => put_level(writer, level),
+        None => writer.put(b""),
+    }
+}
+
+fn put_level<P: Pen>(writer: &mut TextWriter<P>, level: u16) -> Result<(), SinkFault>
+    ensures { Writes writer.old (consistency_text (Some level)) result writer.new }
+{
+    writer.put(b" ")?;
+    put_short_name(writer, consistency_name(level), level)
+}
+
+/// Takes a name, or where there is none the number's two bytes.
+fn put_short_name<P: Pen>(
+    writer: &mut TextWriter<P>,
+    name: Option<&'static str>,
+    number: u16,
+) -> Result<(), SinkFault>
+    ensures { Writes writer.old (short_name (option_map (λ s. s.now) name.entry) number) result writer.new }
+{
+    match name {
+        Some(name) => writer.put_str(name),
+        None => writer.put_hex_text(&number.to_be_bytes()),
+    }
+}
+
+/// Takes how many rows a page is to have.
+fn put_page_size<P: Pen>(writer: &mut TextWriter<P>, size: Option<i32>) -> Result<(), SinkFault>
+    ensures { Writes writer.old (page_text size) result writer.new }
+{
+    match size {
+        Some(size) => put_members(writer, &[Member(" page ", Value::Signed(size))]),
+        None => writer.put(b""),
+    }
+}
+
+/// Takes how many rows and columns a result has.
+fn put_counts<P: Pen>(
+    writer: &mut TextWriter<P>,
+    rows: Option<i32>,
+    columns: Option<i32>,
+) -> Result<(), SinkFault>
+    ensures { Writes writer.old (counts_text rows columns) result writer.new }
+{
+    match (rows, columns) {
+        (Some(rows), Some(columns)) => put_members(
+            writer,
+            &[
+                Member(" ", Value::Signed(rows)),
+                Member("x", Value::Signed(columns)),
+            ],
+        ),
+        _ => writer.put(b""),
+    }
+}
+
+/// Takes how many warnings a response has.
+fn put_warnings<P: Pen>(writer: &mut TextWriter<P>, count: Option<u16>) -> Result<(), SinkFault>
+    ensures { Writes writer.old (warnings_text count) result writer.new }
+{
+    match count {
+        Some(count) => put_warning_count(writer, count),
+        None => writer.put(b""),
+    }
+}
+
+fn put_warning_count<P: Pen>(writer: &mut TextWriter<P>, count: u16) -> Result<(), SinkFault>
+    ensures { Writes writer.old (warnings_text (Some count)) result writer.new }
+{
+    writer.put(b" warnings ")?;
+    writer.put_number(u64::from(count))
+}
+
+/// Takes the tracing id of a response.
+fn put_tracing<P: Pen>(writer: &mut TextWriter<P>, id: Option<[u8; 16]>) -> Result<(), SinkFault>
+    ensures { Writes writer.old (tracing_text id) result writer.new }
+{
+    match id {
+        Some(id) => put_trace_id(writer, id),
+        None => writer.put(b""),
+    }
+}
+
+fn put_trace_id<P: Pen>(writer: &mut TextWriter<P>, id: [u8; 16]) -> Result<(), SinkFault>
+    ensures { Writes writer.old (tracing_text (Some id)) result writer.new }
+{
+    writer.put(b" tracing ")?;
+    writer.put_uuid(id)
 }
 
 /// Takes how many bytes a frame has, and what is missing of it.

@@ -1,14 +1,14 @@
 //! Statements that were prepared: their texts by their ids.
 
-ghost use Rattle.std.specs.Prelude.{◌≡◌, ◌≤◌, length, option_map, vec_capacity};
+ghost use Rattle.std.specs.Prelude.{◌≡◌, ◌≤◌, drop, length, option_map, vec_capacity};
 ghost use Rattle.std.specs.List.{list_any};
 ghost use Rattle.std.specs.Str.{bytes_eq};
-ghost use Rattle.cqlp_exchanges.specs.Prepared.{after_number, id_of_said, is_news, is_of, is_prepare, named, named_id, prepared_id};
+ghost use Rattle.cqlp_exchanges.specs.Prepared.{id_of_said, is_news, is_of, is_prepare, named, named_id, prepared_id};
 ghost use Rattle.cqlp_exchanges.specs.Prepared.{text_for, with_one_more};
 ghost use Rattle.cqlp_exchanges.specs.Statements.{said_of, short_bytes};
 
 use crate::reply::{Reply, reply_of};
-use crate::statement::{Statement, has, short_bytes, statement_of};
+use crate::statement::{Statement, short_bytes, statement_of};
 use cqlp_note::Opcode;
 use cqlp_watch::{Kept, Message};
 use std::alloc::Allocator;
@@ -46,19 +46,18 @@ fn prepared_id(response: &Message<Kept>) -> Option<&[u8]>
     ensures { option_map (λ id. id.now) result ≡ prepared_id response.now }
 {
     let header = &response.frame.header;
-    let body = response.kept.as_slice();
-    match reply_of(header, body) {
-        Reply::Result(kind) if kind == 4 => whole_id(after_number(header.flags, body)),
+    let front = response.kept.front.as_slice();
+    match reply_of(header, front) {
+        Reply::Result(kind) if kind == 4 => whole_id(after_number(front)),
         _ => None,
     }
 }
 
-/// What comes after the first number of a response, which is behind a tracing id where the flags say so.
-fn after_number(flags: u8, body: &[u8]) -> &[u8]
-    ensures { result.now ≡ after_number flags body.now }
+/// What comes after the first number of a response.
+pub(crate) fn after_number(front: &[u8]) -> &[u8]
+    ensures { result.now ≡ drop 4 front.now }
 {
-    let start = if has(flags, 0x02) { 20 } else { 4 };
-    &body[body.len().min(start)..]
+    &front[front.len().min(4)..]
 }
 
 /// A \[short bytes\] at the front, if it is there whole.
@@ -77,7 +76,7 @@ fn text_for<'a>(known: &'a [Preparation], id: &[u8]) -> Option<Statement<'a>>
 {
     for one in known {
         if one.is_of(id) {
-            return statement_of(&one.request.frame.header, one.request.kept.as_slice());
+            return statement_of(&one.request.frame.header, one.request.kept.front.as_slice());
         }
     }
     None

@@ -2,9 +2,11 @@
 
 ghost use Rattle.std.specs.Prelude.{◌≡◌, option_map};
 ghost use Rattle.cqlp_note.specs.Heading.{beside_number};
-ghost use Rattle.cqlp_exchanges.specs.Replies.{error_names, first_number, kind_names, number_in, reply};
+ghost use Rattle.cqlp_exchanges.specs.Replies.{consistency_names, error_names, first_number, kind_names, message, number_in, reply};
+ghost use Rattle.cqlp_exchanges.specs.Statements.{said_of};
 
-use crate::statement::has;
+use crate::prepared::after_number;
+use crate::statement::{Statement, has, string_in};
 use cqlp_note::{Header, Opcode};
 
 /// What a response is.
@@ -29,18 +31,14 @@ pub(crate) fn reply_of(header: &Header, body: &[u8]) -> Reply
     }
 }
 
-/// The number that the message of a response begins with, after a tracing id of 16 bytes where the flags say so. `None` if it is not there, if the
-/// body is compressed, or if a custom payload or warnings come before it.
-fn first_number(flags: u8, body: &[u8]) -> Option<u32>
-    ensures { result ≡ first_number flags body.now }
+/// The number that the message of a response begins with. `None` if it is not there, or if the body is compressed.
+fn first_number(flags: u8, front: &[u8]) -> Option<u32>
+    ensures { result ≡ first_number flags front.now }
 {
-    if has(flags, 0x0D) {
+    if has(flags, 0x01) {
         return None;
     }
-    if has(flags, 0x02) {
-        return number_in(&body[body.len().min(16)..]);
-    }
-    number_in(body)
+    number_in(front)
 }
 
 /// An \[int\] at the front, as a number without a sign.
@@ -89,5 +87,36 @@ pub(crate) fn error_name(code: u32) -> Option<&'static str>
         0x2400 => Some("AlreadyExists"),
         0x2500 => Some("Unprepared"),
         _ => None,
+    }
+}
+
+/// The name of a consistency level. Section 3 of `native_protocol_v4.spec`.
+pub(crate) fn consistency_name(level: u16) -> Option<&'static str>
+    ensures { option_map (λ s. s.now) result ≡ beside_number level consistency_names }
+{
+    match level {
+        0x0000 => Some("ANY"),
+        0x0001 => Some("ONE"),
+        0x0002 => Some("TWO"),
+        0x0003 => Some("THREE"),
+        0x0004 => Some("QUORUM"),
+        0x0005 => Some("ALL"),
+        0x0006 => Some("LOCAL_QUORUM"),
+        0x0007 => Some("EACH_QUORUM"),
+        0x0008 => Some("SERIAL"),
+        0x0009 => Some("LOCAL_SERIAL"),
+        0x000A => Some("LOCAL_ONE"),
+        _ => None,
+    }
+}
+
+/// The message of an ERROR, as far as it is there.
+pub(crate) fn message_of<'a>(reply: Reply, front: &'a [u8]) -> Option<Statement<'a>>
+    ensures { option_map said_of result ≡ message reply front.now }
+{
+    match reply {
+        Reply::Error(_) => string_in(after_number(front)),
+        Reply::Result(_) => None,
+        Reply::Other(_) => None,
     }
 }

@@ -87,7 +87,7 @@ fn put_span<P: Pen>(writer: &mut TextWriter<P>, unit: Unit, span: Span) -> Resul
     put_fraction(writer, unit.places(), rest)
 }
 
-fn sign(is_before: bool) -> &'static str
+pub(crate) fn sign(is_before: bool) -> &'static str
     ensures { result.now ≡ sign is_before }
 {
     if is_before { "-" } else { "" }

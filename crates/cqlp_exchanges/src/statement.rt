@@ -3,7 +3,7 @@
 ghost use Rattle.std.specs.Prelude.{◌≡◌, option_map, take};
 ghost use Rattle.std.specs.Str.Lossy.{utf8_valid_len};
 ghost use Rattle.cqlp_note.specs.Heading.{has as has_bit};
-ghost use Rattle.cqlp_exchanges.specs.Statements.{id_in, long_string, said_of, short_bytes, statement, text_in};
+ghost use Rattle.cqlp_exchanges.specs.Statements.{id_in, long_string, said_of, said_text, short_bytes, statement, string_in, text_front, text_in};
 
 use cqlp_note::{Header, Opcode};
 
@@ -16,13 +16,13 @@ pub enum Statement<'a> {
     Id { id: &'a [u8], is_whole: bool },
 }
 
-/// What a request asks to be done, by the first bytes of its body: the longest front of its text that is UTF-8, which is whole where it is
+/// What a request asks to be done, by the first bytes of the message, behind a custom payload: the longest front of its text that is UTF-8, which is whole where it is
 /// as long as the length before it says; or the id of its statement. `None` of another message, where the length is negative or is not there, and
-/// where the body is compressed or begins with a custom payload, by the header's flags.
+/// where the body is compressed, by the header's flags.
 pub fn statement_of<'a>(header: &Header, body: &'a [u8]) -> Option<Statement<'a>>
     ensures { option_map said_of result ≡ statement header.now body.now }
 {
-    if has(header.flags, 0x05) {
+    if has(header.flags, 0x01) {
         return None;
     }
     match header.opcode {
@@ -53,6 +53,26 @@ fn text_in(len: u32, content: &[u8]) -> Option<Statement<'_>>
         text,
         is_whole: text.len() == len as usize,
     })
+}
+
+/// A \[string\]. Section 3 of `native_protocol_v4.spec`.
+pub(crate) fn string_in(bytes: &[u8]) -> Option<Statement<'_>>
+    ensures { option_map said_of result ≡ string_in bytes.now }
+{
+    let (len, content) = bytes.split_first_chunk::<2>()?;
+    Some(text_of(u16::from_be_bytes(*len), content))
+}
+
+/// A text of so many bytes, as far as it is there.
+fn text_of(len: u16, content: &[u8]) -> Statement<'_>
+    ensures { said_of result ≡ said_text len (text_front (take len content.now)) }
+{
+    let there = content.len().min(len as usize);
+    let text = text_front(&content[..there]);
+    Statement::Text {
+        text,
+        is_whole: text.len() == len as usize,
+    }
 }
 
 /// The longest front of bytes that is UTF-8.

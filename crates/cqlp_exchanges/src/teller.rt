@@ -1,27 +1,36 @@
-//! What is told of requests and responses, on its way to lines.
+//! What is told of requests and responses, on its way to an output.
 
-ghost use Rattle.std.specs.Prelude.{◌≡◌, IsSome};
+ghost use Rattle.std.specs.Prelude.{◌≡◌, [], IsSome};
+ghost use Rattle.cqlp_text.specs.Written.{Writes};
+ghost use Rattle.cqlp_summary.specs.Lines.{summary_text};
+ghost use Rattle.cqlp_exchanges.specs.Forms.{ending_of, text_of};
 ghost use Rattle.cqlp_text.specs.Outputs.{written};
 
 use crate::filter::ExchangeFilter;
+use crate::form::ExchangeForm;
 use crate::lines::put_line;
+use crate::noting::note;
+use crate::object::put_json_line;
 use crate::prepared::{Preparation, add_known, is_news};
 use crate::sums::ExchangeSums;
 use cqlp_grammar::SinkFault;
 use cqlp_note::Target;
+use cqlp_summary::Summary;
 use cqlp_text::{Buffered, TextWriter};
 use cqlp_watch::{Kept, Message, Paired};
 use std::alloc::{Allocator, Global};
 use std::marker::Model;
 
-/// Counts what is told of requests and responses, and writes a line of what is shown. Takes no memory.
+/// Counts what is told of requests and responses, and writes what is shown. Takes no memory.
 #[derive(Drop)]
 pub(crate) struct Teller<O: Target, A: Allocator = Global> {
     filter: ExchangeFilter,
+    form: ExchangeForm,
     /// When the first packet was captured.
     first: Option<u64>,
     /// The statements that were prepared last.
     known: Vec<Preparation, A>,
+    summary: Summary<A>,
     sums: ExchangeSums,
     writer: TextWriter<Buffered<O, A>>,
 }
@@ -33,7 +42,7 @@ impl<O: Target, A: Allocator> Model for Teller<O, A> {
 
     ghost Value = { Account };
 
-    ghost view = { λ t. account t.filter t.first t.known.items t.sums (output t.writer.given t.writer.failures) };
+    ghost view = { λ t. account t.filter t.form t.first t.known.items t.summary t.sums (output t.writer.given t.writer.failures) };
 
     ghost invariant = { λ t. (t.writer.waiting ≡ []) × (length t.known.items ≤ 256) × (256 ≤ vec_capacity t.known) };
 }
@@ -42,24 +51,28 @@ impl<O: Target, A: Allocator> Teller<O, A> {
     ghost use Rattle.std.specs.Prelude.{◌≤◌, [], vec_capacity, vec_len};
     ghost use Rattle.cqlp_watch.specs.Pairings.{told_or_none};
     ghost use Rattle.cqlp_watch.specs.declared.paired.Paired.TheVariants.{Exchange};
-    ghost use Rattle.cqlp_exchanges.specs.Accounts.{Tells, ToldAll, account, learned, no_sums, since};
+    ghost use Rattle.cqlp_exchanges.specs.Accounts.{Finishes, Tells, ToldAll, account, learned, no_sums, since};
 
     /// Of an output, with nothing told. A line waits in the buffer until it is whole, as far as there is room for it.
     pub(crate) fn new(
         filter: ExchangeFilter,
+        form: ExchangeForm,
         out: O,
         buffer: Vec<u8, A>,
         known: Vec<Preparation, A>,
+        summary: Summary<A>,
     ) -> Self
         requires buffer { 128 ≤ vec_len buffer }
         requires none { known.items ≡ [] }
         requires room { 256 ≤ vec_capacity known }
-        ensures { result ≡ account filter None [] no_sums (written O.Target out) }
+        ensures { result ≡ account filter form None [] summary no_sums (written O.Target out) }
     {
         Teller {
             filter,
+            form,
             first: None,
             known,
+            summary,
             sums: ExchangeSums::none(),
             writer: TextWriter::new(Buffered::new(out, buffer)),
         }
@@ -72,8 +85,10 @@ impl<O: Target, A: Allocator> Teller<O, A> {
     {
         let Teller {
             filter: _,
+            form: _,
             first: _,
             known: _,
+            summary: _,
             sums,
             writer,
         } = self;
@@ -93,10 +108,25 @@ impl<O: Target, A: Allocator> Teller<O, A> {
     {
         self.sums.count(told);
         if self.filter.shows(number, told) {
-            put_line(&mut self.writer, &self.known, self.first, number, told)
+            note(&mut self.summary, self.form, &self.known, told);
+            put_told(
+                &mut self.writer,
+                self.form,
+                &self.known,
+                self.first,
+                number,
+                told,
+            )
         } else {
             Ok(())
         }
+    }
+
+    /// Writes what stands at the end.
+    pub(crate) fn finish(&mut self) -> Result<(), SinkFault>
+        ensures { IsSome self.old.output.given → Finishes self.old result self.new }
+    {
+        put_ending(&mut self.writer, self.form, &self.summary)
     }
 
     /// Takes what is told of it, if something is.
@@ -135,4 +165,55 @@ impl<O: Target, A: Allocator> Teller<O, A> {
             add_known(&mut self.known, one);
         }
     }
+}
+
+/// Takes what is written of what is told of the connection with this number, and passes it on.
+#[tactic(auto, using(crate::proofs::Texts::nothing_taken))]
+fn put_told<W: Target, A: Allocator>(
+    writer: &mut TextWriter<Buffered<W, A>>,
+    form: ExchangeForm,
+    known: &[Preparation],
+    first: Option<u64>,
+    number: u64,
+    told: &Paired<Kept>,
+) -> Result<(), SinkFault>
+    requires { writer.old.waiting ≡ [] }
+    ensures text { Writes writer.old (text_of form known.now first number told.now) result writer.new }
+    ensures passed { writer.new.waiting ≡ [] }
+{
+    match form {
+        ExchangeForm::Lines => put_line(writer, known, first, number, told),
+        ExchangeForm::Json => put_json_line(writer, known, first, number, told),
+        ExchangeForm::Summary => Ok(()),
+    }
+}
+
+/// Takes what is written at the end, and passes it on.
+#[tactic(auto, using(crate::proofs::Texts::nothing_taken))]
+fn put_ending<W: Target, A: Allocator>(
+    writer: &mut TextWriter<Buffered<W, A>>,
+    form: ExchangeForm,
+    summary: &Summary<A>,
+) -> Result<(), SinkFault>
+    requires { writer.old.waiting ≡ [] }
+    ensures text { Writes writer.old (ending_of form summary.now) result writer.new }
+    ensures passed { writer.new.waiting ≡ [] }
+{
+    match form {
+        ExchangeForm::Lines => Ok(()),
+        ExchangeForm::Json => Ok(()),
+        ExchangeForm::Summary => put_summary(writer, summary),
+    }
+}
+
+/// Takes the lines of a summary, and passes them on.
+fn put_summary<W: Target, A: Allocator>(
+    writer: &mut TextWriter<Buffered<W, A>>,
+    summary: &Summary<A>,
+) -> Result<(), SinkFault>
+    ensures text { Writes writer.old (summary_text summary.now) result writer.new }
+    ensures passed { writer.new.waiting ≡ [] }
+{
+    summary.put(writer)?;
+    writer.pass_on()
 }

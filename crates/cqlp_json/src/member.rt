@@ -109,7 +109,7 @@ pub fn put_scalar<P: Pen>(scalar: &Scalar<'_>, writer: &mut TextWriter<P>) -> Re
 }
 
 /// Takes a text that needs no escape, between quotes.
-fn put_word<P: Pen>(text: &str, writer: &mut TextWriter<P>) -> Result<(), SinkFault>
+pub fn put_word<P: Pen>(text: &str, writer: &mut TextWriter<P>) -> Result<(), SinkFault>
     ensures { Writes writer.old (word text.now) result writer.new }
 {
     writer.put(b"\"")?;
@@ -127,7 +127,7 @@ fn put_cell_word<P: Pen>(scalar: &Scalar<'_>, writer: &mut TextWriter<P>) -> Res
 }
 
 /// Takes bytes as two lower case hexadecimal digits each, between quotes.
-fn put_bytes<P: Pen>(bytes: &[u8], writer: &mut TextWriter<P>) -> Result<(), SinkFault>
+pub fn put_bytes<P: Pen>(bytes: &[u8], writer: &mut TextWriter<P>) -> Result<(), SinkFault>
     ensures { Writes writer.old (hex bytes.now) result writer.new }
 {
     writer.put(b"\"")?;

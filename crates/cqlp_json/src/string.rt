@@ -14,7 +14,7 @@ use std::simd::prelude::*;
 const BLOCK: usize = 16;
 
 /// Takes a text between quotes, with escapes.
-pub(crate) fn put_string<P: Pen>(text: &str, writer: &mut TextWriter<P>) -> Result<(), SinkFault>
+pub fn put_string<P: Pen>(text: &str, writer: &mut TextWriter<P>) -> Result<(), SinkFault>
     ensures { Writes writer.old (string text.now) result writer.new }
 {
     writer.put(b"\"")?;

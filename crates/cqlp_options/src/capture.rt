@@ -53,7 +53,30 @@ impl Ports {
     }
 }
 
-/// Which exchanges of a capture are written: those of which all holds that is asked for.
+/// How exchanges are written.
+#[derive(Clone, Copy, Debug, PartialEq, Eq)]
+pub enum ExchangesAs {
+    /// A line for each.
+    Lines,
+    /// A JSON object in a line for each.
+    Json,
+    /// A line for each statement at the end.
+    Summary,
+}
+
+impl ExchangesAs {
+    fn matched(matches: &ArgMatches<'_>) -> ExchangesAs {
+        if matches.get_flag("summary") {
+            ExchangesAs::Summary
+        } else if matches.get_flag("json") {
+            ExchangesAs::Json
+        } else {
+            ExchangesAs::Lines
+        }
+    }
+}
+
+/// Which exchanges of a capture are written, those of which all holds that is asked for, and how.
 #[derive(Clone, Copy, Debug, PartialEq, Eq)]
 pub struct ExchangeOptions {
     /// Those alone whose reply's last byte came so many milliseconds after the request's first, or more.
@@ -62,6 +85,7 @@ pub struct ExchangeOptions {
     pub errors: bool,
     /// Those of the connection with this number alone; the first has the number 1.
     pub connection: Option<u64>,
+    pub form: ExchangesAs,
 }
 
 impl ExchangeOptions {
@@ -70,6 +94,7 @@ impl ExchangeOptions {
             slow: matches.get_one::<u32>("slow"),
             errors: matches.get_flag("errors"),
             connection: matches.get_one::<u64>("connection"),
+            form: ExchangesAs::matched(matches),
         }
     }
 }
@@ -79,7 +104,7 @@ impl ExchangeOptions {
 pub enum CaptureTask<'a> {
     /// The bytes of each direction of each connection are written to a file in the folder with this path.
     Streams { folder: &'a str },
-    /// A line is written for each request and its reply.
+    /// Requests are written with their replies.
     Exchanges(ExchangeOptions),
 }
 

@@ -9,7 +9,7 @@ mod options;
 mod program;
 mod reported;
 
-pub use capture::{CaptureOptions, CaptureTask, ExchangeOptions, MOST_PORTS, Ports};
+pub use capture::{CaptureOptions, CaptureTask, ExchangeOptions, ExchangesAs, MOST_PORTS, Ports};
 pub use command_line::{CommandLine, QUERIES};
 pub use no_task::NoTask;
 pub use options::{AtRefusal, DEFAULT_LIMITS, Options, Task};

@@ -147,10 +147,10 @@ fn with_capture<'a>(alloc: Global, program: Command<'a>) -> Result<Command<'a>, 
 
 /// The subcommand `capture`.
 fn capture<'a>(alloc: Global) -> Result<Command<'a>, AllocError> {
-    Command::new(alloc, "capture")
+    let lines = Command::new(alloc, "capture")
         .about(
-            "Write a line for each request in a packet capture and its reply, or with --streams the bytes \
-             of each direction of each connection to a file of its own",
+            "Write a line for each request in a packet capture and its reply, with --summary one for each statement \
+             at the end, or with --streams the bytes of each direction of each connection to a file of its own",
         )
         .after_help("Example: tcpdump -U -w - port 9042 | cqlp capture --slow 10 -")
         .arg(
@@ -164,8 +164,29 @@ fn capture<'a>(alloc: Global) -> Result<Command<'a>, AllocError> {
         .arg(flag(alloc, "errors").help(
             "Only requests whose reply is an ERROR, and those without one",
         ))?
-        .arg(connection(alloc))?
-        .arg(streams(alloc)?)
+        .arg(connection(alloc))?;
+    lines
+        .arg(streams(alloc)?)?
+        .arg(objects(alloc)?)?
+        .arg(summary(alloc)?)
+}
+
+/// Requests as JSON.
+fn objects<'a>(alloc: Global) -> Result<Arg<'a>, AllocError> {
+    flag(alloc, "json")
+        .help("Write each request with its reply as a JSON object in a line of its own")
+        .conflicts_with("streams")
+}
+
+/// A summary in place of the lines.
+fn summary<'a>(alloc: Global) -> Result<Arg<'a>, AllocError> {
+    flag(alloc, "summary")
+        .help(
+            "A line for each statement at the end: how often it was asked for and how long it took, the one that took \
+             most time first",
+        )
+        .conflicts_with("streams")?
+        .conflicts_with("json")
 }
 
 fn slow<'a>(alloc: Global) -> Arg<'a> {

@@ -13,8 +13,10 @@ use Rattle.cqlp_capture.specs.Progress.{is_empty}
 use Rattle.cqlp_capture.proofs.Tests.{Fits, in_range}
 use Rattle.cqlp_capture.proofs.Runs.{reads_compare}
 use Rattle.cqlp_capture.proofs.Whole.{always_said, refusal_stays, says_once}
+use Rattle.cqlp_connections.specs.declared.limits.ConnectionLimits.{ConnectionLimits}
 use Rattle.cqlp_connections.specs.Tables.{Table}
 use Rattle.cqlp_streams.specs.declared.capturing.CaptureRead.{CaptureRead}
+use Rattle.cqlp_streams.specs.declared.capturing.TheConstants.{LIMITS}
 use Rattle.cqlp_streams.specs.declared.fault.StreamsFault.{StreamsFault}
 use Rattle.cqlp_streams.specs.Sayings.{Saying}
 use Rattle.cqlp_streams.specs.Listening.{after_all}
@@ -121,37 +123,37 @@ module _ {V : Type 0} (after : V → Saying → V) (faulted : V → Saying → S
       (same.1, left.1, b.ends.2 ∙ ap (after_all after before) all ∙ sym a.ends.2)
 
   pub read_once : OneAnswerOfReadCapture after faulted
-  read_once ports xs before v w made made' left left' r r' (inr (is, none, rest, same)) b = absurd (let x = is in cc)
-  read_once ports xs before v w made made' left left' r r' (inl (Err f, u, a, is)) b = absurd (let x = is in cc)
-  read_once ports xs before v w made made' left left' r r' (inl (Ok x, u, a, is)) (inr (is', none, rest, same)) = absurd (let y = is' in cc)
-  read_once ports xs before v w made made' left left' r r' (inl (Ok x, u, a, is)) (inl (Err f, u', b, is')) = absurd (let y = is' in cc)
-  read_once ports xs before v w made made' left left' r r' (inl (Ok x, u, a, is)) (inl (Ok x', u', b, is')) =
-      let one = splits_once default_limits (in_range default_limits refl) (no_connections ports) _ made made' before xs x x' left left' u u' v w a b in
+  read_once limits ports xs before v w made made' left left' r r' (inr (is, none, rest, same)) b = absurd (let x = is in cc)
+  read_once limits ports xs before v w made made' left left' r r' (inl (Err f, u, a, is)) b = absurd (let x = is in cc)
+  read_once limits ports xs before v w made made' left left' r r' (inl (Ok x, u, a, is)) (inr (is', none, rest, same)) = absurd (let y = is' in cc)
+  read_once limits ports xs before v w made made' left left' r r' (inl (Ok x, u, a, is)) (inl (Err f, u', b, is')) = absurd (let y = is' in cc)
+  read_once limits ports xs before v w made made' left left' r r' (inl (Ok x, u, a, is)) (inl (Ok x', u', b, is')) =
+      let one = splits_once default_limits (in_range default_limits refl) (no_connections limits ports) _ made made' before xs x x' left left' u u' v w a b in
       let same : ◌≡◌ {A = Result CaptureRead StreamsFault} (Ok r') (Ok r) = is' ∙ (λ i. read_of (Ok (one.0 i)) (one.1 i)) ∙ sym is in
       (ok_same r' r same, one.2)
 
 -- the line was written, where nothing failed
-concluded : (words : List ℕ) (r : Result CaptureRead StreamsFault) (err err' : Output) (status : ℕ) → Concludes words r err status err' → status ≢ 3 → (status ≡ status_of r) × (err' ≡ with_text err (line_of words r))
+pub concluded : (words : List ℕ) (r : Result CaptureRead StreamsFault) (err err' : Output) (status : ℕ) → Concludes words r err status err' → status ≢ 3 → (status ≡ status_of r) × (err' ≡ with_text err (line_of words r))
 concluded words r err err' status (inl (inl a)) well = a
 concluded words r err err' status (inl (inr (is, x))) well = absurd (well is)
 concluded words r err err' status (inr (inl (is, x))) well = absurd (well is)
 concluded words r err err' status (inr (inr (is, x))) well = absurd (well is)
 
-well_read : (r : Result CaptureRead StreamsFault) → status_of r ≢ 3 → (x : CaptureRead) × (r ≡ Ok x)
+pub well_read : (r : Result CaptureRead StreamsFault) → status_of r ≢ 3 → (x : CaptureRead) × (r ≡ Ok x)
 well_read (Ok x) well = (x, refl)
 well_read (Err f) well = absurd (well refl)
 
 -- Two runs that end with words of the view, and no fault.
-module _ {V : Type 0} (after : V → Saying → V) (faulted : V → Saying → StreamsFault → V → Type 0) (words : V → List ℕ) (ports xs : List ℕ) (before v w : V) (made made' : ℕ) (left left' : Option (List ℕ)) (r r' : Result CaptureRead StreamsFault) (err err' err'' : Output) (status status' : ℕ) where
-  pub runs_once : ReadsCapture after faulted ports xs made r left before v → Concludes (words v) r err status err' → status ≢ 3 → ReadsCapture after faulted ports xs made' r' left' before w → Concludes (words w) r' err status' err'' → status' ≢ 3 → (status' ≡ status) × (w ≡ v) × (err'' ≡ err')
+module _ {V : Type 0} (after : V → Saying → V) (faulted : V → Saying → StreamsFault → V → Type 0) (words : V → List ℕ) (limits : ConnectionLimits) (ports xs : List ℕ) (before v w : V) (made made' : ℕ) (left left' : Option (List ℕ)) (r r' : Result CaptureRead StreamsFault) (err err' err'' : Output) (status status' : ℕ) where
+  pub runs_once : ReadsCapture after faulted limits ports xs made r left before v → Concludes (words v) r err status err' → status ≢ 3 → ReadsCapture after faulted limits ports xs made' r' left' before w → Concludes (words w) r' err status' err'' → status' ≢ 3 → (status' ≡ status) × (w ≡ v) × (err'' ≡ err')
   runs_once reads ends well reads' ends' well' =
       let c = concluded (words v) r err err' status ends well in
       let c' = concluded (words w) r' err err'' status' ends' well' in
       let x = well_read r (λ is. well (c.0 ∙ is)) in
       let x' = well_read r' (λ is. well' (c'.0 ∙ is)) in
-      let a = subst (λ (z : Result CaptureRead StreamsFault). ReadsCapture after faulted ports xs made z left before v) x.1 reads in
-      let b = subst (λ (z : Result CaptureRead StreamsFault). ReadsCapture after faulted ports xs made' z left' before w) x'.1 reads' in
-      let one = read_once after faulted ports xs before v w made made' left left' x.0 x'.0 a b in
+      let a = subst (λ (z : Result CaptureRead StreamsFault). ReadsCapture after faulted limits ports xs made z left before v) x.1 reads in
+      let b = subst (λ (z : Result CaptureRead StreamsFault). ReadsCapture after faulted limits ports xs made' z left' before w) x'.1 reads' in
+      let one = read_once after faulted limits ports xs before v w made made' left left' x.0 x'.0 a b in
       let same : r' ≡ r = x'.1 ∙ ap (λ z. Ok z) one.0 ∙ sym x.1 in (
         c'.0 ∙ ap status_of same ∙ sym c.0,
         one.1,
@@ -160,5 +162,5 @@ module _ {V : Type 0} (after : V → Saying → V) (faulted : V → Saying → S
 
 pub streams_once : OneAnswerOfWriteStreams
 streams_once ports xs calls out err left left' status status' made made' out' out'' err' err'' (n, (r, sums, reads, ends)) well (n', (r', sums', reads', ends')) well' =
-    let one = runs_once with_saying StopsAt (λ (z : Recording). sums_words z.sums) ports xs (recording calls out no_sums) (recording made out' sums) (recording made' out'' sums') n n' left left' r r' err err' err'' status status' reads ends well reads' ends' well' in
+    let one = runs_once with_saying StopsAt (λ (z : Recording). sums_words z.sums) LIMITS ports xs (recording calls out no_sums) (recording made out' sums) (recording made' out'' sums') n n' left left' r r' err err' err'' status status' reads ends well reads' ends' well' in
     (one.0, ap (λ (z : Recording). z.calls) one.1, ap (λ (z : Recording). z.output) one.1, one.2)

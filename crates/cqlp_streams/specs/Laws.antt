@@ -3,6 +3,7 @@ use Rattle.std.specs.Prelude.{◌≡◌, ◌≢◌, ℕ, ◌==◌, ◌&&◌, Boo
 use Rattle.cqlp_text.specs.Outputs.{Output}
 use Rattle.cqlp_reassembly.specs.declared.stream.StreamStep.{StreamStep}
 use Rattle.cqlp_reassembly.specs.declared.stream.StreamStep.TheVariants as step
+use Rattle.cqlp_connections.specs.declared.limits.ConnectionLimits.{ConnectionLimits}
 use Rattle.cqlp_connections.specs.declared.ends.Way.{Way}
 use Rattle.cqlp_connections.specs.declared.ends.Way.TheVariants.{Requests, Responses}
 use Rattle.cqlp_streams.specs.declared.capturing.CaptureRead.{CaptureRead}
@@ -15,13 +16,13 @@ use Rattle.cqlp_streams.specs.Streams.{ReadsCapture, WritesStreams}
 
 -- ---- one answer
 
--- Where no fault comes, the same bytes and ports lead a listener to the same view, and to the same answer.
+-- Where no fault comes, the same bytes, limits and ports lead a listener to the same view, and to the same answer.
 module _ {V : Type 0} (after : V → Saying → V) (faulted : V → Saying → StreamsFault → V → Type 0) where
   abbrev pub OneAnswerOfReadCapture : Type 0
   OneAnswerOfReadCapture =
-      (ports xs : List ℕ) (before v w : V) (made made' : ℕ) (left left' : Option (List ℕ)) (r r' : CaptureRead)
-      → ReadsCapture after faulted ports xs made (Ok r) left before v
-      → ReadsCapture after faulted ports xs made' (Ok r') left' before w
+      (limits : ConnectionLimits) (ports xs : List ℕ) (before v w : V) (made made' : ℕ) (left left' : Option (List ℕ)) (r r' : CaptureRead)
+      → ReadsCapture after faulted limits ports xs made (Ok r) left before v
+      → ReadsCapture after faulted limits ports xs made' (Ok r') left' before w
       → (r' ≡ r) × (w ≡ v)
 
 -- Where nothing outside fails, so that the status is not that of a fault, the same bytes, ports and outputs lead to the same status,

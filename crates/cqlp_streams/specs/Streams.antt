@@ -3,6 +3,7 @@ use Rattle.std.specs.Prelude.{◌≡◌, ℕ, List, Option, Some, Result, Ok, Er
 use Rattle.cqlp_text.specs.Outputs.{Output}
 use Rattle.cqlp_capture.specs.declared.event.CaptureEnd.{CaptureEnd}
 use Rattle.cqlp_capture.specs.declared.limits.CaptureLimits.{CaptureLimits}
+use Rattle.cqlp_connections.specs.declared.limits.ConnectionLimits.{ConnectionLimits}
 use Rattle.cqlp_connections.specs.Tables.{Table, new_table}
 use Rattle.cqlp_streams.specs.declared.capturing.CaptureRead.{CaptureRead}
 use Rattle.cqlp_streams.specs.declared.capturing.TheConstants.{LIMITS, TURNS}
@@ -21,21 +22,21 @@ abbrev pub default_limits : CaptureLimits
 default_limits = record { packet = 262144; interfaces = 256 }
 
 -- no connections yet, for nodes that listen on these ports
-abbrev pub no_connections : (ports : List ℕ) → Table
-no_connections ports = new_table LIMITS ports
+abbrev pub no_connections : ConnectionLimits → (ports : List ℕ) → Table
+no_connections limits ports = new_table limits ports
 
 abbrev pub read_of : Result CaptureEnd StreamsFault → SplitState → Result CaptureRead StreamsFault
 read_of (Ok e) u = Ok (record { end = e; packets = u.counts; connections = u.table.counts })
 read_of (Err f) u = Err f
 
--- What a listener has got of an input with the bytes xs by so many reads, and what that was; or memory was wanting, and nothing was read
+-- What a listener has got of an input with the bytes xs, under these limits on connections, by so many reads, and what that was; or memory was wanting, and nothing was read
 -- or told. A listener's view goes on by `after`, and a fault leaves what `faulted` says.
 abbrev pub ReadsCapture : {V : Type 0} → (after : V → Saying → V) → (faulted : V → Saying → StreamsFault → V → Type 0)
-    → (ports : List ℕ) → (xs : List ℕ) → (made : ℕ) → Result CaptureRead StreamsFault → (left : Option (List ℕ)) → (before v : V)
-    → Type 0
-ReadsCapture after faulted ports xs made r left before v =
+    → ConnectionLimits → (ports : List ℕ) → (xs : List ℕ) → (made : ℕ) → Result CaptureRead StreamsFault → (left : Option (List ℕ))
+    → (before v : V) → Type 0
+ReadsCapture after faulted limits ports xs made r left before v =
     ((e : Result CaptureEnd StreamsFault) × (u : SplitState)
-    × SplitsTo after faulted default_limits (no_connections ports) TURNS made before xs e left u v × (r ≡ read_of e u))
+    × SplitsTo after faulted default_limits (no_connections limits ports) TURNS made before xs e left u v × (r ≡ read_of e u))
     ⊎ ((r ≡ Err fault.NoMemory) × (made ≡ 0) × (left ≡ Some xs) × (v ≡ before))
 
 -- The streams of an input with the bytes xs were written, by so many reads: the calls that files got and what the output was given, and
@@ -44,7 +45,7 @@ abbrev pub WritesStreamsBy : (made : ℕ) → (ports : List ℕ) → (xs : List 
     → (out err : Output) → (status : ℕ) → (calls' : Option (List Call)) → (out' err' : Output) → Type 0
 WritesStreamsBy made ports xs left calls out err status calls' out' err' =
     (r : Result CaptureRead StreamsFault) × (sums : Sums)
-    × ReadsCapture with_saying StopsAt ports xs made r left (recording calls out no_sums) (recording calls' out' sums)
+    × ReadsCapture with_saying StopsAt LIMITS ports xs made r left (recording calls out no_sums) (recording calls' out' sums)
     × Concludes (sums_words sums) r err status err'
 
 -- by some reads

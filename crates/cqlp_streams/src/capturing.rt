@@ -1,6 +1,7 @@
 //! A whole capture.
 
-ghost use Rattle.std.specs.Prelude.{◌≡◌, ℕ, List, OnOk, Some};
+ghost use Rattle.std.specs.Prelude.{◌≡◌, ℕ, true, List, OnOk, Some};
+ghost use Rattle.cqlp_connections.specs.Limits.{is_in_range};
 ghost use Rattle.cqlp_note.specs.Streams.{CountsUp};
 ghost use Rattle.cqlp_streams.specs.Streams.{ReadsCapture, read_of};
 
@@ -14,7 +15,7 @@ use cqlp_connections::{ConnectionCounts, ConnectionLimits, Connections};
 use cqlp_note::Source;
 use std::alloc::{Allocator, Global};
 
-/// How many connections there are at one time, and how many bytes that came early each direction holds.
+/// How many connections there are at one time where streams are written, and how many bytes that came early each direction holds.
 pub const LIMITS: ConnectionLimits = ConnectionLimits {
     connections: 256,
     early: 32_768,
@@ -34,26 +35,28 @@ pub struct CaptureRead {
     pub connections: ConnectionCounts,
 }
 
-/// Has a listener take all that a capture tells of the connections of nodes that listen on these ports, out of at most 2^32 reads. No
-/// read is made before it has taken all that the bytes read so far tell. At the end of the file, or where it is refused, all connections
+/// Has a listener take all that a capture tells of the connections of nodes that listen on these ports, out of at most 2^32 reads. There are
+/// at most as many connections at one time, with as many bytes that came early, as the limits say. No read is made before it has taken all that the bytes read so far tell. At the end of the file, or where it is refused, all connections
 /// leave.
 ///
 /// After a fault nothing more is read, and nothing more is told to the listener.
 pub fn read_capture<R: Source, L: Listener>(
     alloc: Global,
+    limits: ConnectionLimits,
     ports: &[u16],
     input: &mut R,
     listener: &mut L,
 ) -> Result<CaptureRead, StreamsFault>
+    requires { is_in_range limits ≡ true }
     ensures tells { L.tells listener.old → OnOk result (L.tells listener.new) }
     ensures reads { (xs : List ℕ) → R.left input.old ≡ Some xs → L.tells listener.old →
         (made : ℕ) × CountsUp made (R.reads input.old) (R.reads input.new)
-        × ReadsCapture L.after L.faulted ports.now xs made result (R.left input.new) (L.view listener.old) (L.view listener.new) }
+        × ReadsCapture L.after L.faulted limits ports.now xs made result (R.left input.new) (L.view listener.old) (L.view listener.new) }
 {
     let Ok(mut reader) = CaptureReader::new(alloc, CaptureLimits::DEFAULT) else {
         return Err(StreamsFault::NoMemory);
     };
-    let Ok(connections) = Connections::new(alloc, LIMITS, ports) else {
+    let Ok(connections) = Connections::new(alloc, limits, ports) else {
         return Err(StreamsFault::NoMemory);
     };
     let Ok(mut buffer) = vec![in alloc; 0; ROOM] else {

@@ -4,7 +4,7 @@ ghost use Rattle.cqlp_streams.specs.Laws.{GetWhatIsTold, OneAnswerOfReadCapture,
 
 use crate::listener::Listener;
 
-/// Where no fault comes, `read_capture` has one answer: from the same bytes and ports the same view of a listener that was the same
+/// Where no fault comes, `read_capture` has one answer: from the same bytes, limits and ports the same view of a listener that was the same
 /// before, and the same word on what the capture was.
 pub fn one_answer_of_read_capture<L: Listener>()
     ensures { OneAnswerOfReadCapture L.after L.faulted }

@@ -7,7 +7,7 @@ ghost use Rattle.cqlp_text.specs.Outputs.{written};
 ghost use Rattle.cqlp_streams.specs.Endings.{Concludes, sums_words};
 ghost use Rattle.cqlp_streams.specs.Streams.{WritesStreams, WritesStreamsBy};
 
-use crate::capturing::{CaptureRead, read_capture};
+use crate::capturing::{CaptureRead, LIMITS, read_capture};
 use crate::ending::conclude_capture;
 use crate::fault::StreamsFault;
 use crate::files::StreamFiles;
@@ -38,7 +38,7 @@ pub fn write_streams<R: Source, F: StreamFiles, O: Target, E: Target>(
         result.0 (F.calls result.1) (written O.Target result.2) (written E.Target result.3) }
 {
     let mut recorder = Recorder::new(alloc, files, out);
-    let answer = read_capture(alloc, ports, input, &mut recorder);
+    let answer = read_capture(alloc, LIMITS, ports, input, &mut recorder);
     let (files, out, sums) = recorder.into_parts();
     let (status, err) = conclude_streams(alloc, &answer, &sums, err);
     (status, files, out, err)

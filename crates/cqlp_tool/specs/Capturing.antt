@@ -5,10 +5,14 @@ use Rattle.cqlp_options.specs.declared.capture.CaptureOptions.{CaptureOptions}
 use Rattle.cqlp_options.specs.declared.capture.CaptureTask.{CaptureTask}
 use Rattle.cqlp_options.specs.declared.capture.CaptureTask.TheVariants as task
 use Rattle.cqlp_options.specs.declared.capture.ExchangeOptions.{ExchangeOptions}
+use Rattle.cqlp_options.specs.declared.capture.ExchangesAs.{ExchangesAs}
+use Rattle.cqlp_options.specs.declared.capture.ExchangesAs.TheVariants as asked_as
 use Rattle.cqlp_text.specs.Endings.{cannot_open_line}
 use Rattle.cqlp_render.specs.Streams.{Streams, IfKnown}
 use Rattle.cqlp_streams.specs.Streams.{WritesStreams}
 use Rattle.cqlp_exchanges.specs.declared.filter.ExchangeFilter.{ExchangeFilter}
+use Rattle.cqlp_exchanges.specs.declared.form.ExchangeForm.{ExchangeForm}
+use Rattle.cqlp_exchanges.specs.declared.form.ExchangeForm.TheVariants as form
 use Rattle.cqlp_exchanges.specs.Capturing.{WritesExchanges}
 use Rattle.cqlp_tool.specs.Faults.{ReportsFault}
 
@@ -39,12 +43,18 @@ abbrev pub filter_of : ExchangeOptions → ExchangeFilter
 filter_of asked =
     record { slow = option_map (λ ms. ms * 1000000) asked.slow; errors = asked.errors; connection = asked.connection }
 
--- The lines of the input's exchanges that were asked for went to the output, and how it ended was reported with its status, after so many reads.
+-- and how they are written
+abbrev pub form_of : ExchangesAs → ExchangeForm
+form_of asked_as.Lines = form.Lines
+form_of asked_as.Json = form.Json
+form_of asked_as.Summary = form.Summary
+
+-- The input's exchanges that were asked for went to the output, and how it ended was reported with its status, after so many reads.
 abbrev pub TellsExchanges : ExchangeOptions → (ports : List ℕ) → (before : Streams) → (status : ℕ) → (after : Streams) → Type 0
 TellsExchanges asked ports before status after =
     IfKnown before.input before.out (λ xs. IsSome before.err.given →
     (made : ℕ) × CountsUp made before.input.reads after.input.reads
-    × WritesExchanges (filter_of asked) ports xs made after.input.left before.out before.err status after.out after.err)
+    × WritesExchanges (filter_of asked) (form_of asked.form) ports xs made after.input.left before.out before.err status after.out after.err)
 
 -- What a task does with a capture, the input, of nodes that listen on these ports.
 abbrev pub DoesCaptureTask : CaptureTask → (ports : List ℕ) → (before : Streams) → (status : ℕ) → (after : Streams) → Type 0

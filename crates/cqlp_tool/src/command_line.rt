@@ -5,7 +5,7 @@ ghost use Rattle.cqlp_note.specs.Limits.{first_bad};
 ghost use Rattle.cqlp_options.specs.CommandLines.{IsWithin};
 ghost use Rattle.cqlp_options.specs.Ports.{AreWithin, named};
 ghost use Rattle.cqlp_options.specs.declared.capture.CaptureTask.TheVariants as tasks;
-ghost use Rattle.cqlp_tool.specs.Capturing.{DoesCaptureTask, IsCaptureOfInput, SplitsToFolder, filter_of};
+ghost use Rattle.cqlp_tool.specs.Capturing.{DoesCaptureTask, IsCaptureOfInput, SplitsToFolder, filter_of, form_of};
 ghost use Rattle.cqlp_tool.specs.CommandLines.{Complains, DoesTask, Executes, Helps, IsOfInput, NeedsNoInput, Performs};
 ghost use Rattle.cqlp_tool.specs.CommandLines.{ReportsFault, ReportsWrong, Tells};
 ghost use Rattle.cqlp_text.specs.Endings.{IsStatusOfTask, cannot_open_line as cannot_open_line_of};
@@ -16,11 +16,11 @@ ghost use Rattle.cqlp_text.specs.declared.ending.Ending.{Ending};
 use crate::conversing::converse;
 use crate::folder::{Folder, is_folder};
 use cqlp_decode::SinkFault;
-use cqlp_exchanges::{ExchangeFilter, write_exchanges};
+use cqlp_exchanges::{ExchangeFilter, ExchangeForm, write_exchanges};
 use cqlp_note::{OfStd, Source, Target};
 use cqlp_options::{
-    AtRefusal, CaptureOptions, CaptureTask, CommandLine, DEFAULT_LIMITS, ExchangeOptions, NoTask,
-    Options, Task,
+    AtRefusal, CaptureOptions, CaptureTask, CommandLine, DEFAULT_LIMITS, ExchangeOptions,
+    ExchangesAs, NoTask, Options, Task,
 };
 use cqlp_render::{check, conclude, rows, rows_csv, rows_json, show, show_json};
 use cqlp_render_skip::{check_skipping, rows_skipping, show_skipping};
@@ -174,7 +174,15 @@ fn read_capture<R: Files + AllocGlobal, I: Source, O: Target, E: Target>(
     match options.task {
         CaptureTask::Streams { folder } => split_to_folder(rt, folder, ports, input, out, err),
         CaptureTask::Exchanges(asked) => {
-            write_exchanges(rt.alloc(), ports, filter_of(asked), input, out, err)
+            write_exchanges(
+                rt.alloc(),
+                ports,
+                filter_of(asked),
+                form_of(asked.form),
+                input,
+                out,
+                err,
+            )
         }
     }
 }
@@ -205,11 +213,22 @@ fn filter_of(asked: ExchangeOptions) -> ExchangeFilter
         slow,
         errors,
         connection,
+        form: _,
     } = asked;
     ExchangeFilter {
         slow: slow.map(|ms| u64::from(ms) * NANOSECONDS_PER_MILLISECOND),
         errors,
         connection,
+    }
+}
+
+fn form_of(asked: ExchangesAs) -> ExchangeForm
+    ensures { result ≡ form_of asked }
+{
+    match asked {
+        ExchangesAs::Lines => ExchangeForm::Lines,
+        ExchangesAs::Json => ExchangeForm::Json,
+        ExchangesAs::Summary => ExchangeForm::Summary,
     }
 }
 

@@ -1,25 +1,29 @@
-use Rattle.std.proofs.Common.{arith, IsSome, refl, sym, subst, inr}
-use Rattle.cqlp_text.specs.Outputs.{written}
+use Rattle.std.proofs.Common.{◌∙◌, arith, IsSome, refl, sym, subst, inr}
+use Rattle.cqlp_text.specs.Outputs.{Output, written}
 use Rattle.cqlp_streams.specs.Streams.{ReadsCapture}
 use Rattle.cqlp_exchanges.specs.Listening.{Listening, StopsAt, new_listening, with_saying}
-use Rattle.cqlp_exchanges.specs.Capturing.{default_limits}
+use Rattle.cqlp_exchanges.specs.Capturing.{Closes, connection_limits, default_limits}
 use Rattle.cqlp_exchanges.proofs.capturing.listen.Goals as goal
 
 pub returns-in-Err : goal.returns-in-Err
 returns-in-Err g c = λ xs is known.
-    (0, λ fits. omega arith, (new_listening default_limits c.args.filter (written g.O.Target c.args.out), inr (refl, refl, is, refl), c.none.ensures, c.in-Err.ensures.err))
+    (0, λ fits. omega arith, (new_listening default_limits c.args.filter c.args.form (written g.O.Target c.args.out), _, inr (refl, refl, is, refl), c.none.ensures, (refl, c.in-Err.ensures.err)))
 
 pub returns : goal.returns
 returns g c = λ xs is known.
-    let first = new_listening default_limits c.args.filter (written g.O.Target c.args.out) in
+    let first = new_listening default_limits c.args.filter c.args.form (written g.O.Target c.args.out) in
     let tells = subst (λ (w : Listening). IsSome w.account.output.given) (sym c.in-Ok.ensures.ok) known in
-    let a = c.read_capture-answer.ensures.reads xs is tells in (
+    let read = c.read_capture-read.result in
+    let heard = c.read_capture-read.new.listener in
+    let k = c.read_capture-read.ensures.tells tells in
+    let a = c.read_capture-read.ensures.reads xs is tells in (
       a.0,
       a.1,
       (
-        c.read_capture-answer.new.listener,
-        subst (λ (w : Listening). ReadsCapture with_saying StopsAt c.args.ports.now xs a.0 c.read_capture-answer.result (g.R.Source.left c.read_capture-answer.new.input) w c.read_capture-answer.new.listener) c.in-Ok.ensures.ok a.2,
-        c.into_parts-out.ensures.sums,
-        c.into_parts-out.ensures.output,
+        heard,
+        read,
+        subst (λ (w : Listening). ReadsCapture with_saying StopsAt connection_limits c.args.ports.now xs a.0 read (g.R.Source.left c.read_capture-read.new.input) w heard) c.in-Ok.ensures.ok a.2,
+        c.into_parts-out.ensures.sums ∙ c.finish-answer.ensures.sums k,
+        subst (λ (o : Output). Closes heard.account read c.finish-answer.result o) (sym c.into_parts-out.ensures.output) (c.finish-answer.ensures.closes k),
       ),
     )

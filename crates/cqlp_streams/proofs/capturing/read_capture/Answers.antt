@@ -23,13 +23,13 @@ pub returns-clause-reads : goal.returns-clause-reads
 returns-clause-reads g c = λ xs is k.
     let a = c.split-answer.ensures.splits xs is k in
     let limits : c.in-Ok.reader.limits ≡ default_limits = ap (λ (z : CaptureState). z.limits) c.in-Ok.ensures.fresh in
-    let table : c.new-splitter.result.table ≡ no_connections c.args.ports.now = ap (λ (z : SplitState). z.table) c.new-splitter.ensures ∙ c.in-Ok-new.ensures.fresh in (
+    let table : c.new-splitter.result.table ≡ no_connections c.args.limits c.args.ports.now = ap (λ (z : SplitState). z.table) c.new-splitter.ensures ∙ c.in-Ok-new.ensures.fresh in (
       a.0,
       a.1,
       inl (
         c.split-answer.result,
         c.split-answer.new.splitter,
-        splits_as g.L.Listener.after g.L.Listener.faulted c.in-Ok.reader.limits default_limits c.new-splitter.result.table (no_connections c.args.ports.now) _ a.0 (g.L.Listener.view c.args.listener.now) xs c.split-answer.result (g.R.Source.left c.split-answer.new.input) c.split-answer.new.splitter (g.L.Listener.view c.split-answer.new.listener) limits table a.2,
+        splits_as g.L.Listener.after g.L.Listener.faulted c.in-Ok.reader.limits default_limits c.new-splitter.result.table (no_connections c.args.limits c.args.ports.now) _ a.0 (g.L.Listener.view c.args.listener.now) xs c.split-answer.result (g.R.Source.left c.split-answer.new.input) c.split-answer.new.splitter (g.L.Listener.view c.split-answer.new.listener) limits table a.2,
         c.read_of.ensures,
       ),
     )

@@ -1,0 +1,14 @@
+-- Members, one after the other.
+use Rattle.std.proofs.Common.{◌≡◌, ℕ, suc, ◌+◌, ◌<◌, List, ◌++◌, length, drop, get_or, add-one, append_assoc}
+use Rattle.std.proofs.Math.Seq.{drop-cons}
+use Rattle.std.specs.List.{flat_map}
+use Rattle.cqlp_exchanges.specs.declared.member.Member.{Member}
+use Rattle.cqlp_exchanges.specs.Members.{member_text, value_text}
+
+assoc : (xs ys zs : List ℕ) → (xs ++ ys) ++ zs ≡ xs ++ (ys ++ zs)
+assoc xs ys zs = append_assoc xs ys zs
+
+-- the next one, and those after it
+pub members_at : (members : List Member) (i : ℕ) (none : Member) → i < length members → flat_map member_text (drop i members) ≡ (get_or members i none).0.now ++ (value_text (get_or members i none).1 ++ flat_map member_text (drop (i + 1) members))
+members_at members i none within =
+    rw (drop-cons members i none within, add-one) (assoc (get_or members i none).0.now (value_text (get_or members i none).1) (flat_map member_text (drop (suc i) members)))
