@@ -124,10 +124,10 @@ fn with_capture<'a>(alloc: Global, program: Command<'a>) -> Result<Command<'a>, 
 
 /// The subcommand `capture`.
 fn capture<'a>(alloc: Global) -> Result<Command<'a>, AllocError> {
-    Command::new(alloc, "capture")
+    let lines = Command::new(alloc, "capture")
         .about(
-            "Write a line for each request in a packet capture and its reply, or with --streams the bytes \
-             of each direction of each connection to a file of its own",
+            "Write a line for each request in a packet capture and its reply, with --events one for each event of \
+             each frame, or with --streams the bytes of each direction of each connection to a file of its own",
         )
         .after_help("Example: tcpdump -U -w - port 9042 | cqlp capture --slow 10 -")
         .arg(
@@ -141,8 +141,19 @@ fn capture<'a>(alloc: Global) -> Result<Command<'a>, AllocError> {
         .arg(flag(alloc, "errors").help(
             "Only requests whose reply is an ERROR, and those without one",
         ))?
-        .arg(connection(alloc))?
-        .arg(streams(alloc)?)
+        .arg(connection(alloc))?;
+    lines.arg(streams(alloc)?)?.arg(events(alloc)?)
+}
+
+/// Frames in place of requests, which goes with no other option of the lines.
+fn events<'a>(alloc: Global) -> Result<Arg<'a>, AllocError> {
+    flag(alloc, "events")
+        .help(
+            "A line for each event of each frame, after the connection's number and > of a request or < of a response",
+        )
+        .conflicts_with("slow")?
+        .conflicts_with("errors")?
+        .conflicts_with("streams")
 }
 
 fn slow<'a>(alloc: Global) -> Arg<'a> {
@@ -158,7 +169,7 @@ fn connection<'a>(alloc: Global) -> Arg<'a> {
         .long("connection")
         .value_name("N")
         .value_parser(value_parser!(u64).range(1..))
-        .help("Only requests of the connection with this number; the first has the number 1")
+        .help("Only what is told of the connection with this number; the first has the number 1")
 }
 
 /// The folder for streams, which goes with no option of the lines.
