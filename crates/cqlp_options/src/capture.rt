@@ -106,12 +106,18 @@ pub enum CaptureTask<'a> {
     Streams { folder: &'a str },
     /// Requests are written with their replies.
     Exchanges(ExchangeOptions),
+    /// A line is written for each event of each frame: of the connection with this number alone, if one is named; the first has the
+    /// number 1.
+    Events { connection: Option<u64> },
 }
 
 impl<'a> CaptureTask<'a> {
     fn matched(matches: &ArgMatches<'a>) -> CaptureTask<'a> {
         match matches.get_str("streams") {
             Some(folder) => CaptureTask::Streams { folder },
+            None if matches.get_flag("events") => CaptureTask::Events {
+                connection: matches.get_one::<u64>("connection"),
+            },
             None => CaptureTask::Exchanges(ExchangeOptions::matched(matches)),
         }
     }

@@ -150,7 +150,8 @@ fn capture<'a>(alloc: Global) -> Result<Command<'a>, AllocError> {
     let lines = Command::new(alloc, "capture")
         .about(
             "Write a line for each request in a packet capture and its reply, with --summary one for each statement \
-             at the end, or with --streams the bytes of each direction of each connection to a file of its own",
+             at the end, with --events one for each event of each frame, or with --streams the bytes of each \
+             direction of each connection to a file of its own",
         )
         .after_help("Example: tcpdump -U -w - port 9042 | cqlp capture --slow 10 -")
         .arg(
@@ -168,7 +169,8 @@ fn capture<'a>(alloc: Global) -> Result<Command<'a>, AllocError> {
     lines
         .arg(streams(alloc)?)?
         .arg(objects(alloc)?)?
-        .arg(summary(alloc)?)
+        .arg(summary(alloc)?)?
+        .arg(events(alloc)?)
 }
 
 /// Requests as JSON.
@@ -189,6 +191,19 @@ fn summary<'a>(alloc: Global) -> Result<Arg<'a>, AllocError> {
         .conflicts_with("json")
 }
 
+/// Frames in place of requests, which goes with no other option of the lines.
+fn events<'a>(alloc: Global) -> Result<Arg<'a>, AllocError> {
+    flag(alloc, "events")
+        .help(
+            "A line for each event of each frame, after the connection's number and > of a request or < of a response",
+        )
+        .conflicts_with("slow")?
+        .conflicts_with("errors")?
+        .conflicts_with("json")?
+        .conflicts_with("summary")?
+        .conflicts_with("streams")
+}
+
 fn slow<'a>(alloc: Global) -> Arg<'a> {
     Arg::new(alloc, "slow")
         .long("slow")
@@ -202,7 +217,7 @@ fn connection<'a>(alloc: Global) -> Arg<'a> {
         .long("connection")
         .value_name("N")
         .value_parser(value_parser!(u64).range(1..))
-        .help("Only requests of the connection with this number; the first has the number 1")
+        .help("Only what is told of the connection with this number; the first has the number 1")
 }
 
 /// The folder for streams, which goes with no option of the lines.

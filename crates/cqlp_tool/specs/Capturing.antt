@@ -1,5 +1,5 @@
 -- What the program does with a capture.
-use Rattle.std.specs.Prelude.{◌≡◌, ℕ, ◌*◌, List, None, IsSome, ◌⊎◌, codes, option_map}
+use Rattle.std.specs.Prelude.{◌≡◌, ℕ, ◌*◌, List, Option, None, IsSome, ◌⊎◌, codes, option_map}
 use Rattle.cqlp_note.specs.Streams.{CountsUp}
 use Rattle.cqlp_options.specs.declared.capture.CaptureOptions.{CaptureOptions}
 use Rattle.cqlp_options.specs.declared.capture.CaptureTask.{CaptureTask}
@@ -14,6 +14,7 @@ use Rattle.cqlp_exchanges.specs.declared.filter.ExchangeFilter.{ExchangeFilter}
 use Rattle.cqlp_exchanges.specs.declared.form.ExchangeForm.{ExchangeForm}
 use Rattle.cqlp_exchanges.specs.declared.form.ExchangeForm.TheVariants as form
 use Rattle.cqlp_exchanges.specs.Capturing.{WritesExchanges}
+use Rattle.cqlp_capture_events.specs.Capturing.{WritesEvents}
 use Rattle.cqlp_tool.specs.Faults.{ReportsFault}
 
 -- the capture is the input, and no file
@@ -56,7 +57,16 @@ TellsExchanges asked ports before status after =
     (made : ℕ) × CountsUp made before.input.reads after.input.reads
     × WritesExchanges (filter_of asked) (form_of asked.form) ports xs made after.input.left before.out before.err status after.out after.err)
 
+-- The lines of the input's frames went to the output, those of one connection if one is asked for, and how it ended was reported with its
+-- status, after so many reads.
+abbrev pub TellsEvents : (asked : Option ℕ) → (ports : List ℕ) → (before : Streams) → (status : ℕ) → (after : Streams) → Type 0
+TellsEvents asked ports before status after =
+    IfKnown before.input before.out (λ xs. IsSome before.err.given →
+    (made : ℕ) × CountsUp made before.input.reads after.input.reads
+    × WritesEvents asked ports xs made after.input.left before.out before.err status after.out after.err)
+
 -- What a task does with a capture, the input, of nodes that listen on these ports.
 abbrev pub DoesCaptureTask : CaptureTask → (ports : List ℕ) → (before : Streams) → (status : ℕ) → (after : Streams) → Type 0
 DoesCaptureTask (task.Streams folder) ports before status after = SplitsCapture folder.now ports before status after
 DoesCaptureTask (task.Exchanges asked) ports before status after = TellsExchanges asked ports before status after
+DoesCaptureTask (task.Events asked) ports before status after = TellsEvents asked ports before status after

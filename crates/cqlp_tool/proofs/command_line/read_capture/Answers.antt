@@ -7,3 +7,7 @@ returns-in-Streams-clause-task g c = rw c.in-Streams.is (inr (rw c.as_slice-port
 pub returns-in-Exchanges-clause-task : goal.returns-in-Exchanges-clause-task
 returns-in-Exchanges-clause-task g c =
     rw c.in-Exchanges.is (rw (c.as_slice-ports.ensures, c.filter_of.ensures, c.form_of.ensures) at c.write_exchanges.ensures.exchanges)
+
+pub returns-in-Events-clause-task : goal.returns-in-Events-clause-task
+returns-in-Events-clause-task g c =
+    rw c.in-Events.is (rw c.as_slice-ports.ensures at c.write_events.ensures.events)

@@ -1,0 +1,16 @@
+//! How much is held.
+
+use cqlp_note::Limits;
+
+/// How many connections are watched at one time: as many as `cqlp_streams::LIMITS` has.
+pub const CONNECTIONS: usize = 256;
+
+/// The limits on each frame. A decoder takes 80 KiB within them, and a connection has two, so 256 connections take 40 MiB.
+pub const LIMITS: Limits = Limits {
+    text: 65_536,
+    cell: 65_536,
+    entries: 1_024,
+    depth: 16,
+    types: true,
+    parts: true,
+};
