@@ -96,7 +96,7 @@ pub fn put_scalar<P: Pen>(scalar: &Scalar<'_>, writer: &mut TextWriter<P>) -> Re
 }
 
 /// Takes a text that needs no escape, between quotes.
-fn put_word<P: Pen>(text: &str, writer: &mut TextWriter<P>) -> Result<(), SinkFault>
+pub fn put_word<P: Pen>(text: &str, writer: &mut TextWriter<P>) -> Result<(), SinkFault>
 {
     writer.put(b"\"")?;
     writer.put_str(text)?;
@@ -112,7 +112,7 @@ fn put_cell_word<P: Pen>(scalar: &Scalar<'_>, writer: &mut TextWriter<P>) -> Res
 }
 
 /// Takes bytes as two lower case hexadecimal digits each, between quotes.
-fn put_bytes<P: Pen>(bytes: &[u8], writer: &mut TextWriter<P>) -> Result<(), SinkFault>
+pub fn put_bytes<P: Pen>(bytes: &[u8], writer: &mut TextWriter<P>) -> Result<(), SinkFault>
 {
     writer.put(b"\"")?;
     writer.put_hex(bytes)?;

@@ -9,7 +9,7 @@ use crate::kit_std::simd::prelude::*;
 const BLOCK: usize = 16;
 
 /// Takes a text between quotes, with escapes.
-pub(crate) fn put_string<P: Pen>(text: &str, writer: &mut TextWriter<P>) -> Result<(), SinkFault>
+pub fn put_string<P: Pen>(text: &str, writer: &mut TextWriter<P>) -> Result<(), SinkFault>
 {
     writer.put(b"\"")?;
     put_escaped(text.as_bytes(), writer)?;
