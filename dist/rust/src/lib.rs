@@ -305,7 +305,9 @@ pub mod text {
     pub use crate::cqlp_json::json_line;
     pub use crate::cqlp_render::{render_events, render_rows};
     pub use crate::cqlp_tables::{TablePlace, csv_part, json_part};
-    pub use crate::cqlp_text::{Ending, PagePlace, cell_text, ending_line, event_line, opcode_name, page_part};
+    pub use crate::cqlp_text::{
+        Ending, PagePlace, cell_text, ending_line, event_line, field_name, kind_name, opcode_name, page_part, reason_name,
+    };
 }
 
 /// Memory that may be refused, and what is held in it.
