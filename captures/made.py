@@ -3,6 +3,8 @@
 
 connections  one segment with a byte for each of COUNT connections, 100,000 where it is not said
 lost         256 connections, of both of whose directions each second segment is lost, until no window has room for more
+requests     1,024 connections, of each of which 100 requests wait with all that is kept of them, and of both directions as much as there is room for
+             comes too early
 packets      packets as long as a record may have, and IP and TCP headers whose lengths are the greatest
 record       a record whose length is the greatest that its field can say
 block        a pcapng file with as many interfaces as there may be, options and a packet of 262,144 bytes, and a block of 4 GiB that never comes
@@ -42,6 +44,22 @@ def lost():
                 yield record(segment(0x0A010000 + i, 10_000 + i, number, bytes(1_448), is_response))
 
 
+def query(stream):
+    body = struct.pack(">I", 300) + b"?" * 300 + struct.pack(">HB", 1, 0)
+    return struct.pack(">BBHBI", 0x04, 0, stream, 0x07, len(body)) + body
+
+
+def requests():
+    sent = b"".join(map(query, range(100)))
+    for i in range(1_024):
+        client, port = 0x0A010000 + i, 10_000 + i
+        yield record(segment(client, port, 0, sent))
+        yield record(segment(client, port, 0, b"\x84", True))
+        for number in range(0, 4_096, 1_024):
+            yield record(segment(client, port, len(sent) + 1 + number, bytes(1_024)))
+            yield record(segment(client, port, 2 + number, bytes(1_024), True))
+
+
 def packets():
     for i in range(512):
         longest = b"\x4f" + b"\xff" * 262_143
@@ -76,7 +94,7 @@ def of_pcap(records):
 def capture(kind, *count):
     if kind == "block":
         return blocks()
-    made = {"connections": connections, "lost": lost, "packets": packets, "record": greatest_record}[kind]
+    made = {"connections": connections, "lost": lost, "requests": requests, "packets": packets, "record": greatest_record}[kind]
     return of_pcap(made(*map(int, count)))
 
 
