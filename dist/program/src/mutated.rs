@@ -1,9 +1,10 @@
-//! Captures whose bytes were changed at random, and what `write_streams` and `write_exchanges` make of them: no panic, no more memory than the
-//! limits say, the same files and lines whole and in pieces of any size, lines that say how long the files are, and those of exchanges that
-//! are asked for among those of all. CQLP_STREAMS is how many changed captures
+//! Captures whose bytes were changed at random, and what `write_streams`, `write_exchanges` and `write_events` make of them: no panic, no more
+//! memory than the limits say, the same files and lines whole and in pieces of any size, lines that say how long the files are, those of exchanges
+//! that are asked for among those of all, an object for each of their lines, and summaries that count them. CQLP_STREAMS is how many changed captures
 //! there are, 3,000 where it is not set, 5,000 in a file; CQLP_CAPTURES is the folder with those of a driver.
 use crate::cqlp_connections::Way;
-use crate::cqlp_exchanges::{ExchangeFilter, write_exchanges};
+use crate::cqlp_capture_events::write_events;
+use crate::cqlp_exchanges::{ExchangeFilter, ExchangeForm, write_exchanges};
 use crate::cqlp_note::{IoFault, OfStd, Source};
 use crate::cqlp_streams::{FileFault, StreamFile, StreamFiles, write_streams};
 use crate::kit_std::alloc::Global;
@@ -136,17 +137,30 @@ fn text(target: OfStd<Vec<u8>>) -> String {
     String::from_utf8(target.into_inner()).unwrap()
 }
 
-/// The status, the lines of the exchanges in a file that are asked for, and what was said of it.
-fn told(file: &[u8], most: usize, ports: &[u16], filter: ExchangeFilter) -> (u8, String, String) {
+/// The status and both outputs.
+type Told = (u8, String, String);
+
+/// What is written of a file, in at most so many MiB.
+fn told(file: &[u8], most: usize, room: usize, write: impl Fn(&mut Pieces, OfStd<Vec<u8>>, OfStd<Vec<u8>>) -> (u8, OfStd<Vec<u8>>, OfStd<Vec<u8>>)) -> Told {
     let mut pieces = Pieces { rest: file, most, numbers: Numbers(most as u64 | 1) };
     let (out, err) = (OfStd::new(Vec::with_capacity(64 << 20)), OfStd::new(Vec::with_capacity(1_000)));
     let before = LIVE.load(SeqCst);
     MOST.store(before, SeqCst);
-    let (status, out, err) = write_exchanges(Global, ports, filter, &mut pieces, out, err);
+    let (status, out, err) = write(&mut pieces, out, err);
     let taken = MOST.load(SeqCst) - before;
-    assert!(taken <= 64 << 20, "{taken} bytes of memory");
+    assert!(taken <= room << 20, "{taken} bytes of memory");
     assert_eq!(LIVE.load(SeqCst), before);
     (status, text(out), text(err))
+}
+
+/// The exchanges in a file that are asked for, in this form.
+fn exchanges(file: &[u8], most: usize, ports: &[u16], filter: ExchangeFilter, form: ExchangeForm) -> Told {
+    told(file, most, 64, |pieces, out, err| write_exchanges(Global, ports, filter, form, pieces, out, err))
+}
+
+/// The events of the frames in a file.
+fn events(file: &[u8], most: usize, ports: &[u16]) -> Told {
+    told(file, most, 70, |pieces, out, err| write_events(Global, ports, None, pieces, out, err))
 }
 
 /// The lines say how long the files are, and the last line how long all of them are.
@@ -232,10 +246,18 @@ fn changed_captures() {
         let faulty = made(&file, most, ports, numbers.below(5_000));
         assert!(faulty.status == 3 || faulty == whole);
         assert!(whole.kept.starts_with(&faulty.kept) && whole.lines.starts_with(&faulty.lines));
-        let exchanges = told(&file, usize::MAX, ports, ExchangeFilter::ALL);
-        assert_eq!(told(&file, most, ports, ExchangeFilter::ALL), exchanges);
-        let errors = told(&file, most, ports, ExchangeFilter { errors: true, ..ExchangeFilter::ALL });
-        let mut all = exchanges.1.lines();
+        let [lines, objects, summary] = [ExchangeForm::Lines, ExchangeForm::Json, ExchangeForm::Summary].map(|form| {
+            let whole = exchanges(&file, usize::MAX, ports, ExchangeFilter::ALL, form);
+            assert_eq!(exchanges(&file, most, ports, ExchangeFilter::ALL, form), whole);
+            whole
+        });
+        assert_eq!((objects.0, objects.1.lines().count(), &objects.2), (lines.0, lines.1.lines().count(), &lines.2));
+        assert_eq!((summary.0, &summary.2), (lines.0, &lines.2));
+        let counted: usize = summary.1.lines().skip(1).map(|line| line.split_whitespace().nth(3).unwrap().parse::<usize>().unwrap()).sum();
+        assert_eq!(counted, lines.1.lines().filter(|line| line.ends_with(" ms")).count());
+        assert_eq!(events(&file, most, ports), events(&file, usize::MAX, ports));
+        let errors = exchanges(&file, usize::MAX, ports, ExchangeFilter { errors: true, ..ExchangeFilter::ALL }, ExchangeForm::Lines);
+        let mut all = lines.1.lines();
         assert!(errors.1.lines().all(|line| all.any(|other| other == line)));
     }
 }
