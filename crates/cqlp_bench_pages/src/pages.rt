@@ -3,159 +3,148 @@
 use cqlp_message::{Frame, Message, Metadata, Rows, Spec};
 use cqlp_type::{Kind, TypeTree};
 use cqlp_value::{Atom, Value};
-use std::alloc::Global;
-use std::io;
+use std::alloc::{AllocError, Global};
 
-/// What the rows of a page are.
+/// What stands in a column.
 #[derive(Clone, Copy)]
-pub enum PageKind {
-    /// int, bigint, varchar of 16 letters, boolean.
-    Rows,
-    /// list&lt;int&gt; of 8 and map&lt;varchar, int&gt; of 3.
-    Collections,
-    /// 200 columns of int.
-    Columns,
-    /// A blob of 1 MiB.
-    Blobs,
+pub enum Column {
+    Int,
+    Bigint,
+    /// 16 digits.
+    Varchar,
+    Boolean,
+    /// Eight ints.
+    List,
+    /// Three texts, and an int for each.
+    Map,
+    /// A MiB.
+    Blob,
 }
 
-impl PageKind {
-    /// The page of this name.
-    pub fn from_name(name: &str) -> io::Result<PageKind> {
-        match name {
-            "rows" => Ok(PageKind::Rows),
-            "collections" => Ok(PageKind::Collections),
-            "columns" => Ok(PageKind::Columns),
-            "blobs" => Ok(PageKind::Blobs),
-            _ => Err(io::Error::from(io::ErrorKind::InvalidInput)),
+/// The pages: their names and columns.
+const PAGES: [(&str, &[Column]); 4] = [
+    (
+        "rows",
+        &[
+            Column::Int,
+            Column::Bigint,
+            Column::Varchar,
+            Column::Boolean,
+        ],
+    ),
+    ("collections", &[Column::List, Column::Map]),
+    ("columns", &[Column::Int; 200]),
+    ("blobs", &[Column::Blob]),
+];
+
+/// The columns of the page of this name.
+pub fn columns_of(name: &str) -> Option<&'static [Column]> {
+    for (known, columns) in PAGES {
+        if name == known {
+            return Some(columns);
         }
     }
-
-    /// A page with this many rows.
-    pub fn page(self, alloc: Global, rows: u32) -> io::Result<Frame> {
-        let meta = self.metadata(alloc)?;
-        match self.cells(alloc, rows, meta.columns) {
-            Ok(cells) => Ok(Frame::plain(0, Message::Rows(Rows { meta, rows, cells }))),
-            Err(error) => Err(error),
-        }
-    }
-
-    /// What is told of its columns: they are all of the table `shop.orders`.
-    fn metadata(self, alloc: Global) -> io::Result<Metadata> {
-        let keyspace = text(alloc, "shop")?;
-        let table = text(alloc, "orders")?;
-        let specs = self.specs(alloc)?;
-        Ok(Metadata {
-            flags: 1,
-            columns: u32::try_from(specs.len()).unwrap_or(u32::MAX),
-            paging: None,
-            table: Some((keyspace, table)),
-            specs: Some(specs),
-        })
-    }
-
-    /// The cells of this many rows, in memory for just these.
-    fn cells(self, alloc: Global, rows: u32, columns: u32) -> io::Result<Vec<Value>> {
-        let mut cells = Vec::new(alloc);
-        match self.push_rows(alloc, rows, columns, &mut cells) {
-            Ok(()) => Ok(cells),
-            Err(error) => Err(error),
-        }
-    }
-
-    fn push_rows(
-        self,
-        alloc: Global,
-        rows: u32,
-        columns: u32,
-        cells: &mut Vec<Value>,
-    ) -> io::Result<()> {
-        cells.try_reserve_exact((rows as usize).saturating_mul(columns as usize))?;
-        for row in 0..rows {
-            self.push_row(alloc, row, cells)?;
-        }
-        Ok(())
-    }
-
-    /// Its columns, in the table of the page.
-    fn specs(self, alloc: Global) -> io::Result<Vec<Spec>> {
-        let mut specs = Vec::new(alloc);
-        match self.push_columns(alloc, &mut specs) {
-            Ok(()) => Ok(specs),
-            Err(error) => Err(error),
-        }
-    }
-
-    fn push_columns(self, alloc: Global, specs: &mut Vec<Spec>) -> io::Result<()> {
-        match self {
-            PageKind::Rows => {
-                for kind in [Kind::Int, Kind::Bigint, Kind::Varchar, Kind::Boolean] {
-                    push_column(alloc, TypeTree::Plain(kind), specs)?;
-                }
-            }
-            PageKind::Collections => {
-                push_column(alloc, TypeTree::List(plain(alloc, Kind::Int)?), specs)?;
-                push_map(alloc, specs)?;
-            }
-            PageKind::Columns => {
-                for _ in 0..COLUMNS {
-                    push_column(alloc, TypeTree::Plain(Kind::Int), specs)?;
-                }
-            }
-            PageKind::Blobs => push_column(alloc, TypeTree::Plain(Kind::Blob), specs)?,
-        }
-        Ok(())
-    }
-
-    /// Adds the cells of a row.
-    fn push_row(self, alloc: Global, row: u32, cells: &mut Vec<Value>) -> io::Result<()> {
-        match self {
-            PageKind::Rows => {
-                cells.push(int(row))?;
-                cells.push(Value::Leaf(Atom::Bigint(i64::from(row).wrapping_mul(1_000_003))))?;
-                cells.push(letters(alloc, row)?)?;
-                cells.push(Value::Leaf(Atom::Boolean(row % 2 == 1)))?;
-            }
-            PageKind::Collections => {
-                cells.push(list(alloc, row)?)?;
-                cells.push(map(alloc, row)?)?;
-            }
-            PageKind::Columns => {
-                for column in 0..COLUMNS {
-                    cells.push(int(row.wrapping_add(column)))?;
-                }
-            }
-            PageKind::Blobs => cells.push(blob(alloc)?)?,
-        }
-        Ok(())
-    }
+    None
 }
 
-const COLUMNS: u32 = 200;
-
-fn text(alloc: Global, text: &str) -> io::Result<String> {
-    Ok(String::from_str(alloc, text)?)
+/// A page with these columns, which are all of the table `shop.orders`, and these cells.
+pub fn page(
+    alloc: Global,
+    columns: &[Column],
+    rows: u32,
+    cells: Vec<Value>,
+) -> Result<Frame, AllocError> {
+    let meta = metadata(alloc, columns)?;
+    Ok(Frame::plain(0, Message::Rows(Rows { meta, rows, cells })))
 }
 
-fn plain(alloc: Global, kind: Kind) -> io::Result<Box<TypeTree>> {
+fn metadata(alloc: Global, columns: &[Column]) -> Result<Metadata, AllocError> {
+    let specs = specs(alloc, columns)?;
+    let keyspace = String::from_str(alloc, "shop")?;
+    let table = String::from_str(alloc, "orders")?;
+    Ok(Metadata {
+        flags: 1,
+        columns: u32::try_from(specs.len()).unwrap_or(u32::MAX),
+        paging: None,
+        table: Some((keyspace, table)),
+        specs: Some(specs),
+    })
+}
+
+fn specs(alloc: Global, columns: &[Column]) -> Result<Vec<Spec>, AllocError> {
+    let mut specs = Vec::new(alloc);
+    for column in columns {
+        specs.push(spec(alloc, *column, specs.len())?)?;
+    }
+    Ok(specs)
+}
+
+fn spec(alloc: Global, column: Column, place: usize) -> Result<Spec, AllocError> {
+    let name = format!(in alloc; "column{place}")?;
+    let tree = tree(alloc, column)?;
+    Ok(Spec {
+        table: None,
+        name,
+        tree,
+    })
+}
+
+fn tree(alloc: Global, column: Column) -> Result<TypeTree, AllocError> {
+    let kind = match column {
+        Column::Int => Kind::Int,
+        Column::Bigint => Kind::Bigint,
+        Column::Varchar => Kind::Varchar,
+        Column::Boolean => Kind::Boolean,
+        Column::Blob => Kind::Blob,
+        Column::List => return Ok(TypeTree::List(plain(alloc, Kind::Int)?)),
+        Column::Map => {
+            let key = plain(alloc, Kind::Varchar)?;
+            return Ok(TypeTree::Map(key, plain(alloc, Kind::Int)?));
+        }
+    };
+    Ok(TypeTree::Plain(kind))
+}
+
+fn plain(alloc: Global, kind: Kind) -> Result<Box<TypeTree>, AllocError> {
     Ok(Box::new(alloc, TypeTree::Plain(kind))?)
 }
 
-/// Adds a column with the next name.
-fn push_column(alloc: Global, tree: TypeTree, specs: &mut Vec<Spec>) -> io::Result<()> {
-    specs.push(Spec {
-        table: None,
-        name: format!(in alloc; "column{}", specs.len())?,
-        tree,
-    })?;
+/// The cells of this many rows, in memory for just these.
+pub fn cells(alloc: Global, columns: &[Column], rows: u32) -> Result<Vec<Value>, AllocError> {
+    let mut cells = Vec::new(alloc);
+    cells.try_reserve_exact((rows as usize).saturating_mul(columns.len()))?;
+    for row in 0..rows {
+        push_row(alloc, columns, row, &mut cells)?;
+    }
+    Ok(cells)
+}
+
+/// Adds the cells of a row.
+fn push_row(
+    alloc: Global,
+    columns: &[Column],
+    row: u32,
+    cells: &mut Vec<Value>,
+) -> Result<(), AllocError> {
+    let mut number = row;
+    for column in columns {
+        cells.push(cell(alloc, *column, row, number)?)?;
+        number = number.wrapping_add(1);
+    }
     Ok(())
 }
 
-/// Adds a column of maps.
-fn push_map(alloc: Global, specs: &mut Vec<Spec>) -> io::Result<()> {
-    let key = plain(alloc, Kind::Varchar)?;
-    let value = plain(alloc, Kind::Int)?;
-    push_column(alloc, TypeTree::Map(key, value), specs)
+/// A cell of this row. An int is this number.
+fn cell(alloc: Global, column: Column, row: u32, number: u32) -> Result<Value, AllocError> {
+    match column {
+        Column::Int => Ok(int(number)),
+        Column::Bigint => Ok(Value::Leaf(Atom::Bigint(i64::from(row).wrapping_mul(1_000_003)))),
+        Column::Varchar => letters(alloc, row),
+        Column::Boolean => Ok(Value::Leaf(Atom::Boolean(row % 2 == 1))),
+        Column::List => list(alloc, row),
+        Column::Map => map(alloc, row),
+        Column::Blob => blob(alloc),
+    }
 }
 
 fn int(number: u32) -> Value {
@@ -163,12 +152,12 @@ fn int(number: u32) -> Value {
 }
 
 /// The number in 16 digits.
-fn letters(alloc: Global, number: u32) -> io::Result<Value> {
+fn letters(alloc: Global, number: u32) -> Result<Value, AllocError> {
     Ok(Value::Leaf(Atom::Varchar(format!(in alloc; "{number:016}")?)))
 }
 
 /// Eight numbers from this one on.
-fn list(alloc: Global, row: u32) -> io::Result<Value> {
+fn list(alloc: Global, row: u32) -> Result<Value, AllocError> {
     let mut items = Vec::new(alloc);
     for k in 0..8 {
         items.push(int(row.wrapping_add(k)))?;
@@ -177,7 +166,7 @@ fn list(alloc: Global, row: u32) -> io::Result<Value> {
 }
 
 /// Three texts, and a number for each.
-fn map(alloc: Global, row: u32) -> io::Result<Value> {
+fn map(alloc: Global, row: u32) -> Result<Value, AllocError> {
     let mut pairs = Vec::new(alloc);
     for k in 0..3 {
         pairs.push((letters(alloc, row.wrapping_add(k))?, int(k)))?;
@@ -186,7 +175,7 @@ fn map(alloc: Global, row: u32) -> io::Result<Value> {
 }
 
 /// A MiB, in which each byte comes after the one before.
-fn blob(alloc: Global) -> io::Result<Value> {
+fn blob(alloc: Global) -> Result<Value, AllocError> {
     let mut bytes = Vec::new(alloc);
     bytes.try_reserve_exact(1 << 20)?;
     for _ in 0..4096 {

@@ -103,8 +103,10 @@ impl Hub {
 
     /// A place that is free.
     fn place(&mut self) -> io::Result<usize> {
-        if let Some(place) = self.connections.iter().position(|slot| slot.is_none()) {
-            return Ok(place);
+        for (place, slot) in self.connections.iter().enumerate() {
+            if slot.is_none() {
+                return Ok(place);
+            }
         }
         self.connections.push(None)?;
         Ok(self.connections.len() - 1)

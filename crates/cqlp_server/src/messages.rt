@@ -14,13 +14,21 @@ const WARNING: u8 = 0x08;
 
 /// The frame of an answer to the request with this stream id and this statement's id. A page of `ks.t` has no cells in it.
 pub fn frame(alloc: Global, stream: i16, id: &[u8], plan: Plan) -> Result<Frame, AllocError> {
+    let warnings = warnings(alloc, plan)?;
     let mut frame = Frame::plain(stream, message(alloc, id, plan)?);
-    if let Plan::Batch(statements) = plan {
-        let warning = format!(in alloc; "statements that changed nothing: {statements}")?;
+    if warnings.is_some() {
         frame.flags = WARNING;
-        frame.warnings = Some(vec![in alloc; warning]?);
     }
+    frame.warnings = warnings;
     Ok(frame)
+}
+
+fn warnings(alloc: Global, plan: Plan) -> Result<Option<Vec<String>>, AllocError> {
+    let Plan::Batch(statements) = plan else {
+        return Ok(None);
+    };
+    let warning = format!(in alloc; "statements that changed nothing: {statements}")?;
+    Ok(Some(vec![in alloc; warning]?))
 }
 
 fn message(alloc: Global, id: &[u8], plan: Plan) -> Result<Message, AllocError> {
@@ -28,7 +36,7 @@ fn message(alloc: Global, id: &[u8], plan: Plan) -> Result<Message, AllocError> 
         Plan::Supported => supported(alloc),
         Plan::Ready => Ok(Message::Ready),
         Plan::Batch(_) => Ok(Message::Void),
-        Plan::Keyspace => Ok(Message::SetKeyspace(String::from_str(alloc, "ks")?)),
+        Plan::Keyspace => keyspace(alloc),
         Plan::Prepared(place, statement) => prepared(alloc, place, statement),
         Plan::Local => local(alloc),
         Plan::Peers => peers(alloc),
@@ -37,30 +45,48 @@ fn message(alloc: Global, id: &[u8], plan: Plan) -> Result<Message, AllocError> 
     }
 }
 
+fn keyspace(alloc: Global) -> Result<Message, AllocError> {
+    let name = String::from_str(alloc, "ks")?;
+    Ok(Message::SetKeyspace(name))
+}
+
 /// The options that there are: the version of CQL, and no compression.
+const OPTIONS: [(&str, &[&str]); 2] = [("CQL_VERSION", &["3.4.4"]), ("COMPRESSION", &[])];
+
 fn supported(alloc: Global) -> Result<Message, AllocError> {
-    let name = String::from_str(alloc, "CQL_VERSION")?;
-    let version = String::from_str(alloc, "3.4.4")?;
-    let compression = String::from_str(alloc, "COMPRESSION")?;
-    let versions = (name, vec![in alloc; version]?);
-    let none = (compression, Vec::new(alloc));
-    Ok(Message::Supported(vec![in alloc; versions, none]?))
+    let mut options = Vec::new(alloc);
+    for (name, values) in OPTIONS {
+        options.push(option(alloc, name, values)?)?;
+    }
+    Ok(Message::Supported(options))
+}
+
+fn option(alloc: Global, name: &str, values: &[&str]) -> Result<(String, Vec<String>), AllocError> {
+    let mut texts = Vec::new(alloc);
+    for value in values {
+        texts.push(String::from_str(alloc, value)?)?;
+    }
+    let name = String::from_str(alloc, name)?;
+    Ok((name, texts))
 }
 
 fn error(alloc: Global, id: &[u8], problem: Problem) -> Result<Message, AllocError> {
+    let extra = extra(alloc, id, problem)?;
     let (code, text) = problem.words();
     let message = String::from_str(alloc, text)?;
-    let extra = match problem {
-        Problem::Unprepared => ErrorExtra::Unprepared {
-            id: id.to_vec(alloc)?,
-        },
-        _ => ErrorExtra::Plain,
-    };
     Ok(Message::Error {
         code,
         message,
         extra,
     })
+}
+
+fn extra(alloc: Global, id: &[u8], problem: Problem) -> Result<ErrorExtra, AllocError> {
+    if !matches!(problem, Problem::Unprepared) {
+        return Ok(ErrorExtra::Plain);
+    }
+    let id = id.to_vec(alloc)?;
+    Ok(ErrorExtra::Unprepared { id })
 }
 
 fn rows(alloc: Global, page: Page, terse: bool) -> Result<Message, AllocError> {

@@ -7,9 +7,9 @@ use crate::output::Output;
 use crate::plan::{Plan, Problem};
 use crate::request::{Inbox, Request};
 use cqlp_decode::{Decoder, Finish, Outcome, run};
-use cqlp_encode::{PageWriter, encode};
+use cqlp_encode::{PageError, PageWriter, encode};
 use cqlp_message::Frame;
-use cqlp_note::{Limits, OfStd, Reason, Refusal};
+use cqlp_note::{Header, Limits, OfStd, Opcode, Reason, Refusal};
 use cqlp_session::Server;
 use cqlp_value::{Value, value_size};
 use std::alloc::Global;
@@ -64,26 +64,43 @@ impl Session {
         database: &mut Database,
         bytes: &[u8],
     ) -> Result<(), Fault> {
-        let outcome = run(
+        let outcome = self.gather(bytes);
+        let requests = std::mem::replace(&mut self.inbox.whole, Vec::new(alloc));
+        self.answer_all(alloc, database, &requests)?;
+        self.conclude(alloc, outcome, bytes)?;
+        self.read = self.read.saturating_add(bytes.len() as u64);
+        self.last = last_eight(self.last, bytes);
+        Ok(())
+    }
+
+    /// Puts the requests together that these bytes have.
+    fn gather(&mut self, bytes: &[u8]) -> Outcome {
+        run(
             &mut self.decoder,
             &mut OfStd::new(bytes),
             &mut self.inbox,
             u64::MAX,
-        );
-        let requests = std::mem::replace(&mut self.inbox.whole, Vec::new(alloc));
-        for request in &requests {
+        )
+    }
+
+    fn answer_all(
+        &mut self,
+        alloc: Global,
+        database: &mut Database,
+        requests: &[Request],
+    ) -> Result<(), Fault> {
+        for request in requests {
             self.answer(alloc, database, request)?;
         }
-        match outcome {
-            Outcome::Finished(Finish::Refused(refusal)) => self.refuse(alloc, refusal, bytes)?,
-            Outcome::Finished(_) => {}
-            Outcome::SinkFault | Outcome::ReadFault | Outcome::Turns => {
-                return Err(Fault::NoMemory);
-            }
-        }
-        self.read = self.read.saturating_add(bytes.len() as u64);
-        self.last = last_eight(self.last, bytes);
         Ok(())
+    }
+
+    fn conclude(&mut self, alloc: Global, outcome: Outcome, bytes: &[u8]) -> Result<(), Fault> {
+        match outcome {
+            Outcome::Finished(Finish::Refused(refusal)) => self.refuse(alloc, refusal, bytes),
+            Outcome::Finished(_) => Ok(()),
+            Outcome::SinkFault | Outcome::ReadFault | Outcome::Turns => Err(Fault::NoMemory),
+        }
     }
 
     /// Answers a request.
@@ -94,25 +111,43 @@ impl Session {
         request: &Request,
     ) -> Result<(), Fault> {
         let stream = request.header.stream;
-        if self.core.accept(&request.header).is_err() {
+        if !self.accepts(&request.header) {
             self.is_over = true;
             return self.say(alloc, stream, &[], Plan::Problem(Problem::OutOfTurn));
         }
         let plan = database.plan(request)?;
-        if self.core.answer(stream, plan.opcode()).is_err() {
-            return Err(Fault::Unwritten);
-        }
+        self.close(stream, plan.opcode())?;
         match plan {
             Plan::Rows { page, terse } => {
-                let page_frame = frame(alloc, stream, &[], plan)?;
-                write_page(
-                    &page_frame,
-                    database.table.cells(page.rows, terse),
-                    &mut self.output.bytes,
-                )
+                let cells = database.table.cells(page.rows, terse);
+                self.say_page(alloc, stream, plan, cells)
             }
             _ => self.say(alloc, stream, request.id.as_slice(), plan),
         }
+    }
+
+    fn accepts(&mut self, header: &Header) -> bool {
+        self.core.accept(header).is_ok()
+    }
+
+    /// The request with this stream id is answered by a message of this opcode.
+    fn close(&mut self, stream: i16, opcode: Opcode) -> Result<(), Fault> {
+        match self.core.answer(stream, opcode) {
+            Ok(_) => Ok(()),
+            Err(_) => Err(Fault::Unwritten),
+        }
+    }
+
+    /// Writes a page with these cells.
+    fn say_page(
+        &mut self,
+        alloc: Global,
+        stream: i16,
+        plan: Plan,
+        cells: &[Value],
+    ) -> Result<(), Fault> {
+        let frame = frame(alloc, stream, &[], plan)?;
+        write_page(&frame, cells, &mut self.output.bytes)
     }
 
     /// Writes an answer.
@@ -170,21 +205,29 @@ fn write_frame(frame: &Frame, output: &mut OfStd<Vec<u8>>) -> Result<(), Fault> 
 
 /// Writes a page, whose cells are these.
 fn write_page(frame: &Frame, cells: &[Value], output: &mut OfStd<Vec<u8>>) -> Result<(), Fault> {
-    let mut len = 0_u64;
+    match write_cells(frame, cells, output) {
+        Ok(_) => Ok(()),
+        Err(_) => Err(Fault::Unwritten),
+    }
+}
+
+fn write_cells(
+    frame: &Frame,
+    cells: &[Value],
+    output: &mut OfStd<Vec<u8>>,
+) -> Result<u32, PageError> {
+    let mut page = PageWriter::begin(frame, size_of(cells), output)?;
     for cell in cells {
-        len = len.saturating_add(value_size(cell));
+        page.cell(cell, output)?;
     }
-    let len = u32::try_from(len).unwrap_or(u32::MAX);
-    let Ok(mut page) = PageWriter::begin(frame, len, output) else {
-        return Err(Fault::Unwritten);
-    };
+    page.finish()
+}
+
+/// How many bytes these cells have.
+fn size_of(cells: &[Value]) -> u32 {
+    let mut size = 0_u64;
     for cell in cells {
-        if page.cell(cell, output).is_err() {
-            return Err(Fault::Unwritten);
-        }
+        size = size.saturating_add(value_size(cell));
     }
-    if page.finish().is_err() {
-        return Err(Fault::Unwritten);
-    }
-    Ok(())
+    u32::try_from(size).unwrap_or(u32::MAX)
 }

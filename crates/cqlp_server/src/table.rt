@@ -16,6 +16,10 @@ const KEYS: i32 = 100;
 /// How many rows each key has; in them `c` is 0 to 24.
 const ROWS_OF_KEY: i32 = 25;
 
+const INT: TypeTree = TypeTree::Plain(Kind::Int);
+
+const TEXT: TypeTree = TypeTree::Plain(Kind::Varchar);
+
 /// The table, in the order of its keys. Its cells lie in memory twice, row after row: as values, for pages that tell their
 /// columns, and as the bytes of these, for pages that do not.
 #[derive(Drop)]
@@ -28,30 +32,45 @@ pub struct Table {
 impl Table {
     /// With all rows.
     pub fn new(alloc: Global) -> Result<Table, AllocError> {
-        let int = TypeTree::Plain(Kind::Int);
-        let text = TypeTree::Plain(Kind::Varchar);
-        let list = list_of_ints(alloc)?;
         let mut table = Table {
             keys: Vec::new(alloc),
             cells: Vec::new(alloc),
             spelled: Vec::new(alloc),
         };
+        table.fill(alloc)?;
+        Ok(table)
+    }
+
+    /// Adds all rows.
+    fn fill(&mut self, alloc: Global) -> Result<(), AllocError> {
+        let list = list_of_ints(alloc)?;
         for key in 0..KEYS {
             for number in 0..ROWS_OF_KEY {
-                table.keys.push(key)?;
-                table.add(alloc, Value::from(key), &int)?;
-                table.add(alloc, Value::from(number), &int)?;
-                table.add(alloc, note(alloc, key, number)?, &text)?;
-                table.add(alloc, around(alloc, number)?, &list)?;
+                self.add_row(alloc, key, number, &list)?;
             }
         }
-        Ok(table)
+        Ok(())
+    }
+
+    fn add_row(
+        &mut self,
+        alloc: Global,
+        key: i32,
+        number: i32,
+        list: &TypeTree,
+    ) -> Result<(), AllocError> {
+        self.keys.push(key)?;
+        self.add(alloc, Value::from(key), &INT)?;
+        self.add(alloc, Value::from(number), &INT)?;
+        self.add(alloc, note(alloc, key, number)?, &TEXT)?;
+        self.add(alloc, around(alloc, number)?, list)
     }
 
     /// Adds the next cell of a row, which is of this type.
     fn add(&mut self, alloc: Global, value: Value, of: &TypeTree) -> Result<(), AllocError> {
-        self.spelled.push(spelled(alloc, &value, of)?)?;
+        let spelled = spelled(alloc, &value, of)?;
         self.cells.push(value)?;
+        self.spelled.push(spelled)?;
         Ok(())
     }
 
@@ -80,7 +99,8 @@ impl Table {
 
 /// The type of the column `l`.
 pub fn list_of_ints(alloc: Global) -> Result<TypeTree, AllocError> {
-    Ok(TypeTree::List(Box::new(alloc, TypeTree::Plain(Kind::Int))?))
+    let int = Box::new(alloc, TypeTree::Plain(Kind::Int))?;
+    Ok(TypeTree::List(int))
 }
 
 /// What stands in the column `t`.
@@ -108,6 +128,11 @@ fn spelled(alloc: Global, value: &Value, of: &TypeTree) -> Result<Value, AllocEr
     if write_value(value, Some(of), &mut bytes).is_err() {
         return Err(AllocError);
     }
-    let content = bytes.inner.get(4..).unwrap_or(&[]).to_vec(alloc)?;
+    content(alloc, &bytes.inner)
+}
+
+/// What these bytes of a cell have behind its length, as a value.
+fn content(alloc: Global, bytes: &[u8]) -> Result<Value, AllocError> {
+    let content = bytes.get(4..).unwrap_or(&[]).to_vec(alloc)?;
     Ok(Value::from(Atom::Raw(content)))
 }

@@ -1,11 +1,14 @@
 //! Gives command lines to `command`, and prints what it writes and answers.
 //!
 //! A line of the input has the words of a command line, `|`, and the bytes of standard input in hexadecimal digits, or `?`
-//! and how the text begins that it writes. A line without these is a heading.
+//! and how the text begins that it writes. A line that begins with `talk` asks for a conversation over pipes in memory. A line
+//! with none of these is a heading.
 #![tactic(auto)]
 
 mod done;
 mod memory;
+mod pipes;
+mod talks;
 mod ways;
 
 use cqlp_test_fakes::bytes_of;
@@ -33,8 +36,11 @@ fn execute(rt: &HostRuntime, line: &str) -> io::Result<()> {
         }
         return print_done(rt, words, &bytes);
     }
-    match line.split_once('?') {
-        Some((words, start)) => print_start(rt, words.trim_end(), start.trim()),
+    if let Some((words, start)) = line.split_once('?') {
+        return print_start(rt, words.trim_end(), start.trim());
+    }
+    match line.strip_prefix("talk ") {
+        Some(words) => print_talk(rt, words),
         None => println!(rt; "{line}"),
     }
 }
@@ -81,6 +87,12 @@ fn print_start(rt: &HostRuntime, line: &str, start: &str) -> io::Result<()> {
     let output = output_with(&done, start.as_bytes());
     println!(rt; "== {line}\n{output}-- {}", done.status)?;
     ways::all(rt, &call, &done)
+}
+
+/// Prints what comes of a conversation.
+fn print_talk(rt: &HostRuntime, words: &str) -> io::Result<()> {
+    println!(rt; "== talk {words}")?;
+    talks::execute(rt, words)
 }
 
 fn output_with(done: &Done, start: &[u8]) -> &'static str {
