@@ -4,7 +4,6 @@
 pub mod laws;
 mod line;
 mod member;
-mod names;
 mod string;
 
 pub use line::{json_line, put_json_line};

@@ -18,11 +18,10 @@ ghost use Rattle.cqlp_json.specs.Lines.{json_line as line_of, cell_members, fiel
 ghost use Rattle.cqlp_json.specs.Values.{value_text, word};
 
 use crate::member::{Member, Value, bigint, int, number, put_members, smallint};
-use crate::names::{field_name, kind_name};
 use cqlp_grammar::{Event, SinkFault};
 use cqlp_kind::{Kind, Scalar};
 use cqlp_note::{Address, BoundValue, Field, Header, Target};
-use cqlp_text::{Pen, TextWriter, opcode_name};
+use cqlp_text::{Pen, TextWriter, field_name, kind_name, opcode_name};
 
 /// Appends the JSON line of an event at an offset. A fault is the target's own.
 #[inline]

@@ -2,15 +2,14 @@
 
 ghost use Rattle.std.specs.Prelude.{◌≡◌, ◌++◌, ◌∷◌, [], codes, decimal};
 ghost use Rattle.cqlp_text.specs.Lines.{spaced};
-ghost use Rattle.cqlp_text.specs.Names as names;
 ghost use Rattle.cqlp_text.specs.Outputs.{AppendsText, written};
 ghost use Rattle.cqlp_text.specs.Written.{Writes};
 ghost use Rattle.cqlp_render_skip.specs.Texts as texts;
 
 use cqlp_decode::SinkFault;
-use cqlp_note::{Reason, Target};
+use cqlp_note::Target;
 use cqlp_skip::Skipped;
-use cqlp_text::{Pen, TextWriter};
+use cqlp_text::{Pen, TextWriter, reason_name};
 
 /// Appends the line of a frame that was passed over. A fault is the target's own.
 pub(crate) fn skipped_line<W: Target>(skipped: &Skipped, w: &mut W) -> Result<(), SinkFault>
@@ -38,32 +37,4 @@ fn put_skipped<P: Pen>(writer: &mut TextWriter<P>, skipped: &Skipped) -> Result<
     writer.put(b" at ")?;
     writer.put_number(skipped.refusal.at)?;
     writer.put(b"\n")
-}
-
-/// The name of a reason, as verdict lines have it.
-fn reason_name(reason: Reason) -> &'static str
-    ensures { result.now ≡ names.reason_name reason }
-{
-    match reason {
-        Reason::BadVersion => "BadVersion",
-        Reason::Compressed => "Compressed",
-        Reason::BadOpcode => "BadOpcode",
-        Reason::BadDirection => "BadDirection",
-        Reason::BadLength => "BadLength",
-        Reason::Overrun => "Overrun",
-        Reason::TooLong => "TooLong",
-        Reason::BadUtf8 => "BadUtf8",
-        Reason::BadValueLength => "BadValueLength",
-        Reason::BadInet => "BadInet",
-        Reason::BadCount => "BadCount",
-        Reason::BadType => "BadType",
-        Reason::TooDeep => "TooDeep",
-        Reason::TooMany => "TooMany",
-        Reason::BadBatchKind => "BadBatchKind",
-        Reason::BadBatchFlags => "BadBatchFlags",
-        Reason::BadSize => "BadSize",
-        Reason::BadScalar => "BadScalar",
-        Reason::ExtraInValue => "ExtraInValue",
-        Reason::StreamTooLong => "StreamTooLong",
-    }
 }

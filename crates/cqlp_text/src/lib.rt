@@ -22,7 +22,7 @@ pub use buffered::Buffered;
 pub use cells::cell_text;
 pub use ending::{Ending, cannot_open_line, ending_line};
 pub use events::event_line;
-pub use names::opcode_name;
+pub use names::{field_name, kind_name, opcode_name, reason_name};
 pub use page_text::{PagePlace, page_part};
 pub use pen::Pen;
 pub use sending::put_text;

@@ -1,0 +1,9 @@
+mod Bounds
+mod Firsts
+mod Gathered
+mod Lists
+mod Names
+mod Orders
+mod Ranks
+pub mod Texts
+mod Told

@@ -1,0 +1,10 @@
+pub mod Buckets
+pub mod Columns
+pub mod Counts
+pub mod Laws
+pub mod Lines
+pub mod Names
+pub mod Order
+pub mod Shown
+pub mod Summaries
+pub mod Tallies

@@ -1,0 +1,17 @@
+//! How much time the statements of a capture took, in a table of bounded size.
+#![tactic(auto)]
+
+mod buckets;
+mod columns;
+pub mod laws;
+mod lines;
+mod name;
+mod occurrence;
+mod order;
+mod shown;
+mod summary;
+mod tally;
+
+pub use occurrence::Occurrence;
+pub use shown::put_shown_text;
+pub use summary::Summary;
