@@ -1,0 +1,111 @@
+#!/usr/bin/env python3
+"""captures/objects.py FILE COMMAND..: prints what is wrong with the objects (--json) and the summary (--summary) that `cqlp capture` writes of a
+capture, beside its lines, which lines.py reads in another way. Each object has to say what its line says, and each statement of the summary
+what its lines add up to."""
+import collections
+import json
+import subprocess
+import sys
+from decimal import Decimal
+
+
+def written(command, file, *options):
+    done = subprocess.run([*command, *options, file], stdout=subprocess.PIPE, stderr=subprocess.PIPE, text=True)
+    return done.stdout.splitlines(), (done.returncode, done.stderr)
+
+
+def shown(text, is_whole):
+    """A text as lines have it: those of the captures have no controls."""
+    return text.replace("\\", "\\\\").replace('"', '\\"'), "" if is_whole else ".."
+
+
+def quoted(text, is_whole):
+    text, more = shown(text, is_whole)
+    return f'"{text}"{more}'
+
+
+def mark(of, side):
+    """A frame's bytes, and what is said of them."""
+    cut, packed = "" if of[f"{side}_is_whole"] else " cut", " compressed" if of[f"{side}_is_compressed"] else ""
+    return f"{of[f'{side}_bytes']}{cut}{packed}"
+
+
+def request(of):
+    words = [of["request"], of["consistency"]]
+    if of["statement"] is not None:
+        words.append(quoted(of["statement"], of["statement_is_whole"]))
+    if of["id"] is not None:
+        words.append(of["id"] + ("" if of["statement_is_whole"] else ".."))
+    if of["page_size"] is not None:
+        words.append(f"page {of['page_size']}")
+    return " ".join(word for word in [*words, mark(of, "request")] if word is not None)
+
+
+def response(of):
+    words = [of["result"] or of["response"]]
+    if of["error"] is not None:
+        words = ["ERROR", of["error"]]
+    if of["message"] is not None:
+        words.append(quoted(of["message"], of["message_is_whole"]))
+    if of["rows"] is not None:
+        words.append(f"{of['rows']}x{of['columns']}")
+    if of["warnings"] is not None:
+        words.append(f"warnings {of['warnings']}")
+    if of["tracing_id"] is not None:
+        words.append(f"tracing {of['tracing_id']}")
+    return " ".join([*words, mark(of, "response")])
+
+
+def line(of):
+    """The line of an object, without its times."""
+    both = {
+        "exchange": lambda: f"{request(of)} -> {response(of)}",
+        "unanswered": lambda: f"{request(of)} -> nothing",
+        "unasked": lambda: f"nothing -> {response(of)}",
+        "event": lambda: response(of),
+    }[of["told"]]()
+    return f"{of['connection']}:{of['stream']} {both}"
+
+
+def differs(text, of):
+    time, rest = text.split(" ", 1)
+    took = None
+    if of["told"] == "exchange":
+        rest, took, _ = rest.rsplit(" ", 2)
+    if Decimal(time) != of["time"] or (took is not None and Decimal(took) != of["took"] * 1000):
+        return True
+    return rest != line(of)
+
+
+def sums(objects):
+    """How often each statement was asked for, its errors, rows and bytes."""
+    found = collections.OrderedDict()
+    for of in objects:
+        if of["told"] == "exchange":
+            name = of["request"] if of["statement"] is None else "".join(shown(of["statement"], of["statement_is_whole"]))
+            count = found.setdefault(name, [0, 0, 0, 0])
+            for at, more in enumerate([1, of["error"] is not None, of["rows"] or 0, of["request_bytes"] + of["response_bytes"]]):
+                count[at] += more
+    return found
+
+
+def main(file, *command):
+    lines, said = written(command, file)
+    texts, said_of_objects = written(command, file, "--json")
+    summary, said_of_summary = written(command, file, "--summary")
+    objects = [json.loads(text, parse_float=Decimal) for text in texts]
+    if not said == said_of_objects == said_of_summary or len(lines) != len(objects):
+        print("the ends differ")
+    for text, of in zip(lines, objects):
+        if differs(text, of):
+            print(f"{text}\n{line(of)}")
+    told = {}
+    for text in summary[1:]:
+        words = text.split(None, 10)
+        told[words[10]] = [int(word) for word in words[3:7]]
+    if told != sums(objects):
+        print(f"{told}\n{dict(sums(objects))}")
+
+
+if __name__ == "__main__":
+    main(*sys.argv[1:])
