@@ -12,4 +12,4 @@ mod reported;
 pub use capture::{CaptureOptions, CaptureTask, ExchangeOptions, ExchangesAs, MOST_PORTS, Ports};
 pub use command_line::{CommandLine, QUERIES};
 pub use no_task::NoTask;
-pub use options::{AtRefusal, DEFAULT_LIMITS, Options, Task};
+pub use options::{AtRefusal, DEFAULT_LIMITS, EventsAs, Options, RowsAs, Task};

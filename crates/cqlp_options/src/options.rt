@@ -25,19 +25,55 @@ impl AtRefusal {
     }
 }
 
+/// How events are written.
+#[derive(Clone, Copy, Debug, PartialEq, Eq)]
+pub enum EventsAs {
+    /// A line of text for each.
+    Lines,
+    /// A JSON object for each, in a line.
+    Json,
+}
+
+impl EventsAs {
+    fn matched(matches: &ArgMatches<'_>) -> EventsAs {
+        if matches.get_flag("json") {
+            EventsAs::Json
+        } else {
+            EventsAs::Lines
+        }
+    }
+}
+
+/// How the rows of pages are written.
+#[derive(Clone, Copy, Debug, PartialEq, Eq)]
+pub enum RowsAs {
+    /// The text of pages.
+    Text,
+    /// A JSON array for each row, in a line.
+    Json,
+    /// A record of CSV for each row.
+    Csv,
+}
+
+impl RowsAs {
+    fn matched(matches: &ArgMatches<'_>) -> RowsAs {
+        if matches.get_flag("json") {
+            RowsAs::Json
+        } else if matches.get_flag("csv") {
+            RowsAs::Csv
+        } else {
+            RowsAs::Text
+        }
+    }
+}
+
 /// What the program does with a stream.
 #[derive(Clone, Copy, Debug, PartialEq, Eq)]
 pub enum Task {
     /// Writes its events, and the verdict beside them.
-    Show(AtRefusal),
-    /// Writes its events, each as a JSON object, and the verdict beside them.
-    ShowJson,
+    Show(EventsAs, AtRefusal),
     /// Writes its pages, and the verdict beside them.
-    Rows(AtRefusal),
-    /// Writes the rows of its pages as JSON, and the verdict beside them.
-    RowsJson,
-    /// Writes the rows of its pages as CSV, and the verdict beside them.
-    RowsCsv,
+    Rows(RowsAs, AtRefusal),
     /// Writes the verdict alone.
     Check(AtRefusal),
 }
@@ -47,11 +83,8 @@ impl Task {
     fn matched(name: &str, matches: &ArgMatches<'_>) -> Option<Task> {
         let at_refusal = AtRefusal::matched(matches);
         match name {
-            "show" if matches.get_flag("json") => Some(Task::ShowJson),
-            "show" => Some(Task::Show(at_refusal)),
-            "rows" if matches.get_flag("json") => Some(Task::RowsJson),
-            "rows" if matches.get_flag("csv") => Some(Task::RowsCsv),
-            "rows" => Some(Task::Rows(at_refusal)),
+            "show" => Some(Task::Show(EventsAs::matched(matches), at_refusal)),
+            "rows" => Some(Task::Rows(RowsAs::matched(matches), at_refusal)),
             "check" => Some(Task::Check(at_refusal)),
             _ => None,
         }

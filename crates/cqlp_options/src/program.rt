@@ -64,20 +64,19 @@ fn rows<'a>(alloc: Global) -> Result<Command<'a>, AllocError> {
         "Write the pages of a stream as text, and a verdict to standard error",
         "Example: cqlp rows --parts capture.bin",
     )?;
-    task.arg(json_rows(alloc)?)?.arg(csv_rows(alloc)?)
+    task.arg(json_rows(alloc)?)?.arg(csv_rows(alloc))
 }
 
 fn json_rows<'a>(alloc: Global) -> Result<Arg<'a>, AllocError> {
     flag(alloc, "json")
         .help("Write each row as a JSON array in a line of its own, after a line for its page")
-        .conflicts_with("skip")?
         .conflicts_with("csv")
 }
 
-fn csv_rows<'a>(alloc: Global) -> Result<Arg<'a>, AllocError> {
-    flag(alloc, "csv")
-        .help("Write each row as a record of CSV, after one with the names of the columns")
-        .conflicts_with("skip")
+fn csv_rows<'a>(alloc: Global) -> Arg<'a> {
+    flag(alloc, "csv").help(
+        "Write each row as a record of CSV, after one with the names of the columns",
+    )
 }
 
 /// The subcommand `show`, which can write JSON.
@@ -88,13 +87,11 @@ fn showing<'a>(alloc: Global) -> Result<Command<'a>, AllocError> {
         "Write a line for each event of a stream, and a verdict to standard error",
         "Example: cqlp show --text 4096 capture.bin",
     )?;
-    task.arg(json(alloc)?)
+    task.arg(json_events(alloc))
 }
 
-fn json<'a>(alloc: Global) -> Result<Arg<'a>, AllocError> {
-    flag(alloc, "json")
-        .help("Write each event as a JSON object in a line of its own")
-        .conflicts_with("skip")
+fn json_events<'a>(alloc: Global) -> Arg<'a> {
+    flag(alloc, "json").help("Write each event as a JSON object in a line of its own")
 }
 
 fn with_task<'a>(

@@ -9,5 +9,5 @@ mod showing;
 mod text_form;
 
 pub use render::{render_events, render_rows};
-pub use showing::{TURNS, check, conclude, rows, rows_csv, rows_json, show, show_json};
+pub use showing::{TURNS, check, conclude, rows, show, show_as};
 pub use text_form::TextForm;

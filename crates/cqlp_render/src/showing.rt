@@ -5,7 +5,6 @@ ghost use Rattle.cqlp_decode.specs.Streams.{After, state};
 ghost use Rattle.cqlp_note.specs.Limits.{first_bad, rules_of};
 ghost use Rattle.cqlp_text.specs.Endings.{IsStatusOfTask};
 ghost use Rattle.cqlp_text.specs.PageText.{no_page};
-ghost use Rattle.cqlp_tables.specs.Places.{no_table};
 ghost use Rattle.cqlp_text.specs.Outputs.{Output, written};
 ghost use Rattle.cqlp_render.specs.Rendering.{ReadsOnlyAfterText};
 ghost use Rattle.cqlp_render.specs.Streams.{IfKnown, streams, unread};
@@ -17,9 +16,9 @@ ghost use Rattle.cqlp_render.specs.declared.text_form.TextForm.TheVariants as fo
 use crate::buffered_sink::BufferedSink;
 use crate::form::{CsvRows, Form, JsonLines, JsonRows, Lines, Nothing};
 use crate::render::{TextSink, run_flushing};
+use crate::text_form::TextForm;
 use cqlp_decode::{Decoder, NewError, Outcome, SinkFault, run};
 use cqlp_note::{Limits, Source, Target};
-use cqlp_tables::TablePlace;
 use cqlp_text::exit_status::FAULT;
 use cqlp_text::{Buffered, Ending, PagePlace, ending_line};
 use std::alloc::Allocator;
@@ -44,29 +43,7 @@ pub fn show<R: Source, O: Target, E: Target, A: Allocator>(
     ensures shows { let view = streams R.Source O.Target E.Target in
         ShowsAndReports forms.Lines limits TURNS (view input.old out err) result.0 (view input.new result.1 result.2) }
 {
-    let (ending, out) = write_text(alloc, limits, Lines, input, out);
-    let (status, err) = conclude(ending, err);
-    (status, out, err)
-}
-
-/// Writes the events of a stream to `out`, each as a JSON object in a line of its own, and the verdict line or fault line
-/// to `err`. Answers the exit status, and the two outputs.
-pub fn show_json<R: Source, O: Target, E: Target, A: Allocator>(
-    alloc: &A,
-    limits: Limits,
-    input: &mut R,
-    out: O,
-    err: E,
-) -> (u8, O, E)
-    requires { first_bad limits ≡ Ok tt }
-    ensures status { IsStatusOfTask result.0 }
-    ensures shows { let view = streams R.Source O.Target E.Target in
-        ShowsAndReports forms.JsonLines limits TURNS
-        (view input.old out err) result.0 (view input.new result.1 result.2) }
-{
-    let (ending, out) = write_text(alloc, limits, JsonLines, input, out);
-    let (status, err) = conclude(ending, err);
-    (status, out, err)
+    show_as(alloc, limits, TextForm::Lines, input, out, err)
 }
 
 /// Writes the text of the pages of a stream to `out`, and the verdict line or fault line to `err`. Answers the exit
@@ -84,36 +61,22 @@ pub fn rows<R: Source, O: Target, E: Target, A: Allocator>(
         ShowsAndReports (forms.Pages no_page) limits TURNS
         (view input.old out err) result.0 (view input.new result.1 result.2) }
 {
-    let (ending, out) = write_text(alloc, limits, PagePlace::new(), input, out);
-    let (status, err) = conclude(ending, err);
-    (status, out, err)
+    show_as(
+        alloc,
+        limits,
+        TextForm::Pages(PagePlace::new()),
+        input,
+        out,
+        err,
+    )
 }
 
-/// Writes the rows of the pages of a stream to `out`, each as a JSON array in a line of its own after a line for the page,
-/// and the verdict line or fault line to `err`. Answers the exit status, and the two outputs.
-pub fn rows_json<R: Source, O: Target, E: Target, A: Allocator>(
-    alloc: &A,
-    limits: Limits,
-    input: &mut R,
-    out: O,
-    err: E,
-) -> (u8, O, E)
-    requires { first_bad limits ≡ Ok tt }
-    ensures status { IsStatusOfTask result.0 }
-    ensures shows { let view = streams R.Source O.Target E.Target in
-        ShowsAndReports (forms.JsonRows no_table) limits TURNS
-        (view input.old out err) result.0 (view input.new result.1 result.2) }
-{
-    let (ending, out) = write_text(alloc, limits, JsonRows(TablePlace::new()), input, out);
-    let (status, err) = conclude(ending, err);
-    (status, out, err)
-}
-
-/// Writes the rows of the pages of a stream to `out` as CSV, and the verdict line or fault line to `err`. Answers the exit
+/// Writes the events of a stream to `out` as text in a form, and the verdict line or fault line to `err`. Answers the exit
 /// status, and the two outputs.
-pub fn rows_csv<R: Source, O: Target, E: Target, A: Allocator>(
+pub fn show_as<R: Source, O: Target, E: Target, A: Allocator>(
     alloc: &A,
     limits: Limits,
+    form: TextForm,
     input: &mut R,
     out: O,
     err: E,
@@ -121,10 +84,9 @@ pub fn rows_csv<R: Source, O: Target, E: Target, A: Allocator>(
     requires { first_bad limits ≡ Ok tt }
     ensures status { IsStatusOfTask result.0 }
     ensures shows { let view = streams R.Source O.Target E.Target in
-        ShowsAndReports (forms.CsvRows no_table) limits TURNS
-        (view input.old out err) result.0 (view input.new result.1 result.2) }
+        ShowsAndReports form limits TURNS (view input.old out err) result.0 (view input.new result.1 result.2) }
 {
-    let (ending, out) = write_text(alloc, limits, CsvRows(TablePlace::new()), input, out);
+    let (ending, out) = write_as(alloc, limits, form, input, out);
     let (status, err) = conclude(ending, err);
     (status, out, err)
 }
@@ -178,6 +140,34 @@ fn read_through<R: Source, O: Target, A: Allocator>(
     let mut sink = TextSink::new(out, Nothing);
     let outcome = run(&mut decoder, input, &mut sink, TURNS);
     (ending_of(outcome), sink.into_inner())
+}
+
+/// Writes the text of the events of a stream within these limits, in a form, by the writer of that form.
+fn write_as<R: Source, O: Target, A: Allocator>(
+    alloc: &A,
+    limits: Limits,
+    form: TextForm,
+    input: &mut R,
+    out: O,
+) -> (Ending, O)
+    requires { first_bad limits ≡ Ok tt }
+    ensures shows { IfKnown (unread R.Source input.old) (written O.Target out) (λ xs.
+        ShowsTo form limits TURNS result.0 xs (R.left input.new) (written O.Target out)
+        (written O.Target result.1)) }
+    ensures failures { CountsReads result.0 (R.failures input.old) (R.failures input.new) }
+    ensures reads { ReadsBy TURNS result.0 (unread R.Source input.old) (unread R.Source input.new) }
+    ensures in_time { IfKnown (unread R.Source input.old) (written O.Target out) (λ xs.
+        ReadsNew form limits TURNS xs (unread R.Source input.old) (unread R.Source input.new)
+        (written O.Target out) (written O.Target result.1)) }
+{
+    match form {
+        TextForm::Lines => write_text(alloc, limits, Lines, input, out),
+        TextForm::JsonLines => write_text(alloc, limits, JsonLines, input, out),
+        TextForm::Pages(place) => write_text(alloc, limits, place, input, out),
+        TextForm::JsonRows(place) => write_text(alloc, limits, JsonRows(place), input, out),
+        TextForm::CsvRows(place) => write_text(alloc, limits, CsvRows(place), input, out),
+        TextForm::Nothing => write_text(alloc, limits, Nothing, input, out),
+    }
 }
 
 /// Writes the text of the events of a stream within these limits, in a form.

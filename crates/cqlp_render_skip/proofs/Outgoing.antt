@@ -16,7 +16,7 @@ use Rattle.cqlp_skip.proofs.Folding.{told-append}
 use Rattle.cqlp_text.specs.Outputs.{Output, output, with_text, StopsWithin}
 use Rattle.cqlp_text.proofs.Writing.{known_then}
 use Rattle.cqlp_render_skip.specs.Reporting.{Reporting, KeepsOnAtEvent}
-use Rattle.cqlp_render_skip.specs.Texts.{afresh, break_of}
+use Rattle.cqlp_render_skip.specs.Texts.{afresh}
 
 -- ---- a target that failed
 
@@ -57,21 +57,9 @@ afresh_one (forms.JsonRows place) e = refl
 afresh_one (forms.CsvRows place) e = refl
 afresh_one forms.Nothing e = refl
 
-break_one : (form : TextForm) (e : Event) → break_of (form_after form e) ≡ break_of form
-break_one forms.Lines e = refl
-break_one forms.JsonLines e = refl
-break_one (forms.Pages place) e = refl
-break_one (forms.JsonRows place) e = refl
-break_one (forms.CsvRows place) e = refl
-break_one forms.Nothing e = refl
-
 pub afresh_after : (form : TextForm) (es : List (ℕ × Event)) → afresh (form_after_all form es) ≡ afresh form
 afresh_after form [] = refl
 afresh_after form (e ∷ es) = afresh_after (form_after form e.1) es ∙ afresh_one form e.1
-
-pub break_after : (form : TextForm) (es : List (ℕ × Event)) → break_of (form_after_all form es) ≡ break_of form
-break_after form [] = refl
-break_after form (e ∷ es) = break_after (form_after form e.1) es ∙ break_one form e.1
 
 -- ---- the text of a stretch
 

@@ -25,8 +25,8 @@ use Rattle.cqlp_text.specs.Outputs.{Output, output, with_text}
 use Rattle.cqlp_text.proofs.Writing.{known_then}
 use Rattle.cqlp_render_skip.specs.declared.feeding.Handed.TheVariants as handed
 use Rattle.cqlp_render_skip.specs.Reporting.{GoOn, HandsTo, Reporting, Outputs, AreKnown, EndsStretch, Fails, Reports, SaysAll, StandsAt, ended, outputs}
-use Rattle.cqlp_render_skip.specs.Texts.{IsLast, afresh, break_of, lines_before, skipped_line, text_before, text_with}
-use Rattle.cqlp_render_skip.proofs.Outgoing.{afresh_after, break_after, fold_told, short_at, short_of_waiting, short_then, shown, stops_short}
+use Rattle.cqlp_render_skip.specs.Texts.{IsLast, afresh, break_of, lines_before, skipped_line, text_before, text_cut, text_with}
+use Rattle.cqlp_render_skip.proofs.Outgoing.{afresh_after, fold_told, short_at, short_of_waiting, short_then, shown, stops_short}
 
 -- ---- a skip
 
@@ -176,19 +176,23 @@ module _ (form : TextForm) (l : Rules) (xs : List ℕ) (first : Outputs) where
         form_is : now.text.form ≡ form_after_all form E
         form_is = ap (λ (v : Rendering). v.form) taken_is
 
-        break_is : break_of now.text.form ≡ break_of form
-        break_is = ap break_of form_is ∙ break_after form E
+        -- what ends its text
+        abbrev B : List ℕ
+        B = break_of (form_after_all form E)
 
-        text_over : (text_before form r.stretches ++ text form E) ++ break_of form ≡ text_before form (y ∷ r.stretches)
+        break_is : break_of now.text.form ≡ B
+        break_is = ap break_of form_is
+
+        text_over : (text_before form r.stretches ++ text form E) ++ B ≡ text_before form (y ∷ r.stretches)
         text_over =
-            append_assoc (text_before form r.stretches) (text form E) (break_of form)
-            ∙ ap (λ (z : List (ℕ × Event)). text_before form r.stretches ++ (text form z ++ break_of form)) (sym here)
+            append_assoc (text_before form r.stretches) (text form E) B
+            ∙ ap (λ (z : List (ℕ × Event)). text_before form r.stretches ++ text_cut form z) (sym here)
 
         ended_is : ended now x.at x.refusal ≡ with_text first.out (text_before form (y ∷ r.stretches))
         ended_is =
             ap (λ (v : Rendering). with_text v.output (break_of now.text.form)) taken_is
             ∙ ap (λ (z : List ℕ). with_text (with_text first.out (text_before form r.stretches ++ text form E)) z) break_is
-            ∙ ap (λ g. output g first.out.failures) (known_then first.out.given (text_before form r.stretches ++ text form E) (break_of form))
+            ∙ ap (λ g. output g first.out.failures) (known_then first.out.given (text_before form r.stretches ++ text form E) B)
             ∙ ap (λ (z : List ℕ). with_text first.out z) text_over
 
         line_is : (o : Output) → o ≡ with_text first.err (lines_before r.stretches) → with_text o (skipped_line x.at x.refusal) ≡ with_text first.err (lines_before (y ∷ r.stretches))
@@ -223,7 +227,7 @@ module _ (form : TextForm) (l : Rules) (xs : List ℕ) (first : Outputs) where
           stands = stands_over;
           out =
               subst (λ (z : List ℕ). FallsShort first.out z (outputs now').out) (text_over ∙ sym nothing_more)
-              (short_then first.out (text_before form r.stretches ++ text form E) (break_of form) (outputs now').out
+              (short_then first.out (text_before form r.stretches ++ text form E) B (outputs now').out
               (subst (λ (z : List ℕ). FallsShort (with_text first.out (text_before form r.stretches ++ text form E)) z (outputs now').out) break_is
               (subst (λ (v : Rendering). FallsShort v.output (break_of now.text.form) (outputs now').out) taken_is out.0)));
           told = r.stretches;

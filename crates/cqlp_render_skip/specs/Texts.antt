@@ -4,12 +4,14 @@ use Rattle.cqlp_note.specs.declared.refusal.Refusal.{Refusal}
 use Rattle.cqlp_decode.specs.Reading.{Event}
 use Rattle.cqlp_render.specs.declared.text_form.TextForm.{TextForm}
 use Rattle.cqlp_render.specs.declared.text_form.TextForm.TheVariants as forms
-use Rattle.cqlp_render.specs.Forms.{text}
+use Rattle.cqlp_render.specs.Forms.{form_after_all, text}
 use Rattle.cqlp_skip.specs.Pieces.{refusal_from}
 use Rattle.cqlp_skip.specs.Stretches.{Stretch, base_after, told, told_at}
 use Rattle.cqlp_text.specs.Lines.{spaced}
 use Rattle.cqlp_text.specs.Names.{reason_name}
 use Rattle.cqlp_text.specs.PageText.{no_page}
+use Rattle.cqlp_tables.specs.CsvRows.{csv_break}
+use Rattle.cqlp_tables.specs.JsonRows.{json_break}
 use Rattle.cqlp_tables.specs.Places.{no_table}
 
 -- ---- to the output
@@ -23,20 +25,24 @@ afresh (forms.JsonRows place) = forms.JsonRows no_table
 afresh (forms.CsvRows place) = forms.CsvRows no_table
 afresh forms.Nothing = forms.Nothing
 
--- What ends the text of a stretch that was given up: of pages a line break, which ends a row that is under way, and else
--- makes an empty line.
+-- What ends the text of a stretch that was given up, from the form that it leaves. Of pages a line break, which ends a row that is under
+-- way, and else makes an empty line; of rows as JSON or CSV what ends the line under way, where there is a page.
 abbrev pub break_of : TextForm → List ℕ
 break_of forms.Lines = []
 break_of forms.JsonLines = []
 break_of (forms.Pages place) = codes "\n"
-break_of (forms.JsonRows place) = codes "\n"
-break_of (forms.CsvRows place) = codes "\n"
+break_of (forms.JsonRows place) = json_break place
+break_of (forms.CsvRows place) = csv_break place
 break_of forms.Nothing = []
+
+-- the text of a stretch that was given up
+abbrev pub text_cut : TextForm → List (ℕ × Event) → List ℕ
+text_cut form events = text form events ++ break_of (form_after_all form events)
 
 -- the text of stretches that were given up, of which the last stands first
 abbrev pub text_before : TextForm → List Stretch → List ℕ
 text_before form [] = []
-text_before form (x ∷ earlier) = text_before form earlier ++ (text form (told x.from x.events) ++ break_of form)
+text_before form (x ∷ earlier) = text_before form earlier ++ text_cut form (told x.from x.events)
 
 -- the text of these, and of the events of the stretch that comes after them
 abbrev pub text_with : TextForm → List Stretch → List (ℕ × Event) → List ℕ

@@ -9,7 +9,7 @@ ghost use Rattle.cqlp_render_skip.specs.Texts.{afresh, break_of};
 use cqlp_decode::{Event, SinkFault};
 use cqlp_json::put_json_line;
 use cqlp_render::TextForm;
-use cqlp_tables::{TablePlace, put_csv_part, put_json_part};
+use cqlp_tables::{TablePlace, csv_break, json_break, put_csv_part, put_json_part};
 use cqlp_text::{PagePlace, Pen, TextWriter};
 
 /// Takes the text of the event at an offset.
@@ -48,12 +48,14 @@ pub(crate) fn break_off<P: Pen>(
             writer.put(b"\n")
         }
         TextForm::JsonRows(place) => {
+            let text = json_break(place);
             *place = TablePlace::new();
-            writer.put(b"\n")
+            writer.put(text.as_bytes())
         }
         TextForm::CsvRows(place) => {
+            let text = csv_break(place);
             *place = TablePlace::new();
-            writer.put(b"\n")
+            writer.put(text.as_bytes())
         }
         TextForm::Nothing => Ok(()),
     }

@@ -8,4 +8,4 @@ mod report;
 mod showing;
 mod skipped_line;
 
-pub use showing::{check_skipping, rows_skipping, show_skipping};
+pub use showing::{check_skipping, show_skipping};

@@ -3,57 +3,40 @@
 ghost use Rattle.std.specs.Prelude.{◌≡◌, IsSome, Ok};
 ghost use Rattle.cqlp_note.specs.Limits.{first_bad};
 ghost use Rattle.cqlp_render.specs.Streams.{streams};
-ghost use Rattle.cqlp_render.specs.declared.text_form.TextForm.TheVariants as forms;
 ghost use Rattle.cqlp_render_skip.specs.Showing.{ChecksAndReports, ConcludesAfter, ShowsAndReports, status_after};
 ghost use Rattle.cqlp_text.specs.Endings.{IsStatusOfTask};
 ghost use Rattle.cqlp_text.specs.Outputs.{written};
-ghost use Rattle.cqlp_text.specs.PageText.{no_page};
+ghost use Rattle.cqlp_render_skip.specs.Texts.{afresh};
 
 use crate::reading::{Shown, show_stream};
 use cqlp_decode::SinkFault;
 use cqlp_note::{Limits, Source, Target};
 use cqlp_render::{TURNS, TextForm, conclude};
 use cqlp_text::exit_status::NOT_WHOLE;
-use cqlp_text::{Ending, PagePlace, ending_line};
+use cqlp_text::{Ending, ending_line};
 use std::alloc::Allocator;
 
-/// Writes the lines of the events of a stream to `out`. Of a frame whose body is refused it writes those before the
-/// refusal, passes over the rest of the frame, writes the line `skipped OFFSET REASON at AT` to `err`, and goes on with the
-/// next header. At the end the verdict line or fault line goes to `err`. Answers the exit status, which is 1 where a frame was
-/// passed over and the end is otherwise good, and the two outputs.
+/// Writes the events of a stream to `out` as text in a form, which is at no page. Of a frame whose body is refused it writes those before
+/// the refusal, passes over the rest of the frame, writes the line `skipped OFFSET REASON at AT` to `err`, and goes on with the next
+/// header. At the end the verdict line or fault line goes to `err`. Answers the exit status, which is 1 where a frame was passed over and
+/// the end is otherwise good, and the two outputs.
+///
+/// What comes next begins on a new line: of the text of pages a line break follows each frame that was passed over, which ends a row that is
+/// cut, and is an empty line where none is. Of rows as JSON or CSV it follows where a page is cut; in CSV after the quote of its field.
 pub fn show_skipping<R: Source, O: Target, E: Target, A: Allocator>(
     alloc: &A,
     limits: Limits,
+    form: TextForm,
     input: &mut R,
     out: O,
     err: E,
 ) -> (u8, O, E)
-    requires { first_bad limits ≡ Ok tt }
+    requires limits { first_bad limits ≡ Ok tt }
+    requires form { afresh form ≡ form }
     ensures status { IsStatusOfTask result.0 }
     ensures shows { let view = streams R.Source O.Target E.Target in
-        ShowsAndReports forms.Lines limits TURNS (view input.old out err) result.0 (view input.new result.1 result.2) }
+        ShowsAndReports form limits TURNS (view input.old out err) result.0 (view input.new result.1 result.2) }
 {
-    report(show_stream(alloc, limits, TextForm::Lines, input, out, err))
-}
-
-/// Writes the text of the pages of a stream to `out`, and passes over frames as `show_skipping` does. Of a page whose frame
-/// is passed over it writes the text up to the refusal. A line break follows where a frame was passed over, so that what
-/// comes next begins on a new line: it ends a row that is cut, and is an empty line where none is. Answers the exit status, and
-/// the two outputs.
-pub fn rows_skipping<R: Source, O: Target, E: Target, A: Allocator>(
-    alloc: &A,
-    limits: Limits,
-    input: &mut R,
-    out: O,
-    err: E,
-) -> (u8, O, E)
-    requires { first_bad limits ≡ Ok tt }
-    ensures status { IsStatusOfTask result.0 }
-    ensures shows { let view = streams R.Source O.Target E.Target in
-        ShowsAndReports (forms.Pages no_page) limits TURNS
-        (view input.old out err) result.0 (view input.new result.1 result.2) }
-{
-    let form = TextForm::Pages(PagePlace::new());
     report(show_stream(alloc, limits, form, input, out, err))
 }
 

@@ -103,3 +103,14 @@ csv_part p e = if p.page.is_page then event_part p e else []
 abbrev pub csv_rows : TablePlace → List (ℕ × Event) → List ℕ
 csv_rows p [] = []
 csv_rows p (e ∷ es) = csv_part p e.1 ++ csv_rows (table_after p e.1) es
+
+-- ---- a page that is cut
+
+-- the quote of the field under way, where it is one of a value with items
+abbrev pub cut_quote : Option WrittenValue → List ℕ
+cut_quote None = []
+cut_quote (Some o) = codes "\""
+
+-- what ends the record under way on a page that is cut
+abbrev pub csv_break : TablePlace → List ℕ
+csv_break p = if p.page.is_page then cut_quote (innermost p.page.open_values) ++ codes "\r\n" else []

@@ -92,3 +92,9 @@ json_part p e = if p.page.is_page then event_part p e else []
 abbrev pub json_rows : TablePlace → List (ℕ × Event) → List ℕ
 json_rows p [] = []
 json_rows p (e ∷ es) = json_part p e.1 ++ json_rows (table_after p e.1) es
+
+-- ---- a page that is cut
+
+-- what ends the line under way on a page that is cut
+abbrev pub json_break : TablePlace → List ℕ
+json_break p = if p.page.is_page then codes "\n" else []

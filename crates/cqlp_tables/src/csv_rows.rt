@@ -10,7 +10,7 @@ ghost use Rattle.cqlp_text.specs.PageText.{closing as closing_of, opening as ope
 ghost use Rattle.cqlp_text.specs.Written.{Writes};
 ghost use Rattle.cqlp_tables.specs.CsvRows.{after, after_value, before, before_value, csv_part as text_of, empty_value};
 ghost use Rattle.cqlp_tables.specs.CsvRows.{end_part, event_part, field_part, field_quote, null_value, scalar_value, value_part};
-ghost use Rattle.cqlp_tables.specs.CsvRows.{text_value};
+ghost use Rattle.cqlp_tables.specs.CsvRows.{csv_break as break_of, text_value};
 ghost use Rattle.cqlp_tables.specs.Places.{as_written, table_after, turn_of};
 ghost use Rattle.cqlp_tables.specs.Shows.{content_text, shown_text};
 
@@ -64,6 +64,20 @@ pub fn put_csv_part<P: Pen>(
     let written = put_shown(&shown_of(place, event), writer);
     place.pass(event);
     written
+}
+
+/// What ends the record under way on a page that is cut at this place: the quote of its field, where that is between quotes, and the line.
+/// Nothing where there is no page.
+pub fn csv_break(place: &TablePlace) -> &'static str
+    ensures { result.now ≡ break_of place.now }
+{
+    if !place.is_page() {
+        return "";
+    }
+    match place.innermost() {
+        None => "\r\n",
+        Some(_) => "\"\r\n",
+    }
 }
 
 /// What is written of an event on a page.

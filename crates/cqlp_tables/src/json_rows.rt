@@ -9,7 +9,7 @@ ghost use Rattle.cqlp_text.specs.Outputs.{AppendsText, written};
 ghost use Rattle.cqlp_text.specs.Written.{Writes};
 ghost use Rattle.cqlp_json.specs.Values.{scalar_text};
 ghost use Rattle.cqlp_tables.specs.JsonRows.{after, after_item as after_item_of, after_value, before, before_item as before_item_of};
-ghost use Rattle.cqlp_tables.specs.JsonRows.{before_value, end_part, event_part, field_part, json_part as text_of, value_part};
+ghost use Rattle.cqlp_tables.specs.JsonRows.{before_value, end_part, event_part, field_part, json_break as break_of, json_part as text_of, value_part};
 ghost use Rattle.cqlp_tables.specs.Places.{TablePlace, as_written, table_after, turn_of};
 ghost use Rattle.cqlp_tables.specs.Shows.{content_text, shown_text};
 
@@ -63,6 +63,13 @@ pub fn put_json_part<P: Pen>(
     let written = put_shown(&shown_of(place, event), writer);
     place.pass(event);
     written
+}
+
+/// What ends the line under way on a page that is cut at this place, which is no JSON then. Nothing where there is no page.
+pub fn json_break(place: &TablePlace) -> &'static str
+    ensures { result.now ≡ break_of place.now }
+{
+    if place.is_page() { "\n" } else { "" }
 }
 
 /// What is written of an event on a page.

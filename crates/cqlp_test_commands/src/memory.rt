@@ -2,9 +2,10 @@
 
 use crate::done::Done;
 use cqlp_note::Limits;
-use cqlp_render_skip::{check_skipping, rows_skipping, show_skipping};
+use cqlp_render_skip::{check_skipping, show_skipping};
 use cqlp_test_fakes::{Adds, Calls, Looks, Narrow, Pieces};
-use cqlp_tool::{check, rows, show};
+use cqlp_text::PagePlace;
+use cqlp_tool::{TextForm, check, rows, show};
 use linked_list_allocator::LocalHeap;
 use std::cell::Cell;
 use std::io;
@@ -25,9 +26,12 @@ fn done_in(rt: &HostRuntime, heap: &LocalHeap, task: &str, bytes: &[u8]) -> Done
     let err = Narrow::new(rt.alloc(), usize::MAX, 7);
     let (status, out, err) = match task {
         "show" => show(heap, LIMITS, &mut input, out, err),
-        "show --skip" => show_skipping(heap, LIMITS, &mut input, out, err),
+        "show --skip" => show_skipping(heap, LIMITS, TextForm::Lines, &mut input, out, err),
         "rows" => rows(heap, LIMITS, &mut input, out, err),
-        "rows --skip" => rows_skipping(heap, LIMITS, &mut input, out, err),
+        "rows --skip" => {
+            let pages = TextForm::Pages(PagePlace::new());
+            show_skipping(heap, LIMITS, pages, &mut input, out, err)
+        }
         "check --skip" => check_skipping(heap, LIMITS, &mut input, out, err),
         _ => check(heap, LIMITS, &mut input, out, err),
     };

@@ -2,7 +2,7 @@
 
 use cqlp_decode::{Decoder, Outcome};
 use cqlp_note::{Limits, OfStd, Source};
-use cqlp_render::{render_events, render_rows, show_json};
+use cqlp_render::{TextForm, render_events, render_rows, show_as};
 use cqlp_test_fakes::Pieces;
 use std::alloc::Global;
 use std::io;
@@ -73,7 +73,8 @@ impl<'a> Stream<'a> {
             return lines.into_inner();
         };
         let mut reader = self.pieces([3, 5, 5]);
-        let (_, lines, _) = show_json(&alloc, self.limits, &mut reader, lines, verdict);
+        let form = TextForm::JsonLines;
+        let (_, lines, _) = show_as(&alloc, self.limits, form, &mut reader, lines, verdict);
         lines.into_inner()
     }
 

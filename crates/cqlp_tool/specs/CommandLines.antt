@@ -5,14 +5,20 @@ use Rattle.cqlp_options.specs.declared.command_line.CommandLine.{CommandLine}
 use Rattle.cqlp_options.specs.declared.command_line.CommandLine.TheVariants as line
 use Rattle.cqlp_options.specs.declared.no_task.NoTask.{NoTask}
 use Rattle.cqlp_options.specs.declared.no_task.NoTask.TheVariants as no_task
+use Rattle.cqlp_options.specs.declared.options.AtRefusal.{AtRefusal}
 use Rattle.cqlp_options.specs.declared.options.AtRefusal.TheVariants as at
+use Rattle.cqlp_options.specs.declared.options.EventsAs.{EventsAs}
+use Rattle.cqlp_options.specs.declared.options.EventsAs.TheVariants as events_as
 use Rattle.cqlp_options.specs.declared.options.Options.{Options}
+use Rattle.cqlp_options.specs.declared.options.RowsAs.{RowsAs}
+use Rattle.cqlp_options.specs.declared.options.RowsAs.TheVariants as rows_as
 use Rattle.cqlp_options.specs.declared.options.Task.{Task}
 use Rattle.cqlp_options.specs.declared.options.Task.TheVariants as task
 use Rattle.cqlp_text.specs.declared.ending.Ending.TheVariants as ending
 use Rattle.cqlp_text.specs.Outputs.{Output, with_text, StopsWithin}
 use Rattle.cqlp_text.specs.PageText.{no_page}
 use Rattle.cqlp_tables.specs.Places.{no_table}
+use Rattle.cqlp_render.specs.declared.text_form.TextForm.{TextForm}
 use Rattle.cqlp_render.specs.declared.text_form.TextForm.TheVariants as forms
 use Rattle.cqlp_render.specs.Showing.{ChecksAndReports, Concludes, ShowsAndReports}
 use Rattle.cqlp_render.specs.Streams.{Streams}
@@ -62,19 +68,25 @@ Tells (no_task.Mistake text) out err status out' err' =
     IsSome err.given → ReportsMistake (string_bytes text) out err status out' err'
 Tells no_task.NoMemory out err status out' err' = IsSome err.given → ReportsNoMemory out err status out' err'
 
+-- the form of the text of events, and of that of rows before the first page
+abbrev pub form_of_events : EventsAs → TextForm
+form_of_events events_as.Lines = forms.Lines
+form_of_events events_as.Json = forms.JsonLines
+
+abbrev pub form_of_rows : RowsAs → TextForm
+form_of_rows rows_as.Text = forms.Pages no_page
+form_of_rows rows_as.Json = forms.JsonRows no_table
+form_of_rows rows_as.Csv = forms.CsvRows no_table
+
+-- the text in a form, with frames passed over or not
+abbrev pub Shows : TextForm → AtRefusal → Limits → (before : Streams) → (status : ℕ) → (after : Streams) → Type 0
+Shows form at.End limits before status after = ShowsAndReports form limits turns before status after
+Shows form at.Skip limits before status after = skipping.ShowsAndReports form limits turns before status after
+
 -- What a task does with the input, within its limits.
 abbrev pub DoesTask : Task → Limits → (before : Streams) → (status : ℕ) → (after : Streams) → Type 0
-DoesTask (task.Show at.End) limits before status after = ShowsAndReports forms.Lines limits turns before status after
-DoesTask (task.Show at.Skip) limits before status after =
-    skipping.ShowsAndReports forms.Lines limits turns before status after
-DoesTask task.ShowJson limits before status after = ShowsAndReports forms.JsonLines limits turns before status after
-DoesTask (task.Rows at.End) limits before status after =
-    ShowsAndReports (forms.Pages no_page) limits turns before status after
-DoesTask (task.Rows at.Skip) limits before status after =
-    skipping.ShowsAndReports (forms.Pages no_page) limits turns before status after
-DoesTask task.RowsJson limits before status after =
-    ShowsAndReports (forms.JsonRows no_table) limits turns before status after
-DoesTask task.RowsCsv limits before status after = ShowsAndReports (forms.CsvRows no_table) limits turns before status after
+DoesTask (task.Show form r) limits before status after = Shows (form_of_events form) r limits before status after
+DoesTask (task.Rows form r) limits before status after = Shows (form_of_rows form) r limits before status after
 DoesTask (task.Check at.End) limits before status after = ChecksAndReports limits turns before status after
 DoesTask (task.Check at.Skip) limits before status after = skipping.ChecksAndReports limits turns before status after
 

@@ -6,7 +6,7 @@ ghost use Rattle.cqlp_options.specs.CommandLines.{IsWithin};
 ghost use Rattle.cqlp_options.specs.Ports.{AreWithin, named};
 ghost use Rattle.cqlp_options.specs.declared.capture.CaptureTask.TheVariants as tasks;
 ghost use Rattle.cqlp_tool.specs.Capturing.{DoesCaptureTask, IsCaptureOfInput, SplitsToFolder, filter_of, form_of};
-ghost use Rattle.cqlp_tool.specs.CommandLines.{Complains, DoesTask, Executes, Helps, IsOfInput, NeedsNoInput, Performs};
+ghost use Rattle.cqlp_tool.specs.CommandLines.{Complains, DoesTask, Executes, Helps, IsOfInput, NeedsNoInput, Performs, form_of_events, form_of_rows};
 ghost use Rattle.cqlp_tool.specs.CommandLines.{ReportsFault, ReportsWrong, Tells};
 ghost use Rattle.cqlp_text.specs.Endings.{IsStatusOfTask, cannot_open_line as cannot_open_line_of};
 ghost use Rattle.cqlp_text.specs.Outputs.{written};
@@ -20,14 +20,15 @@ use cqlp_decode::SinkFault;
 use cqlp_exchanges::{ExchangeFilter, ExchangeForm, write_exchanges};
 use cqlp_note::{OfStd, Source, Target};
 use cqlp_options::{
-    AtRefusal, CaptureOptions, CaptureTask, CommandLine, DEFAULT_LIMITS, ExchangeOptions,
-    ExchangesAs, NoTask, Options, Task,
+    AtRefusal, CaptureOptions, CaptureTask, CommandLine, DEFAULT_LIMITS, EventsAs, ExchangeOptions,
+    ExchangesAs, NoTask, Options, RowsAs, Task,
 };
-use cqlp_render::{check, conclude, rows, rows_csv, rows_json, show, show_json};
-use cqlp_render_skip::{check_skipping, rows_skipping, show_skipping};
+use cqlp_render::{TextForm, check, conclude, show, show_as};
+use cqlp_render_skip::{check_skipping, show_skipping};
 use cqlp_streams::write_streams;
+use cqlp_tables::TablePlace;
 use cqlp_text::exit_status::{BAD_COMMAND_LINE, DONE, FAULT};
-use cqlp_text::{Ending, cannot_open_line, put_text};
+use cqlp_text::{Ending, PagePlace, cannot_open_line, put_text};
 use std::alloc::Allocator;
 use std::fs::File;
 use std::net::{Net, TcpListener, TcpStream};
@@ -254,15 +255,41 @@ fn perform<A: Allocator, I: Source, O: Target, E: Target>(
 {
     let limits = options.limits;
     match options.task {
-        Task::Show(AtRefusal::End) => show(heap, limits, input, out, err),
-        Task::Show(AtRefusal::Skip) => show_skipping(heap, limits, input, out, err),
-        Task::ShowJson => show_json(heap, limits, input, out, err),
-        Task::Rows(AtRefusal::End) => rows(heap, limits, input, out, err),
-        Task::Rows(AtRefusal::Skip) => rows_skipping(heap, limits, input, out, err),
-        Task::RowsJson => rows_json(heap, limits, input, out, err),
-        Task::RowsCsv => rows_csv(heap, limits, input, out, err),
+        Task::Show(form, AtRefusal::End) => {
+            show_as(heap, limits, form_of_events(form), input, out, err)
+        }
+        Task::Show(form, AtRefusal::Skip) => {
+            show_skipping(heap, limits, form_of_events(form), input, out, err)
+        }
+        Task::Rows(form, AtRefusal::End) => {
+            show_as(heap, limits, form_of_rows(form), input, out, err)
+        }
+        Task::Rows(form, AtRefusal::Skip) => {
+            show_skipping(heap, limits, form_of_rows(form), input, out, err)
+        }
         Task::Check(AtRefusal::End) => check(heap, limits, input, out, err),
         Task::Check(AtRefusal::Skip) => check_skipping(heap, limits, input, out, err),
+    }
+}
+
+/// The form of the text of events.
+fn form_of_events(form: EventsAs) -> TextForm
+    ensures { result ≡ form_of_events form }
+{
+    match form {
+        EventsAs::Lines => TextForm::Lines,
+        EventsAs::Json => TextForm::JsonLines,
+    }
+}
+
+/// The form of the text of rows, before the first page.
+fn form_of_rows(form: RowsAs) -> TextForm
+    ensures { result ≡ form_of_rows form }
+{
+    match form {
+        RowsAs::Text => TextForm::Pages(PagePlace::new()),
+        RowsAs::Json => TextForm::JsonRows(TablePlace::new()),
+        RowsAs::Csv => TextForm::CsvRows(TablePlace::new()),
     }
 }
 

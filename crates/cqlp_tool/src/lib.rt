@@ -9,9 +9,7 @@ mod folder;
 pub use command_line::{command, execute};
 pub use conversing::converse;
 pub use cqlp_options::{
-    CaptureOptions, CommandLine, DEFAULT_LIMITS, NoTask, Options, QUERIES, Task,
+    CaptureOptions, CommandLine, DEFAULT_LIMITS, EventsAs, NoTask, Options, QUERIES, RowsAs, Task,
 };
-pub use cqlp_render::{
-    TextForm, check, render_events, render_rows, rows, rows_csv, rows_json, show, show_json,
-};
+pub use cqlp_render::{TextForm, check, render_events, render_rows, rows, show, show_as};
 pub use cqlp_text::{Ending, cell_text};

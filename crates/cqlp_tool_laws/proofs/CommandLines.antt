@@ -10,14 +10,13 @@ use Rattle.cqlp_options.specs.declared.command_line.CommandLine.{CommandLine}
 use Rattle.cqlp_options.specs.declared.command_line.CommandLine.TheVariants as line
 use Rattle.cqlp_options.specs.declared.no_task.NoTask.{NoTask}
 use Rattle.cqlp_options.specs.declared.no_task.NoTask.TheVariants as no_task
+use Rattle.cqlp_options.specs.declared.options.AtRefusal.{AtRefusal}
 use Rattle.cqlp_options.specs.declared.options.AtRefusal.TheVariants as at
 use Rattle.cqlp_options.specs.declared.options.Task.{Task}
 use Rattle.cqlp_options.specs.declared.options.Task.TheVariants as task
 use Rattle.cqlp_text.specs.declared.ending.Ending.TheVariants as ending
 use Rattle.cqlp_text.specs.Endings.{cannot_open_line}
 use Rattle.cqlp_text.specs.Outputs.{Output, output, with_text, StopsWithin}
-use Rattle.cqlp_text.specs.PageText.{no_page}
-use Rattle.cqlp_tables.specs.Places.{no_table}
 use Rattle.cqlp_loop.specs.declared.fault.LoopFault.{LoopFault}
 use Rattle.cqlp_loop.specs.Script.{Wires}
 use Rattle.cqlp_loop_laws.specs.OneAnswer.{SaidTheSame, SaidMore}
@@ -32,11 +31,11 @@ use Rattle.cqlp_exchanges.proofs.WrittenOnce.{exchanges_once}
 use Rattle.cqlp_capture_events.proofs.WrittenOnce.{events_once}
 use Rattle.cqlp_tool.specs.Capturing.{DoesCaptureTask, SplitsCapture, filter_of, form_of}
 use Rattle.cqlp_tool.specs.Faults.{ReportsFault}
-use Rattle.cqlp_tool.specs.CommandLines.{DoesTask, Executes, Complains, Helps, turns}
+use Rattle.cqlp_tool.specs.CommandLines.{DoesTask, Executes, Complains, Helps, Shows, form_of_events, form_of_rows, turns}
 use Rattle.cqlp_tool.specs.Conversing.{ConversesWithItself, Reports, ending_of}
 use Rattle.cqlp_tool_laws.specs.Text.{FailsAlike, GoesOnFromOther}
 use Rattle.cqlp_tool_laws.specs.Tool.{IsOneOutput}
-use Rattle.cqlp_tool_laws.specs.CommandLines.{AreCheckedAlike, AreMetAlike, AreKnown, AreSplitAlike, IsCaptureMetAlike, AreShownAlike, AreLoopsAlike, IsExecutedOnce, IsLoopDecided, IsOneAnswer, IsTaskMetAlike, LoopGoesOn}
+use Rattle.cqlp_tool_laws.specs.CommandLines.{AreCheckedAlike, AreMetAlike, AreKnown, AreSplitAlike, IsCaptureMetAlike, AreShownAlike, AreLoopsAlike, IsExecutedOnce, IsLoopDecided, IsOneAnswer, IsTaskMetAlike, IsTextMetAlike, LoopGoesOn}
 use Rattle.cqlp_tool_laws.proofs.OneText.{counts_up, stops_once}
 use Rattle.cqlp_tool_laws.proofs.SkippedOnce.{skipping_once, checking_skipping_once}
 use Rattle.cqlp_tool_laws.proofs.OneAnswer.{commands_end_once, checks_end_once, concludes_once, shown_once, checked_once}
@@ -86,15 +85,14 @@ module _ (limits : Limits) (before : Streams) (status status' : ℕ) (after afte
       let one = checked_once limits turns xs before status status' after after' a b (checks_end_once limits turns xs before status status' after after' a b alike.served) alike.output alike.error in
       (one.1, one.2, one.3)
 
+  form_once : (form : TextForm) (r : AtRefusal) (known : AreKnown before) (a : Shows form r limits before status after) (b : Shows form r limits before status' after') → IsTextMetAlike limits before status status' after after' form r known a b → IsOneAnswer before status status' after after'
+  form_once form at.End known a b alike = showing_once form known.bytes (a known.bytes known.left known.out known.err) (b known.bytes known.left known.out known.err) alike
+  form_once form at.Skip known a b alike = skipping_once limits known.bytes before status status' after after' known.err form (a known.bytes known.left known.out known.err) (b known.bytes known.left known.out known.err) alike.0 alike.1
+
   task_once : (t : Task) (known : AreKnown before) (a : DoesTask t limits before status after) (b : DoesTask t limits before status' after') → IsTaskMetAlike limits before status status' after after' t known a b → IsOneAnswer before status status' after after'
-  task_once (task.Show at.End) known a b alike = showing_once forms.Lines known.bytes (a known.bytes known.left known.out known.err) (b known.bytes known.left known.out known.err) alike
-  task_once task.ShowJson known a b alike = showing_once forms.JsonLines known.bytes (a known.bytes known.left known.out known.err) (b known.bytes known.left known.out known.err) alike
-  task_once (task.Rows at.End) known a b alike = showing_once (forms.Pages no_page) known.bytes (a known.bytes known.left known.out known.err) (b known.bytes known.left known.out known.err) alike
-  task_once task.RowsJson known a b alike = showing_once (forms.JsonRows no_table) known.bytes (a known.bytes known.left known.out known.err) (b known.bytes known.left known.out known.err) alike
-  task_once task.RowsCsv known a b alike = showing_once (forms.CsvRows no_table) known.bytes (a known.bytes known.left known.out known.err) (b known.bytes known.left known.out known.err) alike
+  task_once (task.Show form r) known a b alike = form_once (form_of_events form) r known a b alike
+  task_once (task.Rows form r) known a b alike = form_once (form_of_rows form) r known a b alike
   task_once (task.Check at.End) known a b alike = checking_once known.bytes (a known.bytes known.left known.out known.err) (b known.bytes known.left known.out known.err) alike
-  task_once (task.Show at.Skip) known a b alike = skipping_once limits known.bytes before status status' after after' known.err forms.Lines (a known.bytes known.left known.out known.err) (b known.bytes known.left known.out known.err) alike.0 alike.1
-  task_once (task.Rows at.Skip) known a b alike = skipping_once limits known.bytes before status status' after after' known.err (forms.Pages no_page) (a known.bytes known.left known.out known.err) (b known.bytes known.left known.out known.err) alike.0 alike.1
   task_once (task.Check at.Skip) known a b alike = checking_skipping_once limits known.bytes before status status' after after' known.err (a known.bytes known.left known.out known.err) (b known.bytes known.left known.out known.err) alike.0 alike.1
 
 -- ---- a conversation

@@ -11,13 +11,12 @@ use Rattle.cqlp_options.specs.declared.command_line.CommandLine.{CommandLine}
 use Rattle.cqlp_options.specs.declared.command_line.CommandLine.TheVariants as line
 use Rattle.cqlp_options.specs.declared.no_task.NoTask.{NoTask}
 use Rattle.cqlp_options.specs.declared.no_task.NoTask.TheVariants as no_task
+use Rattle.cqlp_options.specs.declared.options.AtRefusal.{AtRefusal}
 use Rattle.cqlp_options.specs.declared.options.AtRefusal.TheVariants as at
 use Rattle.cqlp_options.specs.declared.options.Task.{Task}
 use Rattle.cqlp_options.specs.declared.options.Task.TheVariants as task
 use Rattle.cqlp_text.specs.declared.ending.Ending.TheVariants as ending
 use Rattle.cqlp_text.specs.Outputs.{Output}
-use Rattle.cqlp_text.specs.PageText.{no_page}
-use Rattle.cqlp_tables.specs.Places.{no_table}
 use Rattle.cqlp_loop.specs.declared.fault.LoopFault.{LoopFault}
 use Rattle.cqlp_loop.specs.Script.{Wires}
 use Rattle.cqlp_loop_laws.specs.OneAnswer.{IsDecided}
@@ -29,7 +28,7 @@ use Rattle.cqlp_render_skip.specs.Showing as skipping
 use Rattle.cqlp_render_skip.specs.Showing.{outputs_of}
 use Rattle.cqlp_render_skip_laws.specs.Laws.{IsPlain}
 use Rattle.cqlp_tool.specs.Capturing.{DoesCaptureTask, IsCaptureOfInput, SplitsCapture}
-use Rattle.cqlp_tool.specs.CommandLines.{DoesTask, Executes, IsOfInput, turns}
+use Rattle.cqlp_tool.specs.CommandLines.{DoesTask, Executes, IsOfInput, Shows, form_of_events, form_of_rows, turns}
 use Rattle.cqlp_tool.specs.Conversing.{ConversesAndReports, ConversesWithItself}
 use Rattle.cqlp_tool_laws.specs.Text.{FailsAlike, GoesOnFromOther}
 use Rattle.cqlp_tool_laws.specs.Tool.{IsOneOutput, IsServedAlike}
@@ -80,33 +79,24 @@ module _ (limits : Limits) (xs : List ℕ) (before : Streams) (status : ℕ) (af
   ChecksPlainly checks = ⊥
 
 module _ (limits : Limits) (before : Streams) (status status' : ℕ) (after after' : Streams) where
-  -- The same of a task, where what it reads is known.
+  -- The same of a text in a form, where what is read is known.
+  abbrev pub IsTextMetAlike : (form : TextForm) (r : AtRefusal) → AreKnown before → Shows form r limits before status after
+      → Shows form r limits before status' after' → Type 0
+  IsTextMetAlike form at.End known does does' =
+      AreShownAlike form limits known.bytes before status status' after after'
+      (does known.bytes known.left known.out known.err) (does' known.bytes known.left known.out known.err)
+  IsTextMetAlike form at.Skip known does does' =
+      EndsPlainly limits known.bytes before status after form (does known.bytes known.left known.out known.err)
+      × EndsPlainly limits known.bytes before status' after' form (does' known.bytes known.left known.out known.err)
+
+  -- The same of a task.
   abbrev pub IsTaskMetAlike : (t : Task) → AreKnown before → DoesTask t limits before status after
       → DoesTask t limits before status' after' → Type 0
-  IsTaskMetAlike (task.Show at.End) known does does' =
-      AreShownAlike forms.Lines limits known.bytes before status status' after after'
-      (does known.bytes known.left known.out known.err) (does' known.bytes known.left known.out known.err)
-  IsTaskMetAlike task.ShowJson known does does' =
-      AreShownAlike forms.JsonLines limits known.bytes before status status' after after'
-      (does known.bytes known.left known.out known.err) (does' known.bytes known.left known.out known.err)
-  IsTaskMetAlike (task.Rows at.End) known does does' =
-      AreShownAlike (forms.Pages no_page) limits known.bytes before status status' after after'
-      (does known.bytes known.left known.out known.err) (does' known.bytes known.left known.out known.err)
-  IsTaskMetAlike task.RowsJson known does does' =
-      AreShownAlike (forms.JsonRows no_table) limits known.bytes before status status' after after'
-      (does known.bytes known.left known.out known.err) (does' known.bytes known.left known.out known.err)
-  IsTaskMetAlike task.RowsCsv known does does' =
-      AreShownAlike (forms.CsvRows no_table) limits known.bytes before status status' after after'
-      (does known.bytes known.left known.out known.err) (does' known.bytes known.left known.out known.err)
+  IsTaskMetAlike (task.Show form r) known does does' = IsTextMetAlike (form_of_events form) r known does does'
+  IsTaskMetAlike (task.Rows form r) known does does' = IsTextMetAlike (form_of_rows form) r known does does'
   IsTaskMetAlike (task.Check at.End) known does does' =
       AreCheckedAlike limits known.bytes before status status' after after'
       (does known.bytes known.left known.out known.err) (does' known.bytes known.left known.out known.err)
-  IsTaskMetAlike (task.Show at.Skip) known does does' =
-      EndsPlainly limits known.bytes before status after forms.Lines (does known.bytes known.left known.out known.err)
-      × EndsPlainly limits known.bytes before status' after' forms.Lines (does' known.bytes known.left known.out known.err)
-  IsTaskMetAlike (task.Rows at.Skip) known does does' =
-      EndsPlainly limits known.bytes before status after (forms.Pages no_page) (does known.bytes known.left known.out known.err)
-      × EndsPlainly limits known.bytes before status' after' (forms.Pages no_page) (does' known.bytes known.left known.out known.err)
   IsTaskMetAlike (task.Check at.Skip) known does does' =
       ChecksPlainly limits known.bytes before status after (does known.bytes known.left known.out known.err)
       × ChecksPlainly limits known.bytes before status' after' (does' known.bytes known.left known.out known.err)
