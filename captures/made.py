@@ -5,11 +5,21 @@ connections  one segment with a byte for each of COUNT connections, 100,000 wher
 lost         256 connections, of both of whose directions each second segment is lost, until no window has room for more
 requests     1,024 connections, of each of which 100 requests wait with all that is kept of them, and of both directions as much as there is room for
              comes too early
+contents     256 connections, of each of which both directions have a text that is not all there, the responses types of columns too, and then as much as there is
+             room for comes too early
 packets      packets as long as a record may have, and IP and TCP headers whose lengths are the greatest
 record       a record whose length is the greatest that its field can say
+batches      BATCHes and what answers them: of no statement, of a text and an id, of a statement that was prepared, of a long text, of a kind of statement
+             that there is none of, and one that is compressed
 block        a pcapng file with as many interfaces as there may be, options and a packet of 262,144 bytes, and a block of 4 GiB that never comes
 
-captures/made.py most COMMAND..: runs it, and prints its status and how many KiB of memory it had at most."""
+captures/made.py long FILE [MB]: writes a capture of so many MB of zeros, of which the file system keeps next to nothing, 130 where it is not said.
+
+captures/made.py most COMMAND..: runs it, and prints its status and how many KiB of memory it had at most.
+
+captures/made.py terminal COMMAND..: runs it with a terminal as its standard error, and prints its status and what it wrote there."""
+import os
+import pty
 import resource
 import struct
 import subprocess
@@ -18,13 +28,13 @@ import sys
 NODE, PORT = 0x0A000001, 9042
 
 
-def segment(client, port, number, payload, is_response=False):
+def segment(client, port, number, payload, is_response=False, flags=0):
     """A packet of IPv4 with a segment of TCP."""
     ends = (NODE, client) if is_response else (client, NODE)
     ports = (PORT, port) if is_response else (port, PORT)
     length = min(40 + len(payload), 65_535)
     ip = struct.pack(">BBHHHBBHII", 0x45, 0, length, 0, 0x4000, 64, 6, 0, *ends)
-    return ip + struct.pack(">HHIIBBHHH", *ports, number % (1 << 32), 0, 0x50, 0, 65_535, 0, 0) + payload
+    return ip + struct.pack(">HHIIBBHHH", *ports, number % (1 << 32), 0, 0x50, flags, 65_535, 0, 0) + payload
 
 
 def record(packet, captured=None, original=None):
@@ -60,12 +70,58 @@ def requests():
             yield record(segment(client, port, 2 + number, bytes(1_024), True))
 
 
+def pieces(payload, most=32_000):
+    return [payload[at:at + most] for at in range(0, len(payload), most)]
+
+
+def contents():
+    types = b"\0\0\0\2\0\0\0\1\0\0\0\1" + b"\0\1k\0\1t\0\1c" + b"\0\x31\3\xe8" + b"\0\x09" * 1_000 + bytes(4)
+    asked = frame(0x04, 0, 0, 0x07, struct.pack(">I", 65_530) + b"?" * 65_530 + b"\0\1\0")[:65_500]
+    answered = frame(0x84, 0, 0, 0x08, types) + frame(0x84, 0, 1, 0x00, bytes(4) + b"\xff\xf0" + b"!" * 65_520)[:65_500]
+    for i in range(256):
+        for is_response, sent in enumerate((asked, answered)):
+            number, early = 1, [bytes(1_448)] * 24
+            yield record(segment(0x0A010000 + i, 10_000 + i, 0, b"", is_response, 0x02))
+            for piece in [*pieces(sent), b"", *early]:
+                yield record(segment(0x0A010000 + i, 10_000 + i, number + (piece in early), piece, is_response))
+                number += len(piece)
+
+
 def packets():
     for i in range(512):
         longest = b"\x4f" + b"\xff" * 262_143
         yield record(longest, original=0xFFFFFFFF)
         packet = segment(0x0A010000 + i, 10_000, 0xFFFFFFFF, bytes(262_104))
         yield record(packet[:32] + b"\xf0" + packet[33:], original=0xFFFFFFFF)
+
+
+def frame(first, flags, stream, opcode, body):
+    return struct.pack(">BBHBI", first, flags, stream, opcode, len(body)) + body
+
+
+def of_text(text):
+    return b"\0" + struct.pack(">I", len(text)) + text + b"\0\0"
+
+
+def of_id(name):
+    return b"\1" + struct.pack(">H", len(name)) + name + b"\0\0"
+
+
+def batches():
+    """Each has its response in the packet after it. A PREPARE gives the id 0102 to its statement."""
+    text = b"INSERT INTO ks.t (k) VALUES (?)"
+    requests = [(0x00, 0x09, struct.pack(">I", len(text)) + text)]
+    for entries in ([], [of_text(b"DELETE \"k\" FROM ks.t"), of_id(b"\1\2")], [of_id(b"\1\2")] * 3, [of_id(b"\xab\xcd")], [of_text(b"x" * 300)],
+                    [b"\2" + of_text(b"SELECT")[1:]]):
+        requests.append((0x00, 0x0D, b"\0" + struct.pack(">H", len(entries)) + b"".join(entries) + b"\0\1\0"))
+    requests.append((0x01, 0x0D, b"\0\0\1" + of_text(b"packed") + b"\0\1\0"))
+    sent = [1, 1]
+    for stream, (flags, opcode, body) in enumerate(requests):
+        void, prepared = b"\0\0\0\1", b"\0\0\0\4\0\2\1\2" + bytes(12) + b"\0\0\0\4" + bytes(4)
+        messages = frame(0x04, flags, stream, opcode, body), frame(0x84, 0x00, stream, 0x08, prepared if opcode == 0x09 else void)
+        for is_response, message in enumerate(messages):
+            yield record(segment(0x0A010000, 10_000, sent[is_response], message, is_response))
+            sent[is_response] += len(message)
 
 
 def block(kind, body, length=None):
@@ -94,7 +150,8 @@ def of_pcap(records):
 def capture(kind, *count):
     if kind == "block":
         return blocks()
-    made = {"connections": connections, "lost": lost, "requests": requests, "packets": packets, "record": greatest_record}[kind]
+    made = {"connections": connections, "lost": lost, "requests": requests, "contents": contents, "packets": packets, "record": greatest_record,
+            "batches": batches}[kind]
     return of_pcap(made(*map(int, count)))
 
 
@@ -103,8 +160,36 @@ def tell_most(command):
     print(status, resource.getrusage(resource.RUSAGE_CHILDREN).ru_maxrss)
 
 
+def write_long(path, size="130"):
+    head = b"".join(of_pcap([]))
+    with open(path, "wb") as file:
+        file.write(head)
+        for at in range(len(head), int(size) * 1_000_000, 16 + 262_144):
+            file.seek(at)
+            file.write(struct.pack("<IIII", 0, 0, 262_144, 262_144))
+        file.truncate(at + 16 + 262_144)
+
+
+def tell_terminal(command):
+    ours, theirs = pty.openpty()
+    program = subprocess.Popen(command, stdout=subprocess.DEVNULL, stderr=theirs)
+    os.close(theirs)
+    said = b""
+    try:
+        while some := os.read(ours, 4096):
+            said += some
+    except OSError:  # Nobody writes to it any more.
+        pass
+    print(program.wait())
+    print(said.decode().replace("\r\n", "\n"), end="")
+
+
 if __name__ == "__main__":
     if sys.argv[1] == "most":
         tell_most(sys.argv[2:])
+    elif sys.argv[1] == "long":
+        write_long(*sys.argv[2:])
+    elif sys.argv[1] == "terminal":
+        tell_terminal(sys.argv[2:])
     else:
         sys.stdout.buffer.writelines(capture(*sys.argv[1:]))

@@ -7,8 +7,9 @@ use crate::words::{read_words, redirect, texts};
 use cqlp_note::OfStd;
 use cqlp_text::cannot_open_line;
 use cqlp_text::exit_status::FAULT;
-use cqlp_tool::command;
+use cqlp_tool::command_with_notes;
 use std::alloc::AllocError;
+use std::io::IsTerminal;
 use std::process::ExitCode;
 
 fn main(rt: HostRuntime) -> ExitCode {
@@ -32,6 +33,12 @@ fn run(rt: &HostRuntime) -> Result<u8, AllocError> {
     let mut input = OfStd::new(rt.stdin());
     let out = OfStd::new(rt.stdout());
     let err = OfStd::new(rt.stderr());
-    let (status, _, _) = command(rt, texts.as_slice(), &mut input, out, err);
+    let mut notes = if rt.stderr().is_terminal() {
+        Some(OfStd::new(rt.stderr()))
+    } else {
+        None
+    };
+    let texts = texts.as_slice();
+    let (status, _, _) = command_with_notes(rt, texts, &mut input, out, err, &mut notes);
     Ok(status)
 }

@@ -7,8 +7,9 @@ ghost use Rattle.cqlp_text.specs.Outputs.{written};
 ghost use Rattle.cqlp_capture_events.specs.Capturing.{Listens, WritesEvents};
 
 use crate::events::Events;
+use crate::limits::CONNECTION_LIMITS;
 use cqlp_note::{Source, Target};
-use cqlp_streams::{CaptureRead, LIMITS, StreamsFault, conclude_capture, read_capture};
+use cqlp_streams::{CaptureRead, StreamsFault, conclude_capture, read_capture};
 use std::alloc::Global;
 
 /// Reads the frames on the connections of a capture with nodes that listen on these ports: on the connection with this number, or on all. Writes
@@ -50,6 +51,6 @@ fn listen<R: Source, O: Target>(
         Ok(events) => events,
         Err(out) => return (Err(StreamsFault::NoMemory), out),
     };
-    let answer = read_capture(alloc, LIMITS, ports, input, &mut events);
+    let answer = read_capture(alloc, CONNECTION_LIMITS, ports, input, &mut events);
     (answer, events.into_output())
 }

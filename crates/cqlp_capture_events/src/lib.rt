@@ -14,4 +14,4 @@ mod table;
 
 pub use capturing::write_events;
 pub use events::Events;
-pub use limits::{CONNECTIONS, LIMITS};
+pub use limits::{CONNECTION_LIMITS, CONNECTIONS, LIMITS};

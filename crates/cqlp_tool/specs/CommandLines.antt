@@ -113,6 +113,13 @@ NeedsNoInput (Ok (line.Loop queries)) = Unit
 NeedsNoInput (Ok (line.Capture options)) = options.file.now ≢ codes "-"
 NeedsNoInput (Err reason) = Unit
 
+-- It is no task with a capture in a file.
+abbrev pub ReadsNoCapture : Result CommandLine NoTask → Type 0
+ReadsNoCapture (Ok (line.Stream options)) = Unit
+ReadsNoCapture (Ok (line.Loop queries)) = Unit
+ReadsNoCapture (Ok (line.Capture options)) = options.file.now ≡ codes "-"
+ReadsNoCapture (Err reason) = Unit
+
 -- What a command line of these words does: without words it shows the input, and no status is greater than that of
 -- a fault.
 abbrev pub Performs : {W : Type 0} → List W

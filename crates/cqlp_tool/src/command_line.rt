@@ -1,13 +1,13 @@
 //! The command line, from its words to the exit status.
 
-ghost use Rattle.std.specs.Prelude.{◌≡◌, ◌≢◌, ◌≤◌, IfOk, IfSome, IsSome, codes};
+ghost use Rattle.std.specs.Prelude.{◌≡◌, ◌≢◌, ◌<◌, ◌≤◌, [], IfOk, IfSome, IsSome, codes};
 ghost use Rattle.cqlp_note.specs.Limits.{first_bad};
 ghost use Rattle.cqlp_options.specs.CommandLines.{IsWithin};
 ghost use Rattle.cqlp_options.specs.Ports.{AreWithin, named};
 ghost use Rattle.cqlp_options.specs.declared.capture.CaptureTask.TheVariants as tasks;
 ghost use Rattle.cqlp_tool.specs.Capturing.{DoesCaptureTask, IsCaptureOfInput, SplitsToFolder, filter_of, form_of};
-ghost use Rattle.cqlp_tool.specs.CommandLines.{Complains, DoesTask, Executes, Helps, IsOfInput, NeedsNoInput, Performs, form_of_events, form_of_rows};
-ghost use Rattle.cqlp_tool.specs.CommandLines.{ReportsFault, ReportsWrong, Tells};
+ghost use Rattle.cqlp_tool.specs.CommandLines.{Complains, DoesTask, Executes, Helps, IsOfInput, NeedsNoInput, Performs, ReadsNoCapture};
+ghost use Rattle.cqlp_tool.specs.CommandLines.{ReportsFault, ReportsWrong, Tells, form_of_events, form_of_rows};
 ghost use Rattle.cqlp_text.specs.Endings.{IsStatusOfTask, cannot_open_line as cannot_open_line_of};
 ghost use Rattle.cqlp_text.specs.Outputs.{written};
 ghost use Rattle.cqlp_render.specs.Streams.{streams};
@@ -23,6 +23,7 @@ use cqlp_options::{
     AtRefusal, CaptureOptions, CaptureTask, CommandLine, DEFAULT_LIMITS, EventsAs, ExchangeOptions,
     ExchangesAs, NoTask, Options, RowsAs, Task,
 };
+use cqlp_progress::{MARK, Progress};
 use cqlp_render::{TextForm, check, conclude, show, show_as};
 use cqlp_render_skip::{check_skipping, show_skipping};
 use cqlp_streams::write_streams;
@@ -30,7 +31,7 @@ use cqlp_tables::TablePlace;
 use cqlp_text::exit_status::{BAD_COMMAND_LINE, DONE, FAULT};
 use cqlp_text::{Ending, PagePlace, cannot_open_line, put_text};
 use std::alloc::Allocator;
-use std::fs::File;
+use std::fs::{File, OpenFile};
 use std::net::{Net, TcpListener, TcpStream};
 use std::rt::Files;
 
@@ -54,20 +55,43 @@ where
         Performs words.now (view input.old out err) result.0 (view input.new result.1 result.2) }
     ensures untouched { result.0 ≡ 2 → input.new ≡ input.old }
 {
+    let mut nowhere: Option<OfStd<Vec<u8>>> = None;
+    command_with_notes(rt, words, input, out, err, &mut nowhere)
+}
+
+/// What `command` does; and while a capture of more than 64 MB is read from a file, `notes` is given a line after each further 64 MB. The
+/// program gives standard error for it, where that is a terminal.
+pub fn command_with_notes<R, I: Source, O: Target, E: Target, N: Target + Drop>(
+    rt: &R,
+    words: &[&str],
+    input: &mut I,
+    out: O,
+    err: E,
+    notes: &mut Option<N>,
+) -> (u8, O, E)
+where
+    R: Files + Net<Listener = TcpListener, Stream = TcpStream> + AllocGlobal,
+    ensures performs { let view = streams I.Source O.Target E.Target in
+        Performs words.now (view input.old out err) result.0 (view input.new result.1 result.2) }
+    ensures untouched { result.0 ≡ 2 → input.new ≡ input.old }
+    ensures quiet { words.now ≡ [] → notes.new ≡ notes.old }
+{
     if words.is_empty() {
         return show(&rt.alloc(), DEFAULT_LIMITS, input, out, err);
     }
-    execute(rt, CommandLine::parse(rt.alloc(), words), input, out, err)
+    let line = CommandLine::parse(rt.alloc(), words);
+    execute(rt, line, input, out, err, notes)
 }
 
 /// Does what a command line asks for: a task with a stream or a capture, which is standard input or a file, or a conversation; or writes why it
 /// starts none. Answers the exit status, and the two outputs.
-pub fn execute<R, I: Source, O: Target, E: Target>(
+pub fn execute<R, I: Source, O: Target, E: Target, N: Target + Drop>(
     rt: &R,
     line: Result<CommandLine<'_>, NoTask>,
     input: &mut I,
     out: O,
     err: E,
+    notes: &mut Option<N>,
 ) -> (u8, O, E)
 where
     R: Files + Net<Listener = TcpListener, Stream = TcpStream> + AllocGlobal,
@@ -80,11 +104,12 @@ where
         ReportsWrong (written O.Target out) (written E.Target err)
         (written O.Target result.1) (written E.Target result.2) }
     ensures untouched { NeedsNoInput line.entry → input.new ≡ input.old }
+    ensures quiet { ReadsNoCapture line.entry → notes.new ≡ notes.old }
 {
     match line {
         Ok(CommandLine::Stream(options)) => stream(rt, options, input, out, err),
         Ok(CommandLine::Loop { queries }) => converse(rt, queries, out, err),
-        Ok(CommandLine::Capture(options)) => capture(rt, options, input, out, err),
+        Ok(CommandLine::Capture(options)) => capture(rt, options, input, out, err, notes),
         Err(no_task) => tell(no_task, out, err),
     }
 }
@@ -118,12 +143,13 @@ fn stream<R: Files + AllocGlobal, I: Source, O: Target, E: Target>(
 }
 
 /// Opens a capture, and does the task with it.
-fn capture<R: Files + AllocGlobal, I: Source, O: Target, E: Target>(
+fn capture<R: Files + AllocGlobal, I: Source, O: Target, E: Target, N: Target + Drop>(
     rt: &R,
     options: CaptureOptions<'_>,
     input: &mut I,
     out: O,
     err: E,
+    notes: &mut Option<N>,
 ) -> (u8, O, E)
     requires { AreWithin options.ports }
     ensures captures { let view = streams I.Source O.Target E.Target in
@@ -131,6 +157,7 @@ fn capture<R: Files + AllocGlobal, I: Source, O: Target, E: Target>(
         (view input.old out err) result.0 (view input.new result.1 result.2) }
     ensures status { IsStatusOfTask result.0 }
     ensures untouched { options.entry.file.now ≢ codes "-" → input.new ≡ input.old }
+    ensures quiet { options.entry.file.now ≡ codes "-" → notes.new ≡ notes.old }
 {
     if let Some(folder) = missing_folder(rt, options.task) {
         let (status, err) = cannot_open(folder, err);
@@ -140,7 +167,7 @@ fn capture<R: Files + AllocGlobal, I: Source, O: Target, E: Target>(
         return read_capture(rt, &options, input, out, err);
     }
     match File::open(rt, options.file) {
-        Ok(file) => read_capture(rt, &options, &mut OfStd::new(file), out, err),
+        Ok(file) => read_file(rt, &options, file, notes.take(), out, err),
         Err(_) => {
             let (status, err) = cannot_open(options.file, err);
             (status, out, err)
@@ -157,6 +184,37 @@ fn missing_folder<'a, R: Files>(rt: &R, asked: CaptureTask<'a>) -> Option<&'a st
         CaptureTask::Streams { .. } | CaptureTask::Exchanges(_) | CaptureTask::Events { .. } => {
             None
         }
+    }
+}
+
+/// Does the task with a capture in a file. Where the file is long, `notes` is told how much of it was read.
+fn read_file<R: Files + AllocGlobal, O: Target, E: Target, N: Target + Drop>(
+    rt: &R,
+    options: &CaptureOptions<'_>,
+    file: R::File,
+    notes: Option<N>,
+    out: O,
+    err: E,
+) -> (u8, O, E)
+    requires { AreWithin options.now.ports }
+    ensures status { IsStatusOfTask result.0 }
+{
+    match (notes, long_length(&file)) {
+        (Some(notes), Some(length)) => {
+            let mut input = Progress::new(OfStd::new(file), length, notes);
+            read_capture(rt, options, &mut input, out, err)
+        }
+        _ => read_capture(rt, options, &mut OfStd::new(file), out, err),
+    }
+}
+
+/// How long a file is, if it is a regular one and longer than 64 MB.
+fn long_length<F: OpenFile>(file: &F) -> Option<u64>
+    ensures { IfSome result (λ length. 64_000_000 < length) }
+{
+    match file.metadata() {
+        Ok(metadata) if metadata.is_file() && metadata.len() > MARK => Some(metadata.len()),
+        _ => None,
     }
 }
 

@@ -6,7 +6,7 @@ mod connection;
 mod conversing;
 mod folder;
 
-pub use command_line::{command, execute};
+pub use command_line::{command, command_with_notes, execute};
 pub use conversing::converse;
 pub use cqlp_options::{
     CaptureOptions, CommandLine, DEFAULT_LIMITS, EventsAs, NoTask, Options, QUERIES, RowsAs, Task,

@@ -27,6 +27,17 @@ pub fn rename<R>(_: &R, from: &str, to: &str) -> io::Result<()> {
     std::fs::rename(from, to)
 }
 
+/// What an open file says of itself.
+pub trait OpenFile {
+    fn metadata(&self) -> io::Result<Metadata>;
+}
+
+impl OpenFile for File {
+    fn metadata(&self) -> io::Result<Metadata> {
+        self.0.metadata()
+    }
+}
+
 impl Files for HostRuntime {
     type File = File;
 

@@ -1,8 +1,9 @@
 //! The runtime that `main` is given, and what it lets a function do.
+use crate::kit_host::fs::OpenFile;
 use crate::kit_std::alloc::Global;
 use crate::kit_std::string::String;
 use std::fs::File;
-use std::io::{self, BufRead, Read, Write};
+use std::io::{self, BufRead, IsTerminal, Read, Write};
 use std::mem::ManuallyDrop;
 use std::os::fd::FromRawFd;
 
@@ -26,7 +27,7 @@ pub trait Eprint {
 }
 
 pub trait Files {
-    type File: Read + Write;
+    type File: Read + Write + OpenFile;
 
     fn open(&self, path: &str) -> io::Result<Self::File>;
 
@@ -68,6 +69,10 @@ impl Standard {
     fn of(descriptor: i32) -> Standard {
         // Nothing of the program closes it, but to open a file in the place of standard input.
         Standard(ManuallyDrop::new(unsafe { File::from_raw_fd(descriptor) }))
+    }
+
+    pub fn is_terminal(&self) -> bool {
+        self.0.is_terminal()
     }
 }
 
