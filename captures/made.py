@@ -11,6 +11,8 @@ packets      packets as long as a record may have, and IP and TCP headers whose 
 record       a record whose length is the greatest that its field can say
 batches      BATCHes and what answers them: of no statement, of a text and an id, of a statement that was prepared, of a long text, of a kind of statement
              that there is none of, and one that is compressed
+pages        one connection, whose responses are five pages in pieces: of the third a cell has no lawful length, within the fourth three bytes are
+             lost, and within the fifth the capture ends
 block        a pcapng file with as many interfaces as there may be, options and a packet of 262,144 bytes, and a block of 4 GiB that never comes
 
 captures/made.py long FILE [MB]: writes a capture of so many MB of zeros, of which the file system keeps next to nothing, 130 where it is not said.
@@ -26,15 +28,16 @@ import subprocess
 import sys
 
 NODE, PORT = 0x0A000001, 9042
+SYN, ACK = 0x02, 0x10
 
 
-def segment(client, port, number, payload, is_response=False, flags=0):
-    """A packet of IPv4 with a segment of TCP."""
+def segment(client, port, number, payload, is_response=False, seen=0, flags=0):
+    """A packet of IPv4 with a segment of TCP, which acknowledges what was seen if its flags say so."""
     ends = (NODE, client) if is_response else (client, NODE)
     ports = (PORT, port) if is_response else (port, PORT)
     length = min(40 + len(payload), 65_535)
     ip = struct.pack(">BBHHHBBHII", 0x45, 0, length, 0, 0x4000, 64, 6, 0, *ends)
-    return ip + struct.pack(">HHIIBBHHH", *ports, number % (1 << 32), 0, 0x50, flags, 65_535, 0, 0) + payload
+    return ip + struct.pack(">HHIIBBHHH", *ports, number % (1 << 32), seen, 0x50, flags, 65_535, 0, 0) + payload
 
 
 def record(packet, captured=None, original=None):
@@ -81,10 +84,38 @@ def contents():
     for i in range(256):
         for is_response, sent in enumerate((asked, answered)):
             number, early = 1, [bytes(1_448)] * 24
-            yield record(segment(0x0A010000 + i, 10_000 + i, 0, b"", is_response, 0x02))
+            yield record(segment(0x0A010000 + i, 10_000 + i, 0, b"", is_response, flags=SYN))
             for piece in [*pieces(sent), b"", *early]:
                 yield record(segment(0x0A010000 + i, 10_000 + i, number + (piece in early), piece, is_response))
                 number += len(piece)
+
+
+def cell(content):
+    return struct.pack(">i", -1) if content is None else struct.pack(">i", len(content)) + content
+
+
+def page(stream, metadata, rows):
+    """A page of two columns (section 4.2.5.2)."""
+    body = struct.pack(">i", 2) + metadata + struct.pack(">i", len(rows)) + b"".join(cell(content) for row in rows for content in row)
+    return struct.pack(">BBhBI", 0x84, 0, stream, 0x08, len(body)) + body
+
+
+def pages():
+    described = struct.pack(">ii", 1, 2) + b"\0\2ks\0\1t" + b"\0\2a\x1b\0\x09" + b"\0\1b\0\x0d"
+    bare = struct.pack(">ii", 4, 2)
+    int_of = struct.Struct(">i").pack
+    sent = page(1, described, [(int_of(7), b"x"), (None, b"")]) + page(2, bare, [(int_of(7), b"x")])
+    sent += page(3, described, [(int_of(1), b"y"), (b"\0\0\1", b"y")])
+    sent += page(4, described, [(int_of(5), b"z"), (int_of(6), b"lost!")])
+    lost = len(sent) - 3
+    sent += page(5, described, [(int_of(8), b"cut off")])
+    yield record(segment(0x0A010000, 10_000, 0, b"", flags=SYN))
+    yield record(segment(0x0A010000, 10_000, 0xFFFFFFFF, b"", True, 1, SYN | ACK))
+    ends = list(range(0, lost, 7)) + [lost] + list(range(lost + 3, len(sent), 7))
+    for begin, end in zip(ends, ends[1:]):
+        if begin != lost and end < len(sent) - 4:
+            yield record(segment(0x0A010000, 10_000, begin, sent[begin:end], True))
+            yield record(segment(0x0A010000, 10_000, 1, b"", False, end, ACK))
 
 
 def packets():
@@ -150,8 +181,8 @@ def of_pcap(records):
 def capture(kind, *count):
     if kind == "block":
         return blocks()
-    made = {"connections": connections, "lost": lost, "requests": requests, "contents": contents, "packets": packets, "record": greatest_record,
-            "batches": batches}[kind]
+    made = {"connections": connections, "lost": lost, "requests": requests, "contents": contents, "pages": pages, "packets": packets,
+            "record": greatest_record, "batches": batches}[kind]
     return of_pcap(made(*map(int, count)))
 
 

@@ -109,17 +109,25 @@ pub enum CaptureTask<'a> {
     /// A line is written for each event of each frame: of the connection with this number alone, if one is named; the first has the
     /// number 1.
     Events { connection: Option<u64> },
+    /// The pages of the connection with this number are written; the first has the number 1.
+    Rows { connection: u64 },
 }
 
 impl<'a> CaptureTask<'a> {
-    fn matched(matches: &ArgMatches<'a>) -> CaptureTask<'a> {
-        match matches.get_str("streams") {
-            Some(folder) => CaptureTask::Streams { folder },
-            None if matches.get_flag("events") => CaptureTask::Events {
-                connection: matches.get_one::<u64>("connection"),
-            },
-            None => CaptureTask::Exchanges(ExchangeOptions::matched(matches)),
+    /// What the words were matched to, if a connection is named whose pages are asked for.
+    fn matched(matches: &ArgMatches<'a>) -> Option<CaptureTask<'a>> {
+        let connection = matches.get_one::<u64>("connection");
+        if let Some(folder) = matches.get_str("streams") {
+            return Some(CaptureTask::Streams { folder });
         }
+        if matches.get_flag("rows") {
+            return connection.map(|connection| CaptureTask::Rows { connection });
+        }
+        Some(if matches.get_flag("events") {
+            CaptureTask::Events { connection }
+        } else {
+            CaptureTask::Exchanges(ExchangeOptions::matched(matches))
+        })
     }
 }
 
@@ -138,12 +146,9 @@ impl<'a> CaptureOptions<'a> {
         ensures { IfSome result (λ options. AreWithin options.ports) }
     {
         let file = matches.get_str("file")?;
+        let task = CaptureTask::matched(matches)?;
         let ports = ports_of(matches)?;
-        Some(CaptureOptions {
-            task: CaptureTask::matched(matches),
-            ports,
-            file,
-        })
+        Some(CaptureOptions { task, ports, file })
     }
 }
 

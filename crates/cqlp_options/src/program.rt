@@ -147,8 +147,8 @@ fn capture<'a>(alloc: Global) -> Result<Command<'a>, AllocError> {
     let lines = Command::new(alloc, "capture")
         .about(
             "Write a line for each request in a packet capture and its reply, with --summary one for each statement \
-             at the end, with --events one for each event of each frame, or with --streams the bytes of each \
-             direction of each connection to a file of its own",
+             at the end, with --events one for each event of each frame, with --rows the pages of one connection, or \
+             with --streams the bytes of each direction of each connection to a file of its own",
         )
         .after_help("Example: tcpdump -U -w - port 9042 | cqlp capture --slow 10 -")
         .arg(
@@ -167,7 +167,8 @@ fn capture<'a>(alloc: Global) -> Result<Command<'a>, AllocError> {
         .arg(streams(alloc)?)?
         .arg(objects(alloc)?)?
         .arg(summary(alloc)?)?
-        .arg(events(alloc)?)
+        .arg(events(alloc)?)?
+        .arg(pages(alloc)?)
 }
 
 /// Requests as JSON.
@@ -198,6 +199,19 @@ fn events<'a>(alloc: Global) -> Result<Arg<'a>, AllocError> {
         .conflicts_with("errors")?
         .conflicts_with("json")?
         .conflicts_with("summary")?
+        .conflicts_with("streams")
+}
+
+/// The pages of a connection in place of requests, which goes with no other option of the lines.
+fn pages<'a>(alloc: Global) -> Result<Arg<'a>, AllocError> {
+    flag(alloc, "rows")
+        .help("The pages of the connection that --connection names, as cqlp rows writes them")
+        .requires_arg("connection")?
+        .conflicts_with("slow")?
+        .conflicts_with("errors")?
+        .conflicts_with("json")?
+        .conflicts_with("summary")?
+        .conflicts_with("events")?
         .conflicts_with("streams")
 }
 

@@ -15,6 +15,7 @@ use Rattle.cqlp_exchanges.specs.declared.form.ExchangeForm.{ExchangeForm}
 use Rattle.cqlp_exchanges.specs.declared.form.ExchangeForm.TheVariants as form
 use Rattle.cqlp_exchanges.specs.Capturing.{WritesExchanges}
 use Rattle.cqlp_capture_events.specs.Capturing.{WritesEvents}
+use Rattle.cqlp_capture_rows.specs.Capturing.{WritesRows}
 use Rattle.cqlp_tool.specs.Faults.{ReportsFault}
 
 -- the capture is the input, and no file
@@ -65,8 +66,16 @@ TellsEvents asked ports before status after =
     (made : ℕ) × CountsUp made before.input.reads after.input.reads
     × WritesEvents asked ports xs made after.input.left before.out before.err status after.out after.err)
 
+-- The pages of the input's connection with this number went to the output, and how it ended was reported with its status, after so many reads.
+abbrev pub TellsRows : (asked : ℕ) → (ports : List ℕ) → (before : Streams) → (status : ℕ) → (after : Streams) → Type 0
+TellsRows asked ports before status after =
+    IfKnown before.input before.out (λ xs. IsSome before.err.given →
+    (made : ℕ) × CountsUp made before.input.reads after.input.reads
+    × WritesRows asked ports xs made after.input.left before.out before.err status after.out after.err)
+
 -- What a task does with a capture, the input, of nodes that listen on these ports.
 abbrev pub DoesCaptureTask : CaptureTask → (ports : List ℕ) → (before : Streams) → (status : ℕ) → (after : Streams) → Type 0
 DoesCaptureTask (task.Streams folder) ports before status after = SplitsCapture folder.now ports before status after
 DoesCaptureTask (task.Exchanges asked) ports before status after = TellsExchanges asked ports before status after
 DoesCaptureTask (task.Events asked) ports before status after = TellsEvents asked ports before status after
+DoesCaptureTask (task.Rows asked) ports before status after = TellsRows asked ports before status after

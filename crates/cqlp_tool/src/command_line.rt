@@ -16,6 +16,7 @@ ghost use Rattle.cqlp_text.specs.declared.ending.Ending.{Ending};
 use crate::conversing::converse;
 use crate::folder::{Folder, is_folder};
 use cqlp_capture_events::write_events;
+use cqlp_capture_rows::write_rows;
 use cqlp_decode::SinkFault;
 use cqlp_exchanges::{ExchangeFilter, ExchangeForm, write_exchanges};
 use cqlp_note::{OfStd, Source, Target};
@@ -181,9 +182,10 @@ fn missing_folder<'a, R: Files>(rt: &R, asked: CaptureTask<'a>) -> Option<&'a st
 {
     match asked {
         CaptureTask::Streams { folder } if !is_folder(rt, folder) => Some(folder),
-        CaptureTask::Streams { .. } | CaptureTask::Exchanges(_) | CaptureTask::Events { .. } => {
-            None
-        }
+        CaptureTask::Streams { .. }
+        | CaptureTask::Exchanges(_)
+        | CaptureTask::Events { .. }
+        | CaptureTask::Rows { .. } => None,
     }
 }
 
@@ -248,6 +250,9 @@ fn read_capture<R: Files + AllocGlobal, I: Source, O: Target, E: Target>(
         }
         CaptureTask::Events { connection } => {
             write_events(rt.alloc(), ports, connection, input, out, err)
+        }
+        CaptureTask::Rows { connection } => {
+            write_rows(rt.alloc(), ports, connection, input, out, err)
         }
     }
 }

@@ -29,6 +29,7 @@ use Rattle.cqlp_render.proofs.Renders.{known_nothing}
 use Rattle.cqlp_streams.proofs.OneAnswer.{streams_once}
 use Rattle.cqlp_exchanges.proofs.WrittenOnce.{exchanges_once}
 use Rattle.cqlp_capture_events.proofs.WrittenOnce.{events_once}
+use Rattle.cqlp_capture_rows.proofs.WrittenOnce.{rows_once}
 use Rattle.cqlp_tool.specs.Capturing.{DoesCaptureTask, SplitsCapture, filter_of, form_of}
 use Rattle.cqlp_tool.specs.Faults.{ReportsFault}
 use Rattle.cqlp_tool.specs.CommandLines.{DoesTask, Executes, Complains, Helps, Shows, form_of_events, form_of_rows, turns}
@@ -182,6 +183,11 @@ module _ (before : Streams) (status status' : ℕ) (after after' : Streams) wher
       let x = a known.bytes known.left known.out known.err in
       let y = b known.bytes known.left known.out known.err in
       let one = events_once asked ports known.bytes before.out before.err x.0 y.0 after.input.left after'.input.left status status' after.out after'.out after.err after'.err x.2 alike.0 y.2 alike.1 in
+      (one.0, inl one.1, inl one.2)
+  capture_once (capture_task.Rows asked) ports known a b alike =
+      let x = a known.bytes known.left known.out known.err in
+      let y = b known.bytes known.left known.out known.err in
+      let one = rows_once asked ports known.bytes before.out before.err x.0 y.0 after.input.left after'.input.left status status' after.out after'.out after.err after'.err x.2 alike.0 y.2 alike.1 in
       (one.0, inl one.1, inl one.2)
 
 -- ---- a command line

@@ -173,6 +173,7 @@ module _ (before : Streams) (status status' : ℕ) (after after' : Streams) wher
   IsCaptureMetAlike (capture_task.Streams folder) ports does does' = AreSplitAlike folder.now ports does does'
   IsCaptureMetAlike (capture_task.Exchanges asked) ports does does' = (status ≢ 3) × (status' ≢ 3)
   IsCaptureMetAlike (capture_task.Events asked) ports does does' = (status ≢ 3) × (status' ≢ 3)
+  IsCaptureMetAlike (capture_task.Rows asked) ports does does' = (status ≢ 3) × (status' ≢ 3)
 
 -- ---- a command line
 

@@ -11,3 +11,7 @@ returns-in-Exchanges-clause-task g c =
 pub returns-in-Events-clause-task : goal.returns-in-Events-clause-task
 returns-in-Events-clause-task g c =
     rw c.in-Events.is (rw c.as_slice-ports.ensures at c.write_events.ensures.events)
+
+pub returns-in-Rows-clause-task : goal.returns-in-Rows-clause-task
+returns-in-Rows-clause-task g c =
+    rw c.in-Rows.is (rw c.as_slice-ports.ensures at c.write_rows.ensures.rows)

@@ -1,0 +1,50 @@
+-- What is known after a saying.
+use Rattle.std.proofs.Common.{◌≡◌, ◌∙◌, ◌++◌, [], ℕ, IsSome, List, Option, Some, None, OnOk, Result, Ok, Err, ap, append-nil, sym, subst, refl}
+use Rattle.std.specs.Io.KnownBytes.{append_known}
+use Rattle.cqlp_grammar.specs.declared.sink.SinkFault.{SinkFault}
+use Rattle.cqlp_text.specs.Outputs.{output}
+use Rattle.cqlp_text.specs.Written.{Writes, Written}
+use Rattle.cqlp_streams.specs.declared.fault.StreamsFault.{StreamsFault}
+use Rattle.cqlp_streams.specs.Sayings.{Saying}
+use Rattle.cqlp_capture_rows.specs.Sides.{Side, Telling}
+use Rattle.cqlp_capture_rows.specs.Listening.{Hears, Listening, Tells, change_of, listening, with_saying}
+
+-- it is still known what the output was given
+still_known : (given : Option (List ℕ)) (text : List ℕ) → IsSome given → IsSome (append_known given text)
+still_known None text k = cc
+still_known (Some t) text k = refl
+
+heard_known : (old new : Listening) (s : Saying) → new ≡ with_saying old s → IsSome old.output.given → IsSome new.output.given
+heard_known old new s e k = subst (λ (w : Listening). IsSome w.output.given) (sym e) (still_known old.output.given (change_of s old).text k)
+
+pub tells_what_it_heard : (old new : Listening) (s : Saying) (r : Result (Unit {0}) StreamsFault) → (IsSome old.output.given → Hears old s r new) → OnOk r (IsSome old.output.given → IsSome new.output.given × (new ≡ with_saying old s))
+tells_what_it_heard old new s (Ok u) h = λ k. (heard_known old new s (h k) k, h k)
+tells_what_it_heard old new s (Err e) h = tt
+
+-- ---- lines that were passed on
+
+known_at : (given : Option (List ℕ)) → IsSome given → (text : List ℕ) × (given ≡ Some text)
+known_at None known = cc
+known_at (Some text) known = (text, refl)
+
+pub tells_told : (asked : ℕ) (old new : Side) (w v : Written) (x : Telling) (r : Result (Unit {0}) SinkFault) → w.waiting ≡ [] → v.waiting ≡ [] → IsSome w.given → Writes w x.text r v → OnOk r (new ≡ x.after)
+    → Tells (listening asked old (output w.given w.failures)) x r (listening asked new (output v.given v.failures))
+tells_told asked old new w v x (Ok u) none none' known writes after =
+    let text = x.text in
+    let t = known_at w.given known in
+    let p = writes.passed t.0 t.1 in
+    let all : p.0 ≡ text = sym (append-nil p.0) ∙ ap (λ (z : List ℕ). p.0 ++ z) (sym none') ∙ p.2 ∙ ap (λ (z : List ℕ). z ++ text) none in
+    let given : v.given ≡ append_known w.given text = p.1 ∙ ap (λ (z : List ℕ). Some (t.0 ++ z)) all ∙ sym (ap (λ (g : Option (List ℕ)). append_known g text) t.1) in
+    λ i. listening asked (after i) (output (given i) (writes.failures i))
+tells_told asked old new w v x (Err e) none none' known writes after =
+    let text = x.text in
+    let t = known_at w.given known in
+    let p = writes.passed t.0 t.1 in
+    record {
+      sent = p.0;
+      lost = writes.lost;
+      later = writes.later;
+      split = p.2 ∙ ap (λ (z : List ℕ). z ++ text) none;
+      given = p.1 ∙ sym (ap (λ (g : Option (List ℕ)). append_known g p.0) t.1);
+      failures = writes.failures;
+    }

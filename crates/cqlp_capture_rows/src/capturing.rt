@@ -1,0 +1,56 @@
+//! A capture whose pages are written.
+
+ghost use Rattle.std.specs.Prelude.{◌≡◌, ℕ, List, IsSome, Some};
+ghost use Rattle.cqlp_note.specs.Streams.{CountsUp};
+ghost use Rattle.cqlp_text.specs.Endings.{IsStatusOfTask};
+ghost use Rattle.cqlp_text.specs.Outputs.{written};
+ghost use Rattle.cqlp_capture_rows.specs.Capturing.{Listens, WritesRows};
+
+use crate::rows::Rows;
+use cqlp_note::{Source, Target};
+use cqlp_streams::{CaptureRead, LIMITS, StreamsFault, conclude_capture, read_capture};
+use std::alloc::Global;
+
+/// Reads the frames on one connection of a capture with nodes that listen on these ports: on the one with this number; the first has the
+/// number 1. Writes the text of the pages among them to `out`, and what the capture was, or the fault line, to `err`. Answers the exit status
+/// and the two outputs.
+///
+/// After a fault nothing more is asked of what failed.
+pub fn write_rows<R: Source, O: Target, E: Target>(
+    alloc: Global,
+    ports: &[u16],
+    connection: u64,
+    input: &mut R,
+    out: O,
+    err: E,
+) -> (u8, O, E)
+    ensures task { IsStatusOfTask result.0 }
+    ensures rows { (xs : List ℕ) → R.left input.old ≡ Some xs → IsSome (O.contents out) → IsSome (E.contents err) →
+        (made : ℕ) × CountsUp made (R.reads input.old) (R.reads input.new)
+        × WritesRows connection ports.now xs made (R.left input.new) (written O.Target out) (written E.Target err)
+        result.0 (written O.Target result.1) (written E.Target result.2) }
+{
+    let (answer, out) = listen(alloc, ports, connection, input, out);
+    let (status, err) = conclude_capture(alloc, &answer, "rows", err);
+    (status, out, err)
+}
+
+/// Reads the capture, and writes the text. Answers what it was, and the output.
+fn listen<R: Source, O: Target>(
+    alloc: Global,
+    ports: &[u16],
+    connection: u64,
+    input: &mut R,
+    out: O,
+) -> (Result<CaptureRead, StreamsFault>, O)
+    ensures { (xs : List ℕ) → R.left input.old ≡ Some xs → IsSome (O.contents out) →
+        (made : ℕ) × CountsUp made (R.reads input.old) (R.reads input.new)
+        × Listens connection ports.now xs made result.0 (R.left input.new) (written O.Target out) (written O.Target result.1) }
+{
+    let mut rows = match Rows::new(alloc, connection, out) {
+        Ok(rows) => rows,
+        Err(out) => return (Err(StreamsFault::NoMemory), out),
+    };
+    let answer = read_capture(alloc, LIMITS, ports, input, &mut rows);
+    (answer, rows.into_output())
+}

@@ -1,0 +1,15 @@
+//! Laws of what is written of pages. No code needs them.
+
+ghost use Rattle.cqlp_capture_rows.specs.Capturing.{OneAnswerOfWriteRows};
+ghost use Rattle.cqlp_capture_rows.specs.Laws.{OneAnswerOfHear, OneAnswerOfNew};
+
+/// Where memory is granted `Rows::new` has one answer, and so has `hear` where the output does not fail.
+pub fn one_answer()
+    ensures new { OneAnswerOfNew }
+    ensures hear { OneAnswerOfHear }
+{}
+
+/// Where nothing outside fails, `write_rows` has one answer: from the same bytes, ports and connection the same text and the same status.
+pub fn one_answer_of_write_rows()
+    ensures { OneAnswerOfWriteRows }
+{}

@@ -1,0 +1,16 @@
+//! The pages of one connection of a capture, as text.
+#![tactic(auto)]
+
+mod capturing;
+mod drain;
+mod history;
+pub mod laws;
+mod limits;
+mod page;
+mod rows;
+mod side;
+mod spot;
+
+pub use capturing::write_rows;
+pub use limits::LIMITS;
+pub use rows::Rows;

@@ -1,0 +1,209 @@
+//! What listens to one connection of a capture.
+
+ghost use Rattle.std.specs.Prelude.{◌≡◌, ◌≤◌, false, [], IfErr, IfOk, IsSome, OnOk, vec_len};
+ghost use Rattle.cqlp_text.specs.Outputs.{written};
+ghost use Rattle.cqlp_text.specs.Written.{Writes};
+ghost use Rattle.cqlp_capture_rows.specs.Spots.{spot};
+ghost use Rattle.cqlp_capture_rows.specs.Sides.{begun};
+ghost use Rattle.cqlp_capture_rows.specs.Listening.{heard, leaves};
+
+use crate::side::Side;
+use crate::spot::Spot;
+use cqlp_connections::{Told, Way};
+use cqlp_grammar::SinkFault;
+use cqlp_note::Target;
+use cqlp_streams::{Listener, Saying, StreamsFault};
+use cqlp_text::{Buffered, Pen, TextWriter};
+use std::alloc::{AllocError, Allocator, Global};
+use std::marker::Model;
+
+/// How many bytes of text wait at most.
+const ROOM: usize = 65_536;
+
+/// Reads the frames of one connection of a capture, and writes the text of the pages among them, each part of it when its last byte is there.
+/// All memory is taken in `new`.
+#[derive(Drop)]
+pub struct Rows<O: Target, A: Allocator = Global> {
+    /// The number of the connection.
+    asked: u64,
+    responses: Side<A>,
+    writer: TextWriter<Buffered<O, A>>,
+}
+
+impl<O: Target, A: Allocator> Model for Rows<O, A> {
+    ghost use Rattle.std.specs.Prelude.{◌≡◌, []};
+    ghost use Rattle.cqlp_text.specs.Outputs.{output};
+    ghost use Rattle.cqlp_capture_rows.specs.Listening.{Listening, listening};
+
+    ghost Value = { Listening };
+
+    ghost view = { λ r. listening r.asked r.responses (output r.writer.given r.writer.failures) };
+
+    ghost invariant = { λ r. r.writer.waiting ≡ [] };
+}
+
+impl<O: Target, A: Allocator> Rows<O, A> {
+    ghost use Rattle.cqlp_streams.specs.Sayings.{Of, saying_of};
+    ghost use Rattle.cqlp_capture_rows.specs.Listening.{Changes, Hears, Tells, if_asked, new_listening};
+
+    /// Nothing came of the connection with this number, and its pages go to this output. All memory is taken here, in five requests; where it
+    /// is not granted, the output is given back.
+    pub fn new(alloc: A, asked: u64, out: O) -> Result<Self, O>
+    where
+        A: Clone,
+        ensures ok { IfOk result (λ r. r ≡ new_listening asked (written O.Target out)) }
+        ensures err { IfErr result (λ o. written O.Target o ≡ written O.Target out) }
+    {
+        match take_memory(alloc) {
+            Ok((responses, buffer)) => Ok(Rows {
+                asked,
+                responses,
+                writer: TextWriter::new(Buffered::new(out, buffer)),
+            }),
+            Err(AllocError) => Err(out),
+        }
+    }
+
+    /// The output.
+    pub fn into_output(self) -> O
+        ensures { written O.Target result ≡ self.output }
+    {
+        let Rows {
+            asked: _,
+            responses: _,
+            writer,
+        } = self;
+        writer.into_inner().into_inner()
+    }
+
+    /// Takes what is told next of the connections.
+    fn take(&mut self, saying: &Saying<'_>) -> Result<(), StreamsFault>
+        ensures { IsSome self.old.output.given → Hears self.old (saying_of saying.now) result self.new }
+    {
+        match saying {
+            Saying::Packet { .. } | Saying::New { .. } => Ok(()),
+            Saying::Of { told, bytes } => self.hear_told(told, bytes),
+            Saying::Left(totals) => self.hear_left(totals.number),
+        }
+    }
+
+    fn hear_told(&mut self, told: &Told, bytes: &[u8]) -> Result<(), StreamsFault>
+        ensures { IsSome self.old.output.given → Hears self.old (Of told.now bytes.now) result self.new }
+    {
+        if told.number != self.asked {
+            return Ok(());
+        }
+        match self.tell(told, bytes) {
+            Ok(()) => Ok(()),
+            Err(SinkFault) => Err(StreamsFault::Write),
+        }
+    }
+
+    fn hear_left(&mut self, number: u64) -> Result<(), StreamsFault>
+        ensures { IsSome self.old.output.given → Changes self.old (if_asked number (leaves self.old.responses) self.old) result self.new }
+    {
+        if number != self.asked {
+            return Ok(());
+        }
+        match self.leave() {
+            Ok(()) => Ok(()),
+            Err(SinkFault) => Err(StreamsFault::Write),
+        }
+    }
+
+    /// Writes the text of what is told of the connection.
+    fn tell(&mut self, told: &Told, bytes: &[u8]) -> Result<(), SinkFault>
+        ensures { IsSome self.old.output.given → Tells self.old (heard told.now bytes.now self.old.responses) result self.new }
+    {
+        put_told(&mut self.responses, told, bytes, &mut self.writer)
+    }
+
+    /// Writes the text of its end.
+    fn leave(&mut self) -> Result<(), SinkFault>
+        ensures { IsSome self.old.output.given → Tells self.old (leaves self.old.responses) result self.new }
+    {
+        put_left(&mut self.responses, &mut self.writer)
+    }
+}
+
+/// Takes the text of what is told, and passes it on.
+fn put_told<W: Target, A: Allocator, B: Allocator>(
+    responses: &mut Side<A>,
+    told: &Told,
+    bytes: &[u8],
+    writer: &mut TextWriter<Buffered<W, B>>,
+) -> Result<(), SinkFault>
+    ensures text { Writes writer.old (heard told.now bytes.now responses.old).text result writer.new }
+    ensures passed { writer.new.waiting ≡ [] }
+    ensures after { OnOk result (responses.new ≡ (heard told.now bytes.now responses.old).after) }
+{
+    put_heard(responses, told, bytes, writer)?;
+    writer.pass_on()
+}
+
+/// Takes the text of what is told.
+fn put_heard<P: Pen, A: Allocator>(
+    responses: &mut Side<A>,
+    told: &Told,
+    bytes: &[u8],
+    writer: &mut TextWriter<P>,
+) -> Result<(), SinkFault>
+    ensures text { Writes writer.old (heard told.now bytes.now responses.old).text result writer.new }
+    ensures after { OnOk result (responses.new ≡ (heard told.now bytes.now responses.old).after) }
+{
+    match told.way {
+        Way::Requests => Ok(()),
+        Way::Responses => responses.hear(told.step, spot_of(told), bytes, writer),
+    }
+}
+
+/// Takes the text of the end of a connection, and passes it on.
+fn put_left<W: Target, A: Allocator, B: Allocator>(
+    responses: &mut Side<A>,
+    writer: &mut TextWriter<Buffered<W, B>>,
+) -> Result<(), SinkFault>
+    ensures text { Writes writer.old (leaves responses.old).text result writer.new }
+    ensures passed { writer.new.waiting ≡ [] }
+    ensures after { OnOk result (responses.new ≡ (leaves responses.old).after) }
+{
+    responses.close(writer)?;
+    writer.pass_on()
+}
+
+/// Where something is told.
+fn spot_of(told: &Told) -> Spot
+    ensures { result ≡ spot told.now.number told.now.at }
+{
+    Spot {
+        number: told.number,
+        at: told.at,
+    }
+}
+
+/// Responses of which nothing came, and a buffer.
+fn take_memory<A: Allocator + Clone>(alloc: A) -> Result<(Side<A>, Vec<u8, A>), AllocError>
+    ensures responses { IfOk result (λ p. p.0 ≡ begun false) }
+    ensures buffer { IfOk result (λ p. 128 ≤ vec_len p.1) }
+{
+    let responses = Side::new(alloc.clone()?)?;
+    let buffer = vec![in alloc; 0; ROOM]?;
+    Ok((responses, buffer))
+}
+
+impl<O: Target, A: Allocator> Listener for Rows<O, A> {
+    ghost use Rattle.cqlp_capture_rows.specs.Listening.{Listening, StopsAt, with_saying};
+
+    ghost View = { Listening };
+
+    ghost view = { λ r. r };
+
+    ghost tells = { λ r. IsSome r.output.given };
+
+    ghost after = { with_saying };
+
+    ghost faulted = { StopsAt };
+
+    fn hear(&mut self, saying: &Saying<'_>) -> Result<(), StreamsFault> {
+        self.take(saying)
+    }
+}

@@ -1,0 +1,104 @@
+//! Lines of responses.
+
+ghost use Rattle.std.specs.Prelude.{◌≡◌};
+ghost use Rattle.std.specs.Fmt.{signed_decimal};
+ghost use Rattle.cqlp_text.specs.Written.{Writes};
+ghost use Rattle.cqlp_capture_rows.specs.Spots.{compressed_line, gap_line, page_line, place_text, refused_line, told_at};
+
+use cqlp_grammar::SinkFault;
+use cqlp_note::{Header, Refusal};
+use cqlp_text::{Pen, TextWriter, reason_name};
+
+/// A place in the responses of a connection.
+#[derive(Clone, Copy, Debug, PartialEq, Eq)]
+pub(crate) struct Spot {
+    /// The number of the connection.
+    pub(crate) number: u64,
+    /// How many bytes and bytes of gaps lie before it.
+    pub(crate) at: u64,
+}
+
+/// Where a frame begins, and its header.
+#[derive(Clone, Copy)]
+pub(crate) struct FrameSpot {
+    pub(crate) spot: Spot,
+    pub(crate) header: Header,
+}
+
+/// The offset in the responses of what lies this far behind a spot.
+fn told_at(spot: Spot, more: u64) -> u64
+    ensures { result ≡ told_at spot more }
+{
+    spot.at.saturating_add(more)
+}
+
+/// Takes the number of the connection, and that it is a response.
+fn put_place<P: Pen>(writer: &mut TextWriter<P>, spot: Spot) -> Result<(), SinkFault>
+    ensures { Writes writer.old (place_text spot) result writer.new }
+{
+    writer.put_number(spot.number)?;
+    writer.put(b" < ")
+}
+
+/// Takes the line of the page of the frame that begins there.
+pub(crate) fn put_page_line<P: Pen>(
+    writer: &mut TextWriter<P>,
+    begun: FrameSpot,
+) -> Result<(), SinkFault>
+    ensures { Writes writer.old (page_line begun) result writer.new }
+{
+    writer.put_number(begun.spot.number)?;
+    writer.put(b":")?;
+    put_stream(writer, begun)?;
+    writer.put(b" ")?;
+    writer.put_number(begun.spot.at)?;
+    writer.put(b"\n")
+}
+
+fn put_stream<P: Pen>(writer: &mut TextWriter<P>, begun: FrameSpot) -> Result<(), SinkFault>
+    ensures { Writes writer.old (signed_decimal begun.header.stream) result writer.new }
+{
+    writer.put_signed(i64::from(begun.header.stream))
+}
+
+/// Takes the line of a refusal of the frame that begins there.
+pub(crate) fn put_refused<P: Pen>(
+    writer: &mut TextWriter<P>,
+    spot: Spot,
+    refusal: Refusal,
+) -> Result<(), SinkFault>
+    ensures { Writes writer.old (refused_line spot refusal.at refusal.why) result writer.new }
+{
+    put_place(writer, spot)?;
+    writer.put_number(told_at(spot, refusal.at))?;
+    writer.put(b" refused ")?;
+    writer.put_str(reason_name(refusal.why))?;
+    writer.put(b"\n")
+}
+
+/// Takes the line of a compressed frame that begins there.
+pub(crate) fn put_compressed<P: Pen>(
+    writer: &mut TextWriter<P>,
+    spot: Spot,
+) -> Result<(), SinkFault>
+    ensures { Writes writer.old (compressed_line spot) result writer.new }
+{
+    put_place(writer, spot)?;
+    writer.put_number(spot.at)?;
+    writer.put(b" compressed\n")
+}
+
+/// Takes the line of a gap there.
+pub(crate) fn put_gap<P: Pen>(
+    writer: &mut TextWriter<P>,
+    spot: Spot,
+    length: u64,
+) -> Result<(), SinkFault>
+    ensures { Writes writer.old (gap_line spot length) result writer.new }
+{
+    put_place(writer, spot)?;
+    writer.put_number(spot.at)?;
+    writer.put(b" gap ")?;
+    writer.put_number(length)?;
+    writer.put(b"\n")
+}
