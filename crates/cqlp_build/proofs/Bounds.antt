@@ -39,6 +39,7 @@ header_bounds s h error.Misplaced new z t = let d : true ≡ false = ap (λ es. 
 header_bounds s h error.Unbuilt new z t = let u = t.1 in absurd cc
 header_bounds s h error.NoFrame new z t = let e = t.2.0 in absurd cc
 header_bounds s h error.TooManyFields new z t = refl
+header_bounds s h error.TooDeep new z t = refl
 header_bounds s h error.TooManyBytes new z t = refl
 header_bounds s h error.NoMemory new z t = refl
 
@@ -47,6 +48,7 @@ plain_bounds s e d ds error.Misplaced new z p t = let f : true ≡ false = sym (
 plain_bounds s e d ds error.Unbuilt new z p t = let f : true ≡ false = sym t.1 ∙ p.built in absurd cc
 plain_bounds s e d ds error.NoFrame new z p t = absurd (inner_no_end e p.inner t.2.0)
 plain_bounds s e d ds error.TooManyFields new z p t = refl
+plain_bounds s e d ds error.TooDeep new z p t = refl
 plain_bounds s e d ds error.TooManyBytes new z p t = refl
 plain_bounds s e d ds error.NoMemory new z p t = refl
 
@@ -94,6 +96,7 @@ module _ (l : Rules) (at : ℕ) (f : FrameValue) (x : ℕ) (c : CanBeBuilt f) wh
   end_bounds s error.Unbuilt new z t = let u = t.1 in absurd cc
   end_bounds s error.NoFrame new z t = absurd (t.2.1 f x c (record { rules = l; at = at; are = frame_said l at f x c ∙ ap (λ es. es ++ End x ∷ []) (sym z) }))
   end_bounds s error.TooManyFields new z t = refl
+  end_bounds s error.TooDeep new z t = refl
   end_bounds s error.TooManyBytes new z t = refl
   end_bounds s error.NoMemory new z t = refl
 

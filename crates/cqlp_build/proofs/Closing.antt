@@ -74,6 +74,7 @@ module _ (h : Header) (f : OwnedFrame) (old new : Held) (s : IsSound old) (b : B
   closes_not error.Misplaced t = absurd t
   closes_not error.Unbuilt t = absurd t
   closes_not error.TooManyFields t = absurd t
+  closes_not error.TooDeep t = absurd t
   closes_not error.TooManyBytes t = absurd t
 
 -- ---- whether it can be

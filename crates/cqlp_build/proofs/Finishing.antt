@@ -124,6 +124,7 @@ module _ (h : Header) (x : ℕ) (f : FrameValue) (old new : Held) (b : Builds (�
   finishes_not s error.Misplaced t = absurd t
   finishes_not s error.Unbuilt t = absurd t
   finishes_not s error.TooManyFields t = absurd t
+  finishes_not s error.TooDeep t = absurd t
   finishes_not s error.TooManyBytes t = absurd t
 
 -- ---- headers
@@ -167,6 +168,7 @@ end_refused s new h es x error.NoMemory n t e = (ap (λ k. is_due k (End x)) n, 
 end_refused s new h es x error.Misplaced n t e = absurd t
 end_refused s new h es x error.Unbuilt n t e = absurd t
 end_refused s new h es x error.TooManyFields n t e = absurd t
+end_refused s new h es x error.TooDeep n t e = absurd t
 end_refused s new h es x error.TooManyBytes n t e = absurd t
 
 same_is : (a b : Bool) → same a b ≡ true → a ≡ b

@@ -4,6 +4,9 @@ pub mod Counted
 pub mod Optional
 pub mod RequestParts
 pub mod ResponseParts
+pub mod TypeParts
+pub mod MetadataParts
+pub mod ResultParts
 pub mod MessageParts
 pub mod FrameParts
 pub mod FrameViews

@@ -1,7 +1,7 @@
 -- What becomes of the events of frames, one after the other.
 use Rattle.std.specs.Prelude.{◌≡◌, ⊤, ℕ, ◌+◌, ◌-◌, ◌<◌, ◌≤◌, ◌++◌, Bool, true, false}
 use Rattle.std.specs.Prelude.{List, [], ◌∷◌, length, map, Option, Some, None, Result, Ok, Err}
-use Rattle.std.specs.Prelude.{ℤ, ◌||◌, ◌==◌, ◌⊎◌}
+use Rattle.std.specs.Prelude.{ℤ, ◌==◌, ◌⊎◌}
 use Rattle.cqlp_note.specs.declared.header.Header.{Header}
 use Rattle.cqlp_note.specs.declared.field.Field.{Field}
 use Rattle.cqlp_note.specs.declared.field.Field.TheVariants as field
@@ -21,6 +21,8 @@ use Rattle.cqlp_build.specs.declared.error.BuildError.{BuildError}
 use Rattle.cqlp_build.specs.declared.error.BuildError.TheVariants as error
 use Rattle.cqlp_build.specs.declared.held.Held.{Held}
 use Rattle.cqlp_build.specs.Held.{IsRefused, IsSound, left}
+use Rattle.cqlp_build.specs.Nesting.{after_event, depth_at}
+use Rattle.cqlp_build.specs.Types.{is_built_statement}
 
 -- ---- the events of a frame
 
@@ -30,10 +32,10 @@ pub record AreEventsOf (es : List Event) (f : FrameValue) (x : ℕ) : Type 0 whe
   pub at : ℕ
   pub are : map (λ e. e.1) (Flat rules at f x) ≡ es
 
--- all but pages and prepared statements, whose frames have type options and cells
+-- all but pages, whose frames have cells; and of prepared statements those whose types have names where names count
 abbrev pub is_built : Message → Bool
 is_built (Rows p) = false
-is_built (Prepared p) = false
+is_built (Prepared p) = is_built_statement p
 is_built m = true
 
 -- Some bytes spell the frame, and it is one that is built.
@@ -52,10 +54,11 @@ AreOfNone es = (f : FrameValue) (x : ℕ) → CanBeBuilt f → AreEventsOf es f 
 
 -- ---- states
 
--- The events of the frame under way, of which there are none between frames; how many bytes of texts and contents may still
--- come; and the limits.
+-- The events of the frame under way, of which there are none between frames; in which type options others are still to begin;
+-- how many bytes of texts and contents may still come; and the limits.
 pub record BuilderState : Type 0 where
   pub events : List Event
+  pub around : List ℕ
   pub room : ℕ
   pub limits : BuildLimits
 
@@ -64,11 +67,11 @@ events_in None held = []
 events_in (Some h) held = Frame h ∷ left held
 
 abbrev pub state : FrameBuilder → BuilderState
-state b = record { events = events_in b.header b.held; room = b.room; limits = b.limits }
+state b = record { events = events_in b.header b.held; around = b.nesting.left.items; room = b.room; limits = b.limits }
 
 -- between frames
 abbrev pub empty : BuildLimits → BuilderState
-empty l = record { events = []; room = l.bytes; limits = l }
+empty l = record { events = []; around = []; room = l.bytes; limits = l }
 
 -- the bytes of an event that the limit counts
 abbrev pub content_size : Event → ℕ
@@ -76,7 +79,12 @@ content_size (Holds f v) = content_length v
 content_size e = 0
 
 abbrev pub with_event : BuilderState → Event → BuilderState
-with_event s e = record { events = s.events ++ e ∷ []; room = s.room - content_size e; limits = s.limits }
+with_event s e = record {
+  events = s.events ++ e ∷ [];
+  around = after_event e s.around;
+  room = s.room - content_size e;
+  limits = s.limits;
+}
 
 -- ---- events
 
@@ -87,19 +95,20 @@ is_due [] e = false
 is_due (e ∷ es) (Frame h) = false
 is_due (e ∷ es) f = true
 
+-- a field, or the kind of a type option
 abbrev pub is_field : Event → Bool
 is_field (Holds f v) = true
+is_field (Node_of k) = true
 is_field e = false
 
--- the kind of a page or of a prepared statement
+-- the kind of a page
 abbrev pub is_unbuilt_kind : Field → ℤ → Bool
-is_unbuilt_kind field.ResultKind z = (bits z == code.rows) || (bits z == code.prepared)
+is_unbuilt_kind field.ResultKind z = bits z == code.rows
 is_unbuilt_kind f z = false
 
--- What is of a page or of a prepared statement alone: the kind of such a result, the kind of a type, and what a cell has.
+-- What is of a page alone: the kind of such a result, and what a cell has.
 abbrev pub is_unbuilt : Event → Bool
 is_unbuilt (Holds f (Int z)) = is_unbuilt_kind f z
-is_unbuilt (Node_of k) = true
 is_unbuilt (Cell_at row column c) = true
 is_unbuilt (Leave level items) = true
 is_unbuilt e = false
@@ -118,15 +127,21 @@ is_inner e = true
 abbrev pub HasPlace : BuilderState → Type 0
 HasPlace s = length s.events ≤ s.limits.fields
 
--- a header, or a field within the limits
+-- what has come in it leaves a place for it, no type option in it is nested too deep, and there is room for its bytes
+abbrev pub IsWithin : BuilderState → Event → Type 0
+IsWithin s e = HasPlace s × (depth_at e s.around ≤ s.limits.depth) × (content_size e ≤ s.room)
+
+-- a header, or a field or the kind of a type option within the limits
 abbrev pub IsTaken : BuilderState → Event → Type 0
 IsTaken s (Frame h) = ⊤
-IsTaken s (Holds f v) = HasPlace s × (content_length v ≤ s.room)
+IsTaken s (Holds f v) = IsWithin s (Holds f v)
+IsTaken s (Node_of k) = IsWithin s (Node_of k)
 IsTaken s e = ⊥
 
--- what asks for memory: a field within the limits, and the end of a frame
+-- what asks for memory: a field or the kind of a type option within the limits, and the end of a frame
 abbrev pub AsksForMemory : BuilderState → Event → Type 0
-AsksForMemory s (Holds f v) = HasPlace s × (content_length v ≤ s.room)
+AsksForMemory s (Holds f v) = IsWithin s (Holds f v)
+AsksForMemory s (Node_of k) = IsWithin s (Node_of k)
 AsksForMemory s (End x) = ⊤
 AsksForMemory s e = ⊥
 
@@ -141,7 +156,10 @@ Answers old e (Ok None) new = IsTaken old e × (new ≡ with_event old e)
 Answers old e (Ok (Some b)) new = (is_end e ≡ true) × IsBuiltOf (old.events ++ e ∷ []) b × (new ≡ empty old.limits)
 Answers old e (Err error.Misplaced) new = ⊥
 Answers old e (Err error.TooManyFields) new = (is_field e ≡ true) × (old.limits.fields < length old.events) × (new ≡ old)
-Answers old e (Err error.TooManyBytes) new = (is_field e ≡ true) × HasPlace old × (old.room < content_size e) × (new ≡ old)
+Answers old e (Err error.TooDeep) new =
+    (is_field e ≡ true) × HasPlace old × (old.limits.depth < depth_at e old.around) × (new ≡ old)
+Answers old e (Err error.TooManyBytes) new =
+    (is_field e ≡ true) × HasPlace old × (depth_at e old.around ≤ old.limits.depth) × (old.room < content_size e) × (new ≡ old)
 Answers old e (Err error.Unbuilt) new = ⊥
 Answers old e (Err error.NoFrame) new = (is_end e ≡ true) × AreOfNone (old.events ++ e ∷ []) × (new ≡ empty old.limits)
 Answers old e (Err error.NoMemory) new = AsksForMemory old e × (new ≡ without_memory old e)

@@ -1,15 +1,17 @@
 -- What is built of the events that are held, one after the other.
-use Rattle.std.specs.Prelude.{◌≡◌, ⊤, ℕ, List, ◌∷◌, ◌++◌, ◌⊎◌, Bool, true, length, Option, Some, None, map, string_bytes}
+use Rattle.std.specs.Prelude.{◌≡◌, ◌<◌, ◌≤◌, ⊤, ℕ, List, ◌∷◌, ◌++◌, ◌⊎◌, Bool, true, length, Option, Some, None, map, string_bytes}
 use Rattle.std.specs.List.{list_all}
 use Rattle.cqlp_note.specs.declared.field.Field.{Field}
 use Rattle.cqlp_note.specs.Field as note
 use Rattle.cqlp_note.specs.Field.{FieldValue}
-use Rattle.cqlp_grammar.specs.Events.{Event, Holds}
+use Rattle.cqlp_kind.specs.declared.kind.Kind.{Kind}
+use Rattle.cqlp_grammar.specs.Events.{Event, Holds, Node_of}
 use Rattle.cqlp_message.specs.Owned.{bound_of, bytes_of}
 use Rattle.cqlp_build.specs.declared.held.Fault.{Fault}
 use Rattle.cqlp_build.specs.declared.held.Fault.TheVariants as fault
 use Rattle.cqlp_build.specs.declared.held.Held.{Held}
 use Rattle.cqlp_build.specs.declared.item.Item.{Item}
+use Rattle.cqlp_build.specs.declared.item.Item.TheVariants as item
 use Rattle.cqlp_build.specs.declared.item.Content.{Content}
 use Rattle.cqlp_build.specs.declared.item.Content.TheVariants as content
 
@@ -28,12 +30,14 @@ held_in (content.Inet a z) = note.Inet a z
 
 -- the event that an item is
 abbrev pub told_by : Item → Event
-told_by i = Holds i.field (held_in i.content)
+told_by (item.Holds f c) = Holds f (held_in c)
+told_by (item.Kind k) = Node_of k
 
--- a field
-abbrev pub IsField : Event → Type 0
-IsField (Holds f v) = ⊤
-IsField e = ⊥
+-- a field, or the kind of a type option
+abbrev pub IsHeld : Event → Type 0
+IsHeld (Holds f v) = ⊤
+IsHeld (Node_of k) = ⊤
+IsHeld e = ⊥
 
 -- the events that are left
 abbrev pub left : Held → List Event
@@ -57,6 +61,12 @@ TakesField f (Some k) old new = IsSound old × (left old ≡ Holds f (held_in k)
 TakesField f None old new =
     (new.fault ≡ old.fault) × (IsSound old → (v : FieldValue) (rest : List Event) → left old ≡ Holds f v ∷ rest → ⊥)
 
+-- The kind of a type option, which came next and is taken; of anything else nothing is told, and it is taken or not.
+abbrev pub TakesKind : Option Kind → (old new : Held) → Type 0
+TakesKind (Some k) old new = IsSound old × (left old ≡ Node_of k ∷ left new) × IsSound new
+TakesKind None old new =
+    (new.fault ≡ old.fault) × (IsSound old → (k : Kind) (rest : List Event) → left old ≡ Node_of k ∷ rest → ⊥)
+
 -- It is what a field holds, as such a value, and None where no such value is that.
 pub record Finds {A : Type 0} (make : A → FieldValue) (v : FieldValue) (o : Option A) : Type 0 where
   pub made : (a : A) → o ≡ Some a → make a ≡ v
@@ -77,6 +87,15 @@ pub record Builds {A : Type 0} (told : A → List Event) (P : A → Type 0) (a :
   pub none :
       IsRefused new
       → IsRefused old ⊎ (IsSound old × ((b : A) (rest : List Event) → P b → left old ≡ told b ++ rest → ⊥))
+
+-- no more events are left than were
+abbrev pub HoldsNoMore : (old new : Held) → Type 0
+HoldsNoMore old new = length new.items.items ≤ length old.items.items
+
+-- no more are left, and fewer where something was taken
+abbrev pub HoldsFewer : {A : Type 0} → Option A → (old new : Held) → Type 0
+HoldsFewer (Some a) old new = length new.items.items < length old.items.items
+HoldsFewer None old new = HoldsNoMore old new
 
 -- nothing is asked
 abbrev pub any : {A : Type 0} → A → Type 0

@@ -64,6 +64,7 @@ StreamIsBuilt =
 -- for want of memory, or as a limit says
 abbrev pub is_of_bounds : BuildError → Bool
 is_of_bounds error.TooManyFields = true
+is_of_bounds error.TooDeep = true
 is_of_bounds error.TooManyBytes = true
 is_of_bounds error.NoMemory = true
 is_of_bounds e = false

@@ -1,5 +1,7 @@
 pub mod Told
 pub mod Held
+pub mod Types
+pub mod Nesting
 pub mod Building
 pub mod Productions
 pub mod Closing

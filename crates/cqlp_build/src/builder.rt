@@ -1,29 +1,34 @@
 //! Frames, built of their events.
 
-ghost use Rattle.std.specs.Prelude.{◌≡◌, ◌+◌, ◌<◌, ◌≤◌, ◌↔◌, IsTrue, [], length, true};
+ghost use Rattle.std.specs.Prelude.{◌≡◌, ◌+◌, ◌<◌, ◌≤◌, ◌↔◌, IsTrue, OnOk, [], length, true};
+ghost use Rattle.std.specs.VecDeque.{deque_capacity, deque_len};
 ghost use Rattle.cqlp_grammar.specs.Events as told;
 ghost use Rattle.cqlp_grammar.specs.Events.{event_of};
 ghost use Rattle.cqlp_build.specs.Building as told_of;
 ghost use Rattle.cqlp_build.specs.Building.{BeginsWith, Finishes, IsOfHeader, TakesEvent, Tells, empty, is_inner, state};
 ghost use Rattle.cqlp_build.specs.Closing.{Closes, ClosesAt, IsOfSome, TellsOf};
 ghost use Rattle.cqlp_build.specs.Held.{left};
+ghost use Rattle.cqlp_build.specs.Nesting.{depth_at};
 ghost use Rattle.cqlp_note.specs.Heading.{answers, same};
 ghost use Rattle.cqlp_message.specs.Owned.{frame_of};
 
 use crate::error::BuildError;
 use crate::held::{Fault, Held};
 use crate::item::own;
+use crate::nesting::Nesting;
 use cqlp_grammar::{Event, result_kind};
 use cqlp_message::Frame;
 use cqlp_note::{BoundValue, Field, Header};
-use std::alloc::Global;
+use std::alloc::{AllocError, Global};
 use std::collections::VecDeque;
 
 /// What a builder may hold of one frame.
 #[derive(Clone, Copy, Debug, PartialEq, Eq)]
 pub struct BuildLimits {
-    /// How many fields.
+    /// How many fields and type options.
     pub fields: u32,
+    /// The nesting of one type, a column's own option having depth 1.
+    pub depth: u32,
     /// How many bytes of texts and contents.
     pub bytes: u32,
 }
@@ -52,8 +57,8 @@ pub struct BuiltFrame {
 /// }
 /// ```
 ///
-/// What it does not build are pages and prepared statements, whose frames have type options and cells: the kind of such a result
-/// is refused, and [`FrameBuilder::clear`] gives the frame up.
+/// What it does not build are pages, whose frames have cells: the kind of such a result is refused, and [`FrameBuilder::clear`] gives
+/// the frame up.
 ///
 /// [`Decoder::next`]: https://docs.rs/cqlp_decode
 /// [`Sink`]: cqlp_grammar::Sink
@@ -62,6 +67,7 @@ pub struct FrameBuilder {
     held: Held,
     /// The header of the frame under way.
     header: Option<Header>,
+    nesting: Nesting,
     limits: BuildLimits,
     /// How many bytes of texts and contents may still come.
     room: usize,
@@ -79,6 +85,7 @@ impl FrameBuilder {
                 fault: None,
             },
             header: None,
+            nesting: Nesting::new(alloc),
             limits,
             room: limits.bytes as usize,
         }
@@ -89,11 +96,12 @@ impl FrameBuilder {
     /// # Errors
     ///
     /// [`BuildError::Misplaced`] at a header within a frame, and at all else between frames. [`BuildError::Unbuilt`] at the kind of a
-    /// page, of a prepared statement or of a type, and at what a cell has. At a field [`BuildError::TooManyFields`] where as many as
-    /// the limits allow are held, and else [`BuildError::TooManyBytes`] where it has more bytes than are left of the limit. After these
-    /// the builder is as it was. [`BuildError::NoFrame`] at the end of a frame, where the events are those of no frame that is built,
-    /// after which the builder is between frames. [`BuildError::NoMemory`] where memory was refused, after which it is as it was, or
-    /// between frames where the event is an end.
+    /// page, and at what a cell has. At a field and at the kind of a type option [`BuildError::TooManyFields`] where as many as the
+    /// limits allow are held; else [`BuildError::TooDeep`] where the option is nested deeper than the limit; and else
+    /// [`BuildError::TooManyBytes`] where the field has more bytes than are left of the limit. After these the builder is as it was.
+    /// [`BuildError::NoFrame`] at the end of a frame, where the events are those of no frame that is built, after which the builder is
+    /// between frames. [`BuildError::NoMemory`] where memory was refused, after which it is as it was, or between frames where the
+    /// event is an end.
     pub fn take(&mut self, event: &Event<'_>) -> Result<Option<BuiltFrame>, BuildError>
         ensures { TakesEvent (state self.old) (event_of event.now) result (state self.new) }
     {
@@ -110,6 +118,7 @@ impl FrameBuilder {
     {
         self.held.items.clear();
         self.header = None;
+        self.nesting.left.clear();
         self.room = self.limits.bytes as usize;
     }
 
@@ -166,7 +175,7 @@ impl FrameBuilder {
         }
     }
 
-    /// A field comes, or what is none.
+    /// A field or the kind of a type option comes, or what is neither.
     fn hold(&mut self, event: &Event<'_>) -> Result<Option<BuiltFrame>, BuildError>
         requires { is_inner (event_of event.now) ≡ true }
         ensures { TakesEvent (state self.old) (event_of event.now) result (state self.new) }
@@ -180,6 +189,9 @@ impl FrameBuilder {
         if self.is_full() {
             return Err(BuildError::TooManyFields);
         }
+        if self.is_too_deep(event) {
+            return Err(BuildError::TooDeep);
+        }
         let size = content_size(event);
         if self.lacks_room(size) {
             return Err(BuildError::TooManyBytes);
@@ -187,11 +199,23 @@ impl FrameBuilder {
         let Ok(item) = own(self.held.alloc, event) else {
             return Err(BuildError::NoMemory);
         };
-        if self.held.items.push_back(item).is_err() {
+        if self.make_room().is_err() {
             return Err(BuildError::NoMemory);
         }
+        self.held.items.push_back_reserved(item);
+        self.nesting.go_on(event);
         self.room -= size;
         Ok(None)
+    }
+
+    /// Asks for room for one more event.
+    fn make_room(&mut self) -> Result<(), AllocError>
+        ensures is { state self.new ≡ state self.old }
+        ensures items { OnOk result (deque_len self.new.held.items + 1 ≤ deque_capacity self.new.held.items) }
+        ensures nesting { OnOk result (deque_len self.new.nesting.left + 1 ≤ deque_capacity self.new.nesting.left) }
+    {
+        self.held.items.reserve(1)?;
+        self.nesting.make_room()
     }
 
     /// Whether it holds as many fields as it may.
@@ -199,6 +223,13 @@ impl FrameBuilder {
         ensures { IsTrue result ↔ (self.now.limits.fields ≤ length self.now.held.items.items) }
     {
         self.held.items.len() >= self.limits.fields as usize
+    }
+
+    /// Whether an event begins a type option that is nested too deep.
+    fn is_too_deep(&self, event: &Event<'_>) -> bool
+        ensures { IsTrue result ↔ (self.now.limits.depth < depth_at (event_of event.now) self.now.nesting.left.items) }
+    {
+        self.nesting.depth_at(event) > self.limits.depth as usize
     }
 
     /// Whether this many bytes are more than may still come.
@@ -209,7 +240,7 @@ impl FrameBuilder {
     }
 }
 
-/// Whether it is of a page or of a prepared statement alone.
+/// Whether it is of a page alone.
 fn is_unbuilt(event: &Event<'_>) -> bool
     ensures { result ≡ told_of.is_unbuilt (event_of event.now) }
 {
@@ -217,12 +248,8 @@ fn is_unbuilt(event: &Event<'_>) -> bool
         Event::Int {
             field: Field::ResultKind,
             value,
-        } => matches!(
-            value.cast_unsigned(),
-            result_kind::ROWS | result_kind::PREPARED
-        ),
-        Event::TypeNode(_)
-        | Event::Leaf { .. }
+        } => value.cast_unsigned() == result_kind::ROWS,
+        Event::Leaf { .. }
         | Event::Null { .. }
         | Event::Empty { .. }
         | Event::Enter { .. }

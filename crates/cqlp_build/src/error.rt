@@ -8,14 +8,17 @@ pub enum BuildError {
     /// A header came before the end of the frame before it, or something else where a header is due.
     #[error("an event of another place")]
     Misplaced,
-    /// The frame has more fields than the limits allow.
+    /// The frame has more fields and type options than the limits allow.
     #[error("too many fields")]
     TooManyFields,
+    /// A type option is nested deeper than the limits allow.
+    #[error("types nested too deep")]
+    TooDeep,
     /// The texts and contents of the frame have more bytes than the limits allow.
     #[error("too many bytes")]
     TooManyBytes,
-    /// The kind of a page or of a prepared statement, a type option or a cell: these are not built.
-    #[error("pages and prepared statements are not built")]
+    /// The kind of a page, or what a cell has: these are not built.
+    #[error("pages are not built")]
     Unbuilt,
     /// The events are those of no frame: one is of another place than is due, or does not agree with what comes before it, or the
     /// end came too early.

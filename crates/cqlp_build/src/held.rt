@@ -5,10 +5,11 @@ ghost use Rattle.cqlp_note.specs.Field as note;
 ghost use Rattle.cqlp_note.specs.Heading.{has};
 ghost use Rattle.cqlp_grammar.specs.Events.{Holds};
 ghost use Rattle.cqlp_message.specs.Owned.{bound_of, bytes_of};
-ghost use Rattle.cqlp_build.specs.Held.{Builds, TakesField, TakesValue, any, first_fault};
+ghost use Rattle.cqlp_build.specs.Held.{Builds, HoldsFewer, HoldsNoMore, TakesField, TakesKind, TakesValue, any, first_fault};
 
 use crate::content::FromContent;
 use crate::item::{Content, Item};
+use cqlp_kind::Kind;
 use cqlp_message::OwnedBound;
 use cqlp_note::{Address, Field};
 use std::alloc::Global;
@@ -42,7 +43,8 @@ pub(crate) struct Held {
 impl Held {
     /// Takes the next event, if nothing was refused, and gives what it holds if it is this field.
     fn next(&mut self, field: Field) -> Option<Content>
-        ensures { TakesField field result self.old self.new }
+        ensures is { TakesField field result self.old self.new }
+        ensures fewer { HoldsNoMore self.old self.new }
     {
         if self.fault.is_some() {
             return None;
@@ -50,16 +52,30 @@ impl Held {
         let Some(item) = self.items.pop_front() else {
             return None;
         };
-        if item.field == field {
-            Some(item.content)
-        } else {
-            None
+        let Item::Holds(found, content) = item else {
+            return None;
+        };
+        if found == field { Some(content) } else { None }
+    }
+
+    /// Takes the next event, if nothing was refused, and gives the kind if it is that of a type option.
+    pub fn next_kind(&mut self) -> Option<Kind>
+        ensures is { TakesKind result self.old self.new }
+        ensures fewer { HoldsFewer result self.old self.new }
+    {
+        if self.fault.is_some() {
+            return None;
+        }
+        match self.items.pop_front() {
+            Some(Item::Kind(kind)) => Some(kind),
+            _ => None,
         }
     }
 
     /// Takes the next event, and gives the value that it holds, if it is this field with such a value.
     fn found<T: FromContent>(&mut self, field: Field) -> Option<T>
-        ensures { TakesValue field T.held (option_map T.value result) self.old self.new }
+        ensures is { TakesValue field T.held (option_map T.value result) self.old self.new }
+        ensures fewer { HoldsNoMore self.old self.new }
     {
         match self.next(field) {
             Some(content) => T::of(content),
@@ -69,7 +85,8 @@ impl Held {
 
     /// Takes a field that holds such a value.
     fn take<T: FromContent>(&mut self, field: Field) -> T
-        ensures { Builds (λ v. Holds field (T.held v) ∷ []) any (T.value result) self.old self.new }
+        ensures is { Builds (λ v. Holds field (T.held v) ∷ []) any (T.value result) self.old self.new }
+        ensures fewer { HoldsNoMore self.old self.new }
     {
         match self.found(field) {
             Some(value) => value,
@@ -91,7 +108,8 @@ impl Held {
 
     /// Refuses what is left, unless this is so.
     pub fn check(&mut self, holds: bool)
-        ensures { Builds {A = Unit {0}} (λ _. []) (λ _. holds ≡ true) tt self.old self.new }
+        ensures is { Builds {A = Unit {0}} (λ _. []) (λ _. holds ≡ true) tt self.old self.new }
+        ensures fewer { HoldsNoMore self.old self.new }
     {
         if holds {
             return;
@@ -136,14 +154,16 @@ impl Held {
 
     /// Takes a count.
     pub fn count(&mut self, field: Field) -> u32
-        ensures { Builds (λ n. Holds field (note.Count n) ∷ []) any result self.old self.new }
+        ensures is { Builds (λ n. Holds field (note.Count n) ∷ []) any result self.old self.new }
+        ensures fewer { HoldsNoMore self.old self.new }
     {
         self.take(field)
     }
 
     /// Takes a text.
     pub fn text(&mut self, field: Field) -> String
-        ensures { Builds (λ t. Holds field (note.Text t) ∷ []) any (string_bytes result) self.old self.new }
+        ensures is { Builds (λ t. Holds field (note.Text t) ∷ []) any (string_bytes result) self.old self.new }
+        ensures fewer { HoldsNoMore self.old self.new }
     {
         self.take(field)
     }

@@ -3,18 +3,21 @@
 ghost use Rattle.std.specs.Prelude.{◌≡◌, IfOk, Some, option_map};
 ghost use Rattle.cqlp_grammar.specs.Events.{bound_of as told_bound, event_of};
 ghost use Rattle.cqlp_message.specs.Owned.{bound_of, bytes_of};
-ghost use Rattle.cqlp_build.specs.Held.{IsField, told_by};
+ghost use Rattle.cqlp_build.specs.Held.{IsHeld, told_by};
 
 use cqlp_grammar::Event;
+use cqlp_kind::Kind;
 use cqlp_message::OwnedBound;
 use cqlp_note::{Address, BoundValue, Field};
 use std::alloc::{AllocError, Global};
 
-/// A field of a frame, with what it holds.
+/// What comes between a header and an end.
 #[derive(Drop)]
-pub(crate) struct Item {
-    pub field: Field,
-    pub content: Content,
+pub(crate) enum Item {
+    /// A field, with what it holds.
+    Holds(Field, Content),
+    /// The kind of a type option.
+    Kind(Kind),
 }
 
 /// What a field holds, with bytes of its own.
@@ -32,9 +35,9 @@ pub(crate) enum Content {
     Inet(Address, i32),
 }
 
-/// The same field, with bytes of its own.
+/// The same, with bytes of its own.
 pub(crate) fn own(alloc: Global, event: &Event<'_>) -> Result<Item, AllocError>
-    requires { IsField (event_of event.now) }
+    requires { IsHeld (event_of event.now) }
     ensures { IfOk result (λ item. told_by item ≡ event_of event.now) }
 {
     let (field, content) = match *event {
@@ -52,9 +55,10 @@ pub(crate) fn own(alloc: Global, event: &Event<'_>) -> Result<Item, AllocError>
             address,
             port,
         } => (field, Content::Inet(address, port)),
+        Event::TypeNode(kind) => return Ok(Item::Kind(kind)),
         _ => unreachable!(),
     };
-    Ok(Item { field, content })
+    Ok(Item::Holds(field, content))
 }
 
 /// The same \[bytes\], with memory of their own.

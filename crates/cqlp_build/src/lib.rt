@@ -10,8 +10,11 @@ mod item;
 pub mod laws;
 mod lists;
 mod messages;
+mod metadata;
+mod nesting;
 mod requests;
 mod responses;
+mod types;
 
 pub use builder::{BuildLimits, BuiltFrame, FrameBuilder};
 pub use error::BuildError;

@@ -22,7 +22,7 @@ use cqlp_note::Field;
 pub(crate) struct Wanted {
     /// The field that each is.
     pub field: Field,
-    /// Whether each has a name.
+    /// Whether each has a name, or a column a table of its own.
     pub named: bool,
 }
 
@@ -177,7 +177,7 @@ impl FromEvents for BatchEntry {
 
 impl Held {
     /// Takes this many items.
-    fn many<T: FromEvents>(&mut self, count: u32, wanted: Wanted) -> Vec<T>
+    pub fn many<T: FromEvents>(&mut self, count: u32, wanted: Wanted) -> Vec<T>
         ensures { Builds (flat_map (λ v. told (T.parts wanted v))) (Many (T.is_wanted wanted) count)
             (map T.value result.items) self.old self.new }
     {

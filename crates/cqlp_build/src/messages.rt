@@ -129,7 +129,7 @@ impl Held {
         Message::Supported(self.counted(Field::Options, Wanted::PLAIN))
     }
 
-    /// Takes a result that is neither a page nor a prepared statement.
+    /// Takes a result that is no page.
     fn result(&mut self) -> Message
         ensures { BuildsMessage Opcode.Result (message_of result) self.old self.new }
     {
@@ -138,7 +138,8 @@ impl Held {
             result_kind::VOID => Message::Void,
             result_kind::SET_KEYSPACE => Message::SetKeyspace(self.text(Field::Keyspace)),
             result_kind::SCHEMA_CHANGE => Message::Change(self.change()),
-            result_kind::ROWS | result_kind::PREPARED => {
+            result_kind::PREPARED => Message::Prepared(self.prepared()),
+            result_kind::ROWS => {
                 self.refuse(Fault::NoFrame);
                 Message::Void
             }

@@ -11,6 +11,7 @@ use std::alloc::Global;
 /// How much of a frame may be held.
 const ROOM: BuildLimits = BuildLimits {
     fields: 1_000_000,
+    depth: 64,
     bytes: 10_000_000,
 };
 

@@ -51,6 +51,19 @@ impl<T> VecDeque<T> {
         self.0.push_back(item);
         Ok(())
     }
+
+    pub fn reserve(&mut self, more: usize) -> Result<(), AllocError> {
+        self.0.reserve(more);
+        Ok(())
+    }
+
+    pub fn push_back_reserved(&mut self, item: T) {
+        self.0.push_back(item);
+    }
+
+    pub fn push_front_reserved(&mut self, item: T) {
+        self.0.push_front(item);
+    }
 }
 
 impl<T> std::ops::Deref for VecDeque<T> {

@@ -5,4 +5,4 @@ use Rattle.cqlp_message.specs.FrameValues.{AlreadyExists}
 use Rattle.cqlp_build.proofs.held.Held.already_exists.Goals as goal
 
 pub returns : goal.returns
-returns c = made_of (c.text-keyspace.ensures then c.text-table.ensures) _ _ (λ a. AlreadyExists a.0 a.1) (λ a p. refl) (λ a p. refl) already_exists_view
+returns c = made_of (c.text-keyspace.ensures.is then c.text-table.ensures.is) _ _ (λ a. AlreadyExists a.0 a.1) (λ a p. refl) (λ a p. refl) already_exists_view

@@ -6,5 +6,5 @@ use Rattle.cqlp_build.proofs.held.Held.change.Goals as goal
 
 pub returns : goal.returns
 returns c =
-    made_of (pair_builds (λ k r. (true ≡ true) × (options_agree r.0 r.1 ≡ true)) c.text-change.ensures (pair_builds (λ t o. options_agree t o ≡ true) c.text-target.ensures (rw c.deref.ensures at c.options-options.ensures))) _ _
+    made_of (pair_builds (λ k r. (true ≡ true) × (options_agree r.0 r.1 ≡ true)) c.text-change.ensures.is (pair_builds (λ t o. options_agree t o ≡ true) c.text-target.ensures.is (rw c.deref.ensures at c.options-options.ensures))) _ _
     change_from (λ a p. refl) (λ a p. p.1.1) change_view

@@ -5,4 +5,4 @@ use Rattle.cqlp_message.specs.FrameValues.{Named}
 use Rattle.cqlp_build.proofs.held.Held.named.Goals as goal
 
 pub returns : goal.returns
-returns c = made_of (c.text-keyspace.ensures then c.text-name.ensures) _ _ (λ a. Named a.0 a.1) (λ a p. refl) (λ a p. refl) named_view
+returns c = made_of (c.text-keyspace.ensures.is then c.text-name.ensures.is) _ _ (λ a. Named a.0 a.1) (λ a p. refl) (λ a p. refl) named_view

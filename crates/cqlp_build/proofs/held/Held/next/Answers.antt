@@ -10,8 +10,8 @@ none_of : {F : Type 0} (o : Option F) → is_some o ≡ false → o ≡ None
 none_of None e = refl
 none_of (Some f) e = absurd cc
 
-pub returns-then-eq : goal.returns-then-eq
-returns-then-eq c =
-    let same : c.in-Some.item.field ≡ c.args.field = same_true the_type (search rules) _ _ (sym c.eq.ensures ∙ c.if-eq.true) in
+pub returns-then-eq-clause-is : goal.returns-then-eq-clause-is
+returns-then-eq-clause-is c =
+    let same : c.in-Holds.found ≡ c.args.field = same_true the_type (search rules) _ _ (sym c.eq.ensures ∙ c.if-eq.true) in
     let sound : c.args.self.now.fault ≡ None = none_of c.args.self.now.fault (sym c.is_some.ensures ∙ c.if-is_some.false) in
-    (sound, ap (map told_by) c.in-Some.ensures.items ∙ ap (λ f. Holds f (held_in c.in-Some.item.content) ∷ map told_by c.pop_front.new.self.items) same, sound)
+    (sound, ap (map told_by) c.in-Some.ensures.items ∙ ap (λ x. told_by x ∷ map told_by c.pop_front.new.self.items) c.in-Holds.is ∙ ap (λ f. Holds f (held_in c.in-Holds.content) ∷ map told_by c.pop_front.new.self.items) same, sound)

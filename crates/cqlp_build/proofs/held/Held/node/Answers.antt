@@ -8,4 +8,4 @@ use Rattle.cqlp_build.proofs.held.Held.node.Goals as goal
 pub returns : goal.returns
 returns c =
     rw (to_z-of_z w32 c.inet-address.result.1 (search rules))
-    (made_of (c.text-change.ensures then c.inet-address.ensures) _ _ (λ a. Node a.0 a.1.0 a.1.1) (λ a p. refl) (λ a p. refl) node_view)
+    (made_of (c.text-change.ensures.is then c.inet-address.ensures) _ _ (λ a. Node a.0 a.1.0 a.1.1) (λ a p. refl) (λ a p. refl) node_view)
