@@ -116,21 +116,30 @@ def pass_payload(fields, flags):
         fields.text(), fields.value()
 
 
-def pass_entries(fields):
+def entries(fields):
+    """The statements of a BATCH, each a text or the id of one."""
     fields.number(1)
     for _ in range(fields.number()):
-        fields.text(4 if fields.number(1) == 0 else 2)
+        is_text = fields.number(1) == 0
+        yield is_text, fields.text(4 if is_text else 2)
         for _ in range(fields.number()):
             fields.value()
+
+
+def batch(flags, body, known):
+    """Patterns of what stands behind the opcode of a BATCH: its consistency, how many statements it has, and the first of them."""
+    fields = Fields(body)
+    pass_payload(fields, flags)
+    found = list(entries(fields))
+    yield re.escape(f" {CONSISTENCIES[fields.number()]} {len(found)}")
+    for is_text, first in found[:1]:
+        yield re.escape(f' "{first.decode()}"') if is_text else prepared(first.hex(), known)
 
 
 def asked(flags, body, message):
     """What stands before the statement of a request, and behind it: its consistency, and how many rows a page is to have."""
     fields = Fields(body)
     pass_payload(fields, flags)
-    if message["opcode"] == "Batch":
-        pass_entries(fields)
-        return f" {CONSISTENCIES[fields.number()]}", ""
     if message["opcode"] not in ("Query", "Execute"):
         return "", ""
     fields.text(4 if message["opcode"] == "Query" else 2)
@@ -174,14 +183,21 @@ def bytes_of(message):
     return f" {9 + int(message['length'])}{message['cut'] or ''}"
 
 
+def prepared(statement, known):
+    """A pattern of the id of a statement, or of a text that was prepared."""
+    return " (?:" + "|".join(map(re.escape, [statement, *known["prepared"]])) + ")"
+
+
 def request(message, known, name, number):
-    """A pattern of a request. An EXECUTE has the text that was prepared, where that was seen, or its id."""
+    """A pattern of a request. An EXECUTE, and a BATCH whose first statement was prepared, has the text that was prepared, where that was seen, or its id."""
     statement = re.escape(f" {message['text']}" if message["text"] else "")
     if message["id"]:
-        statement = " (?:" + "|".join(map(re.escape, [known[message["id"]], *known["prepared"]])) + ")"
-    body, said = body_of(name, number, False, message), ANYTHING
-    if body is not None and not message["cut"]:
-        before, behind = map(re.escape, asked(*body, message))
+        statement = prepared(known[message["id"]], known)
+    found, said = body_of(name, number, False, message), ANYTHING
+    if found is not None and not message["cut"] and message["opcode"] == "Batch":
+        said = "".join(batch(*found, known))
+    elif found is not None and not message["cut"]:
+        before, behind = map(re.escape, asked(*found, message))
         said = before + statement + behind
     return message["opcode"].upper() + said + re.escape(bytes_of(message))
 

@@ -59,7 +59,7 @@ def lost():
 
 def query(stream):
     body = struct.pack(">I", 300) + b"?" * 300 + struct.pack(">HB", 1, 0)
-    return struct.pack(">BBHBI", 0x04, 0, stream, 0x07, len(body)) + body
+    return frame(0x04, 0, stream, 0x07, body)
 
 
 def requests():

@@ -32,6 +32,8 @@ def mark(of, side):
 
 def request(of):
     words = [of["request"], of["consistency"]]
+    if of["statements"] is not None:
+        words.append(str(of["statements"]))
     if of["statement"] is not None:
         words.append(quoted(of["statement"], of["statement_is_whole"]))
     if of["id"] is not None:
@@ -82,7 +84,8 @@ def sums(objects):
     found = collections.OrderedDict()
     for of in objects:
         if of["told"] == "exchange":
-            name = of["request"] if of["statement"] is None else "".join(shown(of["statement"], of["statement_is_whole"]))
+            word = "BATCH " if of["request"] == "BATCH" else ""
+            name = of["request"] if of["statement"] is None else word + "".join(shown(of["statement"], of["statement_is_whole"]))
             count = found.setdefault(name, [0, 0, 0, 0])
             for at, more in enumerate([1, of["error"] is not None, of["rows"] or 0, of["request_bytes"] + of["response_bytes"]]):
                 count[at] += more

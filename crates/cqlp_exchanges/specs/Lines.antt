@@ -20,7 +20,7 @@ use Rattle.cqlp_exchanges.specs.Prepared.{named}
 use Rattle.cqlp_exchanges.specs.Replies.{consistency_names, error_names, kind_names, message, reply}
 use Rattle.cqlp_summary.specs.Shown.{shown_text}
 use Rattle.cqlp_exchanges.specs.Spans.{time_between}
-use Rattle.cqlp_exchanges.specs.Statements.{Said, Text, Id, statement}
+use Rattle.cqlp_exchanges.specs.Statements.{Said, Text, Id, statement, statements}
 use Rattle.cqlp_exchanges.specs.Times.{joined, time_text}
 
 -- ---- what a request asks to be done, after a space
@@ -65,6 +65,11 @@ abbrev pub consistency_text : Option ℕ → List ℕ
 consistency_text None = []
 consistency_text (Some level) = joined (codes " " ∷ short_name (beside_number level consistency_names) level ∷ [])
 
+-- how many statements a BATCH has
+abbrev pub count_text : Option ℕ → List ℕ
+count_text None = []
+count_text (Some n) = joined (codes " " ∷ decimal n ∷ [])
+
 -- how many rows a page is to have
 abbrev pub page_text : Option ℤ → List ℕ
 page_text None = []
@@ -102,6 +107,7 @@ frame_text f =
 abbrev pub request_text : (known : List Preparation) → Message Kept → List ℕ
 request_text known m =
     joined (opcode_name m.frame.header.opcode ∷ consistency_text m.kept.facts.consistency
+    ∷ count_text (statements m.frame.header m.kept.front)
     ∷ statement_text (named known (statement m.frame.header m.kept.front)) ∷ page_text m.kept.facts.page_size ∷ frame_text m.frame ∷ [])
 
 abbrev pub response_text : Message Kept → List ℕ

@@ -1,11 +1,11 @@
 -- Requests with their responses, counted in a summary of statements.
-use Rattle.std.specs.Prelude.{ℕ, ◌+◌, ℤ, pos, int_lt, unsigned_abs, Bool, true, List, Option, Some, None, if◌then◌else◌}
+use Rattle.std.specs.Prelude.{ℕ, ◌+◌, ℤ, pos, int_lt, unsigned_abs, Bool, true, false, ◌&&◌, nat_le, List, ◌++◌, codes, length, take, Option, Some, None, if◌then◌else◌}
 use Rattle.cqlp_note.specs.declared.opcode.Opcode.{Opcode}
+use Rattle.cqlp_note.specs.declared.opcode.Opcode.TheVariants as opcode
 use Rattle.cqlp_text.specs.Names.{opcode_name}
 use Rattle.cqlp_summary.specs.Counts.{Entry}
 use Rattle.cqlp_summary.specs.Summaries.{Summary, noted}
 use Rattle.cqlp_watch.specs.declared.kept.Kept.{Kept}
-use Rattle.cqlp_watch.specs.declared.message.Frame.{Frame}
 use Rattle.cqlp_watch.specs.declared.message.Message.{Message}
 use Rattle.cqlp_watch.specs.declared.paired.Paired.{Paired}
 use Rattle.cqlp_watch.specs.declared.paired.Paired.TheVariants.{Exchange}
@@ -15,15 +15,6 @@ use Rattle.cqlp_exchanges.specs.Filters.{is_error}
 use Rattle.cqlp_exchanges.specs.Prepared.{named}
 use Rattle.cqlp_exchanges.specs.Spans.{time_between}
 use Rattle.cqlp_exchanges.specs.Statements.{Said, Text, statement}
-
--- what a request is called: the text of its statement, or where that is not known its opcode; and whether that is all of it
-abbrev pub name_in : Option Said → Opcode → List ℕ
-name_in (Some (Text text is_whole)) o = text
-name_in s o = opcode_name o
-
-abbrev pub is_whole_in : Option Said → Bool
-is_whole_in (Some (Text text is_whole)) = is_whole
-is_whole_in s = true
 
 -- A time that went back is not known.
 abbrev pub nanoseconds_in : Option Span → Option ℕ
@@ -35,18 +26,41 @@ abbrev pub rows_in : Option ℤ → ℕ
 rows_in None = 0
 rows_in (Some rows) = if int_lt (pos 0) rows then unsigned_abs rows else 0
 
-abbrev pub entry : Option Said → (rows : Option ℤ) → (request response : Frame) → Entry
-entry said rows q r = record {
-  name = name_in said q.header.opcode;
-  is_whole_name = is_whole_in said;
-  is_error = is_error r.header.opcode;
-  rows = rows_in rows;
-  bytes = (9 + q.header.length) + (9 + r.header.length);
-  took = nanoseconds_in (time_between q.begun r.ended);
+-- a request with its response, under a name, and whether that is all of it
+abbrev pub entry_as : (name : List ℕ) → (is_whole_name : Bool) → (request response : Message Kept) → Entry
+entry_as name is_whole_name q r = record {
+  name = name;
+  is_whole_name = is_whole_name;
+  is_error = is_error r.frame.header.opcode;
+  rows = rows_in r.kept.facts.rows;
+  bytes = (9 + q.frame.header.length) + (9 + r.frame.header.length);
+  took = nanoseconds_in (time_between q.frame.begun r.frame.ended);
 }
 
+-- ---- what a request is called: the text of its statement, or where that is not known its opcode. A BATCH is called by its first statement, behind a
+-- word.
+
+abbrev pub is_batch : Opcode → Bool
+is_batch opcode.Batch = true
+is_batch o = false
+
+abbrev pub batch_name : (text : List ℕ) → List ℕ
+batch_name text = codes "BATCH " ++ take 250 text
+
+abbrev pub text_entry : (text : List ℕ) → (is_whole : Bool) → (request response : Message Kept) → Entry
+text_entry text is_whole q r =
+    if is_batch q.frame.header.opcode then entry_as (batch_name text) (is_whole && nat_le (length text) 250) q r
+    else entry_as text is_whole q r
+
+abbrev pub opcode_entry : (request response : Message Kept) → Entry
+opcode_entry q r = entry_as (opcode_name q.frame.header.opcode) true q r
+
+abbrev pub entry : Option Said → (request response : Message Kept) → Entry
+entry (Some (Text text is_whole)) q r = text_entry text is_whole q r
+entry s q r = opcode_entry q r
+
 abbrev pub with_exchange : (known : List Preparation) → (request response : Message Kept) → Summary → Summary
-with_exchange known q r s = noted (entry (named known (statement q.frame.header q.kept.front)) r.kept.facts.rows q.frame r.frame) s
+with_exchange known q r s = noted (entry (named known (statement q.frame.header q.kept.front)) q r) s
 
 abbrev pub with_told : (known : List Preparation) → Paired Kept → Summary → Summary
 with_told known (Exchange q r) s = with_exchange known q r s

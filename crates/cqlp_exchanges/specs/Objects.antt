@@ -21,7 +21,7 @@ use Rattle.cqlp_exchanges.specs.Members.{consistency_or_null, name_or_code, null
 use Rattle.cqlp_exchanges.specs.Prepared.{named}
 use Rattle.cqlp_exchanges.specs.Replies.{error_names, kind_names, message, reply}
 use Rattle.cqlp_exchanges.specs.Spans.{time_between}
-use Rattle.cqlp_exchanges.specs.Statements.{Said, Text, Id, statement}
+use Rattle.cqlp_exchanges.specs.Statements.{Said, Text, Id, statement, statements}
 use Rattle.cqlp_exchanges.specs.Times.{joined}
 
 -- ---- what is told, when its first byte came, in seconds since the first packet, and where
@@ -45,6 +45,10 @@ statement_members None = statement_as null null null
 statement_members (Some (Text text is_whole)) = statement_as (string text) null (boolean_text is_whole)
 statement_members (Some (Id id is_whole)) = statement_as null (hex id) (boolean_text is_whole)
 
+-- how many statements a BATCH has
+abbrev pub count_members : Option ℕ → Members
+count_members n = member "statements" (number_or_null n) ∷ []
+
 -- its bytes, with those of its header; whether all of them were captured, and whether its body is compressed
 abbrev pub request_frame_members : Frame → Members
 request_frame_members f =
@@ -56,7 +60,8 @@ query_members f = member "consistency" (consistency_or_null f.consistency) ∷ m
 
 abbrev pub request_members : (known : List Preparation) → Message Kept → List ℕ
 request_members known m =
-    joined (texts (request_frame_members m.frame) ∷ texts (statement_members (named known (statement m.frame.header m.kept.front)))
+    joined (texts (request_frame_members m.frame) ∷ texts (count_members (statements m.frame.header m.kept.front))
+    ∷ texts (statement_members (named known (statement m.frame.header m.kept.front)))
     ∷ texts (query_members m.kept.facts) ∷ [])
 
 -- ---- a response or an event

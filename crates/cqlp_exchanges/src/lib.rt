@@ -1,6 +1,7 @@
 //! The exchanges on the connections of a capture: each request with its reply, as lines, as JSON, or in a summary.
 #![tactic(auto)]
 
+mod batch_name;
 mod capturing;
 mod clock;
 mod exchanges;
@@ -24,5 +25,5 @@ pub use capturing::write_exchanges;
 pub use exchanges::{ExchangeLimits, Exchanges};
 pub use filter::ExchangeFilter;
 pub use form::ExchangeForm;
-pub use statement::{Statement, statement_of};
+pub use statement::{Statement, statement_of, statements_of};
 pub use sums::ExchangeSums;

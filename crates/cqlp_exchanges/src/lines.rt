@@ -3,7 +3,7 @@
 ghost use Rattle.std.specs.Prelude.{◌≡◌, [], None, Some};
 ghost use Rattle.std.specs.Fmt.{signed_decimal};
 ghost use Rattle.cqlp_text.specs.Written.{Writes};
-ghost use Rattle.cqlp_exchanges.specs.Lines.{compressed_mark, consistency_text, counts_text, cut_mark, frame_text};
+ghost use Rattle.cqlp_exchanges.specs.Lines.{compressed_mark, consistency_text, count_text, counts_text, cut_mark, frame_text};
 ghost use Rattle.cqlp_exchanges.specs.Lines.{kind_text, line, more, name_or_number, page_text, place_text};
 ghost use Rattle.cqlp_exchanges.specs.Lines.{short_name, tracing_text, warnings_text};
 ghost use Rattle.cqlp_exchanges.specs.Lines.{reply_text, request_text, response_text, said_text, statement_text, took_text};
@@ -15,7 +15,7 @@ use crate::member::{Member, Value, put_members};
 use crate::prepared::{Preparation, named};
 use crate::reply::{Reply, consistency_name, error_name, kind_name, message_of, reply_of};
 use crate::span::{Unit, put_time, time_between};
-use crate::statement::{Statement, has, statement_of};
+use crate::statement::{Statement, has, statement_of, statements_of};
 use cqlp_grammar::SinkFault;
 use cqlp_note::{Header, Target};
 use cqlp_summary::put_shown_text;
@@ -162,10 +162,12 @@ fn put_request<P: Pen>(
 ) -> Result<(), SinkFault>
     ensures { Writes writer.old (request_text known.now request.now) result writer.new }
 {
-    let own = statement_of(&request.frame.header, request.kept.front.as_slice());
-    let statement = named(known, own);
+    let front = request.kept.front.as_slice();
+    let count = statements_of(&request.frame.header, front);
+    let statement = named(known, statement_of(&request.frame.header, front));
     writer.put_str(opcode_name(request.frame.header.opcode))?;
     put_consistency(writer, request.kept.facts.consistency)?;
+    put_count(writer, count)?;
     put_statement(writer, &statement)?;
     put_page_size(writer, request.kept.facts.page_size)?;
     put_frame(writer, &request.frame)
@@ -220,6 +222,23 @@ fn put_short_name<P: Pen>(
         Some(name) => writer.put_str(name),
         None => writer.put_hex_text(&number.to_be_bytes()),
     }
+}
+
+/// Takes how many statements a BATCH has.
+fn put_count<P: Pen>(writer: &mut TextWriter<P>, count: Option<u16>) -> Result<(), SinkFault>
+    ensures { Writes writer.old (count_text count) result writer.new }
+{
+    match count {
+        Some(count) => put_known_count(writer, count),
+        None => writer.put(b""),
+    }
+}
+
+fn put_known_count<P: Pen>(writer: &mut TextWriter<P>, count: u16) -> Result<(), SinkFault>
+    ensures { Writes writer.old (count_text (Some count)) result writer.new }
+{
+    writer.put(b" ")?;
+    writer.put_number(u64::from(count))
 }
 
 /// Takes how many rows a page is to have.

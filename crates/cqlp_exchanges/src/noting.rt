@@ -1,11 +1,12 @@
 //! Requests with their responses, counted in a summary of statements.
 
-ghost use Rattle.std.specs.Prelude.{◌≡◌, option_map};
+ghost use Rattle.std.specs.Prelude.{◌≡◌, ◌&&◌, length, nat_le};
 ghost use Rattle.cqlp_exchanges.specs.Forms.{noted_in};
-ghost use Rattle.cqlp_exchanges.specs.Notings.{is_whole_in, name_in, nanoseconds_in, rows_in, with_exchange, with_told};
+ghost use Rattle.cqlp_exchanges.specs.Notings.{entry_as, is_batch, nanoseconds_in, opcode_entry, rows_in, text_entry, with_exchange, with_told};
 ghost use Rattle.cqlp_exchanges.specs.Filters.{is_error};
-ghost use Rattle.cqlp_exchanges.specs.Statements.{said_of};
+ghost use Rattle.cqlp_summary.specs.Summaries.{noted};
 
+use crate::batch_name::{BatchName, MOST};
 use crate::form::ExchangeForm;
 use crate::prepared::{Preparation, named};
 use crate::span::{Span, time_between};
@@ -51,11 +52,72 @@ fn note_exchange<A: Allocator>(
     ensures { summary.new ≡ with_exchange known.now request.now response.now summary.old }
 {
     let own = statement_of(&request.frame.header, request.kept.front.as_slice());
-    let statement = named(known, own);
+    match named(known, own) {
+        Some(Statement::Text { text, is_whole }) => {
+            note_text(summary, text, is_whole, request, response);
+        }
+        Some(Statement::Id { .. }) => note_opcode(summary, request, response),
+        None => note_opcode(summary, request, response),
+    }
+}
+
+/// Counts a request with its response under the text of its statement, after a word where it is the first one of a BATCH.
+fn note_text<A: Allocator>(
+    summary: &mut Summary<A>,
+    text: &str,
+    is_whole: bool,
+    request: &Message<Kept>,
+    response: &Message<Kept>,
+)
+    ensures { summary.new ≡ noted (text_entry text.now is_whole request.now response.now) summary.old }
+{
+    if is_batch(request.frame.header.opcode) {
+        let name = BatchName::new(text.as_bytes());
+        note_as(
+            summary,
+            name.as_slice(),
+            has_all(text, is_whole),
+            request,
+            response,
+        );
+    } else {
+        note_as(summary, text.as_bytes(), is_whole, request, response);
+    }
+}
+
+/// Whether the name of a BATCH has all of its first statement's text.
+fn has_all(text: &str, is_whole: bool) -> bool
+    ensures { result ≡ (is_whole && nat_le (length text.now) 250) }
+{
+    is_whole && text.len() <= MOST
+}
+
+/// Counts a request with its response under its opcode, where the text of its statement is not known.
+fn note_opcode<A: Allocator>(
+    summary: &mut Summary<A>,
+    request: &Message<Kept>,
+    response: &Message<Kept>,
+)
+    ensures { summary.new ≡ noted (opcode_entry request.now response.now) summary.old }
+{
+    let name = opcode_name(request.frame.header.opcode);
+    note_as(summary, name.as_bytes(), true, request, response);
+}
+
+/// Counts a request with its response under a name.
+fn note_as<A: Allocator>(
+    summary: &mut Summary<A>,
+    name: &[u8],
+    is_whole_name: bool,
+    request: &Message<Kept>,
+    response: &Message<Kept>,
+)
+    ensures { summary.new ≡ noted (entry_as name.now is_whole_name request.now response.now) summary.old }
+{
     let took = time_between(request.frame.begun, response.frame.ended);
     summary.note(&Occurrence {
-        name: name_in(&statement, request.frame.header.opcode),
-        is_whole_name: is_whole_in(&statement),
+        name,
+        is_whole_name,
         is_error: is_error(response.frame.header.opcode),
         rows: rows_in(response.kept.facts.rows),
         bytes: (9 + request.frame.header.length as u64) + (9 + response.frame.header.length as u64),
@@ -63,26 +125,10 @@ fn note_exchange<A: Allocator>(
     });
 }
 
-/// What a request is called: the text of its statement, or where that is not known its opcode.
-fn name_in<'a>(statement: &Option<Statement<'a>>, opcode: Opcode) -> &'a [u8]
-    ensures { result.now ≡ name_in (option_map said_of statement.now) opcode }
+fn is_batch(opcode: Opcode) -> bool
+    ensures { result ≡ is_batch opcode }
 {
-    match statement {
-        Some(Statement::Text { text, .. }) => text.as_bytes(),
-        Some(Statement::Id { .. }) => opcode_name(opcode).as_bytes(),
-        None => opcode_name(opcode).as_bytes(),
-    }
-}
-
-/// Whether that is all of it.
-fn is_whole_in(statement: &Option<Statement<'_>>) -> bool
-    ensures { result ≡ is_whole_in (option_map said_of statement.now) }
-{
-    match statement {
-        Some(Statement::Text { is_whole, .. }) => *is_whole,
-        Some(Statement::Id { .. }) => true,
-        None => true,
-    }
+    opcode == Opcode::Batch
 }
 
 fn is_error(opcode: Opcode) -> bool

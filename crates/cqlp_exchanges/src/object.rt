@@ -3,7 +3,7 @@
 ghost use Rattle.std.specs.Prelude.{◌≡◌, [], option_map};
 ghost use Rattle.cqlp_json.specs.Lines.{texts};
 ghost use Rattle.cqlp_text.specs.Written.{Writes};
-ghost use Rattle.cqlp_exchanges.specs.Objects.{if_answered, if_asked, json_line, message_as, message_members};
+ghost use Rattle.cqlp_exchanges.specs.Objects.{count_members, if_answered, if_asked, json_line, message_as, message_members};
 ghost use Rattle.cqlp_exchanges.specs.Objects.{object, place_members, query_members, reply_members, result_members};
 ghost use Rattle.cqlp_exchanges.specs.Objects.{reply_values, request_frame_members, request_members, response_frame_members};
 ghost use Rattle.cqlp_exchanges.specs.Objects.{response_members, statement_as, statement_members, took_members};
@@ -17,7 +17,7 @@ use crate::member::{
 use crate::prepared::{Preparation, named};
 use crate::reply::{Reply, error_name, kind_name, message_of, reply_of};
 use crate::span::{Span, time_between};
-use crate::statement::{Statement, has, statement_of};
+use crate::statement::{Statement, has, statement_of, statements_of};
 use cqlp_grammar::SinkFault;
 use cqlp_note::Target;
 use cqlp_text::{Buffered, Pen, TextWriter, opcode_name};
@@ -188,11 +188,20 @@ fn put_request<P: Pen>(
 ) -> Result<(), SinkFault>
     ensures { Writes writer.old (request_members known.now request.now) result writer.new }
 {
-    let own = statement_of(&request.frame.header, request.kept.front.as_slice());
-    let statement = named(known, own);
+    let front = request.kept.front.as_slice();
+    let count = statements_of(&request.frame.header, front);
+    let statement = named(known, statement_of(&request.frame.header, front));
     put_request_frame(writer, &request.frame)?;
+    put_count(writer, count)?;
     put_statement(writer, &statement)?;
     put_query(writer, &request.kept.facts)
+}
+
+/// Takes how many statements a BATCH has.
+fn put_count<P: Pen>(writer: &mut TextWriter<P>, count: Option<u16>) -> Result<(), SinkFault>
+    ensures { Writes writer.old (texts (count_members count)) result writer.new }
+{
+    put_members(writer, &[Member(",\"statements\":", number_or_null(count))])
 }
 
 /// Takes how a request asks for it to be done.

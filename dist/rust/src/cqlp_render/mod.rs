@@ -9,5 +9,5 @@ mod text_form;
 
 pub use render::{render_events, render_rows};
 pub use showing::{TURNS, conclude};
-pub(crate) use showing::{check, rows, rows_csv, rows_json, show, show_json};
+pub(crate) use showing::{check, rows, show, show_as};
 pub use text_form::TextForm;

@@ -5,9 +5,9 @@ use crate::kit_std::prelude::{Vec, vec};
 use crate::cqlp_render::buffered_sink::BufferedSink;
 use crate::cqlp_render::form::{CsvRows, Form, JsonLines, JsonRows, Lines, Nothing};
 use crate::cqlp_render::render::{TextSink, run_flushing};
+use crate::cqlp_render::text_form::TextForm;
 use crate::cqlp_decode::{Decoder, NewError, Outcome, SinkFault, run};
 use crate::cqlp_note::{Limits, Source, Target};
-use crate::cqlp_tables::TablePlace;
 use crate::cqlp_text::exit_status::FAULT;
 use crate::cqlp_text::{Buffered, Ending, PagePlace, ending_line};
 use crate::kit_std::alloc::Allocator;
@@ -28,24 +28,7 @@ pub(crate) fn show<R: Source, O: Target, E: Target, A: Allocator>(
     err: E,
 ) -> (u8, O, E)
 {
-    let (ending, out) = write_text(alloc, limits, Lines, input, out);
-    let (status, err) = conclude(ending, err);
-    (status, out, err)
-}
-
-/// Writes the events of a stream to `out`, each as a JSON object in a line of its own, and the verdict line or fault line
-/// to `err`. Answers the exit status, and the two outputs.
-pub(crate) fn show_json<R: Source, O: Target, E: Target, A: Allocator>(
-    alloc: &A,
-    limits: Limits,
-    input: &mut R,
-    out: O,
-    err: E,
-) -> (u8, O, E)
-{
-    let (ending, out) = write_text(alloc, limits, JsonLines, input, out);
-    let (status, err) = conclude(ending, err);
-    (status, out, err)
+    show_as(alloc, limits, TextForm::Lines, input, out, err)
 }
 
 /// Writes the text of the pages of a stream to `out`, and the verdict line or fault line to `err`. Answers the exit
@@ -58,37 +41,28 @@ pub(crate) fn rows<R: Source, O: Target, E: Target, A: Allocator>(
     err: E,
 ) -> (u8, O, E)
 {
-    let (ending, out) = write_text(alloc, limits, PagePlace::new(), input, out);
-    let (status, err) = conclude(ending, err);
-    (status, out, err)
+    show_as(
+        alloc,
+        limits,
+        TextForm::Pages(PagePlace::new()),
+        input,
+        out,
+        err,
+    )
 }
 
-/// Writes the rows of the pages of a stream to `out`, each as a JSON array in a line of its own after a line for the page,
-/// and the verdict line or fault line to `err`. Answers the exit status, and the two outputs.
-pub(crate) fn rows_json<R: Source, O: Target, E: Target, A: Allocator>(
-    alloc: &A,
-    limits: Limits,
-    input: &mut R,
-    out: O,
-    err: E,
-) -> (u8, O, E)
-{
-    let (ending, out) = write_text(alloc, limits, JsonRows(TablePlace::new()), input, out);
-    let (status, err) = conclude(ending, err);
-    (status, out, err)
-}
-
-/// Writes the rows of the pages of a stream to `out` as CSV, and the verdict line or fault line to `err`. Answers the exit
+/// Writes the events of a stream to `out` as text in a form, and the verdict line or fault line to `err`. Answers the exit
 /// status, and the two outputs.
-pub(crate) fn rows_csv<R: Source, O: Target, E: Target, A: Allocator>(
+pub(crate) fn show_as<R: Source, O: Target, E: Target, A: Allocator>(
     alloc: &A,
     limits: Limits,
+    form: TextForm,
     input: &mut R,
     out: O,
     err: E,
 ) -> (u8, O, E)
 {
-    let (ending, out) = write_text(alloc, limits, CsvRows(TablePlace::new()), input, out);
+    let (ending, out) = write_as(alloc, limits, form, input, out);
     let (status, err) = conclude(ending, err);
     (status, out, err)
 }
@@ -129,6 +103,25 @@ fn read_through<R: Source, O: Target, A: Allocator>(
     let mut sink = TextSink::new(out, Nothing);
     let outcome = run(&mut decoder, input, &mut sink, TURNS);
     (ending_of(outcome), sink.into_inner())
+}
+
+/// Writes the text of the events of a stream within these limits, in a form, by the writer of that form.
+fn write_as<R: Source, O: Target, A: Allocator>(
+    alloc: &A,
+    limits: Limits,
+    form: TextForm,
+    input: &mut R,
+    out: O,
+) -> (Ending, O)
+{
+    match form {
+        TextForm::Lines => write_text(alloc, limits, Lines, input, out),
+        TextForm::JsonLines => write_text(alloc, limits, JsonLines, input, out),
+        TextForm::Pages(place) => write_text(alloc, limits, place, input, out),
+        TextForm::JsonRows(place) => write_text(alloc, limits, JsonRows(place), input, out),
+        TextForm::CsvRows(place) => write_text(alloc, limits, CsvRows(place), input, out),
+        TextForm::Nothing => write_text(alloc, limits, Nothing, input, out),
+    }
 }
 
 /// Writes the text of the events of a stream within these limits, in a form.

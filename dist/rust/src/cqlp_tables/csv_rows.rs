@@ -48,6 +48,19 @@ pub fn put_csv_part<P: Pen>(
     written
 }
 
+/// What ends the record under way on a page that is cut at this place: the quote of its field, where that is between quotes, and the line.
+/// Nothing where there is no page.
+pub fn csv_break(place: &TablePlace) -> &'static str
+{
+    if !place.is_page() {
+        return "";
+    }
+    match place.innermost() {
+        None => "\r\n",
+        Some(_) => "\"\r\n",
+    }
+}
+
 /// What is written of an event on a page.
 #[inline]
 fn shown_of<'a>(place: &TablePlace, event: &Event<'a>) -> Shown<'a>

@@ -48,6 +48,12 @@ pub fn put_json_part<P: Pen>(
     written
 }
 
+/// What ends the line under way on a page that is cut at this place, which is no JSON then. Nothing where there is no page.
+pub fn json_break(place: &TablePlace) -> &'static str
+{
+    if place.is_page() { "\n" } else { "" }
+}
+
 /// What is written of an event on a page.
 #[inline]
 fn shown_of<'a>(place: &TablePlace, event: &Event<'a>) -> Shown<'a>

@@ -7,6 +7,6 @@ mod place;
 mod quotes;
 mod shown;
 
-pub use csv_rows::{csv_part, put_csv_part};
-pub use json_rows::{json_part, put_json_part};
+pub use csv_rows::{csv_break, csv_part, put_csv_part};
+pub use json_rows::{json_break, json_part, put_json_part};
 pub use place::TablePlace;

@@ -1,7 +1,7 @@
 use Rattle.std.proofs.Common.{ap, refl, ◌∙◌}
-use Rattle.cqlp_exchanges.specs.Lines.{statement_text}
+use Rattle.cqlp_exchanges.specs.Lines.{count_text, statement_text}
 use Rattle.cqlp_exchanges.specs.Prepared.{named}
-use Rattle.cqlp_exchanges.specs.Statements.{statement}
+use Rattle.cqlp_exchanges.specs.Statements.{statement, statements}
 use Rattle.cqlp_text.proofs.Writing.{progress_starts}
 use Rattle.cqlp_exchanges.proofs.Texts.{said_last, said_next, said_stops}
 use Rattle.cqlp_exchanges.proofs.lines.put_request.Goals as goal
@@ -15,23 +15,32 @@ returns-in_err-put_consistency g c =
     let s1 = said_next _ (progress_starts _ _) refl c.opcode_name.ensures c.in_ok-put_str.ensures in
     said_stops _ c.from_residual-in_err-put_consistency.result c.from_residual-in_err-put_consistency.ensures.0 s1 refl refl c.in_err-put_consistency.ensures
 
+pub returns-in_err-put_count : goal.returns-in_err-put_count
+returns-in_err-put_count g c =
+    let s1 = said_next _ (progress_starts _ _) refl c.opcode_name.ensures c.in_ok-put_str.ensures in
+    let s2 = said_next _ s1 refl refl c.in_ok-put_consistency.ensures in
+    said_stops _ c.from_residual-in_err-put_count.result c.from_residual-in_err-put_count.ensures.0 s2 refl (ap count_text (c.statements_of-count.ensures ∙ ap (statements c.args.request.now.frame.header) c.as_slice-front.ensures)) c.in_err-put_count.ensures
+
 pub returns-in_err-put_statement : goal.returns-in_err-put_statement
 returns-in_err-put_statement g c =
     let s1 = said_next _ (progress_starts _ _) refl c.opcode_name.ensures c.in_ok-put_str.ensures in
     let s2 = said_next _ s1 refl refl c.in_ok-put_consistency.ensures in
-    said_stops _ c.from_residual-in_err-put_statement.result c.from_residual-in_err-put_statement.ensures.0 s2 refl (ap statement_text (c.named-statement.ensures ∙ ap (named c.args.known.now) (c.statement_of-own.ensures ∙ ap (statement c.args.request.now.frame.header) c.as_slice.ensures))) c.in_err-put_statement.ensures
+    let s3 = said_next _ s2 refl (ap count_text (c.statements_of-count.ensures ∙ ap (statements c.args.request.now.frame.header) c.as_slice-front.ensures)) c.in_ok-put_count.ensures in
+    said_stops _ c.from_residual-in_err-put_statement.result c.from_residual-in_err-put_statement.ensures.0 s3 refl (ap statement_text (c.named-statement.ensures ∙ ap (named c.args.known.now) (c.statement_of.ensures ∙ ap (statement c.args.request.now.frame.header) c.as_slice-front.ensures))) c.in_err-put_statement.ensures
 
 pub returns-in_err-put_page_size : goal.returns-in_err-put_page_size
 returns-in_err-put_page_size g c =
     let s1 = said_next _ (progress_starts _ _) refl c.opcode_name.ensures c.in_ok-put_str.ensures in
     let s2 = said_next _ s1 refl refl c.in_ok-put_consistency.ensures in
-    let s3 = said_next _ s2 refl (ap statement_text (c.named-statement.ensures ∙ ap (named c.args.known.now) (c.statement_of-own.ensures ∙ ap (statement c.args.request.now.frame.header) c.as_slice.ensures))) c.in_ok-put_statement.ensures in
-    said_stops _ c.from_residual-in_err-put_page_size.result c.from_residual-in_err-put_page_size.ensures.0 s3 refl refl c.in_err-put_page_size.ensures
+    let s3 = said_next _ s2 refl (ap count_text (c.statements_of-count.ensures ∙ ap (statements c.args.request.now.frame.header) c.as_slice-front.ensures)) c.in_ok-put_count.ensures in
+    let s4 = said_next _ s3 refl (ap statement_text (c.named-statement.ensures ∙ ap (named c.args.known.now) (c.statement_of.ensures ∙ ap (statement c.args.request.now.frame.header) c.as_slice-front.ensures))) c.in_ok-put_statement.ensures in
+    said_stops _ c.from_residual-in_err-put_page_size.result c.from_residual-in_err-put_page_size.ensures.0 s4 refl refl c.in_err-put_page_size.ensures
 
 pub returns : goal.returns
 returns g c =
     let s1 = said_next _ (progress_starts _ _) refl c.opcode_name.ensures c.in_ok-put_str.ensures in
     let s2 = said_next _ s1 refl refl c.in_ok-put_consistency.ensures in
-    let s3 = said_next _ s2 refl (ap statement_text (c.named-statement.ensures ∙ ap (named c.args.known.now) (c.statement_of-own.ensures ∙ ap (statement c.args.request.now.frame.header) c.as_slice.ensures))) c.in_ok-put_statement.ensures in
-    let s4 = said_next _ s3 refl refl c.in_ok-put_page_size.ensures in
-    said_last _ _ c.put_frame.result s4 refl refl c.put_frame.ensures
+    let s3 = said_next _ s2 refl (ap count_text (c.statements_of-count.ensures ∙ ap (statements c.args.request.now.frame.header) c.as_slice-front.ensures)) c.in_ok-put_count.ensures in
+    let s4 = said_next _ s3 refl (ap statement_text (c.named-statement.ensures ∙ ap (named c.args.known.now) (c.statement_of.ensures ∙ ap (statement c.args.request.now.frame.header) c.as_slice-front.ensures))) c.in_ok-put_statement.ensures in
+    let s5 = said_next _ s4 refl refl c.in_ok-put_page_size.ensures in
+    said_last _ _ c.put_frame.result s5 refl refl c.put_frame.ensures

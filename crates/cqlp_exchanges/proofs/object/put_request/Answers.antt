@@ -1,8 +1,8 @@
 use Rattle.std.proofs.Common.{ap, refl, ◌∙◌}
 use Rattle.cqlp_json.specs.Lines.{texts}
-use Rattle.cqlp_exchanges.specs.Objects.{statement_members}
+use Rattle.cqlp_exchanges.specs.Objects.{count_members, statement_members}
 use Rattle.cqlp_exchanges.specs.Prepared.{named}
-use Rattle.cqlp_exchanges.specs.Statements.{statement}
+use Rattle.cqlp_exchanges.specs.Statements.{statement, statements}
 use Rattle.cqlp_text.proofs.Writing.{progress_starts}
 use Rattle.cqlp_exchanges.proofs.Texts.{said_last, said_next, said_stops}
 use Rattle.cqlp_exchanges.proofs.object.put_request.Goals as goal
@@ -11,13 +11,20 @@ pub returns-in_err-put_request_frame : goal.returns-in_err-put_request_frame
 returns-in_err-put_request_frame g c =
     said_stops _ c.from_residual.result c.from_residual.ensures.0 (progress_starts _ _) refl refl c.in_err-put_request_frame.ensures
 
+pub returns-in_err-put_count : goal.returns-in_err-put_count
+returns-in_err-put_count g c =
+    let s1 = said_next _ (progress_starts _ _) refl refl c.in_ok-put_request_frame.ensures in
+    said_stops _ c.from_residual-in_err-put_count.result c.from_residual-in_err-put_count.ensures.0 s1 refl (ap (λ z. texts (count_members z)) (c.statements_of-count.ensures ∙ ap (statements c.args.request.now.frame.header) c.as_slice-front.ensures)) c.in_err-put_count.ensures
+
 pub returns-in_err-put_statement : goal.returns-in_err-put_statement
 returns-in_err-put_statement g c =
     let s1 = said_next _ (progress_starts _ _) refl refl c.in_ok-put_request_frame.ensures in
-    said_stops _ c.from_residual-in_err-put_statement.result c.from_residual-in_err-put_statement.ensures.0 s1 refl (ap (λ z. texts (statement_members z)) (c.named-statement.ensures ∙ ap (named c.args.known.now) (c.statement_of-own.ensures ∙ ap (statement c.args.request.now.frame.header) c.as_slice.ensures))) c.in_err-put_statement.ensures
+    let s2 = said_next _ s1 refl (ap (λ z. texts (count_members z)) (c.statements_of-count.ensures ∙ ap (statements c.args.request.now.frame.header) c.as_slice-front.ensures)) c.in_ok-put_count.ensures in
+    said_stops _ c.from_residual-in_err-put_statement.result c.from_residual-in_err-put_statement.ensures.0 s2 refl (ap (λ z. texts (statement_members z)) (c.named-statement.ensures ∙ ap (named c.args.known.now) (c.statement_of.ensures ∙ ap (statement c.args.request.now.frame.header) c.as_slice-front.ensures))) c.in_err-put_statement.ensures
 
 pub returns : goal.returns
 returns g c =
     let s1 = said_next _ (progress_starts _ _) refl refl c.in_ok-put_request_frame.ensures in
-    let s2 = said_next _ s1 refl (ap (λ z. texts (statement_members z)) (c.named-statement.ensures ∙ ap (named c.args.known.now) (c.statement_of-own.ensures ∙ ap (statement c.args.request.now.frame.header) c.as_slice.ensures))) c.in_ok-put_statement.ensures in
-    said_last _ _ c.put_query.result s2 refl refl c.put_query.ensures
+    let s2 = said_next _ s1 refl (ap (λ z. texts (count_members z)) (c.statements_of-count.ensures ∙ ap (statements c.args.request.now.frame.header) c.as_slice-front.ensures)) c.in_ok-put_count.ensures in
+    let s3 = said_next _ s2 refl (ap (λ z. texts (statement_members z)) (c.named-statement.ensures ∙ ap (named c.args.known.now) (c.statement_of.ensures ∙ ap (statement c.args.request.now.frame.header) c.as_slice-front.ensures))) c.in_ok-put_statement.ensures in
+    said_last _ _ c.put_query.result s3 refl refl c.put_query.ensures
