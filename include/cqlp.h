@@ -133,6 +133,13 @@ extern "C" {
 #define CQLP_NOT_REFUSED 35          /* nothing is refused */
 #define CQLP_IN_HEADER 36            /* a header is refused, so nobody knows where its frame ends */
 #define CQLP_TOO_FAR 37              /* the frame ends past the greatest offset */
+#define CQLP_NO_EVENT 38             /* no event is like this one */
+#define CQLP_MISPLACED 39            /* an event of another place */
+#define CQLP_UNBUILT 40              /* a type option, or an event of a page */
+#define CQLP_TOO_MANY_FIELDS 41      /* there are more than 268435456 fields */
+#define CQLP_TOO_MANY_BYTES 42       /* the contents have more than 268435456 bytes */
+#define CQLP_LEFT_OVER 43            /* there are bytes behind the contents of the events */
+#define CQLP_NO_SUCH_FRAME 44        /* no frame has these events */
 
 /* Why a batch of events ends. */
 #define CQLP_STOP_MORE 0             /* all of the input was used, and more is wanted */
@@ -501,6 +508,12 @@ typedef struct cqlp_header {
   uint8_t response; /* 0: a request; else a response */
 } cqlp_header;
 
+/* What cqlp_encode made of events. */
+typedef struct cqlp_encoded {
+  size_t length; /* how many bytes the frame has, 9 to 268435465; 0 where there is no frame */
+  size_t event;  /* which event is refused, from 0; how many there are where it is none of them, or where all are taken */
+} cqlp_encoded;
+
 /* Makes a decoder in a handle that has none, at the start of a stream. All of its memory is asked for here, so no later call
  * runs out of memory.
  * Answers CQLP_DONE; else the handle is as it was: CQLP_BAD_TEXT, CQLP_BAD_CELL, CQLP_BAD_ENTRIES or CQLP_BAD_DEPTH for the
@@ -650,6 +663,27 @@ uint32_t cqlp_version_error(const uint8_t header[9], uint8_t *bytes, size_t room
  * Answers CQLP_DONE; else the bytes are as they were, and the first of these that is so: CQLP_COMPRESSED, CQLP_BAD_OPCODE,
  * CQLP_BAD_DIRECTION, CQLP_BAD_LENGTH. */
 uint32_t cqlp_write_header(const cqlp_header *fields, uint8_t bytes[9]);
+
+/* Writes the frame that has these events: those that cqlp_next puts of it, in their order, a CQLP_TAG_FRAME, then its fields, and
+ * CQLP_TAG_END, which may be left out. `contents` has the contents of the events, one after the other: of each text, and of each CQLP_TAG_BYTES
+ * and CQLP_TAG_BOUND with CQLP_MARK_NONE, as many bytes as its `length` says. No pointer in an event is followed. The members that a tag does
+ * not use are not looked at, nor are offsets, the length of the body in CQLP_TAG_FRAME, which is counted, and the number of an end: bytes after the
+ * last field are left out. Of an address `octets` says whether it has 4 or 16 bytes.
+ * Where there is no event, no content or no room, its pointer may be null. It asks for memory for a copy of the contents, for each field, and for
+ * the bytes of the frame, and gives all of it back.
+ * Answers CQLP_DONE, and the bytes behind the frame are as they were; what was written is read as these events by a decoder whose limits allow it.
+ * Else all bytes are as they were:
+ * - CQLP_NO_ROOM: `length` says how many bytes the frame has. So a call with a `room` of 0 measures it.
+ * - Of the event that `event` names, and the first that is so: CQLP_UNBUILT where it is a type option or of a cell; CQLP_NO_EVENT where nobody knows
+ *   its tag, its field, its opcode or its mark, or its number or stream id is out of its range, or its address has neither 4 nor 16 bytes, or its text
+ *   is not UTF-8, or `contents` has no more bytes as many as its length says; CQLP_MISPLACED where it is a CQLP_TAG_FRAME and not the first event, or the
+ *   other way round, or comes after the end; CQLP_UNBUILT where it is the kind of a page, CQLP_RESULT_ROWS; CQLP_TOO_MANY_FIELDS;
+ *   CQLP_TOO_MANY_BYTES. So pages are not written, nor prepared statements that have types.
+ * - Of all events together: CQLP_LEFT_OVER; CQLP_MISPLACED where there is no event; CQLP_NO_SUCH_FRAME where one is of another field than is due, or
+ *   does not agree with what comes before it, as a count and how many come, or some are missing, or a text has more bytes than its length can say.
+ * - CQLP_NO_MEMORY, and `event` says at which event. */
+uint32_t cqlp_encode(const cqlp_event *events, size_t count, const uint8_t *contents, size_t length, uint8_t *bytes, size_t room,
+                     cqlp_encoded *encoded);
 
 /* The word of a number of a group, CQLP_GROUP_.., or NULL where the group, or the number in it, is not known. It stays as it is
  * until the program ends, and is not to be freed. The words are those that `cqlp show` and `cqlp check` write, where they write

@@ -42,7 +42,7 @@ static inline void see(seen *seen, const cqlp_event *event) {
   seen->events++;
 }
 
-enum { PIECE, EVENTS, AREAS };
+enum { PIECE, EVENTS, BYTES, AREAS };
 
 /* The last bytes, this many, of an area after which no byte may be read or written, so that a step outside ends the test, also
  * one of code that no sanitizer was built into. */

@@ -43,7 +43,7 @@ static const uint8_t query[] = {4, 0, 0, 7, 7, 0, 0, 0, 13, 0, 0, 0, 6, 'a', 'b'
 static const uint8_t bad[] = {4, 0, 0, 7, 7, 0, 0, 0, 13, 0, 0, 0, 6, 'a', 0xC3, 'c', 'd', 'e', 'f', 0, 1, 0};
 
 /* A call that asks for memory, with what it is given. */
-enum { NEW, CHECK_ALL, CLIENT, SERVER, TYPES_OF, TAKE_GIVEN };
+enum { NEW, CHECK_ALL, CLIENT, SERVER, TYPES_OF, TAKE_GIVEN, ENCODE };
 
 typedef struct row {
   const char *name;
@@ -64,16 +64,28 @@ static const row ROWS[] = {
     {"cqlp_server_new, 32768 slots", CQLP_DEFAULT_LIMITS, 32768, SERVER},
     {"cqlp_types_of, into a new handle", CQLP_DEFAULT_LIMITS, 0, TYPES_OF},
     {"cqlp_take_given, into a new handle", CQLP_DEFAULT_LIMITS, 0, TAKE_GIVEN},
+    {"cqlp_encode, one text", CQLP_DEFAULT_LIMITS, 0, ENCODE},
 };
 
-/* What the caller gives to be written: the handles and an end. */
+/* What the caller gives to be written: the handles, an end, and room for bytes. */
 typedef struct given {
   cqlp_decoder decoder;
   cqlp_client client;
   cqlp_server server;
   cqlp_types types;
   cqlp_end end;
+  uint8_t bytes[32];
 } given;
+
+/* A PREPARE of a text of six bytes, of its events. */
+static uint32_t encode_text(uint8_t *bytes, size_t room) {
+  const cqlp_event events[] = {{.tag = CQLP_TAG_FRAME, .opcode = CQLP_OPCODE_PREPARE},
+                               {.tag = CQLP_TAG_TEXT, .field = CQLP_FIELD_QUERY, .length = 6}};
+  cqlp_encoded encoded = {0, 0};
+  uint32_t code = cqlp_encode(events, 2, (const uint8_t *)"abcdef", 6, bytes, room, &encoded);
+  CHECK(code == CQLP_DONE ? encoded.length == 19 && encoded.event == 2 : encoded.length == 0 && encoded.event <= 2);
+  return code;
+}
 
 /* A decoder for the calls on tables of types, and how many blocks it has; to one a table was given. */
 static cqlp_decoder typed = CQLP_NO_DECODER_YET;
@@ -106,6 +118,7 @@ static uint32_t call(const row *row, given *given, size_t refuse) {
     case SERVER: code = cqlp_server_new(row->slots, &given->server); break;
     case TYPES_OF: code = cqlp_types_of(&typed, &given->types); break;
     case TAKE_GIVEN: code = cqlp_take_given(&typed, &given->types); break;
+    case ENCODE: code = encode_text(given->bytes, sizeof given->bytes); break;
     default: code = cqlp_new(&row->limits, &given->decoder);
   }
   refused = 0;
@@ -147,6 +160,8 @@ static void serve_and_free(const row *row, given *given) {
   } else if (row->call == TYPES_OF || row->call == TAKE_GIVEN) {
     CHECK(cqlp_give(&typed, &given->types) == CQLP_DONE && requests == 0 && taken > 0);
     CHECK(cqlp_types_free(&given->types) == CQLP_DONE);
+  } else if (row->call == ENCODE) {
+    CHECK(memcmp(given->bytes, "\x04\0\0\0\x09\0\0\0\x0a\0\0\0\x06" "abcdef", 19) == 0);
   } else if (row->call == CHECK_ALL) {
     CHECK(given->end.verdict == CQLP_END_WHOLE && given->end.bytes == sizeof query);
   } else {

@@ -14,6 +14,9 @@ static const char *const CODE[] = {
     [CQLP_NO_ROOM] = "NoRoom", [CQLP_NO_TYPES] = "NoTypes", [CQLP_ENDED] = "Ended", [CQLP_OFF] = "Off",
     [CQLP_BUSY] = "Busy", [CQLP_OPEN] = "Open", [CQLP_TOO_MANY] = "TooMany", [CQLP_TOO_DEEP] = "TooDeep",
     [CQLP_NOT_REFUSED] = "NotRefused", [CQLP_IN_HEADER] = "InHeader", [CQLP_TOO_FAR] = "TooFar",
+    [CQLP_NO_EVENT] = "NoEvent", [CQLP_MISPLACED] = "Misplaced", [CQLP_UNBUILT] = "Unbuilt",
+    [CQLP_TOO_MANY_FIELDS] = "TooManyFields", [CQLP_TOO_MANY_BYTES] = "TooManyBytes", [CQLP_LEFT_OVER] = "LeftOver",
+    [CQLP_NO_SUCH_FRAME] = "NoSuchFrame",
 };
 
 static const char *const STOP[] = {

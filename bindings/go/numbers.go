@@ -526,6 +526,20 @@ const (
 	CodeInHeader Code = 36
 	// CodeTooFar: the frame ends past the greatest offset.
 	CodeTooFar Code = 37
+	// CodeNoEvent: no event is like this one.
+	CodeNoEvent Code = 38
+	// CodeMisplaced: an event of another place.
+	CodeMisplaced Code = 39
+	// CodeUnbuilt: a type option, or an event of a page.
+	CodeUnbuilt Code = 40
+	// CodeTooManyFields: there are more than 268435456 fields.
+	CodeTooManyFields Code = 41
+	// CodeTooManyBytes: the contents have more than 268435456 bytes.
+	CodeTooManyBytes Code = 42
+	// CodeLeftOver: there are bytes behind the contents of the events.
+	CodeLeftOver Code = 43
+	// CodeNoSuchFrame: no frame has these events.
+	CodeNoSuchFrame Code = 44
 )
 
 // Error is its name, as BadPhase.

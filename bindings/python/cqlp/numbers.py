@@ -329,3 +329,10 @@ class Code(IntEnum):
     NOT_REFUSED = 35
     IN_HEADER = 36
     TOO_FAR = 37
+    NO_EVENT = 38
+    MISPLACED = 39
+    UNBUILT = 40
+    TOO_MANY_FIELDS = 41
+    TOO_MANY_BYTES = 42
+    LEFT_OVER = 43
+    NO_SUCH_FRAME = 44

@@ -18,7 +18,7 @@ use Rattle.cqlp_build.specs.Building.{AreOfNone, BeginsWith, IsOfHeader}
 use Rattle.cqlp_build.specs.Closing.{ClosesAt, IsOfSome, TellsOf, of_length}
 use Rattle.cqlp_build.specs.Held.{Builds, IsRefused, IsSound, left}
 use Rattle.cqlp_build.specs.Told.{told}
-use Rattle.cqlp_build.proofs.Finishing.{built_of, directed_by, header_by, none_left, none_of_header, none_refused, measured, refused}
+use Rattle.cqlp_build.proofs.Finishing.{built_of, directed_by, header_by, none_left, none_of_header, none_refused, measured, only_this, refused}
 use Rattle.cqlp_build.proofs.Steps.{AreNone}
 
 begins_of : (h : Header) (n : ℕ) (f : FrameValue) → BeginsWith h f → BeginsWith (of_length h n) f
@@ -57,7 +57,12 @@ module _ (h : Header) (f : OwnedFrame) (old new : Held) (s : IsSound old) (b : B
       let n = parts_size (frame_parts (frame_of f)) in
       let m = b.made t.0 in
       let r = built_of (of_length h n) 0 (frame_of f) old new (builds_of h n (frame_of f) old new b) t.0 (sym t.1) (of_some h (frame_of f) m.2 (t.2 m.2)) in
-      (n, record { are = r.0; can = r.1; only = r.2 })
+      record {
+        size = n;
+        are = r.0;
+        can = r.1;
+        only = λ k g d a. (only_this (of_length h k) 0 (frame_of f) old new (builds_of h k (frame_of f) old new b) g 0 t.0 d a).0;
+      }
 
   no_frame : (n : ℕ) → TellsOf h (frame_of f) new (Some error.NoFrame) → AreOfNone (Frame (of_length h n) ∷ left old ++ End 0 ∷ [])
   no_frame n (inl r) = none_refused (of_length h n) 0 (frame_of f) old new (builds_of h n (frame_of f) old new b) s r

@@ -78,7 +78,7 @@ are_events h es x f c i = record {
 }
 
 module _ (h : Header) (x : ℕ) (f : FrameValue) (old new : Held) (b : Builds (λ g. told (frame_parts g)) (BeginsWith h) f old new) where
-  only_this : (g : FrameValue) (y : ℕ) → IsSound new → CanBeBuilt g → AreEventsOf (Frame h ∷ left old ++ End x ∷ []) g y → (g ≡ f) × ([] ≡ left new) × (y ≡ x)
+  pub only_this : (g : FrameValue) (y : ℕ) → IsSound new → CanBeBuilt g → AreEventsOf (Frame h ∷ left old ++ End x ∷ []) g y → (g ≡ f) × ([] ≡ left new) × (y ≡ x)
   only_this g y s c a =
       let i = is_frame_of h (left old) x g y c a in
       let o = b.only s g [] (begins_with h g _ c i.header) (sym i.parts ∙ sym (append-nil (told (frame_parts g)))) in

@@ -7,11 +7,10 @@ use Rattle.cqlp_message.specs.FrameValues.{FrameValue}
 use Rattle.cqlp_message.specs.Frames.{unfit_of}
 use Rattle.cqlp_message.specs.Owned.{frame_of}
 use Rattle.cqlp_message.specs.declared.frame.Frame.{Frame as OwnedFrame}
-use Rattle.cqlp_build.specs.declared.builder.BuiltFrame.{BuiltFrame}
 use Rattle.cqlp_build.specs.declared.error.BuildError.{BuildError}
 use Rattle.cqlp_build.specs.declared.error.BuildError.TheVariants as error
 use Rattle.cqlp_build.specs.declared.held.Held.{Held}
-use Rattle.cqlp_build.specs.Building.{AreOfNone, BeginsWith, BuilderState, IsBuiltOf, empty}
+use Rattle.cqlp_build.specs.Building.{AreEventsOf, AreOfNone, BeginsWith, BuilderState, CanBeBuilt, empty}
 use Rattle.cqlp_build.specs.Held.{IsRefused, IsSound, left}
 
 -- this header, of a body of n bytes
@@ -22,9 +21,16 @@ of_length h n = record h { length = n }
 abbrev pub closed : Header → (n : ℕ) → List Event → List Event
 closed h n es = Frame (of_length h n) ∷ es ++ End 0 ∷ []
 
--- With some length in its header, the events are those of this frame alone; or with none, of any.
+-- With some length in the header, the events are those of this frame; and of no other, with any length.
+pub record IsClosedOf (h : Header) (es : List Event) (f : FrameValue) : Type 0 where
+  pub size : ℕ
+  pub are : AreEventsOf (closed h size es) f 0
+  pub can : CanBeBuilt f
+  pub only : (n : ℕ) (g : FrameValue) → CanBeBuilt g → AreEventsOf (closed h n es) g 0 → g ≡ f
+
+-- The events are those of this frame alone; or, with whatever length, of none.
 abbrev pub ClosesAt : Header → List Event → Result OwnedFrame BuildError → Type 0
-ClosesAt h es (Ok f) = (n : ℕ) × IsBuiltOf (closed h n es) (record { frame = f; extra = 0 })
+ClosesAt h es (Ok f) = IsClosedOf h es (frame_of f)
 ClosesAt h es (Err error.NoFrame) = (n : ℕ) → AreOfNone (closed h n es)
 ClosesAt h es (Err error.NoMemory) = ⊤
 ClosesAt h es (Err e) = ⊥

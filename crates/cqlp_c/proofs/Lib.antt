@@ -3,6 +3,7 @@ pub mod Checked
 pub mod Cored
 pub mod Cores
 pub mod Crosses
+pub mod Encoded
 pub mod Ending
 pub mod Fills
 pub mod Gathering
@@ -11,6 +12,7 @@ pub mod Handed
 pub mod Made
 pub mod Nexted
 pub mod OneBatch
+pub mod OneEncoded
 pub mod OneVerdict
 pub mod Places
 pub mod Placing

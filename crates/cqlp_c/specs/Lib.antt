@@ -3,6 +3,8 @@ pub mod Checks
 pub mod Clients
 pub mod Cores
 pub mod Course
+pub mod Encoding
+pub mod EncodeLaws
 pub mod Events
 pub mod Given
 pub mod Handle
@@ -15,4 +17,5 @@ pub mod Shown
 pub mod Slots
 pub mod Stretched
 pub mod Talked
+pub mod Told
 pub mod Versions

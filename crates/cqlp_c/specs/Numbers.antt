@@ -1,5 +1,5 @@
 -- The numbers of fields, kinds, reasons and phases. That of an opcode is its own (`code_of` of cqlp_note).
-use Rattle.std.specs.Prelude.{ℕ}
+use Rattle.std.specs.Prelude.{ℕ, List, [], ◌∷◌, map}
 use Rattle.cqlp_note.specs.declared.limits.BadLimits.{BadLimits}
 use Rattle.cqlp_note.specs.declared.limits.BadLimits.TheVariants as limit
 use Rattle.cqlp_note.specs.declared.field.Field.{Field}
@@ -79,6 +79,22 @@ number_of_field field.Address = numbers.FIELD_ADDRESS
 number_of_field field.TypeName = numbers.FIELD_TYPE_NAME
 number_of_field field.Fields = numbers.FIELD_FIELDS
 number_of_field field.FieldName = numbers.FIELD_FIELD_NAME
+
+-- all fields, in the order of their numbers
+abbrev pub all_fields : List Field
+all_fields =
+    field.TraceId ∷ field.Warnings ∷ field.Warning ∷ field.PayloadItems ∷ field.PayloadKey ∷ field.PayloadValue ∷ field.Options
+    ∷ field.OptionKey ∷ field.OptionValue ∷ field.OptionValues ∷ field.Query ∷ field.StatementId ∷ field.EventTypes ∷ field.EventType
+    ∷ field.Token ∷ field.BatchType ∷ field.Entries ∷ field.EntryKind ∷ field.Consistency ∷ field.BatchFlags ∷ field.SerialConsistency
+    ∷ field.Timestamp ∷ field.QueryFlags ∷ field.Values ∷ field.ValueName ∷ field.Value ∷ field.PageSize ∷ field.PagingState ∷ field.Class
+    ∷ field.ErrorCode ∷ field.Message ∷ field.Required ∷ field.Alive ∷ field.Received ∷ field.BlockFor ∷ field.WriteType ∷ field.DataPresent
+    ∷ field.Failures ∷ field.Keyspace ∷ field.Name ∷ field.Arguments ∷ field.Argument ∷ field.Table ∷ field.ResultKind ∷ field.Rows
+    ∷ field.MetaFlags ∷ field.Columns ∷ field.Keys ∷ field.KeyIndex ∷ field.ColumnName ∷ field.Change ∷ field.Target ∷ field.Address
+    ∷ field.TypeName ∷ field.Fields ∷ field.FieldName ∷ []
+
+-- the fields by their numbers
+abbrev pub fields : List (ℕ × Field)
+fields = map (λ f. (number_of_field f, f)) all_fields
 
 -- the number of a kind of types: the id of its type option
 abbrev pub number_of_kind : Kind → ℕ

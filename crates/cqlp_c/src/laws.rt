@@ -3,6 +3,7 @@
 ghost use Rattle.std.specs.Thread.{IsSend};
 ghost use Rattle.cqlp_c.specs.Laws.{ContentsLieThere, EventsArePushed, FramesAreHeard, IsOneAnswerOfCheck};
 ghost use Rattle.cqlp_c.specs.Laws.{IsOneAnswerOfClientNew, IsOneAnswerOfNext, IsOneAnswerOfServerNew};
+ghost use Rattle.cqlp_c.specs.EncodeLaws.{IsOneAnswerOfEncode, WrittenHasHeader, WrittenIsTold};
 ghost use Rattle.cqlp_c.specs.Stretched.{FinishEndsThere, IsOneAnswerOfSkip, IsOneAnswerOverSkips, NewBegins, NextReadsOn, SkipGivesUp};
 ghost use Rattle.cqlp_c.specs.contracts.client.CqlpClient as client;
 ghost use Rattle.cqlp_c.specs.contracts.handle.CqlpDecoder as decoder;
@@ -70,6 +71,18 @@ pub fn frames_are_heard()
 /// What `cqlp_server_event` writes is the header of an event that was pushed, which answers no request of a client.
 pub fn events_are_pushed()
     ensures { EventsArePushed }
+{}
+
+/// Of the same events, with the same contents and room, `cqlp_encode` has one answer, but where memory is refused.
+pub fn one_answer_of_encode()
+    ensures { IsOneAnswerOfEncode }
+{}
+
+/// What `cqlp_encode` writes of a header and fields is read as these: a decoder within whose limits the frame is says of the bytes the
+/// header with their length, the fields and an end, and nothing else.
+pub fn written_events_are_read()
+    ensures header { WrittenHasHeader }
+    ensures told { WrittenIsTold }
 {}
 
 /// What a handle owns is the same to every thread, so a handle may go from one to another between two calls.

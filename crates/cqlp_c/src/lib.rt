@@ -5,6 +5,7 @@ mod batch;
 mod check;
 mod client;
 mod course;
+mod encode;
 mod event;
 mod handle;
 mod header;
@@ -15,6 +16,7 @@ mod server;
 mod shown;
 mod slots;
 mod talked;
+mod told;
 mod types;
 mod versions;
 
@@ -24,6 +26,7 @@ pub use client::{
     cqlp_client_phase, cqlp_client_reply,
 };
 pub use course::{CqlpBegun, CqlpCourse, CqlpSkipped};
+pub use encode::{CqlpEncoded, cqlp_encode};
 pub use event::CqlpEvent;
 pub use handle::{
     CqlpDecoder, CqlpHeldDecoder, CqlpPlace, cqlp_finish, cqlp_free, cqlp_held, cqlp_new,
@@ -32,8 +35,8 @@ pub use handle::{
 pub use header::{CqlpHeader, cqlp_write_header};
 pub use laws::{
     calls_read_stretches, contents_lie_there, events_are_pushed, frames_are_heard,
-    one_answer_of_check, one_answer_of_client_new, one_answer_of_next, one_answer_of_server_new,
-    one_answer_of_skip, one_answer_over_skips,
+    one_answer_of_check, one_answer_of_client_new, one_answer_of_encode, one_answer_of_next,
+    one_answer_of_server_new, one_answer_of_skip, one_answer_over_skips, written_events_are_read,
 };
 pub use server::{
     CqlpServer, CqlpService, cqlp_server_accept, cqlp_server_answer, cqlp_server_event,

@@ -2,7 +2,7 @@
 //! change; new ones are added at the end of their group. `include/cqlp.h` has the same, with `CQLP_` before each name.
 
 ghost use Rattle.std.specs.Prelude.{◌≡◌};
-ghost use Rattle.cqlp_note.specs.Heading.{code_of};
+ghost use Rattle.cqlp_note.specs.Heading.{beside_number, code_of};
 ghost use Rattle.cqlp_c.specs.Numbers as numbers;
 
 use cqlp_kind::Kind;
@@ -86,6 +86,20 @@ pub const NOT_REFUSED: u32 = 35;
 pub const IN_HEADER: u32 = 36;
 
 pub const TOO_FAR: u32 = 37;
+
+pub const NO_EVENT: u32 = 38;
+
+pub const MISPLACED: u32 = 39;
+
+pub const UNBUILT: u32 = 40;
+
+pub const TOO_MANY_FIELDS: u32 = 41;
+
+pub const TOO_MANY_BYTES: u32 = 42;
+
+pub const LEFT_OVER: u32 = 43;
+
+pub const NO_SUCH_FRAME: u32 = 44;
 
 // ---- why a batch of events ends
 
@@ -518,6 +532,71 @@ pub fn field_number(field: Field) -> u8
         Field::TypeName => FIELD_TYPE_NAME,
         Field::Fields => FIELD_FIELDS,
         Field::FieldName => FIELD_FIELD_NAME,
+    }
+}
+
+/// The field that has this number, if one has.
+pub fn field_numbered(number: u8) -> Option<Field>
+    ensures { result ≡ beside_number number numbers.fields }
+{
+    match number {
+        FIELD_TRACE_ID => Some(Field::TraceId),
+        FIELD_WARNINGS => Some(Field::Warnings),
+        FIELD_WARNING => Some(Field::Warning),
+        FIELD_PAYLOAD_ITEMS => Some(Field::PayloadItems),
+        FIELD_PAYLOAD_KEY => Some(Field::PayloadKey),
+        FIELD_PAYLOAD_VALUE => Some(Field::PayloadValue),
+        FIELD_OPTIONS => Some(Field::Options),
+        FIELD_OPTION_KEY => Some(Field::OptionKey),
+        FIELD_OPTION_VALUE => Some(Field::OptionValue),
+        FIELD_OPTION_VALUES => Some(Field::OptionValues),
+        FIELD_QUERY => Some(Field::Query),
+        FIELD_STATEMENT_ID => Some(Field::StatementId),
+        FIELD_EVENT_TYPES => Some(Field::EventTypes),
+        FIELD_EVENT_TYPE => Some(Field::EventType),
+        FIELD_TOKEN => Some(Field::Token),
+        FIELD_BATCH_TYPE => Some(Field::BatchType),
+        FIELD_ENTRIES => Some(Field::Entries),
+        FIELD_ENTRY_KIND => Some(Field::EntryKind),
+        FIELD_CONSISTENCY => Some(Field::Consistency),
+        FIELD_BATCH_FLAGS => Some(Field::BatchFlags),
+        FIELD_SERIAL_CONSISTENCY => Some(Field::SerialConsistency),
+        FIELD_TIMESTAMP => Some(Field::Timestamp),
+        FIELD_QUERY_FLAGS => Some(Field::QueryFlags),
+        FIELD_VALUES => Some(Field::Values),
+        FIELD_VALUE_NAME => Some(Field::ValueName),
+        FIELD_VALUE => Some(Field::Value),
+        FIELD_PAGE_SIZE => Some(Field::PageSize),
+        FIELD_PAGING_STATE => Some(Field::PagingState),
+        FIELD_CLASS => Some(Field::Class),
+        FIELD_ERROR_CODE => Some(Field::ErrorCode),
+        FIELD_MESSAGE => Some(Field::Message),
+        FIELD_REQUIRED => Some(Field::Required),
+        FIELD_ALIVE => Some(Field::Alive),
+        FIELD_RECEIVED => Some(Field::Received),
+        FIELD_BLOCK_FOR => Some(Field::BlockFor),
+        FIELD_WRITE_TYPE => Some(Field::WriteType),
+        FIELD_DATA_PRESENT => Some(Field::DataPresent),
+        FIELD_FAILURES => Some(Field::Failures),
+        FIELD_KEYSPACE => Some(Field::Keyspace),
+        FIELD_NAME => Some(Field::Name),
+        FIELD_ARGUMENTS => Some(Field::Arguments),
+        FIELD_ARGUMENT => Some(Field::Argument),
+        FIELD_TABLE => Some(Field::Table),
+        FIELD_RESULT_KIND => Some(Field::ResultKind),
+        FIELD_ROWS => Some(Field::Rows),
+        FIELD_META_FLAGS => Some(Field::MetaFlags),
+        FIELD_COLUMNS => Some(Field::Columns),
+        FIELD_KEYS => Some(Field::Keys),
+        FIELD_KEY_INDEX => Some(Field::KeyIndex),
+        FIELD_COLUMN_NAME => Some(Field::ColumnName),
+        FIELD_CHANGE => Some(Field::Change),
+        FIELD_TARGET => Some(Field::Target),
+        FIELD_ADDRESS => Some(Field::Address),
+        FIELD_TYPE_NAME => Some(Field::TypeName),
+        FIELD_FIELDS => Some(Field::Fields),
+        FIELD_FIELD_NAME => Some(Field::FieldName),
+        _ => None,
     }
 }
 

@@ -30,7 +30,7 @@ fn error_head(stream: i16, text_len: u16) -> [u8; 15]
 }
 
 /// Writes bytes at a place, and answers the place behind them.
-fn put(room: &mut [u8], at: usize, bytes: &[u8]) -> usize
+pub fn put(room: &mut [u8], at: usize, bytes: &[u8]) -> usize
     requires { at + length bytes.now ≤ length room.old }
     ensures behind { result ≡ at + length bytes.now }
     ensures first { take result room.new ≡ take at room.old ++ bytes.now }

@@ -143,3 +143,17 @@ pub unsafe extern "C" fn cqlp_version_error(header: &[u8; 9], bytes: *mut u8, ro
 pub extern "C" fn cqlp_write_header(fields: &CqlpHeader, bytes: &mut [u8; 9]) -> u32 {
     crate::cqlp_c::cqlp_write_header(fields, bytes)
 }
+
+#[unsafe(no_mangle)]
+pub unsafe extern "C" fn cqlp_encode(
+    events: *const CqlpEvent,
+    count: usize,
+    contents: *const u8,
+    length: usize,
+    bytes: *mut u8,
+    room: usize,
+    encoded: &mut CqlpEncoded,
+) -> u32 {
+    let (events, contents, bytes) = unsafe { (slice(events, count), slice(contents, length), slice_mut(bytes, room)) };
+    crate::cqlp_c::cqlp_encode(Global, events, contents, bytes, encoded)
+}

@@ -1,0 +1,325 @@
+/* Frames written of their events. bindings/streams.txt comes on standard input. The events of each whole frame there are handed to
+ * cqlp_encode: what it writes is read as these events, and is the frame itself, but where the frame has bytes after its last field or a null
+ * of another length than -1; a frame with a page or a type option is refused. Then events are changed at random, from a fixed seed:
+ * what is written is read as these events, and what is refused has written nothing. Events, contents and bytes lie at edges. */
+#include "give.h"
+
+enum { MOST = 128, LONG = 4096 };
+
+/* The events of a frame, and their contents one after the other. */
+typedef struct told {
+  cqlp_event events[MOST];
+  uint8_t contents[LONG];
+  size_t count, length;
+} told;
+
+static int has_content(const cqlp_event *event) {
+  int may_be_null = event->tag == CQLP_TAG_BYTES || event->tag == CQLP_TAG_BOUND;
+  return event->tag == CQLP_TAG_TEXT || (may_be_null && event->mark == CQLP_MARK_NONE);
+}
+
+static void note(told *told, const cqlp_event *event) {
+  CHECK(told->count < MOST && event->length <= LONG - told->length);
+  told->events[told->count] = *event;
+  told->events[told->count++].content = NULL;
+  if (!has_content(event)) return;
+  memcpy(told->contents + told->length, event->content, event->length);
+  told->length += event->length;
+}
+
+/* Calls cqlp_encode with this much room, and looks at what it leaves behind what it says it wrote. */
+static uint32_t encode(const told *told, size_t room, uint8_t **bytes, cqlp_encoded *encoded) {
+  cqlp_event *events = edge(EVENTS, told->count * sizeof *events);
+  uint8_t *contents = edge(PIECE, told->length);
+  *bytes = edge(BYTES, room);
+  memcpy(events, told->events, told->count * sizeof *events);
+  memcpy(contents, told->contents, told->length);
+  memset(*bytes, 0xA5, room);
+  memset(encoded, 0xA5, sizeof *encoded);
+  uint32_t code = cqlp_encode(events, told->count, contents, told->length, *bytes, room, encoded);
+  CHECK(encoded->event <= told->count);
+  for (size_t i = code == CQLP_DONE ? encoded->length : 0; i < room; i++) CHECK((*bytes)[i] == 0xA5);
+  if (code == CQLP_DONE || code == CQLP_NO_ROOM) {
+    CHECK(encoded->event == told->count && encoded->length >= 9);
+    CHECK((code == CQLP_DONE) == (encoded->length <= room));
+  } else {
+    CHECK(encoded->length == 0);
+  }
+  return code;
+}
+
+/* What is told of a field, without what its tag has no use for, offsets, and lengths of frames. */
+static cqlp_event plain(const cqlp_event *event) {
+  cqlp_event of = {0};
+  of.tag = event->tag;
+  if (event->tag == CQLP_TAG_END) return of;
+  if (event->tag == CQLP_TAG_FRAME) {
+    of.extra = event->extra;
+    of.opcode = event->opcode;
+    of.flags = event->flags;
+    of.mark = event->mark;
+    return of;
+  }
+  of.field = event->field;
+  if (event->tag == CQLP_TAG_UUID || event->tag == CQLP_TAG_INET)
+    memcpy(of.bytes, event->bytes, event->tag == CQLP_TAG_INET && event->octets == 4 ? 4 : 16);
+  if (event->tag == CQLP_TAG_INET) {
+    of.extra = event->extra;
+    of.octets = event->octets;
+  }
+  if (has_content(event)) of.length = event->length;
+  if (event->tag == CQLP_TAG_BYTES || event->tag == CQLP_TAG_BOUND) of.mark = event->mark;
+  if (event->tag <= CQLP_TAG_LONG || event->tag == CQLP_TAG_COUNT) of.number = event->number;
+  return of;
+}
+
+/* The bytes are a frame, of which just these events are read. */
+static void check_read(const told *told, const uint8_t *bytes, size_t length) {
+  static cqlp_event events[MOST];
+  cqlp_limits limits = {LONG, LONG, 64, 8, 1, 0};
+  cqlp_decoder decoder = CQLP_NO_DECODER_YET;
+  cqlp_batch batch = {0};
+  cqlp_end end = {0};
+  size_t used = 0, count = 0, at = 0;
+  CHECK(cqlp_new(&limits, &decoder) == CQLP_DONE);
+  do {
+    CHECK(cqlp_next(&decoder, bytes + used, length - used, events, MOST, &batch) == CQLP_DONE);
+    used += batch.used;
+    for (size_t i = 0; i < batch.events; i++, count++) {
+      if (count == told->count) {
+        CHECK(events[i].tag == CQLP_TAG_END);
+        continue;
+      }
+      CHECK(count < told->count);
+      cqlp_event read = plain(&events[i]), given = plain(&told->events[count]);
+      CHECK(memcmp(&read, &given, offsetof(cqlp_event, octets) + 1) == 0);
+      CHECK(given.length == 0 || memcmp(events[i].content, told->contents + at, given.length) == 0);
+      at += given.length;
+    }
+  } while (batch.stop == CQLP_STOP_FULL);
+  CHECK(count == told->count || (count == told->count + 1 && told->events[told->count - 1].tag != CQLP_TAG_END));
+  CHECK(at == told->length);
+  CHECK(cqlp_finish(&decoder, &end) == CQLP_DONE && end.verdict == CQLP_END_WHOLE && end.bytes == length);
+  CHECK(cqlp_free(&decoder) == CQLP_DONE);
+}
+
+/* It has a type option, or is a page. */
+static int is_unbuilt(const told *told) {
+  for (size_t i = 0; i < told->count; i++) {
+    const cqlp_event *event = &told->events[i];
+    if (event->tag == CQLP_TAG_TYPE_NODE) return 1;
+    if (event->tag == CQLP_TAG_INT && event->field == CQLP_FIELD_RESULT_KIND && event->number == CQLP_RESULT_ROWS) return 1;
+  }
+  return 0;
+}
+
+static size_t same, others, unbuilt;
+
+/* A whole frame as it came, and what is written of its events, in all rooms that are too short, and in two that are not. */
+static void write_again(const char *name, const told *told, const uint8_t *frame, size_t length) {
+  uint8_t *bytes;
+  cqlp_encoded encoded;
+  uint32_t code = encode(told, length, &bytes, &encoded);
+  if (is_unbuilt(told)) {
+    CHECK(code == CQLP_UNBUILT);
+    unbuilt++;
+    return;
+  }
+  CHECK(code == CQLP_DONE);
+  check_read(told, bytes, encoded.length);
+  if (encoded.length == length && memcmp(bytes, frame, length) == 0) {
+    same++;
+  } else {
+    printf("%s: %s, %zu bytes of %zu\n", name, cqlp_name(CQLP_GROUP_OPCODE, told->events[0].opcode), encoded.length, length);
+    others++;
+  }
+  size_t wanted = encoded.length;
+  for (size_t room = 0; room < wanted; room++) {
+    CHECK(encode(told, room, &bytes, &encoded) == CQLP_NO_ROOM && encoded.length == wanted);
+  }
+  CHECK(encode(told, wanted + 1, &bytes, &encoded) == CQLP_DONE && encoded.length == wanted);
+}
+
+/* The whole frames that were written, to be changed. */
+enum { FRAMES = 256 };
+static told *frames[FRAMES];
+static size_t kept;
+
+static void keep(const told *whole) {
+  CHECK(kept < FRAMES);
+  frames[kept] = malloc(sizeof **frames);
+  CHECK(frames[kept]);
+  *frames[kept++] = *whole;
+}
+
+static void write_stream(const char *name, const cqlp_limits *limits, const uint8_t *stream, size_t length) {
+  static told told;
+  cqlp_decoder decoder = CQLP_NO_DECODER_YET;
+  cqlp_event event;
+  cqlp_batch batch = {0};
+  size_t used = 0, from = 0;
+  memset(&event, 0, sizeof event);
+  CHECK(cqlp_new(limits, &decoder) == CQLP_DONE);
+  do {
+    CHECK(cqlp_next(&decoder, stream + used, length - used, &event, 1, &batch) == CQLP_DONE);
+    used += batch.used;
+    if (!batch.events) continue;
+    if (event.tag == CQLP_TAG_FRAME) {
+      told.count = told.length = 0;
+      from = (size_t)event.at;
+    }
+    note(&told, &event);
+    if (event.tag != CQLP_TAG_END) continue;
+    write_again(name, &told, stream + from, (size_t)event.at - from);
+    keep(&told);
+  } while (batch.stop == CQLP_STOP_FULL);
+  CHECK(cqlp_free(&decoder) == CQLP_DONE);
+}
+
+/* Numbers at random, the same at each run. */
+static uint64_t state = 0x9E3779B97F4A7C15u;
+
+static size_t below(size_t bound) {
+  state ^= state << 13;
+  state ^= state >> 7;
+  state ^= state << 17;
+  return bound ? (size_t)(state % bound) : 0;
+}
+
+/* Changes one thing of an event, or of the contents, or how many there are. */
+static void change(told *told) {
+  static const int64_t NUMBERS[] = {0, 1, -1, 2, 3, 4, 5, 255, 256, 65535, 65536, 2147483647, 2147483648, -2147483648, 4294967295, 4294967296, INT64_MAX, INT64_MIN};
+  size_t i = below(told->count), j = below(told->count);
+  cqlp_event *event = &told->events[i], other = told->events[j];
+  switch (below(16)) {
+    case 0: event->tag = (uint8_t)below(22); break;
+    case 1: event->field = (uint8_t)below(60); break;
+    case 2: event->field = other.field; break;
+    case 3: event->mark = (uint8_t)below(6); break;
+    case 4: event->number = NUMBERS[below(sizeof NUMBERS / sizeof *NUMBERS)]; break;
+    case 5: event->number = (int64_t)((uint64_t)event->number + below(3) - 1); break;
+    case 6: event->length = below(3) ? event->length + below(3) - 1 : below(2) ? SIZE_MAX : (size_t)1 << below(63); break;
+    case 7: event->opcode = (uint8_t)below(18); break;
+    case 8: event->flags = (uint8_t)(1u << below(8)); break;
+    case 9: event->extra = (int32_t)NUMBERS[below(sizeof NUMBERS / sizeof *NUMBERS)]; break;
+    case 10: event->octets = (uint8_t)below(18); break;
+    case 11: if (told->length) told->contents[below(told->length)] = (uint8_t)below(256); break;
+    case 12: told->length = below(2) ? below(told->length + 1) : told->length + below(3); break;
+    case 13: told->events[j] = *event; *event = other; break;
+    case 14: if (told->count > 1) memmove(event, event + 1, (--told->count - i) * sizeof *event); break;
+    default:
+      if (told->count == MOST) break;
+      memmove(event + 1, event, (told->count++ - i) * sizeof *event);
+      *event = other;
+  }
+  if (told->length > LONG) told->length = LONG;
+}
+
+/* What becomes of events that were changed, by codes. */
+static size_t codes[64];
+
+static void write_changed(size_t times) {
+  static told told;
+  for (size_t i = 0; i < times; i++) {
+    uint8_t *bytes;
+    cqlp_encoded encoded;
+    told = *frames[below(kept)];
+    for (size_t n = below(4); n-- > 0;) change(&told);
+    uint32_t code = encode(&told, below(2) ? 4096 : below(40), &bytes, &encoded);
+    CHECK(code < sizeof codes / sizeof *codes);
+    codes[code]++;
+    if (code == CQLP_DONE) check_read(&told, bytes, encoded.length);
+  }
+}
+
+/* One event that is refused, of a QUERY with a text. */
+static uint32_t refused(size_t which, cqlp_event with, size_t *event) {
+  static told told;
+  uint8_t *bytes;
+  cqlp_encoded encoded;
+  cqlp_event query[] = {
+    {.tag = CQLP_TAG_FRAME, .opcode = CQLP_OPCODE_QUERY, .extra = 7},
+    {.tag = CQLP_TAG_TEXT, .field = CQLP_FIELD_QUERY, .length = 3},
+    {.tag = CQLP_TAG_SHORT, .field = CQLP_FIELD_CONSISTENCY, .number = CQLP_CONSISTENCY_ONE},
+    {.tag = CQLP_TAG_BYTE, .field = CQLP_FIELD_QUERY_FLAGS},
+    {.tag = CQLP_TAG_END},
+  };
+  query[which] = with;
+  memcpy(told.events, query, sizeof query);
+  memcpy(told.contents, "\xC3\xA4!", told.length = 3);
+  told.count = 5;
+  uint32_t code = encode(&told, 64, &bytes, &encoded);
+  *event = encoded.event;
+  return code;
+}
+
+static void refuse_each(void) {
+  static const struct { const char *what; size_t which; cqlp_event with; } CASES[] = {
+    {"nothing", 4, {.tag = CQLP_TAG_END, .number = 9}},
+    {"no tag", 2, {.tag = 0}},
+    {"another tag", 2, {.tag = 20, .field = 1}},
+    {"no field", 2, {.tag = CQLP_TAG_SHORT}},
+    {"another field", 2, {.tag = CQLP_TAG_SHORT, .field = 57}},
+    {"no opcode", 0, {.tag = CQLP_TAG_FRAME, .opcode = 4}},
+    {"no stream id", 0, {.tag = CQLP_TAG_FRAME, .opcode = CQLP_OPCODE_QUERY, .extra = 32768}},
+    {"no mark of a frame", 0, {.tag = CQLP_TAG_FRAME, .opcode = CQLP_OPCODE_QUERY, .mark = CQLP_MARK_NULL}},
+    {"no byte", 3, {.tag = CQLP_TAG_BYTE, .field = CQLP_FIELD_QUERY_FLAGS, .number = 256}},
+    {"no short", 2, {.tag = CQLP_TAG_SHORT, .field = CQLP_FIELD_CONSISTENCY, .number = -1}},
+    {"no int", 2, {.tag = CQLP_TAG_INT, .field = CQLP_FIELD_PAGE_SIZE, .number = 2147483648}},
+    {"no count", 2, {.tag = CQLP_TAG_COUNT, .field = CQLP_FIELD_VALUES, .number = -1}},
+    {"no address", 2, {.tag = CQLP_TAG_INET, .field = CQLP_FIELD_ADDRESS, .octets = 8}},
+    {"no mark of bytes", 2, {.tag = CQLP_TAG_BYTES, .field = CQLP_FIELD_TOKEN, .mark = CQLP_MARK_UNSET}},
+    {"no mark of a value", 2, {.tag = CQLP_TAG_BOUND, .field = CQLP_FIELD_VALUE, .mark = CQLP_MARK_LAST}},
+    {"no text", 1, {.tag = CQLP_TAG_TEXT, .field = CQLP_FIELD_QUERY, .length = 1}},
+    {"too few bytes", 1, {.tag = CQLP_TAG_TEXT, .field = CQLP_FIELD_QUERY, .length = 4}},
+    {"many too few bytes", 1, {.tag = CQLP_TAG_TEXT, .field = CQLP_FIELD_QUERY, .length = SIZE_MAX}},
+    {"bytes left over", 1, {.tag = CQLP_TAG_TEXT, .field = CQLP_FIELD_QUERY, .length = 2}},
+    {"a second frame", 1, {.tag = CQLP_TAG_FRAME, .opcode = CQLP_OPCODE_OPTIONS}},
+    {"no frame", 0, {.tag = CQLP_TAG_BYTE, .field = CQLP_FIELD_QUERY_FLAGS}},
+    {"an end before", 3, {.tag = CQLP_TAG_END}},
+    {"a type", 2, {.tag = CQLP_TAG_TYPE_NODE, .kind = CQLP_KIND_INT}},
+    {"a cell", 2, {.tag = CQLP_TAG_LEAF, .kind = 99}},
+    {"a page", 2, {.tag = CQLP_TAG_INT, .field = CQLP_FIELD_RESULT_KIND, .number = CQLP_RESULT_ROWS}},
+    {"another field than is due", 2, {.tag = CQLP_TAG_SHORT, .field = CQLP_FIELD_SERIAL_CONSISTENCY}},
+    {"another direction", 0, {.tag = CQLP_TAG_FRAME, .opcode = CQLP_OPCODE_QUERY, .mark = CQLP_MARK_RESPONSE}},
+    {"compression", 0, {.tag = CQLP_TAG_FRAME, .opcode = CQLP_OPCODE_QUERY, .flags = 1}},
+    {"a flag of what does not come", 3, {.tag = CQLP_TAG_BYTE, .field = CQLP_FIELD_QUERY_FLAGS, .number = 4}},
+  };
+  for (size_t i = 0; i < sizeof CASES / sizeof *CASES; i++) {
+    size_t event;
+    uint32_t code = refused(CASES[i].which, CASES[i].with, &event);
+    printf("%s: %s at %zu\n", CASES[i].what, cqlp_name(CQLP_GROUP_CODE, code), event);
+  }
+  cqlp_encoded encoded = {1, 1};
+  CHECK(cqlp_encode(NULL, 0, NULL, 0, NULL, 0, &encoded) == CQLP_MISPLACED && encoded.event == 0 && encoded.length == 0);
+}
+
+static size_t bytes_of(const char *digits, uint8_t *bytes, size_t room) {
+  size_t count = 0;
+  unsigned byte;
+  for (; sscanf(digits, "%2x", &byte) == 1; digits += 2) {
+    CHECK(count < room);
+    bytes[count++] = (uint8_t)byte;
+  }
+  return count;
+}
+
+int main(void) {
+  static char line[8192], name[256];
+  static uint8_t stream[4096];
+  cqlp_limits limits = {0};
+  while (fgets(line, sizeof line, stdin)) {
+    unsigned text, cell, entries, depth, types, parts;
+    if (sscanf(line, "stream %255s %u %u %u %u %u %u", name, &text, &cell, &entries, &depth, &types, &parts) == 7)
+      limits = (cqlp_limits){text, cell, entries, depth, (uint8_t)types, (uint8_t)parts};
+    else if (strncmp(line, "bytes ", 6) == 0)
+      write_stream(name, &limits, stream, bytes_of(line + 6, stream, sizeof stream));
+  }
+  printf("frames: %zu the same, %zu others, %zu with a page or a type option\n", same, others, unbuilt);
+  refuse_each();
+  write_changed(100000);
+  for (size_t i = 0; i < sizeof codes / sizeof *codes; i++)
+    if (codes[i]) printf("changed: %s\n", cqlp_name(CQLP_GROUP_CODE, (int64_t)i));
+  for (size_t i = 0; i < kept; i++) free(frames[i]);
+  return 0;
+}

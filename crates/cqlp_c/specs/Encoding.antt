@@ -1,0 +1,138 @@
+-- What is written for C of the events of a frame.
+use Rattle.std.specs.Prelude.{◌≡◌, ⊤, ℕ, suc, ◌<◌, ◌≤◌, List, [], ◌∷◌, length, take, drop, Option, Some, None, Result, Ok, Err, IsOk, ◌⊎◌}
+use Rattle.std.specs.Borrow.{Bor}
+use Rattle.cqlp_note.specs.declared.header.TheConstants.Header.{LONGEST_BODY}
+use Rattle.cqlp_grammar.specs.Events.{Event}
+use Rattle.cqlp_build.specs.declared.builder.BuildLimits.{BuildLimits}
+use Rattle.cqlp_build.specs.declared.error.BuildError.{BuildError}
+use Rattle.cqlp_build.specs.declared.error.BuildError.TheVariants as error
+use Rattle.cqlp_compose.specs.Composing.{ComposerState, IsOfNone, IsWrittenOf, refusal_of, start, with_next}
+use Rattle.cqlp_c.specs.declared.encode.CqlpEncoded.{CqlpEncoded}
+use Rattle.cqlp_c.specs.declared.encode.Stopped.{Stopped}
+use Rattle.cqlp_c.specs.declared.encode.Unencoded.{Unencoded}
+use Rattle.cqlp_c.specs.declared.encode.Unencoded.TheVariants as unencoded
+use Rattle.cqlp_c.specs.declared.event.CqlpEvent.{CqlpEvent}
+use Rattle.cqlp_c.specs.declared.numbers.TheConstants as numbers
+use Rattle.cqlp_c.specs.declared.told.NotTold.{NotTold}
+use Rattle.cqlp_c.specs.declared.told.NotTold.TheVariants as not_told
+use Rattle.cqlp_c.specs.Rooms.{PutsBytes}
+use Rattle.cqlp_c.specs.Told.{content_len, event_told}
+
+-- ---- events one after the other
+
+-- the events that were taken, and the contents that are left
+abbrev pub Taken : Type 0
+Taken = ComposerState × List ℕ
+
+abbrev pub unless : Option BuildError → Taken → Result Taken Unencoded
+unless None t = Ok t
+unless (Some why) t = Err (unencoded.Refused why)
+
+-- an event is taken where nothing keeps it from being the next
+abbrev pub with_told : ComposerState → Result Event NotTold → (rest : List ℕ) → Result Taken Unencoded
+with_told s (Err why) rest = Err (unencoded.Untold why)
+with_told s (Ok e) rest = unless (refusal_of s e) (with_next s e, rest)
+
+-- What becomes of what C tells as an event.
+abbrev pub after_one : Taken → CqlpEvent → Result Taken Unencoded
+after_one t c = with_told t.0 (event_told c t.1) (drop (content_len c) t.1)
+
+abbrev pub on_from : (n : ℕ) → Result Taken Unencoded → (Taken → Result Taken Stopped) → Result Taken Stopped
+on_from n (Ok t) f = f t
+on_from n (Err why) f = Err (record { event = n; why = why })
+
+-- What becomes of what C tells as events, of which the first is the n-th: all are taken, or this one is the first that is not.
+abbrev pub after_all : (n : ℕ) → Taken → List CqlpEvent → Result Taken Stopped
+after_all n t [] = Ok t
+after_all n t (c ∷ cs) = on_from n (after_one t c) (λ u. after_all (suc n) u cs)
+
+-- bytes, wherever they lie
+abbrev pub seen : {E : Type 0} → Result (Bor (List ℕ)) E → Result (List ℕ) E
+seen (Ok bytes) = Ok bytes.now
+seen (Err e) = Err e
+
+-- An event was taken, or was not for this reason. Where memory was refused, nothing else kept it from being taken.
+abbrev pub TakesOne : Taken → CqlpEvent → Result (List ℕ) Unencoded → ComposerState → Type 0
+TakesOne t c (Ok rest) new = after_one t c ≡ Ok (new, rest)
+TakesOne t c (Err (unencoded.Refused error.NoMemory)) new = IsOk (after_one t c)
+TakesOne t c (Err why) new = after_one t c ≡ Err why
+
+-- The same of all of them; where memory was refused, all before were taken.
+abbrev pub StopsAt : Taken → List CqlpEvent → (n : ℕ) → Unencoded → Type 0
+StopsAt t cs n (unencoded.Refused error.NoMemory) = (n < length cs) × IsOk (after_all 0 t (take n cs))
+StopsAt t cs n why = after_all 0 t cs ≡ Err (record { event = n; why = why })
+
+abbrev pub TakesAll : Taken → List CqlpEvent → Result (List ℕ) Stopped → ComposerState → Type 0
+TakesAll t cs (Ok rest) new = after_all 0 t cs ≡ Ok (new, rest)
+TakesAll t cs (Err r) new = StopsAt t cs r.event r.why
+
+-- ---- the frame
+
+-- No frame has more fields and type options, nor more bytes of texts and contents, than its body has bytes.
+abbrev pub longest : BuildLimits
+longest = record { fields = LONGEST_BODY; depth = LONGEST_BODY; bytes = LONGEST_BODY }
+
+-- no event was taken, and all contents are left
+abbrev pub at_first : (contents : List ℕ) → Taken
+at_first contents = (start longest, contents)
+
+-- They are the bytes of the frame that has these events with these contents, of which nothing is left.
+abbrev pub IsEncoded : List CqlpEvent → (contents bytes : List ℕ) → Type 0
+IsEncoded cs contents bytes =
+    (s : ComposerState) × (after_all 0 (at_first contents) cs ≡ Ok (s, [])) × IsWrittenOf s.frame.events bytes
+
+-- Why no frame has the events that were taken, or with no contents left.
+abbrev pub HasNone : Taken → Unencoded → Type 0
+HasNone (s, []) (unencoded.Refused why) = IsOfNone s.frame.events why
+HasNone (s, b ∷ bs) unencoded.LeftOver = ⊤
+HasNone t why = ⊥
+
+-- An event is not taken; or all are, and then there is no frame.
+abbrev pub StopsFor : List CqlpEvent → (contents : List ℕ) → Stopped → Type 0
+StopsFor cs contents r =
+    (after_all 0 (at_first contents) cs ≡ Err r)
+    ⊎ ((t : Taken) × (after_all 0 (at_first contents) cs ≡ Ok t) × (r.event ≡ length cs) × HasNone t r.why)
+
+abbrev pub IsUnencodedAt : List CqlpEvent → (contents : List ℕ) → (n : ℕ) → Unencoded → Type 0
+IsUnencodedAt cs contents n (unencoded.Refused error.NoMemory) = (n ≤ length cs) × IsOk (after_all 0 (at_first contents) (take n cs))
+IsUnencodedAt cs contents n why = StopsFor cs contents (record { event = n; why = why })
+
+-- Why there is no frame, and at which event. Where memory was refused, all events before were taken.
+abbrev pub IsUnencoded : List CqlpEvent → (contents : List ℕ) → Stopped → Type 0
+IsUnencoded cs contents r = IsUnencodedAt cs contents r.event r.why
+
+-- ---- what C is told
+
+abbrev pub code_of_untold : NotTold → ℕ
+code_of_untold not_told.NoEvent = numbers.NO_EVENT
+code_of_untold not_told.Unbuilt = numbers.UNBUILT
+
+abbrev pub code_of_refused : BuildError → ℕ
+code_of_refused error.Misplaced = numbers.MISPLACED
+code_of_refused error.Unbuilt = numbers.UNBUILT
+code_of_refused error.TooManyFields = numbers.TOO_MANY_FIELDS
+code_of_refused error.TooDeep = numbers.TOO_DEEP
+code_of_refused error.TooManyBytes = numbers.TOO_MANY_BYTES
+code_of_refused error.NoFrame = numbers.NO_SUCH_FRAME
+code_of_refused error.NoMemory = numbers.NO_MEMORY
+
+abbrev pub code_of_unencoded : Unencoded → ℕ
+code_of_unencoded (unencoded.Untold why) = code_of_untold why
+code_of_unencoded (unencoded.Refused why) = code_of_refused why
+code_of_unencoded unencoded.LeftOver = numbers.LEFT_OVER
+
+-- The frame's bytes are put, where there is room, and it is told how many they are.
+abbrev pub PutsFrame : List CqlpEvent → (contents : List ℕ) → (code : ℕ) → (before after : List ℕ) → CqlpEncoded → Type 0
+PutsFrame cs contents code before after told =
+    (bytes : List ℕ) × IsEncoded cs contents bytes × PutsBytes bytes code before after told.length × (told.event ≡ length cs)
+
+-- There is no frame: nothing is put, and the code says why.
+abbrev pub PutsNone : List CqlpEvent → (contents : List ℕ) → (code : ℕ) → (before after : List ℕ) → CqlpEncoded → Type 0
+PutsNone cs contents code before after told =
+    (r : Stopped) × IsUnencoded cs contents r × (code ≡ code_of_unencoded r.why) × (after ≡ before)
+    × (told ≡ record { length = 0; event = r.event })
+
+-- What `cqlp_encode` answers.
+abbrev pub Encodes : List CqlpEvent → (contents : List ℕ) → (code : ℕ) → (before after : List ℕ) → CqlpEncoded → Type 0
+Encodes cs contents code before after told =
+    PutsFrame cs contents code before after told ⊎ PutsNone cs contents code before after told

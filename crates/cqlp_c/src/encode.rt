@@ -1,0 +1,191 @@
+//! A frame, written of its events.
+
+ghost use Rattle.std.specs.Prelude.{◌≡◌, length, MatchResult};
+ghost use Rattle.cqlp_compose.specs.Composing.{composed};
+ghost use Rattle.cqlp_c.specs.Encoding.{Encodes, IsEncoded, IsUnencoded, TakesAll, TakesOne, at_first, code_of_refused};
+ghost use Rattle.cqlp_c.specs.Encoding.{code_of_unencoded, code_of_untold, seen};
+ghost use Rattle.cqlp_c.specs.Rooms.{PutsBytes};
+
+use crate::batch::or_none;
+use crate::event::CqlpEvent;
+use crate::numbers::*;
+use crate::told::{NotTold, event_told};
+use crate::versions::put;
+use cqlp_build::{BuildError, BuildLimits};
+use cqlp_compose::Composer;
+use cqlp_note::Header;
+use std::alloc::Global;
+
+/// What was made of the events of a frame.
+#[repr(C)]
+#[derive(Clone, Copy)]
+pub struct CqlpEncoded {
+    /// How many bytes the frame has; 0 where there is none.
+    pub length: usize,
+    /// Which event is not taken; how many there are where all are.
+    pub event: usize,
+}
+
+/// Why no frame has the events.
+#[derive(Clone, Copy)]
+pub enum Unencoded {
+    /// What is told is no event.
+    Untold(NotTold),
+    /// An event is not taken, or no frame has all of them.
+    Refused(BuildError),
+    /// There are contents behind those of the last event.
+    LeftOver,
+}
+
+/// The first thing that is refused, and how many events came before it.
+#[derive(Clone, Copy)]
+pub struct Stopped {
+    pub event: usize,
+    pub why: Unencoded,
+}
+
+/// Takes the event that C tells, and answers the contents behind its own.
+#[tactic(auto, using(crate::proofs::Encoded::one_taken, crate::proofs::Encoded::one_not_taken, crate::proofs::Encoded::one_untold))]
+fn take_told<'a>(
+    composer: &mut Composer,
+    told: &CqlpEvent,
+    contents: &'a [u8],
+) -> Result<&'a [u8], Unencoded>
+    ensures { TakesOne (composed composer.old, contents.now) told.now (seen result) (composed composer.new) }
+{
+    let (event, rest) = match event_told(told, contents) {
+        Ok(found) => found,
+        Err(why) => return Err(Unencoded::Untold(why)),
+    };
+    match composer.take(&event) {
+        Ok(()) => Ok(rest),
+        Err(why) => Err(Unencoded::Refused(why)),
+    }
+}
+
+/// Takes all events, and answers the contents behind theirs.
+fn take_all<'a>(
+    composer: &mut Composer,
+    events: &[CqlpEvent],
+    contents: &'a [u8],
+) -> Result<&'a [u8], Stopped>
+    ensures { TakesAll (composed composer.old, contents.now) events.now (seen result) (composed composer.new) }
+{
+    let mut rest = contents;
+    for (event, told) in events.iter().enumerate() {
+        match take_told(composer, told, rest) {
+            Ok(behind) => rest = behind,
+            Err(why) => return Err(Stopped { event, why }),
+        }
+    }
+    Ok(rest)
+}
+
+/// The bytes of the frame that has these events.
+#[tactic(auto, using(crate::proofs::Encoded::unencoded_by, crate::proofs::Encoded::left_over, crate::proofs::Encoded::encoded_by, crate::proofs::Encoded::not_encoded))]
+fn frame_bytes(alloc: Global, events: &[CqlpEvent], contents: &[u8]) -> Result<Vec<u8>, Stopped>
+    ensures { MatchResult result (λ v. IsEncoded events.now contents.now v.items) (λ r. IsUnencoded events.now contents.now r) }
+{
+    // No frame has more fields and type options, nor more bytes of texts and contents, than its body has bytes.
+    let limits = BuildLimits {
+        fields: Header::LONGEST_BODY,
+        depth: Header::LONGEST_BODY,
+        bytes: Header::LONGEST_BODY,
+    };
+    let mut composer = Composer::new(alloc, limits);
+    let rest = match take_all(&mut composer, events, contents) {
+        Ok(rest) => rest,
+        Err(stopped) => return Err(stopped),
+    };
+    let event = events.len();
+    if !rest.is_empty() {
+        return Err(Stopped {
+            event,
+            why: Unencoded::LeftOver,
+        });
+    }
+    match composer.write(alloc) {
+        Ok(bytes) => Ok(bytes),
+        Err(why) => Err(Stopped {
+            event,
+            why: Unencoded::Refused(why),
+        }),
+    }
+}
+
+/// The code for what is no event.
+fn untold_code(why: NotTold) -> u32
+    ensures { result ≡ code_of_untold why }
+{
+    match why {
+        NotTold::NoEvent => NO_EVENT,
+        NotTold::Unbuilt => UNBUILT,
+    }
+}
+
+/// The code for events that are not taken.
+fn refused_code(why: BuildError) -> u32
+    ensures { result ≡ code_of_refused why }
+{
+    match why {
+        BuildError::Misplaced => MISPLACED,
+        BuildError::Unbuilt => UNBUILT,
+        BuildError::TooManyFields => TOO_MANY_FIELDS,
+        BuildError::TooDeep => TOO_DEEP,
+        BuildError::TooManyBytes => TOO_MANY_BYTES,
+        BuildError::NoFrame => NO_SUCH_FRAME,
+        BuildError::NoMemory => NO_MEMORY,
+    }
+}
+
+/// The code for what is refused.
+fn unencoded_code(why: Unencoded) -> u32
+    ensures { result ≡ code_of_unencoded why }
+{
+    match why {
+        Unencoded::Untold(why) => untold_code(why),
+        Unencoded::Refused(why) => refused_code(why),
+        Unencoded::LeftOver => LEFT_OVER,
+    }
+}
+
+/// Puts bytes at the front of a room, if it has room for them.
+fn put_front(room: &mut [u8], bytes: &[u8]) -> u32
+    ensures { PutsBytes bytes.now result room.old room.new (length bytes.now) }
+{
+    if room.len() < bytes.len() {
+        return NO_ROOM;
+    }
+    put(room, 0, bytes);
+    DONE
+}
+
+/// Writes the frame that has these events, whose contents lie one after the other, and tells how many bytes it has. Where there is no
+/// event, no content or no room, its pointer may be null.
+#[unsafe(no_mangle)]
+pub extern "C" fn cqlp_encode(
+    alloc: Global,
+    events: &[CqlpEvent],
+    contents: &[u8],
+    bytes: &mut [u8],
+    encoded: &mut CqlpEncoded,
+) -> u32
+    ensures { Encodes events.now contents.now result bytes.old bytes.new encoded.new }
+{
+    match frame_bytes(alloc, events, or_none(contents)) {
+        Ok(frame) => {
+            *encoded = CqlpEncoded {
+                length: frame.len(),
+                event: events.len(),
+            };
+            put_front(bytes, &frame)
+        }
+        Err(stopped) => {
+            *encoded = CqlpEncoded {
+                length: 0,
+                event: stopped.event,
+            };
+            unencoded_code(stopped.why)
+        }
+    }
+}

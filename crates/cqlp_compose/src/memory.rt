@@ -1,0 +1,46 @@
+//! Bytes that are written into memory.
+
+ghost use Rattle.std.specs.Prelude.{◌≡◌, Some};
+
+use cqlp_note::{IoFault, Target};
+
+/// Takes bytes behind those that it has. It fails where memory is refused.
+#[derive(Drop)]
+pub struct InMemory {
+    bytes: Vec<u8>,
+    /// How many calls found no memory, up to 2^64 - 1.
+    failures: u64,
+}
+
+impl InMemory {
+    /// With these bytes, and no call made.
+    pub fn new(bytes: Vec<u8>) -> InMemory
+        ensures { result ≡ record { bytes = bytes; failures = 0 } }
+    {
+        InMemory { bytes, failures: 0 }
+    }
+
+    /// The bytes.
+    pub fn into_bytes(self) -> Vec<u8>
+        ensures { result ≡ self.bytes }
+    {
+        let InMemory { bytes, failures: _ } = self;
+        bytes
+    }
+}
+
+impl Target for InMemory {
+    ghost contents = { λ target. Some target.bytes.items };
+
+    ghost failures = { λ target. target.failures };
+
+    fn write(&mut self, bytes: &[u8]) -> Result<usize, IoFault> {
+        match self.bytes.extend_from_slice(bytes) {
+            Ok(()) => Ok(bytes.len()),
+            Err(_) => {
+                self.failures = self.failures.saturating_add(1);
+                Err(IoFault)
+            }
+        }
+    }
+}
