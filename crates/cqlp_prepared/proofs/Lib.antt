@@ -1,0 +1,5 @@
+pub mod Places
+pub mod Lookups
+pub mod Told
+pub mod Whole
+pub mod Stays

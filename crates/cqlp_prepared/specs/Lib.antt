@@ -1,0 +1,4 @@
+pub mod Latest
+pub mod Keeping
+pub mod History
+pub mod Laws
