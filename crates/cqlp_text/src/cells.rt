@@ -104,12 +104,20 @@ impl<P: Pen> TextWriter<P> {
         if bytes.len() > WIDE {
             return self.put_hex_text(bytes);
         }
+        let number = i128::from_be_bytes(extended(bytes));
+        match i64::try_from(number) {
+            Ok(number) => self.put_signed(number),
+            Err(_) => self.put_wide(number),
+        }
+    }
+
+    /// Takes a number of up to 128 bits as decimal digits.
+    #[inline(never)]
+    fn put_wide(&mut self, number: i128) -> Result<(), SinkFault>
+        ensures { Writes self.old (signed_decimal number) result self.new }
+    {
         let mut digits = itoa::Buffer::new();
-        self.put(
-            digits
-                .format(i128::from_be_bytes(extended(bytes)))
-                .as_bytes(),
-        )
+        self.put(digits.format(number).as_bytes())
     }
 
     /// Takes a decimal: the unscaled number, `e`, and the negated scale.

@@ -173,6 +173,31 @@ fn pair(number: u64) -> [u8; 2]
     [PAIRS[from], PAIRS[from + 1]]
 }
 
+/// Puts a short number, as decimal digits, into a room, and answers how many there are.
+#[inline(always)]
+pub(crate) fn place_short(number: u64, at: usize, room: &mut [u8]) -> usize
+    requires few { number < 100_000_000 }
+    requires room { at + length (decimal number) ≤ length room.old }
+    ensures len { result ≡ length (decimal number) }
+    ensures placed { room.new ≡ take at room.old ++ (decimal number ++ drop (at + result) room.old) }
+{
+    write_short_to_front(number, &mut room[at..])
+}
+
+/// Puts a short number, as decimal digits, to the front of bytes, and answers how many there are.
+#[inline(always)]
+fn write_short_to_front(number: u64, bytes: &mut [u8]) -> usize
+    requires few { number < 100_000_000 }
+    requires room { length (decimal number) ≤ length bytes.old }
+    ensures len { result ≡ length (decimal number) }
+    ensures written { bytes.new ≡ decimal number ++ drop result bytes.old }
+{
+    match bytes.first_chunk_mut::<DECIMAL_ROOM>() {
+        Some(room) => write_middle(number, room),
+        None => write_apart(number, bytes),
+    }
+}
+
 /// Puts this many digits of a number, with leading zeros, into a buffer.
 #[inline(always)]
 pub(crate) fn place_digits(number: u64, count: usize, buffer: &mut [u8], at: usize)
@@ -193,7 +218,7 @@ pub(crate) fn place(bytes: &[u8], buffer: &mut [u8], at: usize)
 
 /// Puts bytes to the front of others.
 #[inline(always)]
-fn copy_to_front(bytes: &[u8], room: &mut [u8])
+pub(crate) fn copy_to_front(bytes: &[u8], room: &mut [u8])
     requires { length bytes.now ≤ length room.old }
     ensures { room.new ≡ bytes.now ++ drop (length bytes.now) room.old }
 {

@@ -1,0 +1,5 @@
+use Rattle.cqlp_text.proofs.ItemText.{item_of}
+use Rattle.cqlp_text.proofs.text_writer.TextWriter.put_number_item.Goals as goal
+
+pub returns-clause-part : goal.returns-clause-part
+returns-clause-part g c = item_of c.put_item.result _ _ _ _ _ c.gap-gap.ensures c.ends_row-ends_row.ensures c.put_item.ensures
