@@ -1,7 +1,7 @@
 #!/usr/bin/env python3
 """Writes bindings/streams.txt, which the tests of all wrappers read, to standard output: bindings/streams.py > bindings/streams.txt
 
-Its streams, and what is said of them, are the data of the crates cqlp_test_vectors and cqlp_test_commands, which were written by hand or taken
+Its streams, and what is said of them, are the data of the crates cqlp_test_frames and cqlp_test_commands, which were written by hand or taken
 from the definition. Of each stream there are: a line `stream NAME` with the limits text, cell, entries, depth and the switches types and
 parts; a line `bytes` with the stream in hexadecimal digits; the lines of its events, as `cqlp show` writes them; and a line `end` with the
 verdict. Lines of JSON are left out.
@@ -19,10 +19,10 @@ def bytes_of(digits):
     )
 
 
-def stanzas(path):
+def stanzas(text):
     """The lines below each line `== NAME`, in order."""
     found = []
-    for line in path.read_text("utf-8").splitlines():
+    for line in text.splitlines():
         if line.startswith("== "):
             found.append((line[3:], []))
         elif found and not line.startswith("# "):
@@ -51,10 +51,10 @@ def write(name, bounds, digits, lines, verdict):
     print("end", verdict)
 
 
-def vectors():
-    crate = CRATES / "cqlp_test_vectors"
-    said = stanzas(crate / "stdout")
-    for (words, digits), (name, lines) in zip(inputs(crate / "stdin"), said):
+def streams():
+    crate = CRATES / "cqlp_test_frames"
+    said = stanzas((crate / "stdout").read_text("utf-8").partition("## frames\n")[0])
+    for (words, digits), (name, lines) in zip(inputs(crate / "data/streams"), said):
         assert words == name
         lines = [line for line in lines if not line.startswith("{")]
         write(words.split()[0], limits(words, 64, 64, 8, 3), digits, lines[:-1], lines[-1])
@@ -64,7 +64,7 @@ def commands():
     """Those command lines that show a stream from standard input, none of whose frames is passed over."""
     crate = CRATES / "cqlp_test_commands"
     said = {}
-    for name, lines in stanzas(crate / "stdout"):
+    for name, lines in stanzas((crate / "stdout").read_text("utf-8")):
         said.setdefault(name, []).append(lines)
     shown = [
         (words, digits)
@@ -80,5 +80,5 @@ def commands():
             write("shown_%d" % count, limits(words, 1 << 20, 1 << 20, 4096, 16), digits, lines[:at], lines[at + 1])
 
 
-vectors()
+streams()
 commands()

@@ -63,8 +63,8 @@ impl<O: Target, A: Allocator> Exchanges<O, A> {
     ghost use Rattle.cqlp_exchanges.specs.Accounts.{Finishes};
     ghost use Rattle.cqlp_exchanges.specs.Listening.{Hears, new_listening, with_saying};
 
-    /// Nothing is watched, and exchanges go to this output in this form. All memory is taken here, in one request for each connection of the limit and five more; where
-    /// it is not granted, the output is given back.
+    /// Nothing is watched, and exchanges go to this output in this form. All memory is taken here, in one request for each connection of the
+    /// limit and five more; where it is not granted, the output is given back.
     pub fn new(
         alloc: A,
         limits: ExchangeLimits,

@@ -1,76 +1,102 @@
-//! Frames.
+//! Frames that are written, read back and built again.
+//!
+//! A line has a name, `|`, and the words of a frame value: its fields in the order of their definition. After some names
+//! `--sum` asks for the number of the events alone, and `--cut` for a target that fails after ten bytes. A line `type |` has a type, a line
+//! `value |` a type or `-`, and a value, a line `cells |` a page that is written cell by cell, a line `lent |` one whose cells are lent
+//! twice, and a line `bind |` a type or `-`, and a value that is bound. A line `read |` or `write |` has what each call of a socket makes.
 
-use crate::requests::{batch, execute, query};
-use crate::responses::{error, event};
-use crate::results::result_of;
-use crate::words::{FromWords, Words};
-use cqlp_message::{Frame, Message};
-use cqlp_note::Opcode;
+mod bound;
+mod built;
+mod by_cell;
+mod frame;
+mod lent;
+mod requests;
+mod responses;
+mod results;
+mod shown;
+mod sockets;
+mod stops;
+mod types;
+mod values;
+mod words;
 
-/// The opcodes, by their names.
-static OPCODES: [(&str, Opcode); 16] = [
-    ("STARTUP", Opcode::Startup),
-    ("OPTIONS", Opcode::Options),
-    ("QUERY", Opcode::Query),
-    ("PREPARE", Opcode::Prepare),
-    ("EXECUTE", Opcode::Execute),
-    ("BATCH", Opcode::Batch),
-    ("REGISTER", Opcode::Register),
-    ("AUTH_RESPONSE", Opcode::AuthResponse),
-    ("ERROR", Opcode::Error),
-    ("READY", Opcode::Ready),
-    ("AUTHENTICATE", Opcode::Authenticate),
-    ("SUPPORTED", Opcode::Supported),
-    ("RESULT", Opcode::Result),
-    ("EVENT", Opcode::Event),
-    ("AUTH_CHALLENGE", Opcode::AuthChallenge),
-    ("AUTH_SUCCESS", Opcode::AuthSuccess),
-];
+use cqlp_message::Frame;
+use cqlp_type::{TypeTree, type_len};
+use cqlp_value::{Value, fits, value_len};
+use std::io;
+use words::Words;
 
-impl FromWords for Frame {
-    fn from_words(words: &mut Words<'_>) -> Frame {
-        Frame {
-            flags: words.byte(),
-            stream: words.read(),
-            tracing: words.option(),
-            warnings: words.list_option(),
-            payload: words.list_option(),
-            message: words.read(),
-        }
+/// Does what one line asks for that has this name, and these words after `|`.
+pub fn execute(rt: &HostRuntime, name: &str, words: &str) -> io::Result<()> {
+    match name {
+        "value" => show_value(rt, words),
+        "type" => show_type(rt, words),
+        "cells" => by_cell::show(rt, words),
+        "lent" => lent::show(rt, words),
+        "bind" => bound::show(rt, words),
+        "read" => sockets::show_reads(rt, words),
+        "write" => sockets::show_writes(rt, words),
+        _ => show_frame(rt, name, words),
     }
 }
 
-/// The name of the opcode, and the body.
-impl FromWords for Message {
-    fn from_words(words: &mut Words<'_>) -> Message {
-        match opcode_of(words) {
-            Opcode::Startup => Message::Startup(words.list()),
-            Opcode::Options => Message::Options,
-            Opcode::Query => query(words),
-            Opcode::Prepare => Message::Prepare(words.text()),
-            Opcode::Execute => execute(words),
-            Opcode::Batch => batch(words),
-            Opcode::Register => Message::Register(words.list()),
-            Opcode::AuthResponse => Message::AuthResponse(words.read()),
-            Opcode::Error => error(words),
-            Opcode::Ready => Message::Ready,
-            Opcode::Authenticate => Message::Authenticate(words.text()),
-            Opcode::Supported => Message::Supported(words.list()),
-            Opcode::Result => result_of(words),
-            Opcode::Event => event(words),
-            Opcode::AuthChallenge => Message::AuthChallenge(words.read()),
-            Opcode::AuthSuccess => Message::AuthSuccess(words.read()),
-        }
+/// Prints what is written of the frame that some words spell out.
+fn show_frame(rt: &HostRuntime, name: &str, line: &str) -> io::Result<()> {
+    let mut words = Words::new(rt.alloc(), line);
+    let frame: Frame = words.read();
+    show_written(rt, name, &words, &frame)
+}
+
+/// The same, once the words are read.
+fn show_written(rt: &HostRuntime, name: &str, words: &Words<'_>, frame: &Frame) -> io::Result<()> {
+    words.end()?;
+    println!(rt; "== {name}")?;
+    if name.ends_with("--sum") {
+        shown::sum(rt, frame)
+    } else if name.ends_with("--cut") {
+        shown::cut(rt, frame)
+    } else {
+        shown::whole(rt, frame)
     }
 }
 
-/// The opcode of this name.
-fn opcode_of(words: &mut Words<'_>) -> Opcode {
-    let word = words.word();
-    for (name, opcode) in &OPCODES {
-        if *name == word {
-            return *opcode;
-        }
-    }
-    words.instead(Opcode::Options)
+/// Prints whether the value that some words spell out is one of the type before it, and how many bytes it has then.
+fn show_value(rt: &HostRuntime, line: &str) -> io::Result<()> {
+    let mut words = Words::new(rt.alloc(), line);
+    let tree: Option<TypeTree> = words.option();
+    let value: Value = words.read();
+    print_judged(rt, &words, line, &value, tree.as_ref())
+}
+
+/// Prints how many bytes the option has of the type that some words spell out.
+fn show_type(rt: &HostRuntime, line: &str) -> io::Result<()> {
+    let mut words = Words::new(rt.alloc(), line);
+    let tree: TypeTree = words.read();
+    print_option(rt, &words, line, &tree)
+}
+
+fn print_option(
+    rt: &HostRuntime,
+    words: &Words<'_>,
+    line: &str,
+    tree: &TypeTree,
+) -> io::Result<()> {
+    words.end()?;
+    println!(rt; "{line}: {:?}", type_len(tree))
+}
+
+/// The same, once the words are read.
+fn print_judged(
+    rt: &HostRuntime,
+    words: &Words<'_>,
+    line: &str,
+    value: &Value,
+    tree: Option<&TypeTree>,
+) -> io::Result<()> {
+    words.end()?;
+    println!(rt;
+        "{line}: {} {:?}",
+        fits(value, tree),
+        value_len(value, tree)
+    )
 }

@@ -1,6 +1,15 @@
 //! The words of the command line.
 use super::rt::HostRuntime;
+use crate::kit_std::string::String;
+use std::io;
 use std::os::unix::ffi::OsStrExt;
+
+/// The words, the program's name first.
+pub fn args<R>(_: &R) -> io::Result<impl Iterator<Item = String>> {
+    let words: Result<Vec<_>, _> = std::env::args_os().map(|word| word.into_string()).collect();
+    let words = words.map_err(|_| io::Error::from(io::ErrorKind::InvalidData))?;
+    Ok(words.into_iter().map(String::from))
+}
 
 /// Why a word was not copied.
 pub enum FillError {

@@ -1,5 +1,7 @@
 //! Files, for one who holds a handle.
 use super::rt::{Files, HostRuntime};
+use crate::kit_std::alloc::Global;
+use crate::kit_std::string::String;
 pub use std::fs::Metadata;
 use std::io::{self, Read, Write};
 
@@ -13,6 +15,10 @@ impl File {
     pub fn create_new<R: Files>(rt: &R, path: &str) -> io::Result<R::File> {
         rt.create_new(path)
     }
+}
+
+pub fn read_to_string<R>(_: &R, path: &str) -> io::Result<String> {
+    Ok(String::from_str(Global, &std::fs::read_to_string(path)?)?)
 }
 
 pub fn metadata<R>(_: &R, path: &str) -> io::Result<Metadata> {

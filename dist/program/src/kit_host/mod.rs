@@ -7,10 +7,11 @@ pub mod items;
 pub mod net;
 pub mod rt;
 pub mod text;
+pub mod time;
 
 pub mod prelude {
     pub use super::rt::{AllocGlobal, Eprint, HostRuntime, Print};
-    pub use super::text::{ToCopy, ToText};
+    pub use super::text::{ToCopy, ToOwnedBy, ToText};
     pub use crate::kit_std::prelude::{Box, Clone, String, Vec};
     pub(crate) use crate::{made_items as vec, made_text as format, said as print, said_in_line as println, said_of_fault as eprintln};
 }

@@ -35,6 +35,10 @@ impl<A: Allocator> String<A> {
         self.push_str(c.encode_utf8(&mut [0; 4]))
     }
 
+    pub fn clear(&mut self) {
+        self.text.clear()
+    }
+
     pub fn write_fmt(&mut self, text: fmt::Arguments<'_>) -> Result<(), AllocError> {
         fmt::Write::write_fmt(self, text).map_err(|_| AllocError)
     }
@@ -89,6 +93,18 @@ impl<T: fmt::Display + ?Sized> ToText for T {
 }
 
 /// What `clone` is in the kit, as above.
+pub trait ToOwnedBy<T> {
+    fn to_owned_by(&self, alloc: Global) -> Result<Vec<T>, AllocError>;
+}
+
+impl<T: Copy> ToOwnedBy<T> for [T] {
+    fn to_owned_by(&self, alloc: Global) -> Result<Vec<T>, AllocError> {
+        let mut made = Vec::new(alloc);
+        made.extend_from_slice(self)?;
+        Ok(made)
+    }
+}
+
 pub trait ToCopy: Sized {
     fn to_copy(&self) -> Result<Self, AllocError>;
 }
