@@ -197,7 +197,7 @@ def response(message, name, number):
 
 
 def patterns(name):
-    """A pattern of each line, and when the line is due, in nanoseconds."""
+    """A pattern of each line, and when the line is due, in nanoseconds, if its messages say that."""
     first, known = first_time(name), dict(ids(name), prepared=[])
     for kind, number, messages in told(name):
         begun, ended = int(messages[0]["begun"]), int(messages[-1]["ended"])
@@ -205,11 +205,11 @@ def patterns(name):
         if kind == "exchange":
             known["prepared"] += [messages[0]["text"]] if messages[0]["opcode"] == "Prepare" and messages[0]["text"] else []
             took = f"{(ended - begun) // 10**6}.{(ended - begun) % 10**6 // 1000:03}"
-            yield start + request(messages[0], known, name, number) + " -> " + response(messages[1], name, number) + re.escape(f" {took} ms"), ended
+            yield start + request(messages[0], known, name, number) + " -> " + response(messages[1], name, number) + re.escape(f" {took} ms"), max(ended, int(messages[0]["ended"]))
         elif kind == "unanswered":
             yield start + request(messages[0], known, name, number) + " -> nothing", None
         elif kind == "unasked":
-            yield start + "nothing -> " + response(messages[0], name, number), ended
+            yield start + "nothing -> " + response(messages[0], name, number), None
         elif kind == "event":
             yield start + response(messages[0], name, number), ended
 

@@ -575,28 +575,39 @@ def subject(frame):
 
 
 def exchanges(port, limit, file):
-    """A line for each exchange, and for each message that is in none."""
-    pairs, sides, waiting, lines = [], [], [], []
+    """A line for each exchange, and for each message that is in none. Of responses what came early has the latest time so far."""
+    pairs, sides, waiting, lines, latest = [], [], [], [], 0
 
     def name(frame):
         cut = '' if frame['whole'] else ' cut'
         return f"{frame['stream']} {OPCODES[frame['opcode']]} {frame['length']} at {frame['at']}{cut} from {frame['begun']} to {frame['ended']} kept {sum_of(front(frame))}{subject(frame)}{facts(frame)[1]}"
 
+    def alone(number, frame):
+        what = 'unanswered' if frame['opcode'] in REQUESTS else 'unasked'
+        lines.append(f'{number} {what} {name(frame)}')
+
     def tell(number, side, frames):
-        open_requests = waiting[number - 1]
+        """A response is that to the request under its id, also where that comes after it in the capture but was sent before it."""
+        waits = waiting[number - 1]
         for frame in frames:
             if side.responses and OPCODES[frame['opcode']] == 'Event' and frame['stream'] < 0:
                 lines.append(f'{number} event {name(frame)}')
                 continue
-            before = open_requests.pop(frame['stream'], None)
-            if side.responses:
-                lines.append(f'{number}:{name(before)} -> {name(frame)}' if before else f'{number} unasked {name(frame)}')
-            else:
-                if not before and len(open_requests) == limit:
-                    before = open_requests.pop(next(iter(open_requests)))
-                if before:
-                    lines.append(f'{number} unanswered {name(before)}')
-                open_requests[frame['stream']] = frame
+            before = waits.pop(frame['stream'], None)
+            if before:
+                request, response = (before, frame) if side.responses else (frame, before)
+                is_reply = request['opcode'] in REQUESTS and response['opcode'] not in REQUESTS
+                if is_reply and (side.responses or request['begun'] <= response['begun']):
+                    lines.append(f'{number}:{name(request)} -> {name(response)}')
+                    continue
+            elif len(waits) == limit and side.responses:
+                alone(number, frame)
+                continue
+            elif len(waits) == limit:
+                before = waits.pop(next(iter(waits)))
+            if before:
+                alone(number, before)
+            waits[frame['stream']] = frame
 
     def settle(number, side, time, acknowledged):
         """Hands on what came early, and the gaps before it or FIN that the other side acknowledged."""
@@ -611,9 +622,10 @@ def exchanges(port, limit, file):
             data = bytearray()
             while side.next + len(data) in side.early:
                 data.append(side.early.pop(side.next + len(data)))
-            tell(number, side, side.hear(bytes(data), time, False))
+            tell(number, side, side.hear(bytes(data), latest if side.responses else time, False))
 
     for time, number, (source, target, sequence, flags, payload, missing) in timed_segments_of(file):
+        latest = max(latest, time)
         if port not in (source[1], target[1]):
             continue
         ends = (target, source) if source[1] == port else (source, target)
@@ -649,7 +661,8 @@ def exchanges(port, limit, file):
             if side.frame:
                 side.frame['whole'] = side.frame['whole'] and not side.frame['left']
                 tell(index, side, [side.ended()])
-        lines.extend(f'{index} unanswered {name(frame)}' for frame in waiting[index - 1].values())
+        for frame in waiting[index - 1].values():
+            alone(index, frame)
     return lines
 
 

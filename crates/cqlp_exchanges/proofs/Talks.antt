@@ -5,11 +5,10 @@ use Rattle.cqlp_grammar.specs.declared.sink.SinkFault.{SinkFault}
 use Rattle.cqlp_watch.specs.declared.kept.Kept.{Kept}
 use Rattle.cqlp_watch.specs.declared.paired.Paired.{Paired}
 use Rattle.cqlp_watch.specs.declared.message.Message.{Message}
-use Rattle.cqlp_watch.specs.declared.paired.Paired.TheVariants.{Unanswered}
 use Rattle.cqlp_watch.specs.declared.speaker.Speaker.{Speaker}
 use Rattle.cqlp_watch.specs.declared.watch.WatchStep.{WatchStep}
-use Rattle.cqlp_watch.specs.Pairings.{held, told_or_none}
-use Rattle.cqlp_watch.specs.Watches.{Finishes, Steps, Tells, Watched, after_end, finished, finishing, heard, stepping, telling, watched}
+use Rattle.cqlp_watch.specs.Pairings.{alone, held, told_or_none}
+use Rattle.cqlp_watch.specs.Watches.{Steps, Tells, Watched, after_end, finished, heard, stepping, telling, watched}
 use Rattle.cqlp_exchanges.specs.Accounts.{Account, StopsAmong, TellsAll, with_all}
 use Rattle.cqlp_exchanges.specs.Talks.{Talk, all_heard, and_then, before, left, let_go, talk, talk_of}
 use Rattle.cqlp_exchanges.proofs.Accounts.{still_known, stops_after, stops_as, tells_more, with_others}
@@ -102,24 +101,24 @@ pub on_ok_after : (r : Result (Unit {0}) SinkFault) (v : Watched) (n : ℕ) (sta
 on_ok_after (Ok u) v n start now whole rest h is = is ∙ sym h.after
 on_ok_after (Err e) v n start now whole rest h is = tt
 
--- ---- the requests that wait
+-- ---- the messages that wait
 
-pub go_next : (q p : Speaker) (limit : ℕ) (ms : List (Message Kept)) (v : Watched) (r : Message Kept) → finishing (Some r) v ≡ finished (watched q p (held limit ms)) → let_go (watched q p (held limit ms)) ≡ before (Some (Unanswered r)) (let_go v)
-go_next q p limit [] v r e = let no : ◌≡◌ {A = Option (Message Kept)} (Some r) None = ap (λ (z : Finishes). z.request) e in absurd cc
+pub go_next : (q p : Speaker) (limit : ℕ) (ms : List (Message Kept)) (v : Watched) (r : Paired Kept) → telling (Some r) v ≡ finished (watched q p (held limit ms)) → let_go (watched q p (held limit ms)) ≡ before (Some r) (let_go v)
+go_next q p limit [] v r e = let no : ◌≡◌ {A = Option (Paired Kept)} (Some r) None = ap (λ (z : Tells). z.told) e in absurd cc
 go_next q p limit (m ∷ ms) v r e =
-    let same : ◌≡◌ {A = Option (Message Kept)} (Some r) (Some m) = ap (λ (z : Finishes). z.request) e in
-    let is : r ≡ m = cc in
-    let after : v ≡ watched q p (held limit ms) = ap (λ (z : Finishes). z.after) e in
-    λ i. before (Some (Unanswered (sym is i))) (let_go (sym after i))
+    let same : ◌≡◌ {A = Option (Paired Kept)} (Some r) (Some (alone m)) = ap (λ (z : Tells). z.told) e in
+    let is : r ≡ alone m = cc in
+    let after : v ≡ watched q p (held limit ms) = ap (λ (z : Tells). z.after) e in
+    λ i. before (Some (sym is i)) (let_go (sym after i))
 
-pub go_none : (q p : Speaker) (limit : ℕ) (ms : List (Message Kept)) (v : Watched) → finishing None v ≡ finished (watched q p (held limit ms)) → let_go (watched q p (held limit ms)) ≡ talk [] v
-go_none q p limit [] v e = let after : v ≡ watched q p (held limit []) = ap (λ (z : Finishes). z.after) e in ap (talk []) (sym after)
-go_none q p limit (m ∷ ms) v e = let no : ◌≡◌ {A = Option (Message Kept)} None (Some m) = ap (λ (z : Finishes). z.request) e in absurd cc
+pub go_none : (q p : Speaker) (limit : ℕ) (ms : List (Message Kept)) (v : Watched) → telling None v ≡ finished (watched q p (held limit ms)) → let_go (watched q p (held limit ms)) ≡ talk [] v
+go_none q p limit [] v e = let after : v ≡ watched q p (held limit []) = ap (λ (z : Tells). z.after) e in ap (talk []) (sym after)
+go_none q p limit (m ∷ ms) v e = let no : ◌≡◌ {A = Option (Paired Kept)} None (Some (alone m)) = ap (λ (z : Tells). z.told) e in absurd cc
 
-pub go_fewer : (q p : Speaker) (limit : ℕ) (ms : List (Message Kept)) (v : Watched) (r : Message Kept) → finishing (Some r) v ≡ finished (watched q p (held limit ms)) → length v.pairing.waiting < length ms
-go_fewer q p limit [] v r e = let no : ◌≡◌ {A = Option (Message Kept)} (Some r) None = ap (λ (z : Finishes). z.request) e in absurd cc
+pub go_fewer : (q p : Speaker) (limit : ℕ) (ms : List (Message Kept)) (v : Watched) (r : Paired Kept) → telling (Some r) v ≡ finished (watched q p (held limit ms)) → length v.pairing.waiting < length ms
+go_fewer q p limit [] v r e = let no : ◌≡◌ {A = Option (Paired Kept)} (Some r) None = ap (λ (z : Tells). z.told) e in absurd cc
 go_fewer q p limit (m ∷ ms) v r e =
-    let after : v.pairing.waiting ≡ ms = ap (λ (z : Finishes). z.after.pairing.waiting) e in
+    let after : v.pairing.waiting ≡ ms = ap (λ (z : Tells). z.after.pairing.waiting) e in
     rw after (omega arith)
 
 -- ---- the end

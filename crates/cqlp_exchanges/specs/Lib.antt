@@ -11,6 +11,7 @@ pub mod Notings
 pub mod Forms
 pub mod Accounts
 pub mod Talks
+pub mod Steps
 pub mod Tables
 pub mod Listening
 pub mod Capturing

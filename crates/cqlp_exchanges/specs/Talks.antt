@@ -7,8 +7,7 @@ use Rattle.cqlp_connections.specs.declared.ends.Way.TheVariants.{Requests, Respo
 use Rattle.cqlp_connections.specs.declared.told.Told.{Told}
 use Rattle.cqlp_watch.specs.declared.kept.Kept.{Kept}
 use Rattle.cqlp_watch.specs.declared.paired.Paired.{Paired}
-use Rattle.cqlp_watch.specs.declared.paired.Paired.TheVariants.{Unanswered}
-use Rattle.cqlp_watch.specs.Pairings.{held, told_or_none}
+use Rattle.cqlp_watch.specs.Pairings.{alone, held, told_or_none}
 use Rattle.cqlp_watch.specs.Watches.{Tells, Watched, after_end, after_gap, begun, heard, watched}
 
 -- what is told, in order, and the connection after it
@@ -64,13 +63,13 @@ told_heard time t b w = step_heard t.step (is_responses t.way) time b w
 abbrev pub begun_anew : Watched → Talk
 begun_anew w = talk [] (begun true false (begun false false w))
 
--- no request waits any more
+-- no message waits any more
 abbrev pub let_go : Watched → Talk
-let_go w = talk (map Unanswered w.pairing.waiting) (watched w.requests w.responses (held w.pairing.limit []))
+let_go w = talk (map alone w.pairing.waiting) (watched w.requests w.responses (held w.pairing.limit []))
 
 abbrev pub and_then : Talk → (Watched → Talk) → Talk
 and_then t f = talk (t.told ++ (f t.after).told) (f t.after).after
 
--- The frames end of which bytes came, and the requests that wait have no response.
+-- The frames end of which bytes came, and each message that waits is told alone.
 abbrev pub left : Watched → Talk
 left w = and_then (talk_of (after_end false w)) (λ v. and_then (talk_of (after_end true v)) let_go)

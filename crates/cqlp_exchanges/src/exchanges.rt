@@ -6,6 +6,7 @@ ghost use Rattle.cqlp_summary.specs.Summaries.{new_summary};
 ghost use Rattle.cqlp_exchanges.specs.Forms.{statements_in};
 ghost use Rattle.cqlp_exchanges.specs.Tables.{unused};
 
+use crate::clock::PacketClock;
 use crate::filter::ExchangeFilter;
 use crate::form::ExchangeForm;
 use crate::prepared::{MOST, Preparation};
@@ -25,12 +26,12 @@ use std::marker::Model;
 pub struct ExchangeLimits {
     /// Connections.
     pub connections: usize,
-    /// Requests of each connection that wait for their responses, at least one.
+    /// Messages of each connection that wait for the other of their exchange, at least one.
     pub waiting: u16,
 }
 
 impl ExchangeLimits {
-    /// 1,024 connections, and 80 requests of each.
+    /// 1,024 connections, and 80 messages of each.
     pub const DEFAULT: ExchangeLimits = ExchangeLimits {
         connections: 1_024,
         waiting: 80,
@@ -45,8 +46,7 @@ const ROOM: usize = 4096;
 #[derive(Drop)]
 pub struct Exchanges<O: Target, A: Allocator = Global> {
     table: Table<A>,
-    /// When the present packet was captured.
-    time: Option<u64>,
+    clock: PacketClock,
     teller: Teller<O, A>,
 }
 
@@ -55,7 +55,7 @@ impl<O: Target, A: Allocator> Model for Exchanges<O, A> {
 
     ghost Value = { Listening };
 
-    ghost view = { λ e. listening e.table e.time e.teller };
+    ghost view = { λ e. listening e.table e.clock e.teller };
 }
 
 impl<O: Target, A: Allocator> Exchanges<O, A> {
@@ -63,8 +63,8 @@ impl<O: Target, A: Allocator> Exchanges<O, A> {
     ghost use Rattle.cqlp_exchanges.specs.Accounts.{Finishes};
     ghost use Rattle.cqlp_exchanges.specs.Listening.{Hears, new_listening, with_saying};
 
-    /// Nothing is watched, and exchanges go to this output in this form. All memory is taken here, in one request for each connection of the limit and five more; where
-    /// it is not granted, the output is given back.
+    /// Nothing is watched, and exchanges go to this output in this form. All memory is taken here, in one request for each connection of the
+    /// limit and five more; where it is not granted, the output is given back.
     pub fn new(
         alloc: A,
         limits: ExchangeLimits,
@@ -88,7 +88,7 @@ impl<O: Target, A: Allocator> Exchanges<O, A> {
                 },
             ) => Ok(Exchanges {
                 table,
-                time: None,
+                clock: PacketClock::new(),
                 teller: Teller::new(filter, form, out, buffer, known, summary),
             }),
             Err(AllocError) => Err(out),
@@ -109,7 +109,7 @@ impl<O: Target, A: Allocator> Exchanges<O, A> {
     {
         let Exchanges {
             table: _,
-            time: _,
+            clock: _,
             teller,
         } = self;
         teller.into_parts()
@@ -136,7 +136,7 @@ impl<O: Target, A: Allocator> Exchanges<O, A> {
     fn note_time(&mut self, time: Option<u64>)
         ensures { self.new ≡ with_saying self.old (Packet time) }
     {
-        self.time = time;
+        self.clock.note(time);
         self.teller.note_time(time);
     }
 
@@ -149,7 +149,8 @@ impl<O: Target, A: Allocator> Exchanges<O, A> {
     fn hear_told(&mut self, told: &Told, bytes: &[u8]) -> Result<(), StreamsFault>
         ensures { IsSome self.old.account.output.given → Hears self.old (Of told.now bytes.now) result self.new }
     {
-        match self.table.hear(self.time, told, bytes, &mut self.teller) {
+        let time = self.clock.time_in(told.step, told.way);
+        match self.table.hear(time, told, bytes, &mut self.teller) {
             Ok(()) => Ok(()),
             Err(SinkFault) => Err(StreamsFault::Write),
         }

@@ -2,6 +2,7 @@
 
 ghost use Rattle.cqlp_exchanges.specs.Capturing.{OneAnswerOfWriteExchanges};
 ghost use Rattle.cqlp_exchanges.specs.Laws.{OneAnswerOfHear, OneAnswerOfNew, OneAnswerOfStatement};
+ghost use Rattle.cqlp_exchanges.specs.Steps.{HearsAll};
 
 /// Where memory is granted `Exchanges::new` has one answer, and so has `hear` where the output does not fail; and `statement_of` says one text or one id. The
 /// clauses of all other calls are equations.
@@ -14,4 +15,9 @@ pub fn one_answer()
 /// Where nothing outside fails, `write_exchanges` has one answer: from the same bytes, ports, filter and form the same text and the same status.
 pub fn one_answer_of_write_exchanges()
     ensures { OneAnswerOfWriteExchanges }
+{}
+
+/// All bytes of a piece are heard: the steps that are taken for it are enough, of whatever was told of a connection before.
+pub fn hears_all()
+    ensures { HearsAll }
 {}

@@ -2,6 +2,7 @@
 #![tactic(auto)]
 
 mod capturing;
+mod clock;
 mod exchanges;
 mod filter;
 mod form;

@@ -3,7 +3,8 @@
 ghost use Rattle.std.specs.Prelude.{◌≡◌, [], None, Some};
 ghost use Rattle.std.specs.Fmt.{signed_decimal};
 ghost use Rattle.cqlp_text.specs.Written.{Writes};
-ghost use Rattle.cqlp_exchanges.specs.Lines.{compressed_mark, consistency_text, counts_text, cut_mark, frame_text, kind_text, line, more, name_or_number, page_text, place_text};
+ghost use Rattle.cqlp_exchanges.specs.Lines.{compressed_mark, consistency_text, counts_text, cut_mark, frame_text};
+ghost use Rattle.cqlp_exchanges.specs.Lines.{kind_text, line, more, name_or_number, page_text, place_text};
 ghost use Rattle.cqlp_exchanges.specs.Lines.{short_name, tracing_text, warnings_text};
 ghost use Rattle.cqlp_exchanges.specs.Lines.{reply_text, request_text, response_text, said_text, statement_text, took_text};
 ghost use Rattle.cqlp_exchanges.specs.Statements.{said_of};

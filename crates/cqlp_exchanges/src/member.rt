@@ -4,7 +4,8 @@ ghost use Rattle.std.specs.Prelude.{◌≡◌, option_map};
 ghost use Rattle.std.specs.List.{flat_map};
 ghost use Rattle.cqlp_text.specs.CellText.{boolean_text};
 ghost use Rattle.cqlp_text.specs.Written.{Writes};
-ghost use Rattle.cqlp_exchanges.specs.Members.{consistency_or_null, member_text, name_or_code, number as number_text, number_or_null, quote, seconds, seconds_or_null};
+ghost use Rattle.cqlp_exchanges.specs.Members.{consistency_or_null, member_text, name_or_code, number as number_text};
+ghost use Rattle.cqlp_exchanges.specs.Members.{number_or_null, quote, seconds, seconds_or_null};
 ghost use Rattle.cqlp_exchanges.specs.Members.{signed_or_null, uuid as uuid_text, uuid_or_null, value_text};
 
 use crate::reply::consistency_name;

@@ -3,8 +3,10 @@
 ghost use Rattle.std.specs.Prelude.{◌≡◌, [], option_map};
 ghost use Rattle.cqlp_json.specs.Lines.{texts};
 ghost use Rattle.cqlp_text.specs.Written.{Writes};
-ghost use Rattle.cqlp_exchanges.specs.Objects.{if_answered, if_asked, json_line, message_as, message_members, object, place_members, query_members, reply_members, result_members};
-ghost use Rattle.cqlp_exchanges.specs.Objects.{reply_values, request_frame_members, request_members, response_frame_members, response_members, statement_as, statement_members, took_members};
+ghost use Rattle.cqlp_exchanges.specs.Objects.{if_answered, if_asked, json_line, message_as, message_members};
+ghost use Rattle.cqlp_exchanges.specs.Objects.{object, place_members, query_members, reply_members, result_members};
+ghost use Rattle.cqlp_exchanges.specs.Objects.{reply_values, request_frame_members, request_members, response_frame_members};
+ghost use Rattle.cqlp_exchanges.specs.Objects.{response_members, statement_as, statement_members, took_members};
 ghost use Rattle.cqlp_exchanges.specs.Members.{value_text};
 ghost use Rattle.cqlp_exchanges.specs.Statements.{said_of};
 

@@ -9,7 +9,7 @@ use cqlp_connections::{Told, Way};
 use cqlp_grammar::SinkFault;
 use cqlp_note::Target;
 use cqlp_reassembly::StreamStep;
-use cqlp_watch::{Paired, Watch, WatchStep};
+use cqlp_watch::{Watch, WatchStep};
 use std::alloc::{Allocator, Global};
 use std::marker::Model;
 
@@ -178,7 +178,7 @@ fn still_first(is_first: bool, used: usize) -> bool
     is_first && used == 0
 }
 
-/// The streams of a connection end: takes what is told of them, and then the requests that wait.
+/// The streams of a connection end: takes what is told of them, and then of the messages that wait.
 fn end_watch<O: Target, A: Allocator, B: Allocator>(
     watch: &mut Watch<A>,
     number: u64,
@@ -194,7 +194,7 @@ fn end_watch<O: Target, A: Allocator, B: Allocator>(
     let_go(watch, number, teller)
 }
 
-/// Takes the requests that wait, which have no response.
+/// Takes what is told of the messages that wait.
 fn let_go<O: Target, A: Allocator, B: Allocator>(
     watch: &mut Watch<A>,
     number: u64,
@@ -203,8 +203,8 @@ fn let_go<O: Target, A: Allocator, B: Allocator>(
     ensures told { ToldAll number (let_go watch.old).told teller.old result teller.new }
     ensures after { IsSome teller.old.output.given → OnOk result (watch.new ≡ (let_go watch.old).after) }
 {
-    while let Some(request) = watch.finish() {
-        teller.tell(number, &Paired::Unanswered { request })?;
+    while let Some(told) = watch.finish() {
+        teller.tell_if(number, Some(told))?;
     }
     Ok(())
 }

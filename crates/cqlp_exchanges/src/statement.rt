@@ -16,9 +16,9 @@ pub enum Statement<'a> {
     Id { id: &'a [u8], is_whole: bool },
 }
 
-/// What a request asks to be done, by the first bytes of the message, behind a custom payload: the longest front of its text that is UTF-8, which is whole where it is
-/// as long as the length before it says; or the id of its statement. `None` of another message, where the length is negative or is not there, and
-/// where the body is compressed, by the header's flags.
+/// What a request asks to be done, by the first bytes of the message, behind a custom payload: the longest front of its text that is UTF-8,
+/// which is whole where it is as long as the length before it says; or the id of its statement. `None` of another message, where the length
+/// is negative or is not there, and where the body is compressed, by the header's flags.
 pub fn statement_of<'a>(header: &Header, body: &'a [u8]) -> Option<Statement<'a>>
     ensures { option_map said_of result ≡ statement header.now body.now }
 {

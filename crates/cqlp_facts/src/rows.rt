@@ -1,7 +1,8 @@
 //! A RESULT of kind Rows. Section 4.2.5.2 of `native_protocol_v4.spec`.
 
 ghost use Rattle.std.specs.Prelude.{◌≡◌, ◌≤◌, length};
-ghost use Rattle.cqlp_facts.specs.Rows.{after_option, columns_due, columns_following, fields_due, is_plain, names_due, paged_columns_due, row_count, rows_following, rows_width, types_due, udt_due};
+ghost use Rattle.cqlp_facts.specs.Rows.{after_option, columns_due, columns_following, fields_due, is_plain, names_due};
+ghost use Rattle.cqlp_facts.specs.Rows.{paged_columns_due, row_count, rows_following, rows_width, types_due, udt_due};
 
 use crate::announced::past_bytes;
 use crate::due::{Due, Next};

@@ -36,8 +36,8 @@ pub struct CaptureRead {
 }
 
 /// Has a listener take all that a capture tells of the connections of nodes that listen on these ports, out of at most 2^32 reads. There are
-/// at most as many connections at one time, with as many bytes that came early, as the limits say. No read is made before it has taken all that the bytes read so far tell. At the end of the file, or where it is refused, all connections
-/// leave.
+/// at most as many connections at one time, with as many bytes that came early, as the limits say. No read is made before it has taken all
+/// that the bytes read so far tell. At the end of the file, or where it is refused, all connections leave.
 ///
 /// After a fault nothing more is read, and nothing more is told to the listener.
 pub fn read_capture<R: Source, L: Listener>(

@@ -1,6 +1,7 @@
 //! Laws of summaries. No code needs them.
 
-ghost use Rattle.cqlp_summary.specs.Laws.{CountsEachByItsName, DearerComesFirst, EachHasItsRank, FirstComesFirst, LiesInItsBucket, OneAnswerOfNew, OneAnswerOfNote, TellsTimeAtRank};
+ghost use Rattle.cqlp_summary.specs.Laws.{CountsEachByItsName, DearerComesFirst, EachHasItsRank, FirstComesFirst};
+ghost use Rattle.cqlp_summary.specs.Laws.{LiesInItsBucket, OneAnswerOfNew, OneAnswerOfNote, TellsTimeAtRank};
 
 /// Where memory is granted `Summary::new` has one answer, and so has `note`.
 pub fn one_answer()
@@ -18,7 +19,8 @@ pub fn tells_time_at_rank()
     ensures { TellsTimeAtRank }
 {}
 
-/// Each statement has a rank of its own, and so its line once: the one that took more time in sum has the lesser rank, and of two that took as much the one that was asked for first.
+/// Each statement has a rank of its own, and so its line once: the one that took more time in sum has the lesser rank, and of two that took
+/// as much the one that was asked for first.
 pub fn each_has_its_rank()
     ensures within { EachHasItsRank }
     ensures dearer { DearerComesFirst }

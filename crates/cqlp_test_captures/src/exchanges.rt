@@ -14,7 +14,7 @@ use cqlp_watch::{Kept, Message, Paired, Watch, subject_of};
 use std::alloc::{Allocator, Global};
 use std::io;
 
-/// Whose exchanges a line asks for, and how many requests wait at most on each connection.
+/// Whose exchanges a line asks for, and how many messages wait at most on each connection.
 #[derive(Clone, Copy)]
 pub struct Watched {
     pub asked: Asked,
@@ -27,8 +27,9 @@ struct Watcher<A: Allocator> {
     heap: A,
     limit: u16,
     watches: Vec<Watch<A>>,
-    /// When the present packet was captured.
+    /// When the present packet was captured, and the latest time of any so far.
     time: Option<u64>,
+    latest: Option<u64>,
     said: String,
 }
 
@@ -58,6 +59,7 @@ impl<A: Allocator + Copy> Watcher<A> {
             limit,
             watches: Vec::new(alloc),
             time: None,
+            latest: None,
             said: String::new(alloc),
         }
     }
@@ -84,6 +86,7 @@ impl<A: Allocator + Copy> Watcher<A> {
                     link = head.link;
                     original = head.original;
                     self.time = head.time;
+                    self.latest = self.latest.max(head.time);
                 }
                 CaptureEvent::Data(packet) => {
                     if let Ok(segment) = segment_of(link, packet, original) {
@@ -116,7 +119,7 @@ impl<A: Allocator + Copy> Watcher<A> {
         Ok(())
     }
 
-    /// Watches what the connections still have, and the requests that still wait.
+    /// Watches what the connections still have, and the messages that still wait.
     fn end(&mut self, connections: &mut Connections) -> io::Result<()> {
         for _ in 0..AMPLE {
             match connections.finish() {
@@ -145,12 +148,13 @@ impl<A: Allocator + Copy> Watcher<A> {
             StreamStep::Payload { from, count } => {
                 let bytes = payload.get(from..).unwrap_or(&[]);
                 let bytes = bytes.get(..count).unwrap_or(&[]);
-                self.hear(told, bytes, from == 0)?;
+                self.hear(told, self.time, bytes, from == 0)?;
             }
             StreamStep::Held { .. } => {
                 let mut buffer = [0u8; 64];
                 let count = connections.read(told.way, &mut buffer);
-                self.hear(told, &buffer[..count], false)?;
+                let time = if responses { self.latest } else { self.time };
+                self.hear(told, time, &buffer[..count], false)?;
             }
             StreamStep::Gap { length } => {
                 write!(
@@ -176,15 +180,21 @@ impl<A: Allocator + Copy> Watcher<A> {
         Ok(())
     }
 
-    /// Watches bytes of one direction.
-    fn hear(&mut self, told: Told, bytes: &[u8], begins: bool) -> io::Result<()> {
+    /// Watches bytes of one direction, which came at this time.
+    fn hear(
+        &mut self,
+        told: Told,
+        time: Option<u64>,
+        bytes: &[u8],
+        begins: bool,
+    ) -> io::Result<()> {
         let Some(watch) = watch_of(&mut self.watches, told.number) else {
             return Ok(());
         };
         let mut rest = bytes;
         for _ in 0..AMPLE {
             let is_first = begins && rest.len() == bytes.len();
-            let step = watch.take(told.way == Way::Responses, rest, self.time, is_first);
+            let step = watch.take(told.way == Way::Responses, rest, time, is_first);
             say(told.number, step.told.as_ref(), &mut self.said)?;
             if step.is_done {
                 break;
@@ -204,11 +214,11 @@ impl<A: Allocator + Copy> Watcher<A> {
             say(number, paired.as_ref(), &mut self.said)?;
         }
         for _ in 0..AMPLE {
-            let Some(request) = watch.finish() else {
+            let paired = watch.finish();
+            if paired.is_none() {
                 break;
-            };
-            let paired = Paired::Unanswered { request };
-            say(number, Some(&paired), &mut self.said)?;
+            }
+            say(number, paired.as_ref(), &mut self.said)?;
         }
         Ok(())
     }

@@ -25,7 +25,8 @@ fn main(rt: HostRuntime) -> io::Result<()> {
     put(&rt, &summary)
 }
 
-/// A summary of at most so many statements, for which memory is asked twice, or once for none. Prints a line where it is made although a request for memory was refused.
+/// A summary of at most this many statements, for which memory is asked twice, or once for none. Prints a line where it is made although a
+/// request for memory was refused.
 fn begin(rt: &HostRuntime, statements: usize) -> io::Result<Summary> {
     let requests = 1 + statements.min(1) as u64;
     for number in 1..=requests {

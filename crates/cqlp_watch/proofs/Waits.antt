@@ -1,76 +1,127 @@
--- Which requests wait once another message comes.
-use Rattle.std.proofs.Common.{inl, inr, ◌≡◌, Bool, true, false, not, List, [], ◌∷◌, ◌++◌, refl, sym, ap, subst, ◌∙◌, Option, Some, None, ℤ}
-use Rattle.std.specs.Prelude.{find, is_none, ◌&&◌, if◌then◌else◌}
+-- Which messages wait once another one comes.
+use Rattle.std.proofs.Common.{inl, inr, ◌⊎◌, ◌≡◌, Bool, true, false, not, List, [], ◌∷◌, ◌++◌, refl, sym, ap, subst, ◌∙◌, append-nil, Option, Some, None, ℤ}
+use Rattle.std.specs.Prelude.{find, is_none, is_some, ◌&&◌, if◌then◌else◌}
 use Rattle.std.proofs.lemmas.Bool.{cases_Bool}
+use Rattle.std.proofs.lemmas.Bool.Decides.{Decides-int_eq}
+use Rattle.std.proofs.lemmas.List.Elements.{filter-append}
 use Rattle.cqlp_watch.specs.declared.message.Message.{Message}
-use Rattle.cqlp_watch.specs.Messages.{id_of, is_event, is_request, is_said_under, is_under}
-use Rattle.cqlp_watch.specs.Waiting.{next_under, waiting_of, waits}
+use Rattle.cqlp_watch.specs.Messages.{id_of, is_event, is_under, meets}
+use Rattle.cqlp_watch.specs.Waiting.{said, turned, unmet, waiting_of, waiting_since, waits, waits_under}
 use Rattle.cqlp_watch.specs.Pairings.{without}
 use Rattle.cqlp_watch.proofs.Lists.{Apart, cases_Option, find_back, find_front, id_is, int_eq_turned, without_none}
 
--- a message where a request is
-abbrev pub alone : {T : Type 0} → Message T → List (Message T)
-alone m = if is_request m then m ∷ [] else []
+-- ---- what is said
 
-event_of : (response event negative : Bool) → not response ≡ true → (response && event) && negative ≡ false
-event_of true event negative e = absurd (cc e)
-event_of false event negative e = refl
+pub said_event : {T : Type 0} (ms : List (Message T)) (m : Message T) → is_event m ≡ true → said (ms ++ m ∷ []) ≡ said ms
+said_event ms m is = filter-append (λ x. not (is_event x)) ms (m ∷ []) ∙ rw is (append-nil (said ms))
 
-pub request_is_no_event : {T : Type 0} (m : Message T) → is_request m ≡ true → is_event m ≡ false
-request_is_no_event m is = event_of _ _ _ is
+pub said_more : {T : Type 0} (ms : List (Message T)) (m : Message T) → is_event m ≡ false → said (ms ++ m ∷ []) ≡ said ms ++ m ∷ []
+said_more ms m isnt = filter-append (λ x. not (is_event x)) ms (m ∷ []) ∙ rw isnt refl
 
-both_false : (a b : Bool) → a && not b ≡ false → b ≡ false → a ≡ false
-both_false true true e f = cc f
-both_false true false e f = cc e
-both_false false b e f = refl
+-- ---- the one that waits
 
-pub both_true : (a b : Bool) → a && not b ≡ true → a ≡ true
-both_true true b e = refl
-both_true false b e = cc e
+-- a list of what there is
+abbrev pub one : {X : Type 0} → Option X → List X
+one None = []
+one (Some x) = x ∷ []
 
--- of what is no event
-pub under_if_said : {T : Type 0} (id : ℤ) (m : Message T) → is_said_under id m ≡ false → is_event m ≡ false → is_under id m ≡ false
-under_if_said id m e f = both_false (is_under id m) (is_event m) e f
+pub unmet_is : {T : Type 0} (m : Message T) (o : Option (Message T)) → (unmet m o ≡ Some m) ⊎ (unmet m o ≡ None)
+unmet_is m None = inl refl
+unmet_is m (Some first) = elim (cases_Bool (meets first m)) [ inl is ↦ rw is (inr refl) | inr isnt ↦ rw isnt (inl refl) ]
 
--- ---- none waits under an id under which nothing was said
+pub own_id : {T : Type 0} (m : Message T) → is_under (id_of m) m ≡ true
+own_id m = (Decides-int_eq (id_of m) (id_of m)).1 refl
 
-none_waiting : {T : Type 0} (id : ℤ) (m : Message T) (ms ws : List (Message T)) (b : Bool) → is_request m && b ≡ true → is_said_under id m ≡ false → find (is_under id) ws ≡ None → find (is_under id) (m ∷ ws) ≡ None
-none_waiting id m ms ws b is isnt e =
-    let request : is_request m ≡ true = first_true (is_request m) b is in
-    rw (under_if_said id m isnt (request_is_no_event m request)) e
-  where
-    first_true : (a b : Bool) → a && b ≡ true → a ≡ true
-    first_true true b e = refl
-    first_true false b e = cc e
+second_none : {X : Type 0} (a : Bool) (o : Option X) → a && is_none o ≡ true → o ≡ None
+second_none true None e = refl
+second_none true (Some x) e = cc e
+second_none false o e = cc e
 
-pub waits_none : {T : Type 0} (id : ℤ) (ms : List (Message T)) → find (is_said_under id) ms ≡ None → find (is_under id) (waiting_of ms) ≡ None
-waits_none id [] e = refl
-waits_none id (m ∷ ms) e = elim (cases_Bool (is_said_under id m)) [
+and_false : (a : Bool) → a && false ≡ false
+and_false true = refl
+and_false false = refl
+
+waits_answered : {T : Type 0} (b : List (Message T)) (x y : Message T) (ms : List (Message T)) → find (is_under (id_of x)) ms ≡ Some y → waits b x ms ≡ false
+waits_answered b x y ms e = rw e (and_false (is_some (unmet x (waits_under (id_of x) b))))
+
+-- none waits under an id under which nothing was said
+pub waits_none : {T : Type 0} (id : ℤ) (b ms : List (Message T)) → find (is_under id) ms ≡ None → find (is_under id) (waiting_since b ms) ≡ None
+waits_none id b [] e = refl
+waits_none id b (m ∷ ms) e = elim (cases_Bool (is_under id m)) [
   | inl is ↦ absurd (let f = rw is at e in cc f)
   | inr isnt ↦
-      let rest = waits_none id ms (rw isnt at e) in
-      elim (cases_Bool (waits m ms)) [
-        | inl does ↦ rw does (none_waiting id m ms (waiting_of ms) _ does isnt rest)
+      let rest = waits_none id (m ∷ b) ms (rw isnt at e) in
+      elim (cases_Bool (waits b m ms)) [
+        | inl does ↦ rw (does, isnt) rest
         | inr not_does ↦ rw not_does rest
       ]
 ]
 
-pub next_none : {X : Type 0} (a : Bool) (o : Option X) → a && is_none o ≡ true → o ≡ None
-next_none true None e = refl
-next_none true (Some x) e = cc e
-next_none false o e = cc e
-
 -- no two that wait have one id
-pub waiting_apart : {T : Type 0} (ms : List (Message T)) → Apart (waiting_of ms)
-waiting_apart [] = tt
-waiting_apart (m ∷ ms) = elim (cases_Bool (waits m ms)) [
-  | inl does ↦ rw does (waits_none (id_of m) ms (next_none (is_request m) (next_under m ms) does), waiting_apart ms)
-  | inr not_does ↦ rw not_does (waiting_apart ms)
+pub since_apart : {T : Type 0} (b ms : List (Message T)) → Apart (waiting_since b ms)
+since_apart b [] = tt
+since_apart b (m ∷ ms) = elim (cases_Bool (waits b m ms)) [
+  | inl does ↦ rw does (waits_none (id_of m) (m ∷ b) ms (second_none _ (find (is_under (id_of m)) ms) does), since_apart (m ∷ b) ms)
+  | inr not_does ↦ rw not_does (since_apart (m ∷ b) ms)
 ]
+
+own_waits : {T : Type 0} (x : Message T) (b ms : List (Message T)) → find (is_under (id_of x)) ms ≡ None → unmet x (waits_under (id_of x) b) ≡ find (is_under (id_of x)) (waiting_since b (x ∷ ms))
+own_waits x b ms none = elim (unmet_is x (waits_under (id_of x) b)) [
+  | inl is ↦
+      let does : waits b x ms ≡ true = rw (is, none) refl in
+      rw (does, own_id x) is
+  | inr isnt ↦
+      let not_does : waits b x ms ≡ false = rw isnt refl in
+      rw not_does (isnt ∙ sym (waits_none (id_of x) (x ∷ b) ms none))
+]
+
+-- what waits under an id: the one among these, if something was said
+abbrev pub chosen : {X : Type 0} → (found among before : Option X) → Option X
+chosen None among before = before
+chosen (Some x) among before = among
+
+waits_among : {T : Type 0} (id : ℤ) (b ms : List (Message T)) → waits_under id (turned ms b) ≡ chosen (find (is_under id) ms) (find (is_under id) (waiting_since b ms)) (waits_under id b)
+waits_among id b [] = refl
+waits_among {T = T} id b (x ∷ ms) =
+    let rest = waits_among id (x ∷ b) ms in
+    elim (cases_Option (find (is_under id) ms)) [
+      | inr some ↦ later x some.0 some.1 (rw some.1 at rest)
+      | inl none ↦ elim (cases_Bool (is_under id x)) [
+        | inl is ↦
+            let own : unmet x (waits_under id b) ≡ find (is_under id) (waiting_since b (x ∷ ms)) =
+            subst (λ (i : ℤ). unmet x (waits_under i b) ≡ find (is_under i) (waiting_since b (x ∷ ms))) (id_is id x is) (own_waits x b ms (subst (λ (i : ℤ). find (is_under i) ms ≡ None) (sym (id_is id x is)) none)) in
+            let last = rw (none, is) at rest in
+            rw is (last ∙ own)
+        | inr isnt ↦
+            let last = rw (none, isnt) at rest in
+            rw (isnt, none) last
+      ]
+    ]
+  where
+    later : (x y : Message T) → find (is_under id) ms ≡ Some y → waits_under id (turned ms (x ∷ b)) ≡ find (is_under id) (waiting_since (x ∷ b) ms) → waits_under id (turned ms (x ∷ b)) ≡ chosen (find (is_under id) (x ∷ ms)) (find (is_under id) (waiting_since b (x ∷ ms))) (waits_under id b)
+    later x y some e = elim (cases_Bool (is_under id x)) [
+      | inl is ↦
+          let not_does = waits_answered b x y ms (subst (λ (i : ℤ). find (is_under i) ms ≡ Some y) (sym (id_is id x is)) some) in
+          rw (is, not_does) e
+      | inr isnt ↦ elim (cases_Bool (waits b x ms)) [
+        | inl does ↦ rw (isnt, some, does, isnt) e
+        | inr not_does ↦ rw (isnt, some, not_does) e
+      ]
+    ]
+
+pub waits_found : {T : Type 0} (id : ℤ) (ms : List (Message T)) → waits_under id (turned ms []) ≡ find (is_under id) (waiting_since [] ms)
+waits_found {T} id ms =
+    let among = waits_among {T = T} id [] ms in
+    elim (cases_Option (find (is_under id) ms)) [
+      | inl none ↦
+          let rest = rw none at among in
+          rest ∙ sym (waits_none id [] ms none)
+      | inr some ↦ rw some.1 at among
+    ]
 
 -- ---- one more message
 
--- One that says nothing under an id leaves what is found there.
+-- One that is not under an id leaves what is found there.
 pub found_none : {X : Type 0} (p : X → Bool) (xs : List X) (x : X) → p x ≡ false → find p (xs ++ x ∷ []) ≡ find p xs
 found_none p [] x e = rw e refl
 found_none p (y ∷ xs) x e = elim (cases_Bool (p y)) [
@@ -78,71 +129,60 @@ found_none p (y ∷ xs) x e = elim (cases_Bool (p y)) [
   | inr isnt ↦ rw isnt (found_none p xs x e)
 ]
 
-pub no_event_under : (a b : Bool) → b ≡ true → a && not b ≡ false
-no_event_under true true e = refl
-no_event_under true false e = cc e
-no_event_under false b e = refl
-
-pub waits_apart : {T : Type 0} (x m : Message T) (ms : List (Message T)) → is_said_under (id_of x) m ≡ false → waits x (ms ++ m ∷ []) ≡ waits x ms
-waits_apart {T} x m ms isnt = ap (λ (o : Option (Message T)). is_request x && is_none o) (found_none (is_said_under (id_of x)) ms m isnt)
-
-event_request : (response event negative : Bool) → (response && event) && negative ≡ true → not response ≡ false
-event_request true event negative e = refl
-event_request false event negative e = cc e
-
--- An event changes nothing.
-pub waiting_event : {T : Type 0} (ms : List (Message T)) (m : Message T) → is_event m ≡ true → waiting_of (ms ++ m ∷ []) ≡ waiting_of ms
-waiting_event [] m is = rw (event_request _ _ _ is) refl
-waiting_event {T} (x ∷ ms) m is =
-    let same = waits_apart x m ms (no_event_under (is_under (id_of x) m) (is_event m) is) in
-    elim (cases_Bool (waits x ms)) [
-      | inl does ↦ rw (same, does) (ap (λ (r : List (Message T)). x ∷ r) (waiting_event ms m is))
-      | inr not_does ↦ rw (same, not_does) (waiting_event ms m is)
-    ]
-
 pub found_some : {X : Type 0} (p : X → Bool) (xs : List X) (x : X) → find p xs ≡ None → p x ≡ true → find p (xs ++ x ∷ []) ≡ Some x
 found_some p xs x none is = find_back p xs (x ∷ []) none ∙ rw is refl
 
-waits_no_more : {T : Type 0} (x m : Message T) (ms : List (Message T)) → waits x ms ≡ true → is_said_under (id_of x) m ≡ true → waits x (ms ++ m ∷ []) ≡ false
-waits_no_more x m ms does is =
-    let none = next_none (is_request x) (next_under x ms) does in
-    rw (found_some (is_said_under (id_of x)) ms m none is) (and_false (is_request x))
-  where
-    and_false : (a : Bool) → a && false ≡ false
-    and_false true = refl
-    and_false false = refl
+waits_apart : {T : Type 0} (b : List (Message T)) (x m : Message T) (ms : List (Message T)) → is_under (id_of x) m ≡ false → waits b x (ms ++ m ∷ []) ≡ waits b x ms
+waits_apart {T} b x m ms isnt = ap (λ (o : Option (Message T)). is_some (unmet x (waits_under (id_of x) b)) && is_none o) (found_none (is_under (id_of x)) ms m isnt)
 
-never_waits : {T : Type 0} (x m : Message T) (ms : List (Message T)) → waits x ms ≡ false → waits x (ms ++ m ∷ []) ≡ false
-never_waits {T} x m ms isnt = elim (cases_Option (next_under x ms)) [
-  | inl none ↦ rw (request_false (is_request x) (next_under x ms) isnt none) refl
-  | inr found ↦ rw (find_front (is_said_under (id_of x)) ms (m ∷ []) found.0 found.1) (and_false (is_request x))
+waits_no_more : {T : Type 0} (b : List (Message T)) (x m : Message T) (ms : List (Message T)) → waits b x ms ≡ true → is_under (id_of x) m ≡ true → waits b x (ms ++ m ∷ []) ≡ false
+waits_no_more b x m ms does is =
+    let none = second_none _ (find (is_under (id_of x)) ms) does in
+    waits_answered b x m (ms ++ m ∷ []) (found_some (is_under (id_of x)) ms m none is)
+
+first_false : {X : Type 0} (a : Bool) (o : Option X) → a && is_none o ≡ false → o ≡ None → a ≡ false
+first_false true None e f = cc e
+first_false true (Some x) e f = cc f
+first_false false o e f = refl
+
+never_waits : {T : Type 0} (b : List (Message T)) (x m : Message T) (ms : List (Message T)) → waits b x ms ≡ false → waits b x (ms ++ m ∷ []) ≡ false
+never_waits {T} b x m ms isnt = elim (cases_Option (find (is_under (id_of x)) ms)) [
+  | inl none ↦ rw (first_false (is_some (unmet x (waits_under (id_of x) b))) (find (is_under (id_of x)) ms) isnt none) refl
+  | inr found ↦ waits_answered b x found.0 (ms ++ m ∷ []) (find_front (is_under (id_of x)) ms (m ∷ []) found.0 found.1)
 ]
-  where
-    request_false : {X : Type 0} (a : Bool) (o : Option X) → a && is_none o ≡ false → o ≡ None → a ≡ false
-    request_false true None e f = cc e
-    request_false true (Some x) e f = cc f
-    request_false false o e f = refl
 
-    and_false : (a : Bool) → a && false ≡ false
-    and_false true = refl
-    and_false false = refl
+first_waits : {T : Type 0} (m : Message T) (o : Option (Message T)) → (if is_some (unmet m o) && true then m ∷ [] else []) ≡ one (unmet m o)
+first_waits m o = elim (unmet_is m o) [ inl is ↦ rw is refl | inr isnt ↦ rw isnt refl ]
 
--- Any other message: the one under its id waits no more, and it waits if it is a request.
-pub waiting_push : {T : Type 0} (ms : List (Message T)) (m : Message T) → is_event m ≡ false → waiting_of (ms ++ m ∷ []) ≡ without (id_of m) (waiting_of ms) ++ alone m
-waiting_push [] m isnt = elim (cases_Bool (is_request m)) [ inl is ↦ rw is refl | inr not_is ↦ rw not_is refl ]
-waiting_push {T} (x ∷ ms) m isnt =
-    let rest = waiting_push ms m isnt in
-    elim (cases_Bool (waits x ms)) [
-      | inr not_does ↦ rw (not_does, never_waits x m ms not_does) rest
-      | inl does ↦ elim (cases_Bool (is_said_under (id_of x) m)) [
-        | inl said ↦
-            let under : is_under (id_of x) m ≡ true = both_true (is_under (id_of x) m) (is_event m) said in
-            let turned : is_under (id_of m) x ≡ true = int_eq_turned (id_of x) (id_of m) ∙ under in
-            let none : find (is_under (id_of m)) (waiting_of ms) ≡ None =
-            subst (λ (i : ℤ). find (is_under i) (waiting_of ms) ≡ None) (sym (id_is (id_of x) m under)) (waits_none (id_of x) ms (next_none (is_request x) (next_under x ms) does)) in
-            rw (does, waits_no_more x m ms does said, turned) (rest ∙ ap (λ (r : List (Message T)). r ++ alone m) (without_none (id_of m) (waiting_of ms) none))
-        | inr not_said ↦
-            let apart : is_under (id_of m) x ≡ false = int_eq_turned (id_of x) (id_of m) ∙ under_if_said (id_of x) m not_said isnt in
-            rw (waits_apart x m ms not_said, does, apart) (ap (λ (r : List (Message T)). x ∷ r) rest)
+-- The one under its id waits no more, and it waits if the two do not meet.
+waits_then : {T : Type 0} (b ms : List (Message T)) (m : Message T) → waiting_since b (ms ++ m ∷ []) ≡ without (id_of m) (waiting_since b ms) ++ one (unmet m (waits_under (id_of m) (turned ms b)))
+waits_then b [] m = first_waits m (waits_under (id_of m) b)
+waits_then {T} b (x ∷ ms) m =
+    let rest = waits_then (x ∷ b) ms m in
+    let new = one (unmet m (waits_under (id_of m) (turned ms (x ∷ b)))) in
+    elim (cases_Bool (waits b x ms)) [
+      | inr not_does ↦ rw (not_does, never_waits b x m ms not_does) rest
+      | inl does ↦ elim (cases_Bool (is_under (id_of x) m)) [
+        | inl under ↦
+            let turned_id : is_under (id_of m) x ≡ true = int_eq_turned (id_of x) (id_of m) ∙ under in
+            let none : find (is_under (id_of m)) (waiting_since (x ∷ b) ms) ≡ None =
+            subst (λ (i : ℤ). find (is_under i) (waiting_since (x ∷ b) ms) ≡ None) (sym (id_is (id_of x) m under)) (waits_none (id_of x) (x ∷ b) ms (second_none _ (find (is_under (id_of x)) ms) does)) in
+            rw (does, waits_no_more b x m ms does under, turned_id) (rest ∙ ap (λ (r : List (Message T)). r ++ new) (without_none (id_of m) (waiting_since (x ∷ b) ms) none))
+        | inr not_under ↦
+            let apart : is_under (id_of m) x ≡ false = int_eq_turned (id_of x) (id_of m) ∙ not_under in
+            rw (waits_apart b x m ms not_under, does, apart) (ap (λ (r : List (Message T)). x ∷ r) rest)
       ]
     ]
+
+pub waiting_apart : {T : Type 0} (ms : List (Message T)) → Apart (waiting_of ms)
+waiting_apart ms = since_apart [] (said ms)
+
+-- An event changes nothing.
+pub waiting_event : {T : Type 0} (ms : List (Message T)) (m : Message T) → is_event m ≡ true → waiting_of (ms ++ m ∷ []) ≡ waiting_of ms
+waiting_event {T} ms m is = ap (λ (r : List (Message T)). waiting_since [] r) (said_event ms m is)
+
+pub waiting_more : {T : Type 0} (ms : List (Message T)) (m : Message T) → is_event m ≡ false → waiting_of (ms ++ m ∷ []) ≡ without (id_of m) (waiting_of ms) ++ one (unmet m (find (is_under (id_of m)) (waiting_of ms)))
+waiting_more {T} ms m isnt =
+    ap (λ (r : List (Message T)). waiting_since [] r) (said_more ms m isnt)
+    ∙ waits_then [] (said ms) m
+    ∙ ap (λ (o : Option (Message T)). without (id_of m) (waiting_of ms) ++ one (unmet m o)) (waits_found (id_of m) (said ms))

@@ -1,11 +1,12 @@
--- The requests that wait, of which there are at most so many, and what is told of each message.
+-- The messages that wait, of which there are at most so many, and what is told of each message.
 use Rattle.std.specs.Prelude.{ℕ, ◌≤◌, ℤ, List, [], ◌∷◌, ◌++◌, length, drop, find, slice_get, nat_lt, Option, Some, None, option_map, if◌then◌else◌}
 use Rattle.cqlp_watch.specs.declared.message.Message.{Message}
 use Rattle.cqlp_watch.specs.declared.paired.Paired.{Paired}
 use Rattle.cqlp_watch.specs.declared.paired.Paired.TheVariants.{Exchange, Unanswered, Unasked, Event}
-use Rattle.cqlp_watch.specs.Messages.{id_of, is_event, is_request, is_under}
+use Rattle.cqlp_watch.specs.Messages.{id_of, is_event, is_request, is_under, meets}
 
--- the requests that wait, the one that waits longest first
+-- The messages that wait for the other of their exchange, the one that waits longest first: requests, and responses that came before their
+-- requests.
 pub record Waiting (T : Type 0) : Type 0 where
   pub limit : ℕ
   pub waiting : List (Message T)
@@ -35,55 +36,49 @@ pub record Pairs (T : Type 0) : Type 0 where
 abbrev pub paired : {T : Type 0} → Option (Paired T) → Waiting T → Pairs T
 paired told w = record { told = told; after = w }
 
--- ---- a response: the request under its id waits no more
+-- ---- what is told of a message alone, or of two that meet
 
-abbrev pub exchange : {T : Type 0} → Message T → Option (Message T) → Paired T
-exchange response (Some request) = Exchange request response
-exchange response None = Unasked response
+abbrev pub alone : {T : Type 0} → Message T → Paired T
+alone m = if is_request m then Unanswered m else Unasked m
 
-abbrev pub answered : {T : Type 0} → Message T → Waiting T → Pairs T
-answered response w =
-    paired (Some (exchange response (find (is_under (id_of response)) w.waiting))) (held w.limit (without (id_of response) w.waiting))
+abbrev pub exchange : {T : Type 0} → (first second : Message T) → Paired T
+exchange first second = if is_request first then Exchange first second else Exchange second first
 
--- ---- a request: it waits behind the others
+-- ---- where none waits under its id, a message waits behind the others
 
 abbrev pub behind : {T : Type 0} → Message T → List (Message T) → ℕ → Waiting T
-behind request ms limit = held limit (ms ++ request ∷ [])
+behind m ms limit = held limit (ms ++ m ∷ [])
 
 -- in place of the one that waits longest
 abbrev pub crowded : {T : Type 0} → Message T → Waiting T → Pairs T
-crowded request w =
-    paired (option_map Unanswered (slice_get w.waiting 0)) (behind request (drop 1 w.waiting) w.limit)
+crowded m w = paired (option_map alone (slice_get w.waiting 0)) (behind m (drop 1 w.waiting) w.limit)
 
--- where none waits under its id
-abbrev pub first_asked : {T : Type 0} → Message T → Waiting T → Pairs T
-first_asked request w =
-    if nat_lt (length w.waiting) w.limit then paired None (behind request w.waiting w.limit) else crowded request w
+-- Where too many wait, a request takes a place, and a response takes none: its own request may have lost its place to another.
+abbrev pub awaited : {T : Type 0} → Message T → Waiting T → Pairs T
+awaited m w =
+    if nat_lt (length w.waiting) w.limit then paired None (behind m w.waiting w.limit)
+    else if is_request m then crowded m w
+    else paired (Some (Unasked m)) w
 
--- in place of the one under its id
-abbrev pub asked_after : {T : Type 0} → Option (Message T) → Message T → Waiting T → Pairs T
-asked_after (Some before) request w =
-    paired (Some (Unanswered before)) (behind request (without (id_of request) w.waiting) w.limit)
-asked_after None request w = first_asked request w
+-- ---- where one waited, it meets that, or waits in its place
 
-abbrev pub asked : {T : Type 0} → Message T → Waiting T → Pairs T
-asked request w = asked_after (find (is_under (id_of request)) w.waiting) request w
+abbrev pub met : {T : Type 0} → (first second : Message T) → (others : Waiting T) → Pairs T
+met first second others =
+    if meets first second then paired (Some (exchange first second)) others
+    else paired (Some (alone first)) (behind second others.waiting others.limit)
 
 -- ---- a message
 
+abbrev pub taken_after : {T : Type 0} → Option (Message T) → Message T → Waiting T → Pairs T
+taken_after None m w = awaited m w
+taken_after (Some first) m w = met first m (held w.limit (without (id_of m) w.waiting))
+
 abbrev pub taken : {T : Type 0} → Message T → Waiting T → Pairs T
-taken m w = if is_event m then paired (Some (Event m)) w else if is_request m then asked m w else answered m w
+taken m w = if is_event m then paired (Some (Event m)) w else taken_after (find (is_under (id_of m)) w.waiting) m w
 
 -- Where no more come, the one that waits longest is told.
-pub record Ends (T : Type 0) : Type 0 where
-  pub request : Option (Message T)
-  pub after : Waiting T
-
-abbrev pub ending : {T : Type 0} → Option (Message T) → Waiting T → Ends T
-ending request w = record { request = request; after = w }
-
-abbrev pub ended : {T : Type 0} → Waiting T → Ends T
-ended w = ending (slice_get w.waiting 0) (held w.limit (drop 1 w.waiting))
+abbrev pub ended : {T : Type 0} → Waiting T → Pairs T
+ended w = paired (option_map alone (slice_get w.waiting 0)) (held w.limit (drop 1 w.waiting))
 
 -- ---- many messages
 

@@ -1,11 +1,11 @@
--- Both sides of one connection, and the requests that wait.
+-- Both sides of one connection, and the messages that wait.
 use Rattle.std.specs.Prelude.{ℕ, Bool, true, false, List, Option, Some, None, if◌then◌else◌}
 use Rattle.cqlp_watch.specs.declared.kept.Kept.{Kept}
 use Rattle.cqlp_watch.specs.declared.message.Message.{Message}
 use Rattle.cqlp_watch.specs.declared.paired.Paired.{Paired}
 use Rattle.cqlp_watch.specs.declared.speaker.Speaker.{Speaker}
 use Rattle.cqlp_watch.specs.declared.watch.WatchStep.{WatchStep}
-use Rattle.cqlp_watch.specs.Pairings.{Ends, Pairs, Waiting, new_waiting}
+use Rattle.cqlp_watch.specs.Pairings.{Pairs, Waiting, new_waiting}
 use Rattle.cqlp_watch.specs.Pairings as pairing
 use Rattle.cqlp_watch.specs.Speakers as side
 use Rattle.cqlp_watch.specs.Speakers.{Endings, Hears, silent}
@@ -75,17 +75,7 @@ heard_by responses h w = told_by h.step.used h.step.is_done (paired_if h.step.me
 abbrev pub heard : (responses : Bool) → (time : Option ℕ) → (begins : Bool) → List ℕ → Watched → Steps
 heard responses time begins b w = heard_by responses (side.heard time begins b (side_of responses w)) w
 
--- ---- the end of the connection
+-- ---- the end of the connection: the one that waits longest
 
-pub record Finishes : Type 0 where
-  pub request : Option (Message Kept)
-  pub after : Watched
-
-abbrev pub finishing : Option (Message Kept) → Watched → Finishes
-finishing request w = record { request = request; after = w }
-
-abbrev pub finished_by : Ends Kept → Watched → Finishes
-finished_by e w = finishing e.request (watched w.requests w.responses e.after)
-
-abbrev pub finished : Watched → Finishes
-finished w = finished_by (pairing.ended w.pairing) w
+abbrev pub finished : Watched → Tells
+finished w = paired_by (pairing.ended w.pairing) w

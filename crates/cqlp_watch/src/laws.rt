@@ -1,19 +1,26 @@
 //! Laws of what is told of requests and responses. No code needs them.
 
-ghost use Rattle.cqlp_watch.specs.Laws.{KeepsThoseThatWait, OneAnswerOfPairing, OneAnswerOfWatch, TellsTheExchanges};
+ghost use Rattle.cqlp_watch.specs.Laws.{KeepsThoseThatWait, OneAnswerOfPairing, OneAnswerOfWatch, TellsEachMessage, TellsTheExchanges};
 ghost use Rattle.cqlp_watch.specs.Sent.{TellsEachFrame};
 ghost use Rattle.cqlp_watch.specs.Steps.{TakesFewSteps};
 ghost use Rattle.cqlp_watch.specs.Whole.{TellsWholeFrames};
 
-/// Of any messages in any order: the requests that a [`Pairing`](crate::Pairing) holds are those under whose stream id nothing was said since.
+/// Of any messages in any order: those that a [`Pairing`](crate::Pairing) holds are those that wait, which met none that waited under their
+/// stream id and under which nothing was said since, where never more wait than the limit. Each is the last that was said under its id, always.
 pub fn waiting<T>()
     ensures { KeepsThoseThatWait T }
 {}
 
-/// The exchanges that it tells are those of the messages, each once: a request, and the next that is said under its stream id, where that
-/// is a response. None is missed where never more requests wait than the limit.
+/// The exchanges that it tells are those of the messages, in their order, where never more messages wait than the limit: each message with
+/// the one that waits under its stream id, if they are a request and its response. Where more wait, each is still of a message and the last
+/// before it under its id, and none is told twice.
 pub fn exchanges<T>()
     ensures { TellsTheExchanges T }
+{}
+
+/// Each message is told once or waits, however many wait.
+pub fn each_message<T>()
+    ensures { TellsEachMessage T }
 {}
 
 /// A frame that [`Heads`](crate::Heads) tells as whole came whole: its header and the bytes of its body lie one after the other from its offset

@@ -1,6 +1,7 @@
 //! The frames of a connection, as an observer sees them.
 
 ghost use Rattle.std.specs.Prelude.{◌≡◌};
+ghost use Rattle.cqlp_watch.specs.Messages.{is_no_later};
 
 use cqlp_note::{Header, Opcode};
 
@@ -26,7 +27,7 @@ pub struct Message<T> {
 }
 
 impl<T> Message<T> {
-    ghost use Rattle.cqlp_watch.specs.Messages.{id_of, is_event, is_request};
+    ghost use Rattle.cqlp_watch.specs.Messages.{id_of, is_event, is_request, meets};
 
     /// The stream id, which is a request's and its response's.
     pub fn stream(&self) -> i16
@@ -55,5 +56,27 @@ impl<T> Message<T> {
             length: _,
         } = self.frame.header;
         response && opcode == Opcode::Event && stream < 0
+    }
+
+    /// Whether it and the next under its stream id are a request and its response: a request and any response, or a response and a request
+    /// whose first byte was captured no later than that of the response, where both times are known.
+    pub(crate) fn meets(&self, next: &Message<T>) -> bool
+        ensures { result ≡ meets self.now next.now }
+    {
+        if self.is_request() {
+            !next.is_request()
+        } else {
+            next.is_request() && is_no_later(next.frame.begun, self.frame.begun)
+        }
+    }
+}
+
+/// Whether one time is known to be no later than another.
+fn is_no_later(one: Option<u64>, other: Option<u64>) -> bool
+    ensures { result ≡ is_no_later one other }
+{
+    match (one, other) {
+        (Some(one), Some(other)) => one <= other,
+        _ => false,
     }
 }

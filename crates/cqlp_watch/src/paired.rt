@@ -1,5 +1,7 @@
 //! What is told of requests and responses.
 
+ghost use Rattle.std.specs.Prelude.{◌≡◌};
+
 use crate::message::Message;
 use std::alloc::AllocError;
 use thiserror::Error;
@@ -7,17 +9,19 @@ use thiserror::Error;
 /// What is told of a request, a response, or both.
 #[derive(Clone, Copy, Debug, PartialEq, Eq, Drop)]
 pub enum Paired<T> {
-    /// A request, and the response that came next under its stream id.
+    /// A request and its response, the one next to the other under their stream id. The response came first only where the packets of a
+    /// capture do not stand in the order of their times, and the request was then begun no later.
     Exchange {
         request: Message<T>,
         response: Message<T>,
     },
-    /// A request whose response was not seen: another request came under its stream id, or it waited longest where too many did, or the
-    /// connection ended.
+    /// A request whose response was not seen: another request came under its stream id, or it waited longest where too many messages did,
+    /// or the connection ended.
     Unanswered {
         request: Message<T>,
     },
-    /// A response under a stream id under which no request waits.
+    /// A response whose request was not seen, neither before it nor after: another response came under its stream id, or a request that was
+    /// begun later, or too many messages waited, or the connection ended.
     Unasked {
         response: Message<T>,
     },
@@ -27,10 +31,42 @@ pub enum Paired<T> {
     },
 }
 
+impl<T> Paired<T> {
+    ghost use Rattle.cqlp_watch.specs.Pairings.{alone, exchange};
+
+    /// Of a message that is in no exchange.
+    pub(crate) fn alone(message: Message<T>) -> Self
+        ensures { result ≡ alone message }
+    {
+        if message.is_request() {
+            Paired::Unanswered { request: message }
+        } else {
+            Paired::Unasked { response: message }
+        }
+    }
+
+    /// Of a request and its response, whichever came first.
+    pub(crate) fn exchange(first: Message<T>, second: Message<T>) -> Self
+        ensures { result ≡ exchange first second }
+    {
+        if first.is_request() {
+            Paired::Exchange {
+                request: first,
+                response: second,
+            }
+        } else {
+            Paired::Exchange {
+                request: second,
+                response: first,
+            }
+        }
+    }
+}
+
 /// Why requests cannot be watched.
 #[derive(Clone, Copy, Debug, PartialEq, Eq, Drop, Error)]
 pub enum NewPairingError {
-    #[error("the limit on requests that wait is 0")]
+    #[error("the limit on messages that wait is 0")]
     BadLimit,
     #[error("no memory")]
     NoMemory,

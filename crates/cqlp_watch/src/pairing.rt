@@ -1,6 +1,6 @@
-//! Which requests wait for their responses.
+//! Which requests wait for their responses, and which responses for their requests.
 
-ghost use Rattle.std.specs.Prelude.{◌≡◌, ◌↔◌, ◌+◌, ◌==◌, ◌≤◌, IfNone, IfOk, IsErrOf, OnSome};
+ghost use Rattle.std.specs.Prelude.{◌≡◌, ◌↔◌, ◌+◌, ◌==◌, ◌<◌, ◌≤◌, IfNone, IfOk, IsErrOf, OnSome};
 ghost use Rattle.std.specs.Prelude.{find, length, position, vec_capacity, vec_len};
 ghost use Rattle.cqlp_watch.specs.Messages.{is_under};
 ghost use Rattle.cqlp_watch.specs.Pairings.{without};
@@ -10,14 +10,16 @@ use crate::paired::{NewPairingError, Paired};
 use std::alloc::{Allocator, Global};
 use std::marker::Model;
 
-/// The requests of one connection that wait for their responses.
+/// The messages of one connection that wait for the other of their exchange: requests for their responses, and responses that came before
+/// their requests.
 ///
-/// It takes the frames of both directions in the order in which they ended, and tells of each response which request it answers: the last
-/// one before it under its stream id, if no response came under that id since. All memory is taken in `new`.
+/// It takes the frames of both directions in the order in which they ended, and tells of each request which response it has: the next under
+/// its stream id, or the one before it under that id, if that still waits and the request was begun no later by the capture's times. All
+/// memory is taken in `new`.
 #[derive(Drop)]
 pub struct Pairing<T, A: Allocator = Global> {
     limit: u16,
-    /// The requests that wait, the one that waits longest first.
+    /// The messages that wait, the one that waits longest first, and no two under one stream id.
     waiting: Vec<Message<T>, A>,
 }
 
@@ -33,9 +35,9 @@ impl<T, A: Allocator> Model for Pairing<T, A> {
 }
 
 impl<T: Drop, A: Allocator> Pairing<T, A> {
-    ghost use Rattle.cqlp_watch.specs.Pairings.{asked, answered, crowded, ended, ending, new_waiting, paired, taken};
+    ghost use Rattle.cqlp_watch.specs.Pairings.{awaited, crowded, ended, met, new_waiting, paired, taken};
 
-    /// No request waits. At most `limit` requests will, 1 to 65,535. All memory is taken here, in one request: so many times the size
+    /// No message waits. At most `limit` messages will, 1 to 65,535. All memory is taken here, in one request: so many times the size
     /// of a [`Message`].
     pub fn new(alloc: A, limit: u16) -> Result<Self, NewPairingError>
         ensures bad { IsErrOf result NewPairingError.BadLimit ↔ (limit ≡ 0) }
@@ -50,7 +52,7 @@ impl<T: Drop, A: Allocator> Pairing<T, A> {
         })
     }
 
-    /// How many requests wait: at most as many as the limit.
+    /// How many messages wait: at most as many as the limit.
     pub fn len(&self) -> usize
         ensures is { result ≡ length self.now.waiting }
         ensures within { result ≤ self.now.limit }
@@ -65,65 +67,68 @@ impl<T: Drop, A: Allocator> Pairing<T, A> {
         self.waiting.is_empty()
     }
 
-    /// Takes the next frame of either direction. What is told of a response is its exchange, if a request waits under its stream id.
+    /// Takes the next frame of either direction. If it and the one that waits under its stream id are a request and its response, that
+    /// exchange is told.
     ///
-    /// A request takes the place of one that waits under its id, and where too many wait, that of the one that waits longest: what is told
-    /// then is that no response to that one was seen.
+    /// Else it takes the place of that one, and what is told is that the other of its exchange was not seen. Where none waits under its id
+    /// and too many do, a request takes the place of the one that waits longest, and a response is itself told alone.
     pub fn take(&mut self, message: Message<T>) -> Option<Paired<T>>
         ensures { paired result self.new ≡ taken message self.old }
     {
         if message.is_event() {
             return Some(Paired::Event { event: message });
         }
-        if message.is_request() {
-            self.ask(message)
-        } else {
-            Some(self.answer(message))
+        match leave(&mut self.waiting, message.stream()) {
+            Some(first) => Some(self.meet(first, message)),
+            None => self.wait(message),
         }
     }
 
-    /// Where no more frames come: the request that waits longest, which waits no more. `None` once none waits.
-    pub fn end(&mut self) -> Option<Message<T>>
-        ensures { ending result self.new ≡ ended self.old }
+    /// Where no more frames come: the message that waits longest, which waits no more. `None` once none waits.
+    pub fn end(&mut self) -> Option<Paired<T>>
+        ensures { paired result self.new ≡ ended self.old }
     {
         if self.waiting.is_empty() {
             return None;
         }
-        Some(self.waiting.remove(0))
+        Some(Paired::alone(self.waiting.remove(0)))
     }
 
-    fn answer(&mut self, response: Message<T>) -> Paired<T>
-        ensures { paired (Some result) self.new ≡ answered response self.old }
+    /// A message comes after one that waited under its stream id.
+    fn meet(&mut self, first: Message<T>, second: Message<T>) -> Paired<T>
+        requires { length self.old.waiting < self.old.limit }
+        ensures { paired (Some result) self.new ≡ met first second self.old }
     {
-        match leave(&mut self.waiting, response.stream()) {
-            Some(request) => Paired::Exchange { request, response },
-            None => Paired::Unasked { response },
+        if first.meets(&second) {
+            Paired::exchange(first, second)
+        } else {
+            self.waiting.push_reserved(second);
+            Paired::alone(first)
         }
     }
 
-    fn ask(&mut self, request: Message<T>) -> Option<Paired<T>>
-        ensures { paired result self.new ≡ asked request self.old }
+    /// A message comes under an id under which none waits.
+    fn wait(&mut self, message: Message<T>) -> Option<Paired<T>>
+        ensures { paired result self.new ≡ awaited message self.old }
     {
-        match leave(&mut self.waiting, request.stream()) {
-            Some(before) => {
-                self.waiting.push_reserved(request);
-                Some(Paired::Unanswered { request: before })
-            }
-            None if self.waiting.len() < self.limit as usize => {
-                self.waiting.push_reserved(request);
-                None
-            }
-            None => Some(self.crowd(request)),
+        if self.waiting.len() < self.limit as usize {
+            self.waiting.push_reserved(message);
+            None
+        } else if message.is_request() {
+            Some(self.crowd(message))
+        } else {
+            Some(Paired::Unasked { response: message })
         }
     }
 
+    /// A request waits in place of the one that waits longest.
     fn crowd(&mut self, request: Message<T>) -> Paired<T>
         requires { length self.old.waiting ≡ self.old.limit }
         ensures { paired (Some result) self.new ≡ crowded request self.old }
     {
         let first = self.waiting.remove(0);
         self.waiting.push_reserved(request);
-        Paired::Unanswered { request: first }
+        Paired::alone(first)
     }
 }
 

@@ -14,7 +14,7 @@ use std::marker::Model;
 ///
 /// `begin` says of each direction whether its beginning was seen. `take` tells at most one thing of each call; it is to be called again with the
 /// bytes that it did not use, until `is_done`. At the end of a direction `end` tells of its last frame, and at that of the connection `finish`
-/// of the requests that still wait, until it says `None`. All memory is taken in `new`.
+/// of the messages that still wait, until it says `None`. All memory is taken in `new`.
 #[derive(Drop)]
 pub struct Watch<A: Allocator = Global> {
     requests: Speaker,
@@ -41,10 +41,10 @@ impl<A: Allocator> Model for Watch<A> {
 }
 
 impl<A: Allocator> Watch<A> {
-    ghost use Rattle.cqlp_watch.specs.Watches.{after_end, after_gap, begun, finished, finishing, heard, new_watched, paired_if, stepping, telling};
+    ghost use Rattle.cqlp_watch.specs.Watches.{after_end, after_gap, begun, finished, heard, new_watched, paired_if, stepping, telling};
 
-    /// A connection of which nothing was seen. At most `limit` requests wait for their responses, 1 to 65,535. All memory is taken here, in one
-    /// request: so many times the size of a `Message<Kept>`.
+    /// A connection of which nothing was seen. At most `limit` messages wait for the other of their exchange, 1 to 65,535. All memory is taken
+    /// here, in one request: so many times the size of a `Message<Kept>`.
     pub fn new(alloc: A, limit: u16) -> Result<Self, NewPairingError>
         ensures bad { IsErrOf result NewPairingError.BadLimit ↔ (limit ≡ 0) }
         ensures fresh { IfOk result (λ w. w ≡ new_watched limit) }
@@ -116,9 +116,9 @@ impl<A: Allocator> Watch<A> {
         self.pair(message)
     }
 
-    /// The connection is over: the request that waits longest, which waits no more. `None` once none waits.
-    pub fn finish(&mut self) -> Option<Message<Kept>>
-        ensures { finishing result self.new ≡ finished self.old }
+    /// The connection is over: the message that waits longest, which waits no more. `None` once none waits.
+    pub fn finish(&mut self) -> Option<Paired<Kept>>
+        ensures { telling result self.new ≡ finished self.old }
     {
         self.pairing.end()
     }

@@ -3,8 +3,6 @@ use Rattle.std.proofs.Common.{inl, inr, ◌≡◌, ℕ, Bool, true, false, cond,
 use Rattle.std.specs.Prelude.{find, map, option_map}
 use Rattle.std.specs.Ordering.{int_eq}
 use Rattle.std.specs.List.{AllByRecursion}
-use Rattle.std.specs.List.Sorted.{IsPermutation}
-use Rattle.std.proofs.lemmas.List.Sorted.{IsPermutation-refl, IsPermutation-sym, IsPermutation-trans, IsPermutation-append_left}
 use Rattle.cqlp_note.specs.declared.opcode.Opcode.{Opcode}
 use Rattle.cqlp_session.specs.declared.kind.RequestKind.{RequestKind}
 use Rattle.cqlp_session.specs.declared.server.AnswerError.{AnswerError}
@@ -22,14 +20,14 @@ use Rattle.cqlp_session.proofs.Progress.{under_put}
 use Rattle.cqlp_session.proofs.Under.{cases_int, has_taken, int_eq_other, int_eq_same, under_new, under_put_other, under_put_same}
 use Rattle.cqlp_watch.specs.declared.message.Frame.{Frame}
 use Rattle.cqlp_watch.specs.declared.message.Message.{Message as Seen}
-use Rattle.cqlp_watch.specs.Messages.{id_of, is_request, is_under}
-use Rattle.cqlp_watch.specs.Waiting.{exchanges, waiting_of}
+use Rattle.cqlp_watch.specs.Messages.{id_of, is_request, is_under, meets}
+use Rattle.cqlp_watch.specs.Waiting.{exchange_with, exchanges, unmet, waiting_of}
 use Rattle.cqlp_watch.specs.Pairings.{without}
 use Rattle.cqlp_watch.proofs.Lists.{find_front, without_none}
-use Rattle.cqlp_watch.proofs.Waits.{alone, found_none, found_some, request_is_no_event, waiting_apart, waiting_event, waiting_push}
-use Rattle.cqlp_watch.proofs.Exchanged.{exchanges_event, exchanges_request, exchanges_response, pair_with}
+use Rattle.cqlp_watch.proofs.Waits.{found_none, found_some, one, waiting_apart, waiting_event, waiting_more}
+use Rattle.cqlp_watch.proofs.Exchanged.{exchanges_event, exchanges_more}
 use Rattle.cqlp_watch_laws.specs.Honest.{IsView, PairsAsTheClient, Said, answer_in, answers_in, asked, at_client, passing, sent, viewed}
-use Rattle.cqlp_watch_laws.proofs.Views.{Views, event_seen, find_without, id_seen, map_push, no_event_seen, none_without, reply_seen, request_seen, shown}
+use Rattle.cqlp_watch_laws.proofs.Views.{Views, event_seen, find_without, id_seen, map_push, no_event_seen, none_without, reply_seen, request_is_no_event, request_seen, shown}
 
 abbrev pub Both : Type 0
 Both = List (Seen (Option Request) × Seen (Option Request))
@@ -42,31 +40,47 @@ waits_seen view h = waiting_of (map (viewed view) h)
 pub record Sees (view : Said → Frame) (h : List Said) (slots : List (Option OpenRequest)) : Type 0 where
   pub free : (id : ℤ) → under slots id ≡ None → find (is_under id) (waits_seen view h) ≡ None
   pub waits : (r : Request) → IsKnown slots r → find (is_under r.ticket.id) (waits_seen view h) ≡ Some (shown view r)
-  pub pairs : IsPermutation (answers_in view h) (exchanges (map (viewed view) h))
+  pub pairs : answers_in view h ≡ exchanges (map (viewed view) h)
 
 answers_push : (view : Said → Frame) (h : List Said) (m : Said) → answers_in view (h ++ m ∷ []) ≡ answers_in view h ++ answer_in view m m.tag
 answers_push view [] m = append-nil (answer_in view m m.tag)
 answers_push view (x ∷ h) m =
     ap (λ (r : Both). answer_in view x x.tag ++ r) (answers_push view h m) ∙ sym (append_assoc (answer_in view x x.tag) (answers_in view h) (answer_in view m m.tag))
 
-pub same_pairs : (view : Said → Frame) (h : List Said) (m : Said) → answer_in view m m.tag ≡ [] → exchanges (map (viewed view) (h ++ m ∷ [])) ≡ exchanges (map (viewed view) h) → IsPermutation (answers_in view h) (exchanges (map (viewed view) h)) → IsPermutation (answers_in view (h ++ m ∷ [])) (exchanges (map (viewed view) (h ++ m ∷ [])))
+pub same_pairs : (view : Said → Frame) (h : List Said) (m : Said) → answer_in view m m.tag ≡ [] → exchanges (map (viewed view) (h ++ m ∷ [])) ≡ exchanges (map (viewed view) h) → answers_in view h ≡ exchanges (map (viewed view) h) → answers_in view (h ++ m ∷ []) ≡ exchanges (map (viewed view) (h ++ m ∷ []))
 same_pairs view h m none same p =
-    let all : answers_in view h ≡ answers_in view (h ++ m ∷ []) =
-    sym (append-nil (answers_in view h)) ∙ ap (λ (r : Both). answers_in view h ++ r) (sym none) ∙ sym (answers_push view h m) in
-    subst (λ (r : Both). IsPermutation r (exchanges (map (viewed view) (h ++ m ∷ [])))) all (subst (λ (r : Both). IsPermutation (answers_in view h) r) (sym same) p)
+    answers_push view h m
+    ∙ ap (λ (r : Both). answers_in view h ++ r) none
+    ∙ append-nil (answers_in view h)
+    ∙ p
+    ∙ sym same
 
 -- ---- the client sends a request
 
+none_seen : (view : Said → Frame) (is : IsView view) (h : List Said) (r : Request) → find (is_under r.ticket.id) (waits_seen view h) ≡ None → find (is_under (id_of (shown view r))) (waits_seen view h) ≡ None
+none_seen view is h r none = subst (λ (i : ℤ). find (is_under i) (waits_seen view h) ≡ None) (sym (id_seen view is (asked (request_message r)))) none
+
+pub asks_seen : (view : Said → Frame) (is : IsView view) (r : Request) → is_request (shown view r) ≡ true
+asks_seen view is r = request_seen view is (asked (request_message r)) refl
+
 pub waits_sent : (view : Said → Frame) (is : IsView view) (h : List Said) (r : Request) → find (is_under r.ticket.id) (waits_seen view h) ≡ None → waits_seen view (h ++ asked (request_message r) ∷ []) ≡ waits_seen view h ++ shown view r ∷ []
 waits_sent view is h r none =
-    let q = asked (request_message r) in
-    let asks : is_request (shown view r) ≡ true = request_seen view is q refl in
-    let nobody : find (is_under (id_of (shown view r))) (waits_seen view h) ≡ None = subst (λ (i : ℤ). find (is_under i) (waits_seen view h) ≡ None) (sym (id_seen view is q)) none in
-    let lone : alone (shown view r) ≡ shown view r ∷ [] = rw asks refl in
-    ap (λ (ms : Views). waiting_of ms) (map_push (viewed view) h q)
-    ∙ waiting_push (map (viewed view) h) (shown view r) (request_is_no_event (shown view r) asks)
-    ∙ ap (λ (ms : Views). ms ++ alone (shown view r)) (without_none (id_of (shown view r)) (waits_seen view h) nobody)
-    ∙ ap (λ (ms : Views). waits_seen view h ++ ms) lone
+    let q = shown view r in
+    let ws = waits_seen view h in
+    let nobody = none_seen view is h r none in
+    ap (λ (ms : Views). waiting_of ms) (map_push (viewed view) h (asked (request_message r)))
+    ∙ waiting_more (map (viewed view) h) q (request_is_no_event q (asks_seen view is r))
+    ∙ ap (λ (o : Option (Seen (Option Request))). without (id_of q) ws ++ one (unmet q o)) nobody
+    ∙ ap (λ (ms : Views). ms ++ q ∷ []) (without_none (id_of q) ws nobody)
+
+pub exchanges_sent : (view : Said → Frame) (is : IsView view) (h : List Said) (r : Request) → find (is_under r.ticket.id) (waits_seen view h) ≡ None → exchanges (map (viewed view) (h ++ asked (request_message r) ∷ [])) ≡ exchanges (map (viewed view) h)
+exchanges_sent view is h r none =
+    let q = shown view r in
+    let before = exchanges (map (viewed view) h) in
+    ap (λ (ms : Views). exchanges ms) (map_push (viewed view) h (asked (request_message r)))
+    ∙ exchanges_more (map (viewed view) h) q (request_is_no_event q (asks_seen view is r))
+    ∙ ap (λ (o : Option (Seen (Option Request))). before ++ exchange_with q o) (none_seen view is h r none)
+    ∙ append-nil before
 
 same_request : (r : Request) (t : Ticket) (k : RequestKind) → r.ticket.id ≡ t.id → r.ticket.number ≡ t.number → r.kind ≡ k → r ≡ record { ticket = t; kind = k }
 same_request r t k id number kind =
@@ -84,7 +98,6 @@ sees_sent view is h w k t e p =
     let more = waits_sent view is h r none in
     let here : under (put slots t.id (Some entry)) t.id ≡ Some entry = under_put_same slots t.id (Some entry) at.has in
     let own : is_under t.id (shown view r) ≡ true = ap (λ (i : ℤ). int_eq i t.id) (id_seen view is q) ∙ int_eq_same t.id in
-    let asks : is_request (shown view r) ≡ true = request_seen view is q refl in
     record {
       free = λ id empty. elim (cases_int id t.id) [
         | inl same ↦ absurd (let there = ap (under (put slots t.id (Some entry))) same in cc (there, here, empty))
@@ -107,7 +120,7 @@ sees_sent view is h w k t e p =
             ap (λ (ms : Views). find (is_under s.ticket.id) ms) more
             ∙ find_front (is_under s.ticket.id) (waits_seen view h) (shown view r ∷ []) (shown view s) (p.waits s before)
       ];
-      pairs = same_pairs view h q refl (ap (λ (ms : Views). exchanges ms) (map_push (viewed view) h q) ∙ exchanges_request (map (viewed view) h) (shown view r) asks) p.pairs;
+      pairs = same_pairs view h q refl (exchanges_sent view is h r none) p.pairs;
     }
 
 -- ---- a message is delivered to the client
@@ -116,7 +129,7 @@ pub waits_event : (view : Said → Frame) (is : IsView view) (h : List Said) (m 
 waits_event view is h m e =
     ap (λ (ms : Views). waiting_of ms) (map_push (viewed view) h m) ∙ waiting_event (map (viewed view) h) (viewed view m) (event_seen view is m e)
 
-pub pairs_event : (view : Said → Frame) (is : IsView view) (h : List Said) (m : Said) → m.tag ≡ None → m.seen ≡ event_message.seen → IsPermutation (answers_in view h) (exchanges (map (viewed view) h)) → IsPermutation (answers_in view (h ++ m ∷ [])) (exchanges (map (viewed view) (h ++ m ∷ [])))
+pub pairs_event : (view : Said → Frame) (is : IsView view) (h : List Said) (m : Said) → m.tag ≡ None → m.seen ≡ event_message.seen → answers_in view h ≡ exchanges (map (viewed view) h) → answers_in view (h ++ m ∷ []) ≡ exchanges (map (viewed view) (h ++ m ∷ []))
 pairs_event view is h m untagged e p =
     same_pairs view h m (ap (λ (o : Option Request). answer_in view m o) untagged) (ap (λ (ms : Views). exchanges ms) (map_push (viewed view) h m) ∙ exchanges_event (map (viewed view) h) (viewed view m) (event_seen view is m e)) p
 
@@ -144,41 +157,48 @@ pub record IsReply (m : Said) (r : Request) : Type 0 where
   pub kind : RequestKind
   pub fits : answers kind m.seen.opcode ≡ true
 
-pub waits_answer : (view : Said → Frame) (is : IsView view) (h : List Said) (m : Said) (r : Request) → IsReply m r → waits_seen view (h ++ m ∷ []) ≡ without m.seen.stream (waits_seen view h)
-waits_answer view is h m r a =
+meets_seen : (view : Said → Frame) (is : IsView view) (m : Said) (r : Request) → IsReply m r → meets (shown view r) (viewed view m) ≡ true
+meets_seen view is m r a = rw (asks_seen view is r, reply_seen view is m a.response) refl
+
+asking_seen : (view : Said → Frame) (is : IsView view) (h : List Said) (m : Said) (r : Request) → find (is_under m.seen.stream) (waits_seen view h) ≡ Some (shown view r) → find (is_under (id_of (viewed view m))) (waits_seen view h) ≡ Some (shown view r)
+asking_seen view is h m r found = ap (λ (i : ℤ). find (is_under i) (waits_seen view h)) (id_seen view is m) ∙ found
+
+-- It meets the request that waits under its id.
+pub waits_answer : (view : Said → Frame) (is : IsView view) (h : List Said) (m : Said) (r : Request) → IsReply m r → find (is_under m.seen.stream) (waits_seen view h) ≡ Some (shown view r) → waits_seen view (h ++ m ∷ []) ≡ without m.seen.stream (waits_seen view h)
+waits_answer view is h m r a found =
     let v = viewed view m in
     let ws = waits_seen view h in
-    let response = reply_seen view is m a.response in
-    let isnt = no_event_seen view is m (no_event a.kind m.seen.opcode a.fits) in
-    let lone : alone v ≡ [] = rw response refl in
+    let gone : unmet v (Some (shown view r)) ≡ None = rw (meets_seen view is m r a) refl in
     ap (λ (ms : Views). waiting_of ms) (map_push (viewed view) h m)
-    ∙ waiting_push (map (viewed view) h) v isnt
-    ∙ ap (λ (ms : Views). without (id_of v) ws ++ ms) lone
+    ∙ waiting_more (map (viewed view) h) v (no_event_seen view is m (no_event a.kind m.seen.opcode a.fits))
+    ∙ ap (λ (o : Option (Seen (Option Request))). without (id_of v) ws ++ one (unmet v o)) (asking_seen view is h m r found)
+    ∙ ap (λ (o : Option (Seen (Option Request))). without (id_of v) ws ++ one o) gone
     ∙ append-nil (without (id_of v) ws)
     ∙ ap (λ (i : ℤ). without i ws) (id_seen view is m)
 
--- It is paired with the request that waits under its id.
-pub pairs_answer : (view : Said → Frame) (is : IsView view) (h : List Said) (m : Said) (r : Request) → IsReply m r → find (is_under m.seen.stream) (waits_seen view h) ≡ Some (shown view r) → IsPermutation (answers_in view h) (exchanges (map (viewed view) h)) → IsPermutation (answers_in view (h ++ m ∷ [])) (exchanges (map (viewed view) (h ++ m ∷ [])))
+pub pairs_answer : (view : Said → Frame) (is : IsView view) (h : List Said) (m : Said) (r : Request) → IsReply m r → find (is_under m.seen.stream) (waits_seen view h) ≡ Some (shown view r) → answers_in view h ≡ exchanges (map (viewed view) h) → answers_in view (h ++ m ∷ []) ≡ exchanges (map (viewed view) (h ++ m ∷ []))
 pairs_answer view is h m r a found p =
     let v = viewed view m in
-    let response = reply_seen view is m a.response in
-    let isnt = no_event_seen view is m (no_event a.kind m.seen.opcode a.fits) in
-    let asking : find (is_under (id_of v)) (waits_seen view h) ≡ Some (shown view r) =
-    ap (λ (i : ℤ). find (is_under i) (waits_seen view h)) (id_seen view is m) ∙ found in
-    let with_it : IsPermutation (exchanges (map (viewed view) h ++ v ∷ [])) (exchanges (map (viewed view) h) ++ (shown view r, v) ∷ []) =
-    subst (λ (o : Option (Seen (Option Request))). IsPermutation (exchanges (map (viewed view) h ++ v ∷ [])) (exchanges (map (viewed view) h) ++ pair_with v o)) asking (exchanges_response (map (viewed view) h) v response isnt) in
-    let one : answer_in view m m.tag ≡ (shown view r, v) ∷ [] = ap (λ (o : Option Request). answer_in view m o) a.tagged ∙ rw a.response refl in
-    subst (λ (b : Both). IsPermutation b (exchanges (map (viewed view) (h ++ m ∷ [])))) (ap (λ (b : Both). answers_in view h ++ b) (sym one) ∙ sym (answers_push view h m))
-    (subst (λ (ms : Views). IsPermutation (answers_in view h ++ (shown view r, v) ∷ []) (exchanges ms)) (sym (map_push (viewed view) h m))
-    (IsPermutation-trans _ _ _ (IsPermutation-append_left ((shown view r, v) ∷ []) _ _ p) (IsPermutation-sym _ _ with_it)))
+    let before = exchanges (map (viewed view) h) in
+    let pair : exchange_with v (Some (shown view r)) ≡ (shown view r, v) ∷ [] = rw (meets_seen view is m r a, asks_seen view is r) refl in
+    let told : exchanges (map (viewed view) (h ++ m ∷ [])) ≡ before ++ (shown view r, v) ∷ [] =
+    ap (λ (ms : Views). exchanges ms) (map_push (viewed view) h m)
+    ∙ exchanges_more (map (viewed view) h) v (no_event_seen view is m (no_event a.kind m.seen.opcode a.fits))
+    ∙ ap (λ (o : Option (Seen (Option Request))). before ++ exchange_with v o) (asking_seen view is h m r found)
+    ∙ ap (λ (b : Both). before ++ b) pair in
+    let answer : answer_in view m m.tag ≡ (shown view r, v) ∷ [] = ap (λ (o : Option Request). answer_in view m o) a.tagged ∙ rw a.response refl in
+    answers_push view h m
+    ∙ ap (λ (b : Both). answers_in view h ++ b) answer
+    ∙ ap (λ (b : Both). b ++ (shown view r, v) ∷ []) p
+    ∙ sym told
 
 sees_answer : (view : Said → Frame) (is : IsView view) (h : List Said) (m : Said) (r : Request) (slots : List (Option OpenRequest)) → m.tag ≡ Some r → IsAnswerTo slots m.seen r → Sees view h slots → Sees view (h ++ m ∷ []) (put slots m.seen.stream None)
 sees_answer view is h m r slots tagged a p =
     let id = m.seen.stream in
     let ws = waits_seen view h in
     let reply : IsReply m r = record { tagged = tagged; response = a.response; stream = a.stream; kind = r.kind; fits = a.fits } in
-    let less = waits_answer view is h m r reply in
     let asking : find (is_under id) ws ≡ Some (shown view r) = ap (λ (i : ℤ). find (is_under i) ws) a.stream ∙ p.waits r a.known in
+    let less = waits_answer view is h m r reply asking in
     record {
       free = λ other empty. ap (λ (ms : Views). find (is_under other) ms) less ∙ elim (cases_int other id) [
         | inl same ↦ subst (λ (i : ℤ). find (is_under i) (without id ws) ≡ None) (sym same) (none_without id ws (waiting_apart (map (viewed view) h)))
@@ -281,6 +301,6 @@ pairs_at_client view c s steps is =
     let new : Sees view [] (start c s).client.slots = record {
       free = λ id empty. refl;
       waits = λ r known. absurd (let none = under_new {A = OpenRequest} c r.ticket.id in cc (none, known.there));
-      pairs = IsPermutation-refl [];
+      pairs = refl;
     } in
     (sees_all view is steps [] (start c s) (start_paired c s) new).pairs

@@ -2,9 +2,7 @@
 use Rattle.std.proofs.Common.{inl, inr, ◌≡◌, ◌≢◌, ◌≤◌, Bool, true, false, List, [], ◌∷◌, ◌++◌, take, refl, sym, ap, subst, ◌∙◌, arith, append_assoc, append-nil, Option, Some, None, Ok, Err, Result, ℤ}
 use Rattle.std.specs.Prelude.{find, map, option_map, ⊤}
 use Rattle.std.specs.List.{AllByRecursion}
-use Rattle.std.specs.List.Sorted.{IsPermutation}
 use Rattle.std.specs.Ordering.{int_eq}
-use Rattle.std.proofs.lemmas.List.Sorted.{IsPermutation-refl}
 use Rattle.cqlp_note.specs.declared.opcode.Opcode.{Opcode}
 use Rattle.cqlp_session.specs.declared.kind.RequestKind.{RequestKind}
 use Rattle.cqlp_session.specs.declared.server.AnswerError.{AnswerError}
@@ -21,15 +19,14 @@ use Rattle.cqlp_session.proofs.Paired.{IsComing, IsComingAs, IsPaired, IsSent, a
 use Rattle.cqlp_session.proofs.Under.{cases_int, each_both, each_push, each_weaker, int_eq_other, int_eq_same, none_counted, under_new, under_put_other, under_put_same}
 use Rattle.cqlp_watch.specs.declared.message.Frame.{Frame}
 use Rattle.cqlp_watch.specs.declared.message.Message.{Message as Seen}
-use Rattle.cqlp_watch.specs.Messages.{is_request, is_under}
+use Rattle.cqlp_watch.specs.Messages.{is_under}
 use Rattle.cqlp_watch.specs.Waiting.{exchanges}
 use Rattle.cqlp_watch.specs.Pairings.{without}
 use Rattle.cqlp_watch.proofs.Lists.{find_front}
 use Rattle.cqlp_watch.proofs.Waits.{found_none, found_some, waiting_apart}
-use Rattle.cqlp_watch.proofs.Exchanged.{exchanges_request}
 use Rattle.cqlp_watch_laws.specs.Honest.{IsView, PairsAsTheServer, Said, answers_in, asked, at_server, passing, responded, viewed}
-use Rattle.cqlp_watch_laws.proofs.Views.{Views, find_without, id_seen, map_push, none_without, request_seen, shown}
-use Rattle.cqlp_watch_laws.proofs.AtClient.{IsReply, marked_none, nothing_put, pairs_answer, pairs_event, same_pairs, waits_answer, waits_event, waits_seen, waits_sent}
+use Rattle.cqlp_watch_laws.proofs.Views.{Views, find_without, id_seen, none_without, shown}
+use Rattle.cqlp_watch_laws.proofs.AtClient.{IsReply, exchanges_sent, marked_none, nothing_put, pairs_answer, pairs_event, same_pairs, waits_answer, waits_event, waits_seen, waits_sent}
 
 -- ---- what waits
 
@@ -45,7 +42,7 @@ pub record Hears (view : Said → Frame) (h : List Said) (w : World) : Type 0 wh
   pub up : AllByRecursion (λ m. find (is_under m.tag.ticket.id) (waits_seen view h) ≡ None) w.up
   pub down : AllByRecursion (λ m. NoneUnder (waits_seen view h) m.tag) w.down
   pub serving : (id : ℤ) (k : RequestKind) (r : Request) → under w.server.slots id ≡ Some k → last_under id w.taken ≡ Some r → find (is_under id) (waits_seen view h) ≡ Some (shown view r)
-  pub pairs : IsPermutation (answers_in view h) (exchanges (map (viewed view) h))
+  pub pairs : answers_in view h ≡ exchanges (map (viewed view) h)
 
 -- one more request under another id
 none_more : (view : Said → Frame) (is : IsView view) (ws : Views) (r : Request) (id : ℤ) → r.ticket.id ≢ id → find (is_under id) ws ≡ None → find (is_under id) (ws ++ shown view r ∷ []) ≡ None
@@ -119,7 +116,7 @@ pub record Came (view : Said → Frame) (h : List Said) (w : World) (rest : List
   pub free : (id : ℤ) → under w.client.slots id ≡ None → find (is_under id) (waits_seen view h) ≡ None
   pub up : AllByRecursion (λ m. find (is_under m.tag.ticket.id) (waits_seen view h) ≡ None) rest
   pub down : AllByRecursion (λ m. NoneUnder (waits_seen view h) m.tag) w.down
-  pub pairs : IsPermutation (answers_in view h) (exchanges (map (viewed view) h))
+  pub pairs : answers_in view h ≡ exchanges (map (viewed view) h)
 
 came_up : (view : Said → Frame) (is : IsView view) (h : List Said) (w : World) (m : Message Request) (rest : List (Message Request)) → IsPaired w → IsSent w.client.slots m → w.up ≡ m ∷ rest → Hears view h w → find (is_under m.tag.ticket.id) (waits_seen view h) ≡ None → AllByRecursion (λ n. find (is_under n.tag.ticket.id) (waits_seen view h) ≡ None) rest → Came view (h ++ asked (request_message m.tag) ∷ []) w rest
 came_up view is h w m rest q s e p none others =
@@ -127,14 +124,13 @@ came_up view is h w m rest q s e p none others =
     let ws = waits_seen view h in
     let more = waits_sent view is h r none in
     let only = only_one w m rest q e in
-    let asks : is_request (shown view r) ≡ true = request_seen view is (asked (request_message r)) refl in
     record {
       free = λ id empty. ap (λ (ms : Views). find (is_under id) ms) more ∙ none_more view is ws r id (known_apart w.client.slots id r empty s.known) (p.free id empty);
       up = moved (λ (n : Message Request) ms. find (is_under n.tag.ticket.id) ms ≡ None) rest _ _ more
           (each_weaker _ _ rest (λ n both. none_more view is ws r n.tag.ticket.id (λ same. absurd (cc (ap (λ (i : ℤ). int_eq i r.ticket.id) (sym same) ∙ int_eq_same r.ticket.id, both.1))) both.0) (each_both _ _ rest others only.up));
       down = moved (λ (n : Message (Option Request)) ms. NoneUnder ms n.tag) w.down _ _ more
           (each_weaker _ _ w.down (λ n both. other_tag view is ws r n.tag both.1 both.0) (each_both _ _ w.down p.down only.down));
-      pairs = same_pairs view h (asked (request_message r)) refl (ap (λ (ms : Views). exchanges ms) (map_push (viewed view) h (asked (request_message r))) ∙ exchanges_request (map (viewed view) h) (shown view r) asks) p.pairs;
+      pairs = same_pairs view h (asked (request_message r)) refl (exchanges_sent view is h r none) p.pairs;
     }
 
 -- one that is found already is found still
@@ -197,7 +193,7 @@ hears_answer view is h w id o (Ok k) e q p =
     let m : Said = answer_message id o (last_under id w.taken) in
     let reply : IsReply m t.request = record { tagged = t.last; response = refl; stream = sym t.stream; kind = k; fits = an.fits } in
     let found = p.serving id k t.request an.there t.last in
-    let less : waits_seen view (h ++ m ∷ []) ≡ without id ws = waits_answer view is h m t.request reply in
+    let less : waits_seen view (h ++ m ∷ []) ≡ without id ws = waits_answer view is h m t.request reply found in
     let gone : find (is_under t.request.ticket.id) (waits_seen view (h ++ m ∷ [])) ≡ None =
     ap (λ (ms : Views). find (is_under t.request.ticket.id) ms) less
     ∙ ap (λ (i : ℤ). find (is_under i) (without id ws)) t.stream
@@ -289,6 +285,6 @@ pairs_at_server view c s steps is =
       up = tt;
       down = tt;
       serving = λ id k r there last. absurd (let none = under_new {A = RequestKind} s id in cc (none, there));
-      pairs = IsPermutation-refl [];
+      pairs = refl;
     } in
     (hears_all view is steps [] (start c s) (start_paired c s) new).pairs

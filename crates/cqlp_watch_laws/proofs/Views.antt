@@ -54,6 +54,13 @@ third_false false b c e = refl
 pub no_event_seen : (view : Said → Frame) → IsView view → (m : Said) → signal.is_event m.seen.opcode ≡ false → is_event (viewed view m) ≡ false
 no_event_seen view is m e = third_false _ _ _ (ap is_of_event (opcode_seen view is m) ∙ same_event m.seen.opcode ∙ e)
 
+event_of : (response event negative : Bool) → not response ≡ true → (response && event) && negative ≡ false
+event_of true event negative e = absurd (cc e)
+event_of false event negative e = refl
+
+pub request_is_no_event : {T : Type 0} (m : Seen T) → is_request m ≡ true → is_event m ≡ false
+request_is_no_event m is = event_of _ _ _ is
+
 -- ---- lists
 
 pub map_push : {X Y : Type 0} (f : X → Y) (xs : List X) (x : X) → map f (xs ++ x ∷ []) ≡ map f xs ++ f x ∷ []

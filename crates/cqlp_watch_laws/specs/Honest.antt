@@ -1,7 +1,6 @@
 -- What passes one end of the wires between an honest client and an honest server (the cores of cqlp_session), and what an observer there
 -- tells of it.
 use Rattle.std.specs.Prelude.{◌≡◌, ℕ, ℤ, List, [], ◌∷◌, ◌++◌, map, take, Option, Some, None, Result, Ok, Err, if◌then◌else◌}
-use Rattle.std.specs.List.Sorted.{IsPermutation}
 use Rattle.cqlp_note.specs.declared.opcode.Opcode.{Opcode}
 use Rattle.cqlp_session.specs.declared.kind.RequestKind.{RequestKind}
 use Rattle.cqlp_session.specs.declared.server.AnswerError.{AnswerError}
@@ -64,7 +63,7 @@ IsView view = (m : Said) → signal_of (view m).header ≡ m.seen
 abbrev pub viewed : (Said → Frame) → Said → Seen (Option Request)
 viewed view m = record { frame = view m; kept = m.tag }
 
--- each response with the request that it answers
+-- each response with the request that it answers, in their order
 abbrev pub answer_in : (Said → Frame) → Said → Option Request → List (Seen (Option Request) × Seen (Option Request))
 answer_in view m None = []
 answer_in view m (Some r) =
@@ -78,7 +77,7 @@ abbrev pub PairsAt : (World → Step → List Said) → Type 0
 PairsAt end =
     (view : Said → Frame) (client_slots server_slots : ℕ) (steps : List Step) → IsView view
     → (let said = passing end steps (start client_slots server_slots) in
-    IsPermutation (answers_in view said) (exchanges (map (viewed view) said)))
+    answers_in view said ≡ exchanges (map (viewed view) said))
 
 abbrev pub PairsAsTheClient : Type 0
 PairsAsTheClient = PairsAt at_client
