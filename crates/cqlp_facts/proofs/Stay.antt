@@ -1,7 +1,6 @@
 -- What is known stays.
-use Rattle.std.proofs.Common.{inl, inr, ◌≡◌, ℕ, Bool, true, false, cond, List, [], ◌∷◌, ◌++◌, length, Option, Some, None, refl, sym, subst}
+use Rattle.std.proofs.Common.{ℕ, Bool, true, false, cond, List, [], ◌∷◌, ◌++◌, length, Option, Some, None}
 use Rattle.std.specs.Prelude.{nat_lt}
-use Rattle.std.proofs.lemmas.Bool.{cases_Bool}
 use Rattle.cqlp_facts.specs.declared.facts.Fact.{Fact}
 use Rattle.cqlp_facts.specs.declared.facts.Fact.TheVariants as fact
 use Rattle.cqlp_facts.specs.declared.facts.Facts.{Facts}
@@ -22,17 +21,12 @@ known None said x e = absurd (cc e)
 then : {A : Type 0} (a b c : Option A) → IsKept a b → IsKept b c → IsKept a c
 then a b c f g x e = g x (f x e)
 
+all : {f g : Facts} → IsKept f.consistency g.consistency → IsKept f.page_size g.page_size → IsKept f.trace_id g.trace_id → IsKept f.warnings g.warnings → IsKept f.result g.result → IsKept f.error g.error → IsKept f.rows g.rows → IsKept f.columns g.columns → AreKept f g
+all consistency page_size trace_id warnings result error rows columns =
+    record { consistency = consistency; page_size = page_size; trace_id = trace_id; warnings = warnings; result = result; error = error; rows = rows; columns = columns }
+
 all_same : (f : Facts) → AreKept f f
-all_same f = record {
-  consistency = same f.consistency;
-  page_size = same f.page_size;
-  trace_id = same f.trace_id;
-  warnings = same f.warnings;
-  result = same f.result;
-  error = same f.error;
-  rows = same f.rows;
-  columns = same f.columns;
-}
+all_same f = all (same _) (same _) (same _) (same _) (same _) (same _) (same _) (same _)
 
 all_then : (f g h : Facts) → AreKept f g → AreKept g h → AreKept f h
 all_then f g h a b = record {
@@ -47,86 +41,14 @@ all_then f g h a b = record {
 }
 
 with_one : (said : Fact) (f : Facts) → AreKept f (with_fact said f)
-with_one (fact.Consistency level) f = record {
-  consistency = known f.consistency level;
-  page_size = same f.page_size;
-  trace_id = same f.trace_id;
-  warnings = same f.warnings;
-  result = same f.result;
-  error = same f.error;
-  rows = same f.rows;
-  columns = same f.columns;
-}
-with_one (fact.PageSize size) f = record {
-  consistency = same f.consistency;
-  page_size = known f.page_size size;
-  trace_id = same f.trace_id;
-  warnings = same f.warnings;
-  result = same f.result;
-  error = same f.error;
-  rows = same f.rows;
-  columns = same f.columns;
-}
-with_one (fact.TraceId id) f = record {
-  consistency = same f.consistency;
-  page_size = same f.page_size;
-  trace_id = known f.trace_id id;
-  warnings = same f.warnings;
-  result = same f.result;
-  error = same f.error;
-  rows = same f.rows;
-  columns = same f.columns;
-}
-with_one (fact.Warnings count) f = record {
-  consistency = same f.consistency;
-  page_size = same f.page_size;
-  trace_id = same f.trace_id;
-  warnings = known f.warnings count;
-  result = same f.result;
-  error = same f.error;
-  rows = same f.rows;
-  columns = same f.columns;
-}
-with_one (fact.Result kind) f = record {
-  consistency = same f.consistency;
-  page_size = same f.page_size;
-  trace_id = same f.trace_id;
-  warnings = same f.warnings;
-  result = known f.result kind;
-  error = same f.error;
-  rows = same f.rows;
-  columns = same f.columns;
-}
-with_one (fact.Error code) f = record {
-  consistency = same f.consistency;
-  page_size = same f.page_size;
-  trace_id = same f.trace_id;
-  warnings = same f.warnings;
-  result = same f.result;
-  error = known f.error code;
-  rows = same f.rows;
-  columns = same f.columns;
-}
-with_one (fact.Rows count) f = record {
-  consistency = same f.consistency;
-  page_size = same f.page_size;
-  trace_id = same f.trace_id;
-  warnings = same f.warnings;
-  result = same f.result;
-  error = same f.error;
-  rows = known f.rows count;
-  columns = same f.columns;
-}
-with_one (fact.Columns count) f = record {
-  consistency = same f.consistency;
-  page_size = same f.page_size;
-  trace_id = same f.trace_id;
-  warnings = same f.warnings;
-  result = same f.result;
-  error = same f.error;
-  rows = same f.rows;
-  columns = known f.columns count;
-}
+with_one (fact.Consistency said) f = all (known _ said) (same _) (same _) (same _) (same _) (same _) (same _) (same _)
+with_one (fact.PageSize said) f = all (same _) (known _ said) (same _) (same _) (same _) (same _) (same _) (same _)
+with_one (fact.TraceId said) f = all (same _) (same _) (known _ said) (same _) (same _) (same _) (same _) (same _)
+with_one (fact.Warnings said) f = all (same _) (same _) (same _) (known _ said) (same _) (same _) (same _) (same _)
+with_one (fact.Result said) f = all (same _) (same _) (same _) (same _) (known _ said) (same _) (same _) (same _)
+with_one (fact.Error said) f = all (same _) (same _) (same _) (same _) (same _) (known _ said) (same _) (same _)
+with_one (fact.Rows said) f = all (same _) (same _) (same _) (same _) (same _) (same _) (known _ said) (same _)
+with_one (fact.Columns said) f = all (same _) (same _) (same _) (same _) (same _) (same _) (same _) (known _ said)
 
 with_some : (said : Option Fact) (f : Facts) → AreKept f (with_fact_if said f)
 with_some (Some said) f = with_one said f
