@@ -33,7 +33,8 @@ impl<A: Allocator> Model for Summary<A> {
 
     ghost view = { λ s. summary s.statements s.names.items s.tallies.items };
 
-    ghost invariant = { λ s. (length s.names.items ≤ s.statements) × (s.statements ≤ vec_capacity s.names) × (length s.tallies.items ≡ s.statements + 1) };
+    ghost invariant = { λ s. (length s.names.items ≤ s.statements) × (s.statements ≤ vec_capacity s.names)
+        × (length s.tallies.items ≡ s.statements + 1) };
 }
 
 impl<A: Allocator> Summary<A> {
