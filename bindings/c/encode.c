@@ -1,7 +1,8 @@
 /* Frames written of their events. bindings/streams.txt comes on standard input. The events of each whole frame there are handed to
  * cqlp_encode: what it writes is read as these events, and is the frame itself, but where the frame has bytes after its last field or a null
- * of another length than -1; a frame with a page or a type option is refused. Then events are changed at random, from a fixed seed:
- * what is written is read as these events, and what is refused has written nothing. Events, contents and bytes lie at edges. */
+ * of another length than -1; a frame with a page or a type option is refused. Then events are changed at random, 100,000 times and from a fixed
+ * seed, or as the words say, `encode-asan 1000000 7 <streams.txt`: what is written is read as these events, and what is refused has written
+ * nothing. Events, contents and bytes lie at edges. */
 #include "give.h"
 
 enum { MOST = 128, LONG = 4096 };
@@ -304,7 +305,7 @@ static size_t bytes_of(const char *digits, uint8_t *bytes, size_t room) {
   return count;
 }
 
-int main(void) {
+int main(int count, char **words) {
   static char line[8192], name[256];
   static uint8_t stream[4096];
   cqlp_limits limits = {0};
@@ -317,7 +318,8 @@ int main(void) {
   }
   printf("frames: %zu the same, %zu others, %zu with a page or a type option\n", same, others, unbuilt);
   refuse_each();
-  write_changed(100000);
+  if (count > 2) state = strtoull(words[2], NULL, 10) | 1;
+  write_changed(count > 1 ? strtoul(words[1], NULL, 10) : 100000);
   for (size_t i = 0; i < sizeof codes / sizeof *codes; i++)
     if (codes[i]) printf("changed: %s\n", cqlp_name(CQLP_GROUP_CODE, (int64_t)i));
   for (size_t i = 0; i < kept; i++) free(frames[i]);

@@ -177,6 +177,54 @@ func ExampleServer() {
 	// {STARTUP 7} <nil>
 }
 
+func ExampleEncodeEvents() {
+	events := []cqlp.Event{
+		{Tag: cqlp.TagFrame, Opcode: cqlp.OpcodeQuery, Extra: 3},
+		{Tag: cqlp.TagText, Field: cqlp.FieldQuery, Content: []byte("SELECT")},
+		{Tag: cqlp.TagShort, Field: cqlp.FieldConsistency, Number: int64(cqlp.ConsistencyOne)},
+		{Tag: cqlp.TagByte, Field: cqlp.FieldQueryFlags},
+	}
+	frame, err := cqlp.EncodeEvents(events)
+	fmt.Printf("% x %v\n", frame, err)
+	events[2].Number = 1 << 16
+	_, err = cqlp.EncodeEvents(events)
+	var bad *cqlp.EventError
+	fmt.Println(err, errors.Is(err, cqlp.CodeNoEvent), errors.As(err, &bad) && bad.Index == 2)
+	_, err = cqlp.EncodeEvents(events[:2])
+	fmt.Println(err)
+	// Output:
+	// 04 00 00 03 07 00 00 00 0d 00 00 00 06 53 45 4c 45 43 54 00 01 00 <nil>
+	// cqlp: event 2, Short Consistency: NoEvent true true
+	// cqlp: the events together: NoSuchFrame
+}
+
+func ExampleEncoder() {
+	reader, err := cqlp.NewReader(bytes.NewReader([]byte("\x04\x00\x00\x01\x09\x00\x00\x00\x05\x00\x00\x00\x01a")), cqlp.DefaultLimits())
+	if err != nil {
+		log.Fatal(err)
+	}
+	defer reader.Close()
+	var target bytes.Buffer
+	encoder := cqlp.NewEncoder(&target)
+	for {
+		event, err := reader.Next()
+		if err == io.EOF {
+			break
+		}
+		if err != nil {
+			log.Fatal(err)
+		}
+		if event.Field == cqlp.FieldQuery {
+			event.Content = append([]byte("SELECT "), event.Content...)
+		}
+		if err := encoder.Encode(event); err != nil {
+			log.Fatal(err)
+		}
+	}
+	fmt.Printf("%q\n", target.Bytes())
+	// Output: "\x04\x00\x00\x01\t\x00\x00\x00\f\x00\x00\x00\bSELECT a"
+}
+
 func ExampleAppendHeader() {
 	header, err := cqlp.AppendHeader(nil, cqlp.Header{Opcode: cqlp.OpcodeQuery, Stream: 3, Length: 7})
 	fmt.Printf("% x %v\n", header, err)

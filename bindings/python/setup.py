@@ -1,4 +1,4 @@
-"""What the package has beside its Python: the module in C, which is left out where it cannot be compiled, and the library that
+"""What the package has beside its Python: the modules in C, which are left out where they cannot be compiled, and the library that
 bindings/build made. What else is said of the package stands in pyproject.toml."""
 
 import shutil
@@ -21,9 +21,10 @@ class WithLibrary(build_py):
 
 setup(
     cmdclass={"build_py": WithLibrary},
-    # the module in C is for each Python from 3.9 on, and so is the wheel
+    # the modules in C are for each Python from 3.9 on, and so is the wheel
     options={"bdist_wheel": {"py_limited_api": "cp39"}},
     ext_modules=[
-        Extension("cqlp._cells", ["cqlp/_cells.c"], include_dirs=["../../include"], py_limited_api=True, optional=True),
+        Extension("cqlp." + name, ["cqlp/%s.c" % name], include_dirs=["../../include"], py_limited_api=True, optional=True)
+        for name in ("_cells", "_told")
     ],
 )

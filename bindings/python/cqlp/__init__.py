@@ -1,8 +1,9 @@
 """cqlp: the CQL binary protocol, version 4 (native_protocol_v4.spec of Apache Cassandra), read as events.
 
 `rows(source)` gives the rows of a stream's pages, `columns(source)` their columns, numbers as arrays, `frames(source)` the frames, each
-message a dataclass of `cqlp.messages`, `events(source)` the events, `check(data)` the verdict. A `Decoder` takes the pieces of a stream as they come, a `Client` pairs
-replies with requests, a `Server` knows which requests it has not answered. All stand on the proved library libcqlp, whose interface is include/cqlp.h.
+message a dataclass of `cqlp.messages`, `events(source)` the events, `check(data)` the verdict, and `encode(events)` writes a frame of its
+events. A `Decoder` takes the pieces of a stream as they come, a `Client` pairs replies with requests, a `Server` knows which requests it has
+not answered. All stand on the proved library libcqlp, whose interface is include/cqlp.h.
 """
 
 from . import messages
@@ -10,6 +11,7 @@ from ._client import Client, Reply, Ticket
 from ._columns import PageColumns, Series, columns
 from ._core import event_header, header, version_error
 from ._decoder import BadCall, BadLimits, Closed, Cut, Decoder, Error, Held, Limits, Refused, Skipped, Verdict, check
+from ._encode import BadEvent, encode, encode_frames
 from ._events import Event
 from ._names import name, version, version_number
 from ._pages import Column, Page, Pages, Type, Types, rows
@@ -38,6 +40,7 @@ from .numbers import (
 __all__ = [
     "Answered",
     "BadCall",
+    "BadEvent",
     "BadLimits",
     "BatchType",
     "check",
@@ -51,6 +54,8 @@ __all__ = [
     "Days",
     "Decoder",
     "EMPTY",
+    "encode",
+    "encode_frames",
     "End",
     "Error",
     "ErrorCode",

@@ -11,6 +11,9 @@ from ._names import name
 from .numbers import Code, End, Field, Group, Kind, Mark, Opcode, Reason, Stop, Tag
 
 
+_CODES = {int(code): code for code in Code}
+
+
 class Error(Exception):
     """What this package raises."""
 
@@ -28,7 +31,7 @@ class BadCall(Error, ValueError):
 
     def __init__(self, code: int) -> None:
         super().__init__(name(Group.CODE, code) or "code %d" % code)
-        self.code: Union[Code, int] = Code(code) if code in set(Code) else code
+        self.code: Union[Code, int] = _CODES.get(code, code)
 
 
 class Refused(Error, ValueError):

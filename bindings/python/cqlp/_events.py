@@ -9,25 +9,26 @@ from .numbers import Field, Kind, Mark, Opcode, Tag
 class Event(NamedTuple):
     """An event: what `include/cqlp.h` says of `cqlp_event`. What its tag has no use for is 0, or no bytes.
 
-    `str(event)` is the line that `cqlp show` writes of it, and `event.value` what it tells, as a Python value.
+    `str(event)` is the line that `cqlp show` writes of it, and `event.value` what it tells, as a Python value. `encode` writes a frame of its
+    events: `event._replace(content=b"..")` is another one, and so is `Event(tag=Tag.SHORT, field=Field.CONSISTENCY, number=1)`.
     """
 
-    at: int
+    at: int = 0
     """The offset in the stream of the event's field; an end's is the frame's end."""
-    content: bytes
-    number: int
-    row: int
-    column: int
-    level: int
-    extra: int
-    octets: bytes
+    content: bytes = b""
+    number: int = 0
+    row: int = 0
+    column: int = 0
+    level: int = 0
+    extra: int = 0
+    octets: bytes = b""
     """A uuid, an address or a binary number, in the order of the stream."""
-    tag: Union[Tag, int]
-    field: Union[Field, int]
-    kind: Union[Kind, int]
-    opcode: Union[Opcode, int]
-    flags: int
-    mark: Union[Mark, int]
+    tag: Union[Tag, int] = 0
+    field: Union[Field, int] = 0
+    kind: Union[Kind, int] = 0
+    opcode: Union[Opcode, int] = 0
+    flags: int = 0
+    mark: Union[Mark, int] = Mark.NONE
 
     @property
     def value(self) -> ValueOf:

@@ -81,13 +81,17 @@ class Header(ctypes.Structure):
     _fields_ = [("length", c_uint32), ("stream", c_int16), ("opcode", c_uint8), ("flags", c_uint8), ("response", c_uint8)]
 
 
+class Encoded(ctypes.Structure):
+    _fields_ = [("length", c_size_t), ("event", c_size_t)]
+
+
 # The members of an event, in the order of Event: many are read at once.
 RECORD = struct.Struct("@QPNqIIIi16sBBBBBBB0Q")
 if RECORD.size != ctypes.sizeof(Event):
     raise ImportError("cqlp: an event has another size here")
 
 DONE, BAD_TEXT, BAD_CELL, BAD_ENTRIES, BAD_DEPTH, NO_MEMORY, NO_DECODER, IN_USE, NO_CLIENT, BAD_SLOTS = range(10)
-NO_SERVER = 23
+NO_SERVER, NO_ROOM = 23, 27
 
 
 def _load() -> ctypes.CDLL:
@@ -129,6 +133,7 @@ for name, result, arguments in (
     ("cqlp_server_free", c_uint32, [POINTER(Handle)]),
     ("cqlp_version_error", c_uint32, [POINTER(c_uint8 * 9), c_void_p, c_size_t, POINTER(c_size_t)]),
     ("cqlp_write_header", c_uint32, [POINTER(Header), POINTER(c_uint8 * 9)]),
+    ("cqlp_encode", c_uint32, [c_void_p, c_size_t, c_void_p, c_size_t, c_void_p, c_size_t, POINTER(Encoded)]),
     ("cqlp_name", c_char_p, [c_uint32, c_int64]),
     ("cqlp_version", c_char_p, []),
     ("cqlp_version_number", c_uint32, []),

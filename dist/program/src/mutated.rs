@@ -1,9 +1,10 @@
-//! Captures whose bytes were changed at random, and what `write_streams`, `write_exchanges` and `write_events` make of them: no panic, no more
+//! Captures whose bytes were changed at random, and what `write_streams`, `write_exchanges`, `write_events` and `write_rows` make of them: no panic, no more
 //! memory than the limits say, the same files and lines whole and in pieces of any size, lines that say how long the files are, those of exchanges
 //! that are asked for among those of all, an object for each of their lines, and summaries that count them. CQLP_STREAMS is how many changed captures
 //! there are, 3,000 where it is not set, 5,000 in a file; CQLP_CAPTURES is the folder with those of a driver.
 use crate::cqlp_connections::Way;
 use crate::cqlp_capture_events::write_events;
+use crate::cqlp_capture_rows::write_rows;
 use crate::cqlp_exchanges::{ExchangeFilter, ExchangeForm, write_exchanges};
 use crate::cqlp_note::{IoFault, OfStd, Source};
 use crate::cqlp_streams::{FileFault, StreamFile, StreamFiles, write_streams};
@@ -163,6 +164,11 @@ fn events(file: &[u8], most: usize, ports: &[u16]) -> Told {
     told(file, most, 70, |pieces, out, err| write_events(Global, ports, None, pieces, out, err))
 }
 
+/// The pages on the connection with this number.
+fn rows(file: &[u8], most: usize, ports: &[u16], connection: u64) -> Told {
+    told(file, most, 64, |pieces, out, err| write_rows(Global, ports, connection, pieces, out, err))
+}
+
 /// The lines say how long the files are, and the last line how long all of them are.
 fn agree(made: &Made) {
     let lines: Vec<Vec<&str>> = made.lines.lines().map(|line| line.split(' ').collect()).collect();
@@ -256,6 +262,8 @@ fn changed_captures() {
         let counted: usize = summary.1.lines().skip(1).map(|line| line.split_whitespace().nth(3).unwrap().parse::<usize>().unwrap()).sum();
         assert_eq!(counted, lines.1.lines().filter(|line| line.ends_with(" ms")).count());
         assert_eq!(events(&file, most, ports), events(&file, usize::MAX, ports));
+        let connection = 1 + numbers.below(20) as u64;
+        assert_eq!(rows(&file, most, ports, connection), rows(&file, usize::MAX, ports, connection));
         let errors = exchanges(&file, usize::MAX, ports, ExchangeFilter { errors: true, ..ExchangeFilter::ALL }, ExchangeForm::Lines);
         let mut all = lines.1.lines();
         assert!(errors.1.lines().all(|line| all.any(|other| other == line)));

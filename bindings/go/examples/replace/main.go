@@ -1,0 +1,40 @@
+// Passes requests on from standard input to standard output, with other words in the texts of their queries: go run ./examples/replace OLD NEW
+package main
+
+import (
+	"bytes"
+	"io"
+	"log"
+	"os"
+
+	"cqlp"
+)
+
+// pass passes on each frame once its end came.
+func pass(in io.Reader, out io.Writer, old, new []byte) error {
+	reader, err := cqlp.NewReader(in, cqlp.DefaultLimits())
+	if err != nil {
+		return err
+	}
+	defer reader.Close()
+	encoder := cqlp.NewEncoder(out)
+	for {
+		event, err := reader.Next()
+		if err != nil {
+			return err
+		}
+		if event.Tag == cqlp.TagText && event.Field == cqlp.FieldQuery {
+			event.Content = bytes.ReplaceAll(event.Content, old, new)
+		}
+		if err := encoder.Encode(event); err != nil {
+			return err
+		}
+	}
+}
+
+func main() {
+	log.SetFlags(0)
+	if err := pass(os.Stdin, os.Stdout, []byte(os.Args[1]), []byte(os.Args[2])); err != io.EOF {
+		log.Fatal(err)
+	}
+}
