@@ -129,13 +129,13 @@ extern "C" {
 #define CQLP_BUSY 31                 /* a table that was given types the frame under way */
 #define CQLP_OPEN 32                 /* a type of the table is not whole */
 #define CQLP_TOO_MANY 33             /* the table has more type options than the limit on `entries` */
-#define CQLP_TOO_DEEP 34             /* the types are nested deeper than the limit on `depth` */
+#define CQLP_TOO_DEEP 34             /* types are nested deeper than the limit on `depth`; of a frame that is written, deeper than 64 */
 #define CQLP_NOT_REFUSED 35          /* nothing is refused */
 #define CQLP_IN_HEADER 36            /* a header is refused, so nobody knows where its frame ends */
 #define CQLP_TOO_FAR 37              /* the frame ends past the greatest offset */
 #define CQLP_NO_EVENT 38             /* no event is like this one */
 #define CQLP_MISPLACED 39            /* an event of another place */
-#define CQLP_UNBUILT 40              /* a type option, or an event of a page */
+#define CQLP_UNBUILT 40              /* an event of a page, or a part */
 #define CQLP_TOO_MANY_FIELDS 41      /* there are more than 268435456 fields */
 #define CQLP_TOO_MANY_BYTES 42       /* the contents have more than 268435456 bytes */
 #define CQLP_LEFT_OVER 43            /* there are bytes behind the contents of the events */
@@ -665,20 +665,22 @@ uint32_t cqlp_version_error(const uint8_t header[9], uint8_t *bytes, size_t room
 uint32_t cqlp_write_header(const cqlp_header *fields, uint8_t bytes[9]);
 
 /* Writes the frame that has these events: those that cqlp_next puts of it, in their order, a CQLP_TAG_FRAME, then its fields, and
- * CQLP_TAG_END, which may be left out. `contents` has the contents of the events, one after the other: of each text, and of each CQLP_TAG_BYTES
- * and CQLP_TAG_BOUND with CQLP_MARK_NONE, as many bytes as its `length` says. No pointer in an event is followed. The members that a tag does
- * not use are not looked at, nor are offsets, the length of the body in CQLP_TAG_FRAME, which is counted, and the number of an end: bytes after the
- * last field are left out. Of an address `octets` says whether it has 4 or 16 bytes.
+ * CQLP_TAG_END, which may be left out. `contents` has the contents of the events, one after the other: of each text, of each CQLP_TAG_BYTES and
+ * CQLP_TAG_BOUND with CQLP_MARK_NONE, and of each CQLP_TAG_LEAF of the kinds custom, ascii, blob, decimal, varchar, varint and raw, as many bytes
+ * as its `length` says. No pointer in an event is followed. The members that a tag does not use are not looked at, nor are offsets, the length of
+ * the body in CQLP_TAG_FRAME, which is counted, and the number of an end: bytes after the last field are left out. Of an address `octets` says
+ * whether it has 4 or 16 bytes.
  * Where there is no event, no content or no room, its pointer may be null. It asks for memory for a copy of the contents, for each field, and for
  * the bytes of the frame, and gives all of it back.
  * Answers CQLP_DONE, and the bytes behind the frame are as they were; what was written is read as these events by a decoder whose limits allow it.
  * Else all bytes are as they were:
  * - CQLP_NO_ROOM: `length` says how many bytes the frame has. So a call with a `room` of 0 measures it.
- * - Of the event that `event` names, and the first that is so: CQLP_UNBUILT where it is a type option or of a cell; CQLP_NO_EVENT where nobody knows
- *   its tag, its field, its opcode or its mark, or its number or stream id is out of its range, or its address has neither 4 nor 16 bytes, or its text
- *   is not UTF-8, or `contents` has no more bytes as many as its length says; CQLP_MISPLACED where it is a CQLP_TAG_FRAME and not the first event, or the
- *   other way round, or comes after the end; CQLP_UNBUILT where it is the kind of a page, CQLP_RESULT_ROWS; CQLP_TOO_MANY_FIELDS;
- *   CQLP_TOO_MANY_BYTES. So pages are not written, nor prepared statements that have types.
+ * - Of the event that `event` names, and the first that is so: CQLP_UNBUILT where it is a CQLP_TAG_PART, which says neither how long the content is
+ *   nor all of it; CQLP_NO_EVENT where nobody knows its tag, its field, its kind, its opcode or its mark, or its number or stream id is out of its
+ *   range, or its address has neither 4 nor 16 bytes, or its text is not UTF-8, or `contents` has no more bytes as many as its length says;
+ *   CQLP_MISPLACED where it is a CQLP_TAG_FRAME and not the first event, or the other way round, or comes after the end; CQLP_UNBUILT where it is the
+ *   kind of a page, CQLP_RESULT_ROWS, or of a cell; CQLP_TOO_MANY_FIELDS; CQLP_TOO_DEEP where a type option is nested deeper than 64;
+ *   CQLP_TOO_MANY_BYTES. So pages are not written.
  * - Of all events together: CQLP_LEFT_OVER; CQLP_MISPLACED where there is no event; CQLP_NO_SUCH_FRAME where one is of another field than is due, or
  *   does not agree with what comes before it, as a count and how many come, or some are missing, or a text has more bytes than its length can say.
  * - CQLP_NO_MEMORY, and `event` says at which event. */

@@ -1,8 +1,8 @@
 /* Frames written of their events. bindings/streams.txt comes on standard input. The events of each whole frame there are handed to
  * cqlp_encode: what it writes is read as these events, and is the frame itself, but where the frame has bytes after its last field or a null
- * of another length than -1; a frame with a page or a type option is refused. Then events are changed at random, 100,000 times and from a fixed
- * seed, or as the words say, `encode-asan 1000000 7 <streams.txt`: what is written is read as these events, and what is refused has written
- * nothing. Events, contents and bytes lie at edges. */
+ * of another length than -1; a frame with a page is refused. Then prepared statements are made at random, with types of all kinds, and events
+ * are changed at random, from a fixed seed: what is written is read as these events, and what is refused has written nothing. Events, contents
+ * and bytes lie at edges. */
 #include "give.h"
 
 enum { MOST = 128, LONG = 4096 };
@@ -16,6 +16,13 @@ typedef struct told {
 
 static int has_content(const cqlp_event *event) {
   int may_be_null = event->tag == CQLP_TAG_BYTES || event->tag == CQLP_TAG_BOUND;
+  if (event->tag == CQLP_TAG_LEAF) {
+    switch (event->kind) {
+      case CQLP_KIND_CUSTOM: case CQLP_KIND_ASCII: case CQLP_KIND_BLOB: case CQLP_KIND_DECIMAL:
+      case CQLP_KIND_VARCHAR: case CQLP_KIND_VARINT: case CQLP_KIND_RAW: return 1;
+      default: return 0;
+    }
+  }
   return event->tag == CQLP_TAG_TEXT || (may_be_null && event->mark == CQLP_MARK_NONE);
 }
 
@@ -61,6 +68,10 @@ static cqlp_event plain(const cqlp_event *event) {
     of.mark = event->mark;
     return of;
   }
+  if (event->tag == CQLP_TAG_TYPE_NODE) {
+    of.kind = event->kind;
+    return of;
+  }
   of.field = event->field;
   if (event->tag == CQLP_TAG_UUID || event->tag == CQLP_TAG_INET)
     memcpy(of.bytes, event->bytes, event->tag == CQLP_TAG_INET && event->octets == 4 ? 4 : 16);
@@ -77,7 +88,7 @@ static cqlp_event plain(const cqlp_event *event) {
 /* The bytes are a frame, of which just these events are read. */
 static void check_read(const told *told, const uint8_t *bytes, size_t length) {
   static cqlp_event events[MOST];
-  cqlp_limits limits = {LONG, LONG, 64, 8, 1, 0};
+  cqlp_limits limits = {LONG, LONG, MOST, 64, 1, 0};
   cqlp_decoder decoder = CQLP_NO_DECODER_YET;
   cqlp_batch batch = {0};
   cqlp_end end = {0};
@@ -104,26 +115,24 @@ static void check_read(const told *told, const uint8_t *bytes, size_t length) {
   CHECK(cqlp_free(&decoder) == CQLP_DONE);
 }
 
-/* It has a type option, or is a page. */
-static int is_unbuilt(const told *told) {
+static int is_page(const told *told) {
   for (size_t i = 0; i < told->count; i++) {
     const cqlp_event *event = &told->events[i];
-    if (event->tag == CQLP_TAG_TYPE_NODE) return 1;
     if (event->tag == CQLP_TAG_INT && event->field == CQLP_FIELD_RESULT_KIND && event->number == CQLP_RESULT_ROWS) return 1;
   }
   return 0;
 }
 
-static size_t same, others, unbuilt;
+static size_t same, others, pages;
 
 /* A whole frame as it came, and what is written of its events, in all rooms that are too short, and in two that are not. */
 static void write_again(const char *name, const told *told, const uint8_t *frame, size_t length) {
   uint8_t *bytes;
   cqlp_encoded encoded;
   uint32_t code = encode(told, length, &bytes, &encoded);
-  if (is_unbuilt(told)) {
+  if (is_page(told)) {
     CHECK(code == CQLP_UNBUILT);
-    unbuilt++;
+    pages++;
     return;
   }
   CHECK(code == CQLP_DONE);
@@ -187,12 +196,148 @@ static size_t below(size_t bound) {
   return bound ? (size_t)(state % bound) : 0;
 }
 
+/* ---- prepared statements */
+
+static void tell(told *told, cqlp_event event) {
+  CHECK(told->count < MOST);
+  told->events[told->count++] = event;
+}
+
+static void tell_number(told *told, uint8_t tag, uint8_t field, int64_t number) {
+  tell(told, (cqlp_event){.tag = tag, .field = field, .number = number});
+}
+
+/* A text of no to three bytes. */
+static void tell_text(told *told, uint8_t field) {
+  size_t length = below(4);
+  CHECK(length <= LONG - told->length);
+  for (size_t i = 0; i < length; i++) told->contents[told->length++] = (uint8_t)('a' + below(26));
+  tell(told, (cqlp_event){.tag = CQLP_TAG_TEXT, .field = field, .length = length});
+}
+
+static void tell_type(told *told, unsigned nested);
+
+/* The types of the items of a tuple, or of the fields of a user-defined type, which have names. */
+static void tell_types(told *told, unsigned nested, int named) {
+  size_t count = below(4);
+  tell_number(told, CQLP_TAG_COUNT, CQLP_FIELD_FIELDS, (int64_t)count);
+  for (size_t i = 0; i < count; i++) {
+    if (named) tell_text(told, CQLP_FIELD_FIELD_NAME);
+    tell_type(told, nested + 1);
+  }
+}
+
+static void tell_kind(told *told, uint8_t kind) {
+  tell(told, (cqlp_event){.tag = CQLP_TAG_TYPE_NODE, .kind = kind});
+}
+
+/* A type of any kind; of those with items only while there are few events. */
+static void tell_type(told *told, unsigned nested) {
+  static const uint8_t KINDS[] = {
+    CQLP_KIND_CUSTOM, CQLP_KIND_ASCII, CQLP_KIND_BIGINT, CQLP_KIND_BLOB, CQLP_KIND_BOOLEAN, CQLP_KIND_COUNTER, CQLP_KIND_DECIMAL, CQLP_KIND_DOUBLE,
+    CQLP_KIND_FLOAT, CQLP_KIND_INT, CQLP_KIND_TIMESTAMP, CQLP_KIND_UUID, CQLP_KIND_VARCHAR, CQLP_KIND_VARINT, CQLP_KIND_TIMEUUID, CQLP_KIND_INET,
+    CQLP_KIND_DATE, CQLP_KIND_TIME, CQLP_KIND_SMALLINT, CQLP_KIND_TINYINT, CQLP_KIND_LIST, CQLP_KIND_MAP, CQLP_KIND_SET, CQLP_KIND_UDT, CQLP_KIND_TUPLE,
+  };
+  size_t scalars = sizeof KINDS - 5;
+  int few = nested < 6 && told->count < 40;
+  uint8_t kind = KINDS[!few ? below(scalars) : below(2) ? scalars + below(5) : below(scalars)];
+  tell_kind(told, kind);
+  if (kind == CQLP_KIND_CUSTOM) tell_text(told, CQLP_FIELD_CLASS);
+  if (kind == CQLP_KIND_LIST || kind == CQLP_KIND_MAP || kind == CQLP_KIND_SET) tell_type(told, nested + 1);
+  if (kind == CQLP_KIND_MAP) tell_type(told, nested + 1);
+  if (kind == CQLP_KIND_UDT) {
+    tell_text(told, CQLP_FIELD_KEYSPACE);
+    tell_text(told, CQLP_FIELD_TYPE_NAME);
+  }
+  if (kind == CQLP_KIND_UDT || kind == CQLP_KIND_TUPLE) tell_types(told, nested, kind == CQLP_KIND_UDT);
+}
+
+static void tell_table(told *told) {
+  tell_text(told, CQLP_FIELD_KEYSPACE);
+  tell_text(told, CQLP_FIELD_TABLE);
+}
+
+/* Columns that have a table together, or one each. */
+static void tell_columns(told *told, size_t count, int together) {
+  if (together) tell_table(told);
+  for (size_t i = 0; i < count; i++) {
+    if (!together) tell_table(told);
+    tell_text(told, CQLP_FIELD_COLUMN_NAME);
+    tell_type(told, 1);
+  }
+}
+
+static void begin_prepared(told *told) {
+  told->count = told->length = 0;
+  tell(told, (cqlp_event){.tag = CQLP_TAG_FRAME, .opcode = CQLP_OPCODE_RESULT, .extra = 7, .mark = CQLP_MARK_RESPONSE});
+  tell_number(told, CQLP_TAG_INT, CQLP_FIELD_RESULT_KIND, CQLP_RESULT_PREPARED);
+  told->contents[told->length++] = 0xAA;
+  tell(told, (cqlp_event){.tag = CQLP_TAG_BYTES, .field = CQLP_FIELD_STATEMENT_ID, .length = 1});
+}
+
+/* The metadata of parameters, with the places of the partition key among them. */
+static void tell_parameters(told *told, size_t count, int together, size_t keys) {
+  tell_number(told, CQLP_TAG_INT, CQLP_FIELD_META_FLAGS, together);
+  tell_number(told, CQLP_TAG_COUNT, CQLP_FIELD_COLUMNS, (int64_t)count);
+  tell_number(told, CQLP_TAG_COUNT, CQLP_FIELD_KEYS, (int64_t)keys);
+  for (size_t i = 0; i < keys; i++) tell_number(told, CQLP_TAG_SHORT, CQLP_FIELD_KEY_INDEX, (int64_t)below(3));
+  tell_columns(told, count, together);
+}
+
+/* The metadata of a result: none, that of a statement that returns no rows, or columns, also with the state of a page. */
+static void tell_results(told *told) {
+  size_t count = below(3);
+  int together = (int)below(2), state = (int)below(2), none = (int)below(2);
+  tell_number(told, CQLP_TAG_INT, CQLP_FIELD_META_FLAGS, together | state << 1 | none << 2);
+  tell_number(told, CQLP_TAG_COUNT, CQLP_FIELD_COLUMNS, (int64_t)count);
+  if (state) tell(told, (cqlp_event){.tag = CQLP_TAG_BYTES, .field = CQLP_FIELD_PAGING_STATE, .mark = CQLP_MARK_NULL});
+  if (!none) tell_columns(told, count, together);
+}
+
+/* What is written of prepared statements that are made at random is read as they were made. */
+static void prepare_some(size_t times) {
+  static told told;
+  size_t types = 0;
+  for (size_t i = 0; i < times; i++) {
+    uint8_t *bytes;
+    cqlp_encoded encoded;
+    begin_prepared(&told);
+    tell_parameters(&told, below(3), (int)below(2), below(3));
+    tell_results(&told);
+    for (size_t n = 0; n < told.count; n++) types += told.events[n].tag == CQLP_TAG_TYPE_NODE;
+    CHECK(encode(&told, LONG, &bytes, &encoded) == CQLP_DONE);
+    check_read(&told, bytes, encoded.length);
+    if (i < 16) keep(&told);
+  }
+  printf("prepared statements: %zu, with %s types\n", times, types > times ? "many" : "few");
+}
+
+/* A prepared statement whose result has one column, of as many lists in one another. */
+static void prepare_deep(unsigned lists) {
+  static told told;
+  uint8_t *bytes;
+  cqlp_encoded encoded;
+  begin_prepared(&told);
+  tell_parameters(&told, 0, 0, 0);
+  tell_number(&told, CQLP_TAG_INT, CQLP_FIELD_META_FLAGS, 1);
+  tell_number(&told, CQLP_TAG_COUNT, CQLP_FIELD_COLUMNS, 1);
+  tell_table(&told);
+  tell_text(&told, CQLP_FIELD_COLUMN_NAME);
+  for (unsigned i = 0; i < lists; i++) tell_kind(&told, CQLP_KIND_LIST);
+  tell_kind(&told, CQLP_KIND_INT);
+  uint32_t code = encode(&told, LONG, &bytes, &encoded);
+  printf("%u lists in one another: %s at %zu of %zu\n", lists, cqlp_name(CQLP_GROUP_CODE, code), encoded.event, told.count);
+  if (code == CQLP_DONE) check_read(&told, bytes, encoded.length);
+}
+
+/* ---- changes */
+
 /* Changes one thing of an event, or of the contents, or how many there are. */
 static void change(told *told) {
   static const int64_t NUMBERS[] = {0, 1, -1, 2, 3, 4, 5, 255, 256, 65535, 65536, 2147483647, 2147483648, -2147483648, 4294967295, 4294967296, INT64_MAX, INT64_MIN};
   size_t i = below(told->count), j = below(told->count);
   cqlp_event *event = &told->events[i], other = told->events[j];
-  switch (below(16)) {
+  switch (below(17)) {
     case 0: event->tag = (uint8_t)below(22); break;
     case 1: event->field = (uint8_t)below(60); break;
     case 2: event->field = other.field; break;
@@ -207,7 +352,8 @@ static void change(told *told) {
     case 11: if (told->length) told->contents[below(told->length)] = (uint8_t)below(256); break;
     case 12: told->length = below(2) ? below(told->length + 1) : told->length + below(3); break;
     case 13: told->events[j] = *event; *event = other; break;
-    case 14: if (told->count > 1) memmove(event, event + 1, (--told->count - i) * sizeof *event); break;
+    case 14: event->kind = below(8) ? (uint8_t)below(54) : CQLP_KIND_RAW; break;
+    case 15: if (told->count > 1) memmove(event, event + 1, (--told->count - i) * sizeof *event); break;
     default:
       if (told->count == MOST) break;
       memmove(event + 1, event, (told->count++ - i) * sizeof *event);
@@ -279,7 +425,16 @@ static void refuse_each(void) {
     {"no frame", 0, {.tag = CQLP_TAG_BYTE, .field = CQLP_FIELD_QUERY_FLAGS}},
     {"an end before", 3, {.tag = CQLP_TAG_END}},
     {"a type", 2, {.tag = CQLP_TAG_TYPE_NODE, .kind = CQLP_KIND_INT}},
-    {"a cell", 2, {.tag = CQLP_TAG_LEAF, .kind = 99}},
+    {"no kind of a type", 2, {.tag = CQLP_TAG_TYPE_NODE, .kind = 99}},
+    {"a cell", 2, {.tag = CQLP_TAG_LEAF, .kind = CQLP_KIND_INT}},
+    {"no kind of a cell", 2, {.tag = CQLP_TAG_LEAF, .kind = 99}},
+    {"no boolean", 2, {.tag = CQLP_TAG_LEAF, .kind = CQLP_KIND_BOOLEAN, .number = 2}},
+    {"no smallint", 2, {.tag = CQLP_TAG_LEAF, .kind = CQLP_KIND_SMALLINT, .number = 32768}},
+    {"a list as a leaf", 2, {.tag = CQLP_TAG_LEAF, .kind = CQLP_KIND_LIST}},
+    {"no number of items", 2, {.tag = CQLP_TAG_ENTER, .kind = CQLP_KIND_LIST, .number = -1}},
+    {"too few bytes of a cell", 2, {.tag = CQLP_TAG_LEAF, .kind = CQLP_KIND_BLOB, .length = 1}},
+    {"a null", 2, {.tag = CQLP_TAG_NULL}},
+    {"a part", 2, {.tag = CQLP_TAG_PART}},
     {"a page", 2, {.tag = CQLP_TAG_INT, .field = CQLP_FIELD_RESULT_KIND, .number = CQLP_RESULT_ROWS}},
     {"another field than is due", 2, {.tag = CQLP_TAG_SHORT, .field = CQLP_FIELD_SERIAL_CONSISTENCY}},
     {"another direction", 0, {.tag = CQLP_TAG_FRAME, .opcode = CQLP_OPCODE_QUERY, .mark = CQLP_MARK_RESPONSE}},
@@ -305,6 +460,7 @@ static size_t bytes_of(const char *digits, uint8_t *bytes, size_t room) {
   return count;
 }
 
+/* How often events are changed, and from which seed, may be said: `encode-asan 1000000 7 <streams.txt`. */
 int main(int count, char **words) {
   static char line[8192], name[256];
   static uint8_t stream[4096];
@@ -316,7 +472,10 @@ int main(int count, char **words) {
     else if (strncmp(line, "bytes ", 6) == 0)
       write_stream(name, &limits, stream, bytes_of(line + 6, stream, sizeof stream));
   }
-  printf("frames: %zu the same, %zu others, %zu with a page or a type option\n", same, others, unbuilt);
+  printf("frames: %zu the same, %zu others, %zu pages\n", same, others, pages);
+  prepare_some(1000);
+  prepare_deep(63);
+  prepare_deep(64);
   refuse_each();
   if (count > 2) state = strtoull(words[2], NULL, 10) | 1;
   write_changed(count > 1 ? strtoul(words[1], NULL, 10) : 100000);

@@ -123,12 +123,15 @@ func (e *Event) hasContent() bool {
 const most = 24
 
 // encode makes the frame of the events that came.
-func (e *Encoder) encode() error {
+func (e *Encoder) encode() error { return e.encodeIn(len(e.contents) + most*len(e.native)) }
+
+// encodeIn does so in this much room, or in as much as is wanted where that is more.
+func (e *Encoder) encodeIn(room int) error {
 	var events *C.cqlp_event
 	if len(e.native) > 0 {
 		events = &e.native[0]
 	}
-	for room := len(e.contents) + most*len(e.native); ; room = int(e.encoded.length) {
+	for ; ; room = int(e.encoded.length) {
 		if cap(e.frame) < room {
 			e.frame = make([]byte, room)
 		}

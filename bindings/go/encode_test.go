@@ -397,3 +397,19 @@ func TestAnEncoderGoesOn(t *testing.T) {
 		t.Fatal(err)
 	}
 }
+
+func TestRoomThatIsTooLittle(t *testing.T) {
+	wanted, err := EncodeEvents(queryEvents())
+	if err != nil {
+		t.Fatal(err)
+	}
+	for room := 0; room <= len(wanted)+1; room++ {
+		var e Encoder
+		for _, event := range queryEvents() {
+			e.add(&event)
+		}
+		if err := e.encodeIn(room); err != nil || !bytes.Equal(e.frame, wanted) {
+			t.Fatal(room, e.frame, err)
+		}
+	}
+}

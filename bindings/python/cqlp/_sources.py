@@ -84,7 +84,7 @@ def batches(
     frame that is passed over, after the events of it that came before what is refused."""
     read = 0
     pieces = _pieces_of_frames(_pieces(source, piece)) if give else _pieces(source, piece)
-    with Decoder(limits, room=512) as decoder:
+    with Decoder(limits, room=1024) as decoder:
         take: Callable[[bytes, Optional[Skip]], Iterator[Tuple[Batch, Refusal]]] = decoder._placed if placed else decoder._batches
         for data, total in pieces:
             if give:

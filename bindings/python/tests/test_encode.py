@@ -284,6 +284,8 @@ class Encodes(unittest.TestCase):
         self.assertEqual(cqlp.encode(QUERY).hex(), "04000007070000000a" + "00000003c3a421" + "0001" + "00")
         long = QUERY[1]._replace(content=b"x" * 300_000)
         self.assertEqual(len(cqlp.encode([QUERY[0], long, *QUERY[2:]])), 9 + 4 + 300_000 + 3)
+        with mock.patch.object(_encode, "_MOST", 0):  # so that there is too little room at first
+            self.assertEqual(cqlp.encode(QUERY).hex(), "04000007070000000a" + "00000003c3a421" + "0001" + "00")
         options = [Event(tag=Tag.FRAME, opcode=Opcode.OPTIONS)] * 3
         self.assertEqual(list(cqlp.encode_frames(options)), [bytes.fromhex("040000000500000000")] * 3)
         self.assertEqual(list(cqlp.encode_frames([])), [])

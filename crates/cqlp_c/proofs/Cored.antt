@@ -2,10 +2,9 @@
 use Rattle.std.proofs.Common.{◌≡◌, ◌↔◌, ℕ, Bool, true, false, Option, None, Some, Ok, Err, refl, sym, subst, ◌∙◌, inl, inr, nat_lt, if◌then◌else◌}
 use Rattle.std.specs.Prelude.{◌==◌}
 use Rattle.cqlp_note.specs.declared.header.Header.{Header}
-use Rattle.cqlp_note.specs.declared.opcode.Opcode.{Opcode}
 use Rattle.cqlp_note.specs.declared.opcode.Opcode.TheVariants as opcode
 use Rattle.cqlp_note.specs.declared.header.TheConstants.Header.{LONGEST_BODY}
-use Rattle.cqlp_note.specs.Heading.{beside_number, code_of, has, opcodes}
+use Rattle.cqlp_note.specs.Heading.{has}
 use Rattle.cqlp_session.specs.declared.ticket.Reply.TheVariants as reply
 use Rattle.cqlp_session.specs.Client.{ClientCore, reply_to}
 use Rattle.cqlp_session.specs.Signal.{signal_of}
@@ -16,6 +15,7 @@ use Rattle.cqlp_c.specs.Events.{of_frame}
 use Rattle.cqlp_c.specs.Headers.{header_in, header_of}
 use Rattle.cqlp_c.specs.Servers.{event_fields}
 use Rattle.cqlp_c.specs.Talked.{is_stream, signal_in}
+use Rattle.cqlp_c.proofs.Standing.{code_stands}
 
 started : {C : Type 0} (fresh : ℕ → C) (slots : ℕ) (b : Bool) (code code' : ℕ) (new new' : Option C) → StartsAnew fresh slots b code new → StartsAnew fresh slots b code' new' → ((code ≡ numbers.NO_MEMORY) ↔ (code' ≡ numbers.NO_MEMORY)) → (code' ≡ code) × (new' ≡ new)
 started fresh slots false code code' new new' x y same = (y.0 ∙ sym x.0, y.1 ∙ sym x.1)
@@ -27,24 +27,6 @@ started fresh slots true code code' new new' (inr x) (inl y) same = absurd (let 
 pub one_core : {C : Type 0} (fresh : ℕ → C) (slots : ℕ) (old : Option C) (code code' : ℕ) (new new' : Option C) → Starts fresh slots old code new → Starts fresh slots old code' new' → ((code ≡ numbers.NO_MEMORY) ↔ (code' ≡ numbers.NO_MEMORY)) → (code' ≡ code) × (new' ≡ new)
 one_core fresh slots None code code' new new' x y same = started fresh slots (is_slot_count slots) code code' new new' x y same
 one_core fresh slots (Some c) code code' new new' x y same = (y.0 ∙ sym x.0, y.1 ∙ sym x.1)
-
-code_stands : (o : Opcode) → beside_number (code_of o) opcodes ≡ Some o
-code_stands opcode.Error = refl
-code_stands opcode.Startup = refl
-code_stands opcode.Ready = refl
-code_stands opcode.Authenticate = refl
-code_stands opcode.Options = refl
-code_stands opcode.Supported = refl
-code_stands opcode.Query = refl
-code_stands opcode.Result = refl
-code_stands opcode.Prepare = refl
-code_stands opcode.Execute = refl
-code_stands opcode.Register = refl
-code_stands opcode.Event = refl
-code_stands opcode.Batch = refl
-code_stands opcode.AuthChallenge = refl
-code_stands opcode.AuthResponse = refl
-code_stands opcode.AuthSuccess = refl
 
 marked : (r : Bool) → ((if r then numbers.MARK_RESPONSE else numbers.MARK_NONE) == numbers.MARK_RESPONSE) ≡ r
 marked true = refl

@@ -1,6 +1,6 @@
 -- What becomes of events that C tells, one after the other.
-use Rattle.std.proofs.Common.{◌≡◌, ℕ, zero, suc, ◌+◌, ◌<◌, ◌≤◌, ◌⊎◌, inl, inr, List, [], ◌∷◌, ◌++◌, length, take, drop, get_or, refl, sym, ap, ◌∙◌, subst, arith, Ok, Err, Option, Some, None}
-use Rattle.std.specs.Prelude.{Bool, true, ◌==◌, Result, IsOk, is_ok, ⊤}
+use Rattle.std.proofs.Common.{◌≡◌, ℕ, zero, suc, ◌+◌, ◌<◌, ◌≤◌, ◌⊎◌, inl, inr, List, [], ◌∷◌, ◌++◌, length, take, drop, get_or, refl, sym, ap, ◌∙◌, arith, Ok, Err, Some, None}
+use Rattle.std.specs.Prelude.{Bool, true, ◌==◌, Result, IsOk, is_ok}
 use Rattle.std.proofs.Math.Seq.{drop-cons, take-suc}
 use Rattle.std.proofs.lemmas.Bool.{eqb-true}
 use Rattle.std.proofs.lemmas.List.{take_all, take-append-drop}
@@ -17,6 +17,10 @@ use Rattle.cqlp_c.specs.declared.told.NotTold.{NotTold}
 use Rattle.cqlp_c.specs.Told.{content_len, event_told}
 
 -- ---- one after the other
+
+ok_of : (r : Result Taken Unencoded) → IsOk r → (t : Taken) × (r ≡ Ok t)
+ok_of (Ok t) k = (t, refl)
+ok_of (Err why) k = absurd cc
 
 on_ok : (n : ℕ) (r : Result Taken Unencoded) (f : Taken → Result Taken Stopped) (k : Taken) → on_from n r f ≡ Ok k → (m : Taken) × (r ≡ Ok m) × (f m ≡ Ok k)
 on_ok n (Ok m) f k e = (m, refl, e)
@@ -56,7 +60,7 @@ module _ (t : Taken) (cs : List CqlpEvent) (i : ℕ) (d : CqlpEvent) (u : Taken)
       ∙ ap (λ (n : ℕ). Err (record { event = n; why = why })) here
 
   pub stops_at : (why : Unencoded) (new : ComposerState) → TakesOne u (get_or cs i d) (Err why) new → StopsAt t cs i why
-  stops_at (unencoded.Refused error.NoMemory) new k = (lt, ap is_ok front)
+  stops_at (unencoded.Refused error.NoMemory) new k = let o = ok_of (after_one u (get_or cs i d)) k in (lt, ap is_ok (all_next o.0 o.1))
   stops_at (unencoded.Refused error.Misplaced) new k = all_stop _ k
   stops_at (unencoded.Refused error.Unbuilt) new k = all_stop _ k
   stops_at (unencoded.Refused error.TooManyFields) new k = all_stop _ k
@@ -136,10 +140,13 @@ module _ (cs : List CqlpEvent) (contents : List ℕ) (s : ComposerState) (rest :
 
   pub not_encoded : (why : BuildError) → rest ≡ [] → IsOfNone s.frame.events why → IsUnencodedAt cs contents (length cs) (unencoded.Refused why)
   not_encoded error.NoMemory e w =
-      (omega arith, ap is_ok (ap (λ (ds : List CqlpEvent). after_all 0 (at_first contents) ds) (take_all (length cs) cs (omega arith)) ∙ all))
+      (omega arith, ap is_ok (ap (λ (ds : List CqlpEvent). after_all 0 (at_first contents) ds) (take_all (length cs + 1) cs (omega arith)) ∙ all))
   not_encoded error.Misplaced e w = ended error.Misplaced e w
   not_encoded error.Unbuilt e w = ended error.Unbuilt e w
   not_encoded error.TooManyFields e w = ended error.TooManyFields e w
   not_encoded error.TooDeep e w = ended error.TooDeep e w
   not_encoded error.TooManyBytes e w = ended error.TooManyBytes e w
   not_encoded error.NoFrame e w = ended error.NoFrame e w
+
+-- what ends at the frame, or before it
+pub ruleset ends_here = (unencoded_by, left_over, encoded_by, not_encoded)

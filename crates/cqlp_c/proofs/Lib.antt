@@ -9,6 +9,7 @@ pub mod Fills
 pub mod Gathering
 pub mod Giving
 pub mod Handed
+pub mod HandedBack
 pub mod Made
 pub mod Nexted
 pub mod OneBatch
@@ -20,8 +21,11 @@ pub mod Putting
 pub mod Services
 pub mod Skipping
 pub mod Spans
+pub mod Standing
 pub mod Stretching
 pub mod Tables
 pub mod There
+pub mod ToldAll
+pub mod ToldBack
 pub mod Values
 pub mod Written

@@ -1,18 +1,16 @@
 -- Of events there is one frame, and what is written of it is read as them.
-use Rattle.std.proofs.Common.{◌≡◌, ℕ, ◌⊎◌, inl, inr, Bool, true, false, nat_lt, List, [], ◌∷◌, ◌++◌, length, drop, refl, sym, ap, ◌∙◌, subst, Ok, Err}
-use Rattle.std.specs.Prelude.{Result, None}
+use Rattle.std.proofs.Common.{◌≡◌, ℕ, ◌⊎◌, inl, inr, Bool, true, false, nat_lt, List, [], ◌∷◌, length, refl, sym, ap, ◌∙◌, subst, Ok, Err}
+use Rattle.std.specs.Prelude.{Result}
 use Rattle.cqlp_note.specs.declared.header.Header.{Header}
-use Rattle.cqlp_note.specs.Limits.{Rules}
 use Rattle.cqlp_grammar.specs.Events.{Event, Frame, Holds, Node_of, Cell_at, Leave, End}
-use Rattle.cqlp_message.specs.FrameValues.{FrameValue}
-use Rattle.cqlp_message.specs.Frames.{Flat, IsWithin, frame_bytes}
+use Rattle.cqlp_message.specs.Frames.{Flat, frame_bytes}
 use Rattle.cqlp_message.specs.Owned.{frame_of}
 use Rattle.cqlp_message.specs.declared.frame.Frame.{Frame as OwnedFrame}
 use Rattle.cqlp_build.specs.declared.error.BuildError.{BuildError}
 use Rattle.cqlp_build.specs.declared.error.BuildError.TheVariants as error
 use Rattle.cqlp_build.specs.Closing.{Ends}
 use Rattle.cqlp_build.proofs.FrameViews.{frame_said}
-use Rattle.cqlp_compose.specs.Composing.{ComposerState, IsOfNone, IsWrittenOf}
+use Rattle.cqlp_compose.specs.Composing.{ComposerState, IsWrittenOf}
 use Rattle.cqlp_decode.specs.Reading.{Says, Waits, start}
 use Rattle.cqlp_laws.proofs.WrittenFrames.{written_is_read}
 use Rattle.cqlp_c.specs.declared.encode.CqlpEncoded.{CqlpEncoded}

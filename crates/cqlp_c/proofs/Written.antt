@@ -18,7 +18,7 @@ more_stand before bytes old new more at end s is behind first others = record {
   others = λ n le. others n (omega (arith, le, behind, is, length-append bytes more)) ∙ s.others n (omega (arith, le, length-append bytes more));
 }
 
-lt_false : (m n : ℕ) → n ≤ m → nat_lt m n ≡ false
+pub lt_false : (m n : ℕ) → n ≤ m → nat_lt m n ≡ false
 lt_false m n le = grind (arith, le)
 
 pub put_stand : (before bytes after : List ℕ) (told : ℕ) → length bytes ≤ length before → told ≡ length bytes → Stand before bytes after → PutsBytes bytes numbers.DONE before after told

@@ -1,7 +1,8 @@
 -- What is written for C of the events of a frame.
-use Rattle.std.specs.Prelude.{◌≡◌, ⊤, ℕ, suc, ◌<◌, ◌≤◌, List, [], ◌∷◌, length, take, drop, Option, Some, None, Result, Ok, Err, IsOk, ◌⊎◌}
+use Rattle.std.specs.Prelude.{◌≡◌, ⊤, ℕ, suc, ◌+◌, ◌<◌, ◌≤◌, List, [], ◌∷◌, length, take, drop, Option, Some, None, Result, Ok, Err, IsOk, ◌⊎◌}
 use Rattle.std.specs.Borrow.{Bor}
 use Rattle.cqlp_note.specs.declared.header.TheConstants.Header.{LONGEST_BODY}
+use Rattle.cqlp_note.specs.declared.limits.TheConstants.Limits.{DEPTH}
 use Rattle.cqlp_grammar.specs.Events.{Event}
 use Rattle.cqlp_build.specs.declared.builder.BuildLimits.{BuildLimits}
 use Rattle.cqlp_build.specs.declared.error.BuildError.{BuildError}
@@ -57,9 +58,9 @@ TakesOne t c (Ok rest) new = after_one t c ≡ Ok (new, rest)
 TakesOne t c (Err (unencoded.Refused error.NoMemory)) new = IsOk (after_one t c)
 TakesOne t c (Err why) new = after_one t c ≡ Err why
 
--- The same of all of them; where memory was refused, all before were taken.
+-- The same of all of them. Where memory was refused at an event, nothing else keeps it and all before it from being taken.
 abbrev pub StopsAt : Taken → List CqlpEvent → (n : ℕ) → Unencoded → Type 0
-StopsAt t cs n (unencoded.Refused error.NoMemory) = (n < length cs) × IsOk (after_all 0 t (take n cs))
+StopsAt t cs n (unencoded.Refused error.NoMemory) = (n < length cs) × IsOk (after_all 0 t (take (n + 1) cs))
 StopsAt t cs n why = after_all 0 t cs ≡ Err (record { event = n; why = why })
 
 abbrev pub TakesAll : Taken → List CqlpEvent → Result (List ℕ) Stopped → ComposerState → Type 0
@@ -68,9 +69,10 @@ TakesAll t cs (Err r) new = StopsAt t cs r.event r.why
 
 -- ---- the frame
 
--- No frame has more fields and type options, nor more bytes of texts and contents, than its body has bytes.
+-- No frame has more fields and type options, nor more bytes of texts and contents, than its body has bytes; and no decoder reads types
+-- that are nested deeper.
 abbrev pub longest : BuildLimits
-longest = record { fields = LONGEST_BODY; depth = LONGEST_BODY; bytes = LONGEST_BODY }
+longest = record { fields = LONGEST_BODY; depth = DEPTH.greatest; bytes = LONGEST_BODY }
 
 -- no event was taken, and all contents are left
 abbrev pub at_first : (contents : List ℕ) → Taken
@@ -94,10 +96,10 @@ StopsFor cs contents r =
     ⊎ ((t : Taken) × (after_all 0 (at_first contents) cs ≡ Ok t) × (r.event ≡ length cs) × HasNone t r.why)
 
 abbrev pub IsUnencodedAt : List CqlpEvent → (contents : List ℕ) → (n : ℕ) → Unencoded → Type 0
-IsUnencodedAt cs contents n (unencoded.Refused error.NoMemory) = (n ≤ length cs) × IsOk (after_all 0 (at_first contents) (take n cs))
+IsUnencodedAt cs contents n (unencoded.Refused error.NoMemory) = (n ≤ length cs) × IsOk (after_all 0 (at_first contents) (take (n + 1) cs))
 IsUnencodedAt cs contents n why = StopsFor cs contents (record { event = n; why = why })
 
--- Why there is no frame, and at which event. Where memory was refused, all events before were taken.
+-- Why there is no frame, and at which event. Where memory was refused, nothing else keeps this event and all before it from being taken.
 abbrev pub IsUnencoded : List CqlpEvent → (contents : List ℕ) → Stopped → Type 0
 IsUnencoded cs contents r = IsUnencodedAt cs contents r.event r.why
 

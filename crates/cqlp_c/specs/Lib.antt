@@ -18,4 +18,6 @@ pub mod Slots
 pub mod Stretched
 pub mod Talked
 pub mod Told
+pub mod ToldCell
+pub mod ToldLaws
 pub mod Versions

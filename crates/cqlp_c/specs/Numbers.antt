@@ -125,6 +125,17 @@ number_of_kind kind.Udt = numbers.KIND_UDT
 number_of_kind kind.Tuple = numbers.KIND_TUPLE
 number_of_kind kind.Raw = numbers.KIND_RAW
 
+-- all kinds, in the order of their numbers
+abbrev pub all_kinds : List Kind
+all_kinds =
+    kind.Custom ∷ kind.Ascii ∷ kind.Bigint ∷ kind.Blob ∷ kind.Boolean ∷ kind.Counter ∷ kind.Decimal ∷ kind.Double ∷ kind.Float
+    ∷ kind.Int ∷ kind.Timestamp ∷ kind.Uuid ∷ kind.Varchar ∷ kind.Varint ∷ kind.Timeuuid ∷ kind.Inet ∷ kind.Date ∷ kind.Time
+    ∷ kind.Smallint ∷ kind.Tinyint ∷ kind.List ∷ kind.Map ∷ kind.Set ∷ kind.Udt ∷ kind.Tuple ∷ kind.Raw ∷ []
+
+-- the kinds by their numbers
+abbrev pub kinds : List (ℕ × Kind)
+kinds = map (λ k. (number_of_kind k, k)) all_kinds
+
 -- the number of a reason
 abbrev pub number_of_reason : Reason → ℕ
 number_of_reason reason.BadVersion = numbers.REASON_BAD_VERSION

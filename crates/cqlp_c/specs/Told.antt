@@ -1,35 +1,20 @@
 -- Events that C tells, which are to be written.
-use Rattle.std.specs.Prelude.{◌≡◌, ℕ, ◌^◌, ℤ, pos, negsuc, Bool, true, false, ◌&&◌, ◌||◌, ◌==◌, nat_lt, nat_le, int_le, if◌then◌else◌}
-use Rattle.std.specs.Prelude.{List, [], ◌∷◌, length, take, drop, map, Option, Some, None, option_map, Result, Ok, Err}
-use Rattle.std.specs.Str.{is_utf8}
+use Rattle.std.specs.Prelude.{ℕ, ◌^◌, ℤ, Bool, true, false, ◌&&◌, ◌||◌, ◌==◌, nat_lt, if◌then◌else◌}
+use Rattle.std.specs.Prelude.{List, length, take, Option, Some, None, option_map, Result, Ok, Err}
 use Rattle.cqlp_note.specs.declared.field.Field.{Field}
 use Rattle.cqlp_note.specs.declared.header.Header.{Header}
 use Rattle.cqlp_note.specs.declared.opcode.Opcode.{Opcode}
-use Rattle.cqlp_note.specs.declared.prim.Address.{Address}
-use Rattle.cqlp_note.specs.declared.prim.Address.TheVariants as address
 use Rattle.cqlp_note.specs.Field.{FieldValue}
 use Rattle.cqlp_note.specs.Field as note
 use Rattle.cqlp_note.specs.Heading.{beside_number, opcodes}
-use Rattle.cqlp_grammar.specs.Events.{Event, Frame, Holds, End}
+use Rattle.cqlp_grammar.specs.Events.{Event, Frame, Holds, Node_of, End}
 use Rattle.cqlp_c.specs.declared.event.CqlpEvent.{CqlpEvent}
 use Rattle.cqlp_c.specs.declared.numbers.TheConstants as numbers
 use Rattle.cqlp_c.specs.declared.told.NotTold.{NotTold}
 use Rattle.cqlp_c.specs.declared.told.NotTold.TheVariants as not_told
 use Rattle.cqlp_c.specs.Numbers.{fields}
 use Rattle.cqlp_c.specs.Talked.{is_stream}
-
--- ---- numbers within their ranges
-
--- a number below a bound
-abbrev pub below : (bound : ℕ) → ℤ → Option ℕ
-below bound (negsuc n) = None
-below bound (pos n) = if nat_lt n bound then Some n else None
-
-abbrev pub is_int : ℤ → Bool
-is_int z = int_le (negsuc 2147483647) z && int_le z (pos 2147483647)
-
-abbrev pub int_told : ℤ → Option FieldValue
-int_told z = if is_int z then Some (note.Int z) else None
+use Rattle.cqlp_c.specs.ToldCell.{address_told, below, cell_told, is_of_cell, kind_in, lends, signed_to, text_in}
 
 -- ---- headers
 
@@ -53,13 +38,13 @@ unfoldable pub number_told : (tag : ℕ) → ℤ → Option FieldValue
 number_told t z =
     if t == numbers.TAG_BYTE then option_map note.Byte (below (2 ^ 8) z)
     else if t == numbers.TAG_SHORT then option_map note.Short (below (2 ^ 16) z)
-    else if t == numbers.TAG_INT then int_told z
+    else if t == numbers.TAG_INT then option_map note.Int (signed_to 2147483647 z)
     else if t == numbers.TAG_LONG then Some (note.Long z)
     else if t == numbers.TAG_COUNT then option_map note.Count (below (2 ^ 32) z)
     else None
 
 abbrev pub text_told : (content : List ℕ) → Option FieldValue
-text_told content = if is_utf8 content then Some (note.Text content) else None
+text_told content = option_map note.Text (text_in content)
 
 abbrev pub bytes_told : (mark : ℕ) → (content : List ℕ) → Option FieldValue
 bytes_told m content =
@@ -72,12 +57,6 @@ bound_told m content =
     if m == numbers.MARK_NONE then Some (note.Bound (note.Known content))
     else if m == numbers.MARK_NULL then Some (note.Bound note.Null)
     else if m == numbers.MARK_UNSET then Some (note.Bound note.Unset)
-    else None
-
-abbrev pub address_told : CqlpEvent → Option Address
-address_told c =
-    if c.octets == 4 then Some (address.V4 (take 4 c.bytes))
-    else if c.octets == 16 then Some (address.V6 c.bytes)
     else None
 
 abbrev pub value_told : CqlpEvent → (content : List ℕ) → Option FieldValue
@@ -100,15 +79,16 @@ abbrev pub event_with : CqlpEvent → (content : List ℕ) → Option Event
 event_with c content =
     if c.tag == numbers.TAG_FRAME then option_map Frame (header_told c)
     else if c.tag == numbers.TAG_END then Some (End 0)
+    else if c.tag == numbers.TAG_TYPE_NODE then option_map Node_of (kind_in c)
+    else if is_of_cell c.tag then cell_told c content
     else field_told c (beside_number c.field fields) content
 
--- a type option, or of a cell
-abbrev pub is_of_page : (tag : ℕ) → Bool
-is_of_page t = nat_le numbers.TAG_TYPE_NODE t && nat_le t numbers.TAG_PART
-
--- a text, or bytes that are there
+-- a text, bytes that are there, or a scalar that has a content
 abbrev pub has_content : CqlpEvent → Bool
-has_content c = (c.tag == numbers.TAG_TEXT) || (((c.tag == numbers.TAG_BYTES) || (c.tag == numbers.TAG_BOUND)) && (c.mark == numbers.MARK_NONE))
+has_content c =
+    (c.tag == numbers.TAG_TEXT)
+    || ((((c.tag == numbers.TAG_BYTES) || (c.tag == numbers.TAG_BOUND)) && (c.mark == numbers.MARK_NONE))
+    || ((c.tag == numbers.TAG_LEAF) && lends c.kind))
 
 abbrev pub content_len : CqlpEvent → ℕ
 content_len c = if has_content c then c.length else 0
@@ -117,10 +97,10 @@ abbrev pub is_event : Option Event → Result Event NotTold
 is_event None = Err not_told.NoEvent
 is_event (Some e) = Ok e
 
--- What C tells as an event whose content is the first of these bytes.
+-- What C tells as an event whose content is the first of these bytes. Of parts no frame is made.
 abbrev pub event_told : CqlpEvent → (contents : List ℕ) → Result Event NotTold
 event_told c contents =
-    if is_of_page c.tag then Err not_told.Unbuilt
+    if c.tag == numbers.TAG_PART then Err not_told.Unbuilt
     else if nat_lt (length contents) (content_len c) then Err not_told.NoEvent
     else is_event (event_with c (take (content_len c) contents))
 

@@ -2,7 +2,7 @@
 
 ghost use Rattle.std.specs.Prelude.{◌≡◌, length, MatchResult};
 ghost use Rattle.cqlp_compose.specs.Composing.{composed};
-ghost use Rattle.cqlp_c.specs.Encoding.{Encodes, IsEncoded, IsUnencoded, TakesAll, TakesOne, at_first, code_of_refused};
+ghost use Rattle.cqlp_c.specs.Encoding.{Encodes, IsEncoded, IsUnencoded, TakesAll, TakesOne, code_of_refused};
 ghost use Rattle.cqlp_c.specs.Encoding.{code_of_unencoded, code_of_untold, seen};
 ghost use Rattle.cqlp_c.specs.Rooms.{PutsBytes};
 
@@ -13,7 +13,7 @@ use crate::told::{NotTold, event_told};
 use crate::versions::put;
 use cqlp_build::{BuildError, BuildLimits};
 use cqlp_compose::Composer;
-use cqlp_note::Header;
+use cqlp_note::{Header, Limits};
 use std::alloc::Global;
 
 /// What was made of the events of a frame.
@@ -82,14 +82,15 @@ fn take_all<'a>(
 }
 
 /// The bytes of the frame that has these events.
-#[tactic(auto, using(crate::proofs::Encoded::unencoded_by, crate::proofs::Encoded::left_over, crate::proofs::Encoded::encoded_by, crate::proofs::Encoded::not_encoded))]
+#[tactic(auto, using(crate::proofs::Encoded::ends_here))]
 fn frame_bytes(alloc: Global, events: &[CqlpEvent], contents: &[u8]) -> Result<Vec<u8>, Stopped>
     ensures { MatchResult result (λ v. IsEncoded events.now contents.now v.items) (λ r. IsUnencoded events.now contents.now r) }
 {
-    // No frame has more fields and type options, nor more bytes of texts and contents, than its body has bytes.
+    // No frame has more fields and type options, nor more bytes of texts and contents, than its body has bytes. No decoder reads types that
+    // are nested deeper than this.
     let limits = BuildLimits {
         fields: Header::LONGEST_BODY,
-        depth: Header::LONGEST_BODY,
+        depth: Limits::DEPTH.greatest,
         bytes: Header::LONGEST_BODY,
     };
     let mut composer = Composer::new(alloc, limits);

@@ -17,6 +17,8 @@ mod shown;
 mod slots;
 mod talked;
 mod told;
+mod told_cell;
+mod told_laws;
 mod types;
 mod versions;
 
@@ -44,5 +46,6 @@ pub use server::{
 };
 pub use shown::{CqlpBatch, CqlpEnd, CqlpHeld, CqlpLimits};
 pub use talked::{CqlpAnswered, CqlpReply, CqlpTicket};
+pub use told_laws::{all_told_back, events_are_in_range, handed_back_is_read, told_back};
 pub use types::{CqlpTable, CqlpTypes, cqlp_give, cqlp_take_given, cqlp_types_free, cqlp_types_of};
 pub use versions::cqlp_version_error;

@@ -635,6 +635,41 @@ pub fn kind_number(kind: Kind) -> u8
     }
 }
 
+/// The kind of types that has this number, if one has.
+pub fn kind_numbered(number: u8) -> Option<Kind>
+    ensures { result ≡ beside_number number numbers.kinds }
+{
+    match number {
+        KIND_CUSTOM => Some(Kind::Custom),
+        KIND_ASCII => Some(Kind::Ascii),
+        KIND_BIGINT => Some(Kind::Bigint),
+        KIND_BLOB => Some(Kind::Blob),
+        KIND_BOOLEAN => Some(Kind::Boolean),
+        KIND_COUNTER => Some(Kind::Counter),
+        KIND_DECIMAL => Some(Kind::Decimal),
+        KIND_DOUBLE => Some(Kind::Double),
+        KIND_FLOAT => Some(Kind::Float),
+        KIND_INT => Some(Kind::Int),
+        KIND_TIMESTAMP => Some(Kind::Timestamp),
+        KIND_UUID => Some(Kind::Uuid),
+        KIND_VARCHAR => Some(Kind::Varchar),
+        KIND_VARINT => Some(Kind::Varint),
+        KIND_TIMEUUID => Some(Kind::Timeuuid),
+        KIND_INET => Some(Kind::Inet),
+        KIND_DATE => Some(Kind::Date),
+        KIND_TIME => Some(Kind::Time),
+        KIND_SMALLINT => Some(Kind::Smallint),
+        KIND_TINYINT => Some(Kind::Tinyint),
+        KIND_LIST => Some(Kind::List),
+        KIND_MAP => Some(Kind::Map),
+        KIND_SET => Some(Kind::Set),
+        KIND_UDT => Some(Kind::Udt),
+        KIND_TUPLE => Some(Kind::Tuple),
+        KIND_RAW => Some(Kind::Raw),
+        _ => None,
+    }
+}
+
 /// The number of a reason.
 pub fn reason_number(why: Reason) -> u8
     ensures { result ≡ numbers.number_of_reason why }

@@ -6,15 +6,16 @@ ghost use Rattle.cqlp_c.specs.Told as told_of;
 
 use crate::event::CqlpEvent;
 use crate::numbers::*;
+use crate::told_cell::{address_told, cell_told, lends, text_in};
 use cqlp_grammar::Event;
-use cqlp_note::{Address, BoundValue, Field, Header, Opcode};
+use cqlp_note::{BoundValue, Field, Header, Opcode};
 
 /// Why what C tells is no event that a frame is made of.
 #[derive(Clone, Copy)]
 pub enum NotTold {
-    /// No such tag, field, opcode or mark, a number out of its range, a text that is not UTF-8, or fewer bytes than its length.
+    /// No such tag, field, kind, opcode or mark, a number out of its range, a text that is not UTF-8, or fewer bytes than its length.
     NoEvent,
-    /// A type option or what a cell has, of which no frame is made.
+    /// A part of a content, of which no frame is made.
     Unbuilt,
 }
 
@@ -26,7 +27,7 @@ pub fn event_told<'a>(
     ensures event { told_of.first_of (λ found. event_of found.0) result ≡ told_of.event_told told.now contents.now }
     ensures rest { IfOk result (λ found. found.1.now ≡ drop (told_of.content_len told.now) contents.now) }
 {
-    if is_of_page(told.tag) {
+    if told.tag == TAG_PART {
         return Err(NotTold::Unbuilt);
     }
     let len = content_len(told);
@@ -40,30 +41,22 @@ pub fn event_told<'a>(
     }
 }
 
-/// Whether it is a type option, or of a cell.
-fn is_of_page(tag: u8) -> bool
-    ensures { result ≡ told_of.is_of_page tag }
-{
-    matches!(
-        tag,
-        TAG_TYPE_NODE | TAG_LEAF | TAG_NULL | TAG_EMPTY | TAG_ENTER | TAG_LEAVE | TAG_PART
-    )
-}
-
 /// How many bytes its content has; none where it has no content.
 fn content_len(told: &CqlpEvent) -> usize
     ensures { result ≡ told_of.content_len told.now }
 {
+    if has_content(told) { told.length } else { 0 }
+}
+
+/// Whether it is a text, bytes that are there, or a scalar that has a content.
+fn has_content(told: &CqlpEvent) -> bool
+    ensures { result ≡ told_of.has_content told.now }
+{
     match told.tag {
-        TAG_TEXT => told.length,
-        TAG_BYTES | TAG_BOUND => {
-            if told.mark == MARK_NONE {
-                told.length
-            } else {
-                0
-            }
-        }
-        _ => 0,
+        TAG_TEXT => true,
+        TAG_BYTES | TAG_BOUND => told.mark == MARK_NONE,
+        TAG_LEAF => lends(told.kind),
+        _ => false,
     }
 }
 
@@ -74,6 +67,8 @@ fn event_with<'a>(told: &CqlpEvent, content: &'a [u8]) -> Option<Event<'a>>
     match told.tag {
         TAG_FRAME => Some(Event::Frame(header_told(told)?)),
         TAG_END => Some(Event::End { extra: 0 }),
+        TAG_TYPE_NODE => Some(Event::TypeNode(kind_numbered(told.kind)?)),
+        TAG_LEAF | TAG_NULL | TAG_EMPTY | TAG_ENTER | TAG_LEAVE => cell_told(told, content),
         _ => field_told(told, field_numbered(told.field)?, content),
     }
 }
@@ -150,14 +145,13 @@ fn number_told<'a>(tag: u8, field: Field, number: i64) -> Option<Event<'a>>
 }
 
 /// A text.
-#[tactic(auto, using(cqlp_note::proofs::Texts::utf8_true, cqlp_note::proofs::Texts::utf8_false))]
 fn text_told<'a>(field: Field, content: &'a [u8]) -> Option<Event<'a>>
     ensures { option_map event_of result ≡ option_map (Holds field) (told_of.text_told content.now) }
 {
-    match str::from_utf8(content) {
-        Ok(text) => Some(Event::Text { field, text }),
-        Err(_) => None,
-    }
+    Some(Event::Text {
+        field,
+        text: text_in(content)?,
+    })
 }
 
 /// \[bytes\], or null.
@@ -183,18 +177,4 @@ fn bound_told<'a>(mark: u8, field: Field, content: &'a [u8]) -> Option<Event<'a>
         _ => return None,
     };
     Some(Event::Bound { field, value })
-}
-
-/// An address, by how many bytes it has.
-fn address_told(told: &CqlpEvent) -> Option<Address>
-    ensures { result ≡ told_of.address_told told.now }
-{
-    match told.octets {
-        4 => {
-            let [first, second, third, last, ..] = told.bytes;
-            Some(Address::V4([first, second, third, last]))
-        }
-        16 => Some(Address::V6(told.bytes)),
-        _ => None,
-    }
 }

@@ -1,5 +1,5 @@
 -- Members of JSON objects: their keys and values (RFC 8259).
-use Rattle.std.specs.Prelude.{ℕ, ℤ, ◌/◌, ◌%◌, nat_lt, Bool, true, false, List, [], ◌∷◌, ◌++◌, codes, decimal, Option, Some, None, if◌then◌else◌}
+use Rattle.std.specs.Prelude.{ℕ, ℤ, ◌/◌, ◌%◌, nat_lt, List, [], ◌∷◌, ◌++◌, codes, decimal, Option, Some, None, if◌then◌else◌}
 use Rattle.std.specs.Fmt.{signed_decimal}
 use Rattle.uuid.specs.Text.{hyphenated_text, lower}
 use Rattle.cqlp_note.specs.Heading.{beside_number}

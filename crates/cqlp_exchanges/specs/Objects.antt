@@ -1,6 +1,6 @@
 -- The JSON object of what is told of a request, a response, or both, in a line of its own: its keys and their values.
 use Prim.Native.String.{String}
-use Rattle.std.specs.Prelude.{ℕ, ◌+◌, List, [], ◌∷◌, ◌++◌, codes, decimal, Option, Some, None}
+use Rattle.std.specs.Prelude.{ℕ, ◌+◌, List, [], ◌∷◌, ◌++◌, codes, Option, Some, None}
 use Rattle.std.specs.Fmt.{signed_decimal}
 use Rattle.cqlp_note.specs.Heading.{has, beside_number}
 use Rattle.cqlp_text.specs.CellText.{boolean_text}

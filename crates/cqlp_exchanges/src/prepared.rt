@@ -3,7 +3,7 @@
 ghost use Rattle.std.specs.Prelude.{◌≡◌, ◌≤◌, drop, length, option_map, vec_capacity};
 ghost use Rattle.std.specs.List.{list_any};
 ghost use Rattle.std.specs.Str.{bytes_eq};
-ghost use Rattle.cqlp_exchanges.specs.Prepared.{id_of_said, is_news, is_of, is_prepare, named, named_id, prepared_id};
+ghost use Rattle.cqlp_exchanges.specs.Prepared.{id_of_said, is_news, is_of, named, named_id, prepared_id};
 ghost use Rattle.cqlp_exchanges.specs.Prepared.{text_for, with_one_more};
 ghost use Rattle.cqlp_exchanges.specs.Statements.{said_of, short_bytes};
 

@@ -1,4 +1,4 @@
-use Rattle.std.proofs.Common.{List, Option, ℕ, sym, subst}
+use Rattle.std.proofs.Common.{Option, sym, subst}
 use Rattle.cqlp_watch.specs.declared.kept.Kept.{Kept}
 use Rattle.cqlp_watch.specs.declared.paired.Paired.{Paired}
 use Rattle.cqlp_watch.specs.Pairings.{told_or_none}
