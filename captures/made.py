@@ -11,6 +11,8 @@ packets      packets as long as a record may have, and IP and TCP headers whose 
 record       a record whose length is the greatest that its field can say
 batches      BATCHes and what answers them: of no statement, of a text and an id, of a statement that was prepared, of a long text, of a kind of statement
              that there is none of, and one that is compressed
+prepared     one connection, on which statements are prepared and executed, and pages come that describe no columns
+statements   one connection, on which 300 statements are prepared, each with as many columns as are known, and executed
 pages        one connection, whose responses are five pages in pieces: of the third a cell has no lawful length, within the fourth three bytes are
              lost, and within the fifth the capture ends
 block        a pcapng file with as many interfaces as there may be, options and a packet of 262,144 bytes, and a block of 4 GiB that never comes
@@ -118,6 +120,66 @@ def pages():
             yield record(segment(0x0A010000, 10_000, 1, b"", False, end, ACK))
 
 
+def prepared(stream, name, types):
+    """A PREPARED that gives a statement this id, and columns a, b.. of these types of the table t of the keyspace ks (section 4.2.5.4)."""
+    none_bound = struct.pack(">iii", 1, 0, 0) + b"\0\2ks\0\1t"
+    columns = struct.pack(">ii", 1, len(types)) + b"\0\2ks\0\1t" + b"".join(b"\0\1" + b"%c" % (97 + i % 26) + t for i, t in enumerate(types))
+    return frame(0x84, 0, stream, 0x08, struct.pack(">i", 4) + struct.pack(">H", len(name)) + name + none_bound + columns)
+
+
+def prepare(stream):
+    return frame(0x04, 0, stream, 0x09, struct.pack(">I", 8) + b"SELECT ?")
+
+
+def execute(stream, name, flags=0, before=b""):
+    """An EXECUTE that wants no metadata: consistency ONE, flag 02 (section 4.1.6)."""
+    return frame(0x04, flags, stream, 0x0A, before + struct.pack(">H", len(name)) + name + b"\0\1\2")
+
+
+def in_turn(packets):
+    """Each of these messages, or pieces of one, in a packet of its own."""
+    sent = [1, 1]
+    for is_response, message in packets:
+        yield record(segment(0x0A010000, 10_000, sent[is_response], message, is_response))
+        sent[is_response] += len(message)
+
+
+def bare_page(stream, *row):
+    return page(stream, struct.pack(">ii", 4, len(row)), [row])
+
+
+def statements_in_turn():
+    seven, name, other, long_name = b"\0\0\0\7", b"\1\2", b"\xab\xcd", b"n" * 65
+    int_and_text, blob_and_boolean = [b"\0\x09", b"\0\x0d"], [b"\0\x03", b"\0\x04"]
+    payload = struct.pack(">HH", 1, 1) + b"p" + struct.pack(">i", 80) + b"!" * 80
+    unprepared = frame(0x84, 0, 11, 0x00, struct.pack(">i", 0x2500) + b"\0\1?" + struct.pack(">H", len(name)) + name)
+    in_pieces = execute(14, name)
+    return [
+        (False, prepare(0)), (True, prepared(0, name, int_and_text)),
+        (False, execute(1, name)), (True, bare_page(1, seven, b"x")[:30]), (True, bare_page(1, seven, b"x")[30:]),
+        (False, execute(2, name) + execute(3, other)), (False, query(4)),
+        (True, bare_page(3, seven, b"x")), (True, bare_page(4, seven, b"x")), (True, bare_page(2, None, b"")),
+        (False, execute(5, name)), (False, query(5)), (True, bare_page(5, seven, b"x")),
+        (False, prepare(0)), (True, prepared(0, name, blob_and_boolean)),
+        (False, execute(6, name)), (True, bare_page(6, seven, b"\1")),
+        (False, execute(7, name, 0x04, payload)), (True, bare_page(7, seven, b"\0")),
+        (False, execute(8, name, 0x01)), (True, bare_page(8, seven, b"\1")),
+        (True, bare_page(9, seven, b"\1")), (False, execute(9, name)),
+        (False, execute(11, name)), (True, unprepared), (False, execute(12, name)), (True, bare_page(12, seven, b"\1")),
+        (False, execute(13, name)), (True, bare_page(13, seven, b"\1", b"\1")),
+        (False, in_pieces[:10]), (False, in_pieces[10:12]), (False, in_pieces[12:]), (True, bare_page(14, seven, b"\1")),
+        (False, prepare(0)), (True, prepared(0, long_name, int_and_text)), (False, execute(15, long_name)), (True, bare_page(15, seven, b"x")),
+        (False, prepare(0)), (True, prepared(0, other, int_and_text)[:-1]), (True, b"\x0d"), (False, execute(16, other)), (True, bare_page(16, seven, b"x")),
+    ]
+
+
+def many_statements():
+    for i in range(300):
+        name, types = struct.pack(">I", i), [b"\0\x09"] * 4_096
+        answer = prepared(0, name, types)
+        yield from [(False, prepare(0)), *((True, piece) for piece in pieces(answer)), (False, execute(1, name)), (True, bare_page(1, b"\0\0\0\7"))]
+
+
 def packets():
     for i in range(512):
         longest = b"\x4f" + b"\xff" * 262_143
@@ -182,6 +244,7 @@ def capture(kind, *count):
     if kind == "block":
         return blocks()
     made = {"connections": connections, "lost": lost, "requests": requests, "contents": contents, "pages": pages, "packets": packets,
+            "prepared": lambda: in_turn(statements_in_turn()), "statements": lambda: in_turn(many_statements()),
             "record": greatest_record, "batches": batches}[kind]
     return of_pcap(made(*map(int, count)))
 

@@ -1,13 +1,16 @@
 -- What is known after a saying.
 use Rattle.std.proofs.Common.{◌≡◌, ◌∙◌, ◌++◌, [], ℕ, IsSome, List, Option, Some, None, OnOk, Result, Ok, Err, ap, append-nil, sym, subst, refl}
 use Rattle.std.specs.Io.KnownBytes.{append_known}
-use Rattle.cqlp_grammar.specs.declared.sink.SinkFault.{SinkFault}
-use Rattle.cqlp_text.specs.Outputs.{output}
-use Rattle.cqlp_text.specs.Written.{Writes, Written}
+use Rattle.cqlp_text.specs.Outputs.{output, with_text}
+use Rattle.cqlp_text.specs.Written.{Receives, Written}
+use Rattle.cqlp_prepared.specs.declared.requests.Requests.{Requests}
 use Rattle.cqlp_streams.specs.declared.fault.StreamsFault.{StreamsFault}
 use Rattle.cqlp_streams.specs.Sayings.{Saying}
-use Rattle.cqlp_capture_rows.specs.Sides.{Side, Telling}
-use Rattle.cqlp_capture_rows.specs.Listening.{Hears, Listening, Tells, change_of, listening, with_saying}
+use Rattle.cqlp_capture_rows.specs.declared.fault.TellFault.{TellFault}
+use Rattle.cqlp_capture_rows.specs.declared.fault.TellFault.TheVariants as fault
+use Rattle.cqlp_capture_rows.specs.Faults.{Takes}
+use Rattle.cqlp_capture_rows.specs.Sides.{Side}
+use Rattle.cqlp_capture_rows.specs.Listening.{Change, Hears, Listening, Tells, change_of, listening, with_saying}
 
 -- it is still known what the output was given
 still_known : (given : Option (List ℕ)) (text : List ℕ) → IsSome given → IsSome (append_known given text)
@@ -27,24 +30,32 @@ known_at : (given : Option (List ℕ)) → IsSome given → (text : List ℕ) ×
 known_at None known = cc
 known_at (Some text) known = (text, refl)
 
-pub tells_told : (asked : ℕ) (old new : Side) (w v : Written) (x : Telling) (r : Result (Unit {0}) SinkFault) → w.waiting ≡ [] → v.waiting ≡ [] → IsSome w.given → Writes w x.text r v → OnOk r (new ≡ x.after)
-    → Tells (listening asked old (output w.given w.failures)) x r (listening asked new (output v.given v.failures))
-tells_told asked old new w v x (Ok u) none none' known writes after =
-    let text = x.text in
+-- what a writer passed on was written
+passed_on : (w v : Written) (text : List ℕ) → w.waiting ≡ [] → v.waiting ≡ [] → IsSome w.given → Receives w text v → output v.given v.failures ≡ with_text (output w.given w.failures) text
+passed_on w v text none none' known takes =
     let t = known_at w.given known in
-    let p = writes.passed t.0 t.1 in
+    let p = takes.passed t.0 t.1 in
     let all : p.0 ≡ text = sym (append-nil p.0) ∙ ap (λ (z : List ℕ). p.0 ++ z) (sym none') ∙ p.2 ∙ ap (λ (z : List ℕ). z ++ text) none in
     let given : v.given ≡ append_known w.given text = p.1 ∙ ap (λ (z : List ℕ). Some (t.0 ++ z)) all ∙ sym (ap (λ (g : Option (List ℕ)). append_known g text) t.1) in
-    λ i. listening asked (after i) (output (given i) (writes.failures i))
-tells_told asked old new w v x (Err e) none none' known writes after =
+    λ i. output (given i) (takes.failures i)
+
+pub tells_told : (asked : ℕ) (requests requests' : Requests) (old new : Side) (w v : Written) (x : Change) (r : Result (Unit {0}) TellFault) → w.waiting ≡ [] → v.waiting ≡ [] → IsSome w.given → Takes w x.text r v → OnOk r (requests' ≡ x.requests) → OnOk r (new ≡ x.responses)
+    → Tells (listening asked requests old (output w.given w.failures)) x r (listening asked requests' new (output v.given v.failures))
+tells_told asked requests requests' old new w v x (Ok u) none none' known takes same after = λ i. listening asked (same i) (after i) (passed_on w v x.text none none' known takes i)
+tells_told asked requests requests' old new w v x (Err fault.Write) none none' known breaks same after =
     let text = x.text in
     let t = known_at w.given known in
-    let p = writes.passed t.0 t.1 in
+    let p = breaks.passed t.0 t.1 in
     record {
       sent = p.0;
-      lost = writes.lost;
-      later = writes.later;
+      lost = breaks.lost;
+      later = breaks.later;
       split = p.2 ∙ ap (λ (z : List ℕ). z ++ text) none;
       given = p.1 ∙ sym (ap (λ (g : Option (List ℕ)). append_known g p.0) t.1);
-      failures = writes.failures;
+      failures = breaks.failures;
     }
+tells_told asked requests requests' old new w v x (Err fault.NoMemory) none none' known (front, later, split, takes) same after = (front, later, split, passed_on w v front none none' known takes)
+
+pub on_ok : (r : Result (Unit {0}) TellFault) (x : Requests) → OnOk r (x ≡ x)
+on_ok (Ok u) x = refl
+on_ok (Err e) x = tt

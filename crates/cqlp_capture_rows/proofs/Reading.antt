@@ -8,10 +8,10 @@ use Rattle.cqlp_note.specs.Limits.{Rules}
 use Rattle.cqlp_note.specs.Reader.{Said, More, Got, Bad, says}
 use Rattle.cqlp_note.specs.Step.{Emitted}
 use Rattle.cqlp_note.proofs.Runs.{runs_stay}
-use Rattle.cqlp_type.specs.Table.{Table}
+use Rattle.cqlp_kind.specs.declared.node.Node.{Node}
 use Rattle.cqlp_decode.specs.Reading.{Event, Place, Read, Reads, Verdict, Waits, Refused, Ends, Says, reading, start_with, step, then_read}
 use Rattle.cqlp_decode.specs.Progress.{StreamState}
-use Rattle.cqlp_decode.specs.Streams.{AfterGifts}
+use Rattle.cqlp_decode.specs.Streams.{AfterBy, AfterGifts, Stands}
 use Rattle.cqlp_grammar.specs.declared.sink.SinkFault.{SinkFault}
 use Rattle.cqlp_laws.proofs.EventCounts.{no_more_events, no_more_handed_out}
 use Rattle.cqlp_laws.proofs.OneRun.{after_reads}
@@ -20,8 +20,8 @@ use Rattle.cqlp_text.proofs.Writing.{Progress, progress_goes_on, progress_stops,
 use Rattle.cqlp_capture_rows.specs.declared.spot.FrameSpot.{FrameSpot}
 use Rattle.cqlp_capture_rows.specs.Spots.{refused_line}
 use Rattle.cqlp_capture_rows.specs.Pages.{Page, cut_text, no_rows, page_after, pages_after, rows_part, rows_text}
-use Rattle.cqlp_capture_rows.specs.Frames.{gifts_of, more_events, more_rows, more_text, page_of, read, rules, verdict_text}
-use Rattle.cqlp_capture_rows.specs.Reading.{Drains}
+use Rattle.cqlp_capture_rows.specs.Frames.{gifts_of, more_events, more_rows, more_text, page_of, place_behind, place_on, read, rules, types_read, verdict_text}
+use Rattle.cqlp_capture_rows.specs.Reading.{Drains, IsReading}
 
 module _ (l : Rules) where
   -- some events, and then the others
@@ -54,11 +54,11 @@ some : 1 ≤ rules.part
 some = omega arith
 
 -- all that bytes say
-pub read_is : (given : Option Table) (bytes : List ℕ) (es : List (ℕ × Event)) (v : Verdict) → Says rules (start_with (gifts_of given)) bytes es v → read given bytes ≡ (es, v)
+pub read_is : (given : Option (List Node)) (bytes : List ℕ) (es : List (ℕ × Event)) (v : Verdict) → Says rules (start_with (gifts_of given)) bytes es v → read given bytes ≡ (es, v)
 read_is given bytes es v s = says_reading rules (length bytes + 1) (start_with (gifts_of given)) bytes es v s (omega (arith, no_more_events rules (gifts_of given) bytes es v some s))
 
 -- what a decoder handed out is the front of what its bytes and more say
-pub front_of_read : (given : Option Table) (d : StreamState) (bytes t : List ℕ) (es : List (ℕ × Event)) → d.rules ≡ rules → AfterGifts (gifts_of given) d bytes es → (later : List (ℕ × Event)) × ((read given (bytes ++ t)).0 ≡ es ++ later)
+pub front_of_read : (given : Option (List Node)) (d : StreamState) (bytes t : List ℕ) (es : List (ℕ × Event)) → d.rules ≡ rules → AfterGifts (gifts_of given) d bytes es → (later : List (ℕ × Event)) × ((read given (bytes ++ t)).0 ≡ es ++ later)
 front_of_read given d bytes t es are a =
     let start : Place = start_with (gifts_of given) in
     let few : length es ≤ length bytes = no_more_handed_out (gifts_of given) d bytes es (rw are some) a in
@@ -70,6 +70,43 @@ front_of_read given d bytes t es are a =
     length_more : (a b : List ℕ) → length a ≤ length (a ++ b)
     length_more [] b = omega arith
     length_more (x ∷ a) b = omega (arith, length_more a b)
+
+-- ---- the types of the metadata that was read last
+
+place_reached : (n : ℕ) (p q : Place) (bytes rest : List ℕ) (es : List (ℕ × Event)) → Reads rules p bytes es q rest → length es ≤ n → (m : ℕ) × (m + length es ≡ n) × (place_behind n p bytes ≡ place_behind m q rest)
+place_reached n p q bytes rest [] run le = (n, omega arith, λ i. place_behind n (sym run.0 i) (sym run.1 i))
+place_reached zero p q bytes rest (e ∷ es) run le = absurd (omega arith)
+place_reached (suc k) p q bytes rest (e ∷ es) run le =
+    let r = place_reached k (run.1 run.0) q (drop run.0 bytes) rest es run.3 (omega arith) in
+    (r.0, omega (arith, r.1), ap (place_on (place_behind k) p bytes) run.2 ∙ r.2)
+
+-- where no event comes, the reading stays
+stays_there : (m : ℕ) (q : Place) (rest : List ℕ) → (reading rules m q rest).0 ≡ [] → place_behind m q rest ≡ q
+stays_there zero q rest none = refl
+stays_there (suc k) q rest none = by (says (step rules q) 0 rest) none
+  where
+    by : (d : Said (Emitted Event Place) (ℕ × Reason)) → (then_read (reading rules k) rest d).0 ≡ [] → place_on (place_behind k) q rest d ≡ q
+    by More none = refl
+    by (Bad f) none = refl
+    by (Got x used) none = absurd (cc none)
+
+none_more : (xs ys : List (ℕ × Event)) → xs ≡ xs ++ ys → ys ≡ []
+none_more [] ys e = sym e
+none_more (x ∷ xs) ys e = none_more xs ys (ap (drop 1) e)
+
+-- a decoder's table has them
+pub types_are : (given : Option (List Node)) (d : StreamState) (bytes : List ℕ) → IsReading given d bytes → d.place.nodes ≡ types_read given bytes
+types_are given d bytes r =
+    let es : List (ℕ × Event) = (read given bytes).0 in
+    let start : Place = start_with (gifts_of given) in
+    let s : Stands (gifts_of given) d bytes es = subst (λ (o : Option Refusal). AfterBy o (gifts_of given) d bytes es) r.free r.after in
+    let run : Reads rules start bytes es s.place s.bytes = subst (λ (z : Rules). Reads z start bytes es s.place s.bytes) r.rules s.read in
+    let few : length es ≤ length bytes = no_more_handed_out (gifts_of given) d bytes es (rw r.rules some) r.after in
+    let there = place_reached (length bytes + 1) start s.place bytes s.bytes es run (omega (arith, few)) in
+    let on = reading_on rules (length bytes + 1) start s.place bytes s.bytes es run (omega (arith, few)) in
+    let same : on.0 ≡ there.0 = omega (arith, on.1, there.1) in
+    let none : (reading rules there.0 s.place s.bytes).0 ≡ [] = subst (λ (m : ℕ). (reading rules m s.place s.bytes).0 ≡ []) same (none_more es (reading rules on.0 s.place s.bytes).0 (ap (λ (x : Read). x.0) on.2)) in
+    ap (λ (p : Place). p.nodes) s.here ∙ sym (ap (λ (p : Place). p.nodes) (there.2 ∙ stays_there there.0 s.place s.bytes none))
 
 -- ---- the text of events
 
@@ -96,7 +133,7 @@ take_two a b xs = sym (take-add a b xs)
 
 -- ---- a piece, as far as it was drained
 
-pub record Drained (s : FrameSpot) (given : Option Table) (bytes input : List ℕ) (d : StreamState) (p : Page) (used : ℕ) (old now : Written) : Type 0 where
+pub record Drained (s : FrameSpot) (given : Option (List Node)) (bytes input : List ℕ) (d : StreamState) (p : Page) (used : ℕ) (old now : Written) : Type 0 where
   pub more : List (ℕ × Event)
   pub after : AfterGifts (gifts_of given) d (bytes ++ take used input) ((read given bytes).0 ++ more)
   pub page : p ≡ pages_after (page_of given bytes) more
@@ -104,7 +141,7 @@ pub record Drained (s : FrameSpot) (given : Option Table) (bytes input : List �
   pub rules : d.rules ≡ rules
   pub free : d.refusal ≡ None
 
-module _ (s : FrameSpot) (given : Option Table) (bytes input : List ℕ) (d : StreamState) (p : Page) (used : ℕ) (old now : Written) (h : Drained s given bytes input d p used old now) where
+module _ (s : FrameSpot) (given : Option (List Node)) (bytes input : List ℕ) (d : StreamState) (p : Page) (used : ℕ) (old now : Written) (h : Drained s given bytes input d p used old now) where
   abbrev pub start : Place
   start = start_with (gifts_of given)
 
@@ -178,13 +215,13 @@ module _ (s : FrameSpot) (given : Option Table) (bytes input : List ℕ) (d : St
         rw lines within
 
 -- a `?` that ends the function
-pub drains_err : (s : FrameSpot) (given : Option Table) (bytes input : List ℕ) (r : Result (Option Refusal) SinkFault) (d : StreamState) (p : Page) (old new : Written) → IsErr r → BreaksOff old (more_rows s given bytes input) new → Drains s given bytes input r d p old new
+pub drains_err : (s : FrameSpot) (given : Option (List Node)) (bytes input : List ℕ) (r : Result (Option Refusal) SinkFault) (d : StreamState) (p : Page) (old new : Written) → IsErr r → BreaksOff old (more_rows s given bytes input) new → Drains s given bytes input r d p old new
 drains_err s given bytes input (Ok x) d p old new stops breaks = cc
 drains_err s given bytes input (Err e) d p old new stops breaks = breaks
 
 -- ---- the text of more bytes: of their events, and of a refusal
 
-module _ (s : FrameSpot) (given : Option Table) (bytes input : List ℕ) where
+module _ (s : FrameSpot) (given : Option (List Node)) (bytes input : List ℕ) where
   pub rows_stop : (r : Result (Unit {0}) SinkFault) (old new : Written) → IsErr r → BreaksOff old (more_rows s given bytes input) new → Writes old (more_text s given bytes input) r new
   rows_stop (Ok u) old new stops breaks = cc
   rows_stop (Err e) old new stops breaks = breaks_in_more old new (more_rows s given bytes input) (verdict_text s (page_of given (bytes ++ input)) (read given (bytes ++ input)).1) breaks

@@ -2,6 +2,7 @@ pub mod Spots
 pub mod Pages
 pub mod Frames
 pub mod Reading
+pub mod Faults
 pub mod Sides
 pub mod Listening
 pub mod Capturing

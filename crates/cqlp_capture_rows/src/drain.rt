@@ -3,7 +3,7 @@
 ghost use Rattle.std.specs.Prelude.{◌≡◌, List, ℕ};
 ghost use Rattle.cqlp_decode.specs.Streams.{state};
 ghost use Rattle.cqlp_capture_rows.specs.Frames.{page_of};
-ghost use Rattle.cqlp_capture_rows.specs.Reading.{Drains, IsReading};
+ghost use Rattle.cqlp_capture_rows.specs.Reading.{Drains, IsReading, types_given};
 
 use crate::page::Page;
 use crate::spot::FrameSpot;
@@ -21,7 +21,7 @@ pub(crate) fn drain<P: Pen, A: Allocator>(
     begun: FrameSpot,
     writer: &mut TextWriter<P>,
 ) -> Result<Option<Refusal>, SinkFault>
-    ensures drains { (bytes : List ℕ) → let given = (state decoder.old).given in
+    ensures drains { (bytes : List ℕ) → let given = types_given (state decoder.old) in
         IsReading given (state decoder.old) bytes → page.old ≡ page_of given bytes →
         Drains begun given bytes input.now result (state decoder.new) page.new writer.old writer.new }
     ensures rules { (state decoder.new).rules ≡ (state decoder.old).rules }

@@ -3,6 +3,7 @@
 
 mod capturing;
 mod drain;
+mod fault;
 mod history;
 pub mod laws;
 mod limits;
@@ -12,5 +13,5 @@ mod side;
 mod spot;
 
 pub use capturing::write_rows;
-pub use limits::LIMITS;
+pub use limits::{EXECUTES, LIMITS, STATEMENTS};
 pub use rows::Rows;

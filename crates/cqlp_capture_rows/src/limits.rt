@@ -12,3 +12,9 @@ pub const LIMITS: Limits = Limits {
     types: true,
     parts: true,
 };
+
+/// How many statements of a connection are known at most, with the types that PREPARE said of them.
+pub const STATEMENTS: u16 = 256;
+
+/// How many EXECUTEs of a connection wait at most.
+pub const EXECUTES: u16 = 1_024;

@@ -1,15 +1,16 @@
 //! A page, as far as its events came.
 
-ghost use Rattle.std.specs.Prelude.{◌≡◌, OnOk};
+ghost use Rattle.std.specs.Prelude.{◌≡◌, OnOk, option_map};
 ghost use Rattle.cqlp_note.specs.Field.{Int as IntValue};
 ghost use Rattle.cqlp_grammar.specs.Events.{event_of};
 ghost use Rattle.cqlp_text.specs.PageText.{is_rows};
 ghost use Rattle.cqlp_text.specs.Written.{Writes};
-ghost use Rattle.cqlp_capture_rows.specs.Pages.{begins_page, cut_text, ends_frame, is_begun_after, is_page_kind, no_rows, page_after, page_line_if, rows_part};
+ghost use Rattle.cqlp_capture_rows.specs.Pages.{begins_page, cut_text, ends_frame, id_after, is_begun_after, is_page_kind, no_rows, page_after, page_line_if, rows_part};
 
 use crate::spot::{FrameSpot, put_page_line};
 use cqlp_grammar::{Event, SinkFault};
 use cqlp_note::Field;
+use cqlp_prepared::StatementId;
 use cqlp_text::{PagePlace, Pen, TextWriter};
 use std::marker::Model;
 
@@ -22,6 +23,8 @@ pub(crate) struct Page {
     place: PagePlace,
     /// Whether a page has begun that has not ended.
     is_begun: bool,
+    /// The id of a statement that was named.
+    id: Option<StatementId>,
 }
 
 impl Model for Page {
@@ -29,7 +32,7 @@ impl Model for Page {
 
     ghost Value = { Page };
 
-    ghost view = { λ p. record { place = p.place; is_begun = p.is_begun } };
+    ghost view = { λ p. record { place = p.place; is_begun = p.is_begun; id = p.id } };
 }
 
 impl Page {
@@ -40,6 +43,7 @@ impl Page {
         Page {
             place: PagePlace::new(),
             is_begun: false,
+            id: None,
         }
     }
 
@@ -54,8 +58,16 @@ impl Page {
         ensures after { OnOk result (self.new ≡ page_after self.old (event_of event.now)) }
     {
         self.is_begun = is_begun_after(self.is_begun, event);
+        note_id(&mut self.id, event);
         put_page_line_if(begins_page(event), writer, begun)?;
         writer.put_page_part(&mut self.place, event)
+    }
+
+    /// The id of a statement that was named, of a RESULT that of its PREPARED, if it has at most [`StatementId::MOST`] bytes.
+    pub(crate) fn id(&self) -> Option<&StatementId>
+        ensures { option_map (λ id. id.now) result ≡ self.now.id }
+    {
+        self.id.as_ref()
     }
 
     /// Takes the end of a page that does not end, if one has begun.
@@ -67,6 +79,19 @@ impl Page {
         } else {
             Ok(())
         }
+    }
+}
+
+/// Keeps the id of a statement, if an event says one.
+fn note_id(id: &mut Option<StatementId>, event: &Event<'_>)
+    ensures { id.new ≡ id_after id.old (event_of event.now) }
+{
+    if let Event::Bytes {
+        field: Field::StatementId,
+        bytes: Some(bytes),
+    } = *event
+    {
+        *id = StatementId::new(bytes);
     }
 }
 

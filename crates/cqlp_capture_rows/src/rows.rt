@@ -2,16 +2,19 @@
 
 ghost use Rattle.std.specs.Prelude.{◌≡◌, ◌≤◌, false, [], IfErr, IfOk, IsSome, OnOk, vec_len};
 ghost use Rattle.cqlp_text.specs.Outputs.{written};
-ghost use Rattle.cqlp_text.specs.Written.{Writes};
+ghost use Rattle.cqlp_prepared.specs.Keeping.{new_keeping};
 ghost use Rattle.cqlp_capture_rows.specs.Spots.{spot};
-ghost use Rattle.cqlp_capture_rows.specs.Sides.{begun};
+ghost use Rattle.cqlp_capture_rows.specs.Faults.{Takes};
+ghost use Rattle.cqlp_capture_rows.specs.Sides.{begun, closes};
 ghost use Rattle.cqlp_capture_rows.specs.Listening.{heard, leaves};
 
+use crate::fault::TellFault;
+use crate::limits::{EXECUTES, STATEMENTS};
 use crate::side::Side;
 use crate::spot::Spot;
 use cqlp_connections::{Told, Way};
-use cqlp_grammar::SinkFault;
 use cqlp_note::Target;
+use cqlp_prepared::Requests;
 use cqlp_streams::{Listener, Saying, StreamsFault};
 use cqlp_text::{Buffered, Pen, TextWriter};
 use std::alloc::{AllocError, Allocator, Global};
@@ -21,11 +24,15 @@ use std::marker::Model;
 const ROOM: usize = 65_536;
 
 /// Reads the frames of one connection of a capture, and writes the text of the pages among them, each part of it when its last byte is there.
-/// All memory is taken in `new`.
+/// A page without metadata has the types that PREPARE said of the statement whose EXECUTE it answers.
+///
+/// Memory is taken in `new`, and after it for the types of a statement that is prepared, and of a page that answers an EXECUTE: one request each,
+/// of `LIMITS.entries` nodes. At most [`STATEMENTS`] statements are known, and the types of one page.
 #[derive(Drop)]
 pub struct Rows<O: Target, A: Allocator = Global> {
     /// The number of the connection.
     asked: u64,
+    requests: Requests,
     responses: Side<A>,
     writer: TextWriter<Buffered<O, A>>,
 }
@@ -37,43 +44,45 @@ impl<O: Target, A: Allocator> Model for Rows<O, A> {
 
     ghost Value = { Listening };
 
-    ghost view = { λ r. listening r.asked r.responses (output r.writer.given r.writer.failures) };
+    ghost view = { λ r. listening r.asked r.requests r.responses (output r.writer.given r.writer.failures) };
 
     ghost invariant = { λ r. r.writer.waiting ≡ [] };
 }
 
 impl<O: Target, A: Allocator> Rows<O, A> {
-    ghost use Rattle.cqlp_streams.specs.Sayings.{Of, saying_of};
-    ghost use Rattle.cqlp_capture_rows.specs.Listening.{Changes, Hears, Tells, if_asked, new_listening};
-
-    /// Nothing came of the connection with this number, and its pages go to this output. All memory is taken here, in five requests; where it
-    /// is not granted, the output is given back.
-    pub fn new(alloc: A, asked: u64, out: O) -> Result<Self, O>
-    where
-        A: Clone,
-        ensures ok { IfOk result (λ r. r ≡ new_listening asked (written O.Target out)) }
-        ensures err { IfErr result (λ o. written O.Target o ≡ written O.Target out) }
-    {
-        match take_memory(alloc) {
-            Ok((responses, buffer)) => Ok(Rows {
-                asked,
-                responses,
-                writer: TextWriter::new(Buffered::new(out, buffer)),
-            }),
-            Err(AllocError) => Err(out),
-        }
-    }
-
     /// The output.
     pub fn into_output(self) -> O
         ensures { written O.Target result ≡ self.output }
     {
         let Rows {
             asked: _,
+            requests: _,
             responses: _,
             writer,
         } = self;
         writer.into_inner().into_inner()
+    }
+}
+
+impl<O: Target, A: Allocator + Clone> Rows<O, A> {
+    ghost use Rattle.cqlp_streams.specs.Sayings.{Of, saying_of};
+    ghost use Rattle.cqlp_capture_rows.specs.Listening.{Changes, Hears, Tells, if_asked, new_listening};
+
+    /// Nothing came of the connection with this number, and its pages go to this output. Memory for all but types is taken here, in seven
+    /// requests; where it is not granted, the output is given back.
+    pub fn new(alloc: A, asked: u64, out: O) -> Result<Self, O>
+        ensures ok { IfOk result (λ r. r ≡ new_listening asked (written O.Target out)) }
+        ensures err { IfErr result (λ o. written O.Target o ≡ written O.Target out) }
+    {
+        match take_memory(alloc) {
+            Ok((responses, buffer)) => Ok(Rows {
+                asked,
+                requests: Requests::new(false),
+                responses,
+                writer: TextWriter::new(Buffered::new(out, buffer)),
+            }),
+            Err(AllocError) => Err(out),
+        }
     }
 
     /// Takes what is told next of the connections.
@@ -95,79 +104,104 @@ impl<O: Target, A: Allocator> Rows<O, A> {
         }
         match self.tell(told, bytes) {
             Ok(()) => Ok(()),
-            Err(SinkFault) => Err(StreamsFault::Write),
+            Err(TellFault::Write) => Err(StreamsFault::Write),
+            Err(TellFault::NoMemory) => Err(StreamsFault::NoMemory),
         }
     }
 
     fn hear_left(&mut self, number: u64) -> Result<(), StreamsFault>
-        ensures { IsSome self.old.output.given → Changes self.old (if_asked number (leaves self.old.responses) self.old) result self.new }
+        ensures { IsSome self.old.output.given
+            → Changes self.old (if_asked number (leaves self.old.requests self.old.responses) self.old) result self.new }
     {
         if number != self.asked {
             return Ok(());
         }
         match self.leave() {
             Ok(()) => Ok(()),
-            Err(SinkFault) => Err(StreamsFault::Write),
+            Err(TellFault::Write) => Err(StreamsFault::Write),
+            Err(TellFault::NoMemory) => Err(StreamsFault::NoMemory),
         }
     }
 
     /// Writes the text of what is told of the connection.
-    fn tell(&mut self, told: &Told, bytes: &[u8]) -> Result<(), SinkFault>
-        ensures { IsSome self.old.output.given → Tells self.old (heard told.now bytes.now self.old.responses) result self.new }
+    fn tell(&mut self, told: &Told, bytes: &[u8]) -> Result<(), TellFault>
+        ensures { IsSome self.old.output.given
+            → Tells self.old (heard told.now bytes.now self.old.requests self.old.responses) result self.new }
     {
-        put_told(&mut self.responses, told, bytes, &mut self.writer)
+        put_told(
+            &mut self.requests,
+            &mut self.responses,
+            told,
+            bytes,
+            &mut self.writer,
+        )
     }
 
     /// Writes the text of its end.
-    fn leave(&mut self) -> Result<(), SinkFault>
-        ensures { IsSome self.old.output.given → Tells self.old (leaves self.old.responses) result self.new }
+    fn leave(&mut self) -> Result<(), TellFault>
+        ensures { IsSome self.old.output.given → Tells self.old (leaves self.old.requests self.old.responses) result self.new }
     {
         put_left(&mut self.responses, &mut self.writer)
     }
 }
 
-/// Takes the text of what is told, and passes it on.
-fn put_told<W: Target, A: Allocator, B: Allocator>(
+/// Takes the text of what is told, and passes it on, also where memory was refused.
+#[tactic(auto, using(crate::proofs::Faults::passing_fails, crate::proofs::Faults::passing_front_fails))]
+fn put_told<W: Target, A: Allocator + Clone, B: Allocator>(
+    requests: &mut Requests,
     responses: &mut Side<A>,
     told: &Told,
     bytes: &[u8],
     writer: &mut TextWriter<Buffered<W, B>>,
-) -> Result<(), SinkFault>
-    ensures text { Writes writer.old (heard told.now bytes.now responses.old).text result writer.new }
+) -> Result<(), TellFault>
+    ensures text { Takes writer.old (heard told.now bytes.now requests.old responses.old).text result writer.new }
     ensures passed { writer.new.waiting ≡ [] }
-    ensures after { OnOk result (responses.new ≡ (heard told.now bytes.now responses.old).after) }
+    ensures requests { OnOk result (requests.new ≡ (heard told.now bytes.now requests.old responses.old).requests) }
+    ensures responses { OnOk result (responses.new ≡ (heard told.now bytes.now requests.old responses.old).responses) }
 {
-    put_heard(responses, told, bytes, writer)?;
-    writer.pass_on()
+    match put_heard(requests, responses, told, bytes, writer) {
+        Ok(()) => Ok(writer.pass_on()?),
+        Err(TellFault::Write) => Err(TellFault::Write),
+        Err(TellFault::NoMemory) => {
+            writer.pass_on()?;
+            Err(TellFault::NoMemory)
+        }
+    }
 }
 
 /// Takes the text of what is told.
-fn put_heard<P: Pen, A: Allocator>(
+fn put_heard<P: Pen, A: Allocator + Clone>(
+    requests: &mut Requests,
     responses: &mut Side<A>,
     told: &Told,
     bytes: &[u8],
     writer: &mut TextWriter<P>,
-) -> Result<(), SinkFault>
-    ensures text { Writes writer.old (heard told.now bytes.now responses.old).text result writer.new }
-    ensures after { OnOk result (responses.new ≡ (heard told.now bytes.now responses.old).after) }
+) -> Result<(), TellFault>
+    ensures text { Takes writer.old (heard told.now bytes.now requests.old responses.old).text result writer.new }
+    ensures requests { OnOk result (requests.new ≡ (heard told.now bytes.now requests.old responses.old).requests) }
+    ensures responses { OnOk result (responses.new ≡ (heard told.now bytes.now requests.old responses.old).responses) }
 {
     match told.way {
-        Way::Requests => Ok(()),
+        Way::Requests => {
+            responses.hear_requests(told.step, bytes, requests);
+            Ok(())
+        }
         Way::Responses => responses.hear(told.step, spot_of(told), bytes, writer),
     }
 }
 
 /// Takes the text of the end of a connection, and passes it on.
+#[tactic(auto, using(crate::proofs::Faults::breaks_here, crate::proofs::Faults::passing_fails))]
 fn put_left<W: Target, A: Allocator, B: Allocator>(
     responses: &mut Side<A>,
     writer: &mut TextWriter<Buffered<W, B>>,
-) -> Result<(), SinkFault>
-    ensures text { Writes writer.old (leaves responses.old).text result writer.new }
+) -> Result<(), TellFault>
+    ensures text { Takes writer.old (closes responses.old.heads responses.old.known responses.old.frame).text result writer.new }
     ensures passed { writer.new.waiting ≡ [] }
-    ensures after { OnOk result (responses.new ≡ (leaves responses.old).after) }
+    ensures after { OnOk result (responses.new ≡ (closes responses.old.heads responses.old.known responses.old.frame).after) }
 {
     responses.close(writer)?;
-    writer.pass_on()
+    Ok(writer.pass_on()?)
 }
 
 /// Where something is told.
@@ -182,7 +216,7 @@ fn spot_of(told: &Told) -> Spot
 
 /// Responses of which nothing came, and a buffer.
 fn take_memory<A: Allocator + Clone>(alloc: A) -> Result<(Side<A>, Vec<u8, A>), AllocError>
-    ensures responses { IfOk result (λ p. p.0 ≡ begun false) }
+    ensures responses { IfOk result (λ p. p.0 ≡ begun false (new_keeping STATEMENTS EXECUTES)) }
     ensures buffer { IfOk result (λ p. 128 ≤ vec_len p.1) }
 {
     let responses = Side::new(alloc.clone()?)?;
@@ -190,7 +224,7 @@ fn take_memory<A: Allocator + Clone>(alloc: A) -> Result<(Side<A>, Vec<u8, A>), 
     Ok((responses, buffer))
 }
 
-impl<O: Target, A: Allocator> Listener for Rows<O, A> {
+impl<O: Target, A: Allocator + Clone> Listener for Rows<O, A> {
     ghost use Rattle.cqlp_capture_rows.specs.Listening.{Listening, StopsAt, with_saying};
 
     ghost View = { Listening };

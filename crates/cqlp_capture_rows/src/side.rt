@@ -1,21 +1,29 @@
 //! The responses of a connection.
 
-ghost use Rattle.std.specs.Prelude.{◌≡◌, ◌≤◌, ◌&&◌, ◌==◌, length, take, false, IfOk, None, OnOk};
+ghost use Rattle.std.specs.Prelude.{◌≡◌, ◌≤◌, ◌&&◌, ◌==◌, [], length, take, true, false, IfOk, OnOk, option_map};
 ghost use Rattle.cqlp_text.specs.Written.{Writes};
 ghost use Rattle.cqlp_capture_rows.specs.Spots.{spot};
-ghost use Rattle.cqlp_capture_rows.specs.Frames.{closing_text};
-ghost use Rattle.cqlp_capture_rows.specs.Sides.{begins, begun, behind, body_of, bytes_told, is_done, is_plain, side, step_told, tells_of};
+ghost use Rattle.cqlp_decode.specs.Streams.{state};
+ghost use Rattle.cqlp_prepared.specs.Keeping.{new_keeping};
+ghost use Rattle.cqlp_prepared.specs.Requests.{asked, step_asked};
+ghost use Rattle.cqlp_capture_rows.specs.Faults.{Takes};
+ghost use Rattle.cqlp_capture_rows.specs.Frames.{closing_text, given_of, rules};
+ghost use Rattle.cqlp_capture_rows.specs.Reading.{IsReading, types_given};
+ghost use Rattle.cqlp_capture_rows.specs.Sides.{begins, begun, behind, body_of, bytes_told, closes, gap_told, is_done, is_plain, is_result, known_by, opens, side, step_told, tells_of};
 
 use crate::drain::drain;
+use crate::fault::TellFault;
 use crate::history::History;
-use crate::limits::LIMITS;
+use crate::limits::{EXECUTES, LIMITS, STATEMENTS};
 use crate::page::Page;
 use crate::spot::{FrameSpot, Spot, put_compressed, put_gap, put_refused};
 use cqlp_decode::{Decoder, NewError};
 use cqlp_grammar::SinkFault;
-use cqlp_note::{Header, Opcode};
+use cqlp_note::{Header, NoMemory, Opcode};
+use cqlp_prepared::{NewPreparedError, PreparedTypes, Requests};
 use cqlp_reassembly::StreamStep;
 use cqlp_text::{Pen, TextWriter};
+use cqlp_type::TypeTable;
 use cqlp_watch::{Heads, Heard, HeardStep};
 use std::alloc::{AllocError, Allocator, Global};
 use std::marker::Model;
@@ -32,10 +40,11 @@ const NO_HEADER: Header = Header {
     length: 0,
 };
 
-/// The responses of a connection: where their frames begin and end, and the decoder of the frame of which bytes are read.
+/// The responses of a connection: where their frames begin and end, what is known of its statements, and the decoder of the frame of which bytes are read.
 #[derive(Drop)]
 pub(crate) struct Side<A: Allocator = Global> {
     heads: Heads,
+    known: PreparedTypes<A>,
     decoder: Decoder<A>,
     /// What it said of a page.
     page: Page,
@@ -51,25 +60,27 @@ pub(crate) struct Side<A: Allocator = Global> {
 
 impl<A: Allocator> Model for Side<A> {
     ghost use Rattle.cqlp_decode.specs.Streams.{state};
-    ghost use Rattle.cqlp_capture_rows.specs.Reading.{IsReady, frame_if, frame_of, noted};
+    ghost use Rattle.cqlp_capture_rows.specs.Reading.{IsReady, frame_if, frame_of, noted, types_given};
     ghost use Rattle.cqlp_capture_rows.specs.Sides.{Side, side};
 
     ghost Value = { Side };
 
-    ghost view = { λ s. side s.heads
-        (frame_if s.is_open (frame_of s.at s.header ((state s.decoder).given)) (noted s.came.items)) };
+    ghost view = { λ s. side s.heads s.known
+        (frame_if s.is_open (frame_of s.at s.header (types_given (state s.decoder))) (noted s.came.items)) };
 
-    ghost invariant = { λ s. IsReady s.is_open ((state s.decoder).given) (state s.decoder) s.page (noted s.came.items) };
+    ghost invariant = { λ s. IsReady s.is_open (types_given (state s.decoder)) (state s.decoder) s.page (noted s.came.items) };
 }
 
 impl<A: Allocator + Clone> Side<A> {
     /// Nothing came. All memory is taken here.
     pub(crate) fn new(alloc: A) -> Result<Self, AllocError>
-        ensures { IfOk result (λ s. s ≡ begun false) }
+        ensures { IfOk result (λ s. s ≡ begun false (new_keeping STATEMENTS EXECUTES)) }
     {
+        let known = nothing_known(alloc.clone()?)?;
         match Decoder::new(alloc, LIMITS) {
             Ok(decoder) => Ok(Side {
                 heads: Heads::new(true, false),
+                known,
                 decoder,
                 page: Page::new(),
                 is_open: false,
@@ -83,51 +94,26 @@ impl<A: Allocator + Clone> Side<A> {
 }
 
 impl<A: Allocator> Side<A> {
+    /// Takes what is told of the requests, with its bytes: what is known of statements changes by that.
+    pub(crate) fn hear_requests(&mut self, step: StreamStep, bytes: &[u8], requests: &mut Requests)
+        ensures known { asked requests.new self.new.known ≡ step_asked step bytes.now (asked requests.old self.old.known) }
+        ensures others { self.new ≡ side self.old.heads self.new.known self.old.frame }
+    {
+        requests.hear(step, bytes, &mut self.known);
+    }
+
     /// Nothing came. Its first byte begins a frame, where `from_start`.
     fn begin(&mut self, from_start: bool)
-        ensures { self.new ≡ begun from_start }
+        ensures { self.new ≡ begun from_start self.old.known }
     {
         self.heads = Heads::new(true, from_start);
         self.is_open = false;
     }
 
-    /// Takes what is told of it at an offset, with its bytes.
-    pub(crate) fn hear<P: Pen>(
-        &mut self,
-        step: StreamStep,
-        spot: Spot,
-        bytes: &[u8],
-        writer: &mut TextWriter<P>,
-    ) -> Result<(), SinkFault>
-        ensures text { Writes writer.old (step_told step spot.number spot.at bytes.now self.old).text result writer.new }
-        ensures after { OnOk result (self.new ≡ (step_told step spot.number spot.at bytes.now self.old).after) }
-    {
-        match step {
-            StreamStep::Began { syn } => {
-                self.close(writer)?;
-                self.begin(syn);
-                Ok(())
-            }
-            StreamStep::Payload { from, .. } => self.hear_bytes(spot, from == 0, bytes, writer),
-            StreamStep::Held { .. } => self.hear_bytes(spot, false, bytes, writer),
-            StreamStep::Gap { length } => {
-                let length = length as u64;
-                let _ = self.heads.gap(length);
-                self.close(writer)?;
-                put_gap(writer, spot, length)
-            }
-            StreamStep::Ended | StreamStep::Reset => {
-                let _ = self.heads.end();
-                self.close(writer)
-            }
-            StreamStep::Done => Ok(()),
-        }
-    }
-
     /// No more is read of the frame. Takes the end of its page, if that has not ended.
     pub(crate) fn close<P: Pen>(&mut self, writer: &mut TextWriter<P>) -> Result<(), SinkFault>
         ensures text { Writes writer.old (closing_text self.old.frame) result writer.new }
-        ensures after { self.new ≡ side self.old.heads None }
+        ensures after { self.new ≡ (closes self.old.heads self.old.known self.old.frame).after }
     {
         if !self.is_open {
             return Ok(());
@@ -136,77 +122,36 @@ impl<A: Allocator> Side<A> {
         self.page.put_cut(writer)
     }
 
-    /// Takes bytes from a spot on, the first of which begins a segment or not.
-    fn hear_bytes<P: Pen>(
+    /// So many bytes were not captured there.
+    fn gap<P: Pen>(
         &mut self,
         spot: Spot,
-        begins: bool,
-        bytes: &[u8],
+        length: u64,
         writer: &mut TextWriter<P>,
     ) -> Result<(), SinkFault>
-        ensures text { Writes writer.old (bytes_told spot.number spot.at begins bytes.now self.old).text result writer.new }
-        ensures after { OnOk result (self.new ≡ (bytes_told spot.number spot.at begins bytes.now self.old).after) }
+        ensures text { Writes writer.old (gap_told spot length self.old).text result writer.new }
+        ensures after { OnOk result (self.new ≡ (gap_told spot length self.old).after) }
     {
-        let mut steps = 2 * bytes.len() as u128 + 2;
-        let mut rest = bytes;
-        let mut is_first = begins;
-        let mut at = spot.at;
-        while steps > 0 {
-            let piece = &rest[..rest.len().min(AT_ONCE)];
-            let HeardStep { used, heard } = self.heads.take(piece, None, is_first);
-            at = behind(at, used);
-            self.tell(Spot { at, ..spot }, heard, &piece[..used], writer)?;
-            if is_done(heard) {
-                return Ok(());
-            }
-            is_first = still_first(is_first, used);
-            rest = &rest[used..];
-            steps -= 1;
-        }
-        Ok(())
+        let _ = self.heads.gap(length);
+        self.close(writer)?;
+        put_gap(writer, spot, length)
     }
 
-    /// Takes bytes that end at a spot, and what they are.
-    fn tell<P: Pen>(
-        &mut self,
-        spot: Spot,
-        heard: Heard,
-        bytes: &[u8],
-        writer: &mut TextWriter<P>,
-    ) -> Result<(), SinkFault>
-        requires { length bytes.now ≤ 4096 }
-        ensures text { Writes writer.old (tells_of spot.number spot.at bytes.now heard self.old.heads self.old.frame).text result writer.new }
-        ensures after { OnOk result (self.new ≡ (tells_of spot.number spot.at bytes.now heard self.old.heads self.old.frame).after) }
-    {
-        match heard {
-            Heard::Begins(header) => {
-                let at = spot.at.saturating_sub(9);
-                self.begin_frame(Spot { at, ..spot }, &header, writer)
-            }
-            Heard::Body => {
-                let piece = padded(bytes);
-                self.go_on(spot, &piece, bytes.len(), writer)
-            }
-            Heard::Ends(_) | Heard::Stray => self.close(writer),
-            Heard::More => Ok(()),
-        }
-    }
-
-    /// A frame begins there with this header.
-    fn begin_frame<P: Pen>(
+    /// A frame begins there with this header, and is read. These types are known for its page.
+    fn open_frame<P: Pen>(
         &mut self,
         spot: Spot,
         header: &Header,
+        types: Option<TypeTable<A>>,
         writer: &mut TextWriter<P>,
     ) -> Result<(), SinkFault>
-        ensures text { Writes writer.old (begins spot header.now self.old.heads).text result writer.new }
-        ensures after { OnOk result (self.new ≡ (begins spot header.now self.old.heads).after) }
+        requires { is_plain header.now ≡ true }
+        ensures text { Writes writer.old
+            (opens spot header.now (option_map (λ table. table.nodes) types) self.old.heads self.old.known).text result writer.new }
+        ensures after { OnOk result
+            (self.new ≡ (opens spot header.now (option_map (λ table. table.nodes) types) self.old.heads self.old.known).after) }
     {
-        if !is_plain(header) {
-            self.is_open = false;
-            return put_compressed(writer, spot);
-        }
-        let _ = self.decoder.restart();
+        restart(&mut self.decoder, types);
         self.page = Page::new();
         self.came = History::new();
         self.at = spot.at;
@@ -225,8 +170,8 @@ impl<A: Allocator> Side<A> {
         writer: &mut TextWriter<P>,
     ) -> Result<(), SinkFault>
         requires { count ≤ 4096 }
-        ensures text { Writes writer.old (body_of spot.number (take count piece.now) self.old.frame self.old.heads).text result writer.new }
-        ensures after { OnOk result (self.new ≡ (body_of spot.number (take count piece.now) self.old.frame self.old.heads).after) }
+        ensures text { Writes writer.old (body_of spot.number (take count piece.now) self.old.frame self.old.heads self.old.known).text result writer.new }
+        ensures after { OnOk result (self.new ≡ (body_of spot.number (take count piece.now) self.old.frame self.old.heads self.old.known).after) }
     {
         if !self.is_open {
             return Ok(());
@@ -257,6 +202,167 @@ impl<A: Allocator> Side<A> {
             }
         }
     }
+}
+
+impl<A: Allocator + Clone> Side<A> {
+    /// Takes what is told of it at an offset, with its bytes.
+    #[tactic(auto, using(crate::proofs::Faults::breaks_here))]
+    pub(crate) fn hear<P: Pen>(
+        &mut self,
+        step: StreamStep,
+        spot: Spot,
+        bytes: &[u8],
+        writer: &mut TextWriter<P>,
+    ) -> Result<(), TellFault>
+        ensures text { Takes writer.old (step_told step spot.number spot.at bytes.now self.old).text result writer.new }
+        ensures after { OnOk result (self.new ≡ (step_told step spot.number spot.at bytes.now self.old).after) }
+    {
+        match step {
+            StreamStep::Began { syn } => {
+                self.close(writer)?;
+                self.begin(syn);
+                Ok(())
+            }
+            StreamStep::Payload { from, .. } => self.hear_bytes(spot, from == 0, bytes, writer),
+            StreamStep::Held { .. } => self.hear_bytes(spot, false, bytes, writer),
+            StreamStep::Gap { length } => Ok(self.gap(spot, length as u64, writer)?),
+            StreamStep::Ended | StreamStep::Reset => {
+                let _ = self.heads.end();
+                Ok(self.close(writer)?)
+            }
+            StreamStep::Done => Ok(()),
+        }
+    }
+
+    /// Takes bytes from a spot on, the first of which begins a segment or not.
+    fn hear_bytes<P: Pen>(
+        &mut self,
+        spot: Spot,
+        begins: bool,
+        bytes: &[u8],
+        writer: &mut TextWriter<P>,
+    ) -> Result<(), TellFault>
+        ensures text { Takes writer.old (bytes_told spot.number spot.at begins bytes.now self.old).text result writer.new }
+        ensures after { OnOk result (self.new ≡ (bytes_told spot.number spot.at begins bytes.now self.old).after) }
+    {
+        let mut steps = 2 * bytes.len() as u128 + 2;
+        let mut rest = bytes;
+        let mut is_first = begins;
+        let mut at = spot.at;
+        while steps > 0 {
+            let piece = &rest[..rest.len().min(AT_ONCE)];
+            let HeardStep { used, heard } = self.heads.take(piece, None, is_first);
+            at = behind(at, used);
+            self.tell(Spot { at, ..spot }, heard, &piece[..used], writer)?;
+            if is_done(heard) {
+                return Ok(());
+            }
+            is_first = still_first(is_first, used);
+            rest = &rest[used..];
+            steps -= 1;
+        }
+        Ok(())
+    }
+
+    /// Takes bytes that end at a spot, and what they are.
+    #[tactic(auto, using(crate::proofs::Faults::breaks_here))]
+    fn tell<P: Pen>(
+        &mut self,
+        spot: Spot,
+        heard: Heard,
+        bytes: &[u8],
+        writer: &mut TextWriter<P>,
+    ) -> Result<(), TellFault>
+        requires { length bytes.now ≤ 4096 }
+        ensures text { Takes writer.old (tells_of spot.number spot.at bytes.now heard self.old.heads self.old.known self.old.frame).text result writer.new }
+        ensures after { OnOk result (self.new ≡ (tells_of spot.number spot.at bytes.now heard self.old.heads self.old.known self.old.frame).after) }
+    {
+        match heard {
+            Heard::Begins(header) => {
+                let at = spot.at.saturating_sub(9);
+                self.begin_frame(Spot { at, ..spot }, &header, writer)
+            }
+            Heard::Body => {
+                let piece = padded(bytes);
+                Ok(self.go_on(spot, &piece, bytes.len(), writer)?)
+            }
+            Heard::Ends(_) => self.end_frame(writer),
+            Heard::Stray => Ok(self.close(writer)?),
+            Heard::More => Ok(()),
+        }
+    }
+
+    /// A frame begins there with this header.
+    #[tactic(auto, using(crate::proofs::Faults::breaks_here, crate::proofs::Faults::refused_here))]
+    fn begin_frame<P: Pen>(
+        &mut self,
+        spot: Spot,
+        header: &Header,
+        writer: &mut TextWriter<P>,
+    ) -> Result<(), TellFault>
+        ensures text { Takes writer.old (begins spot header.now self.old.heads self.old.known).text result writer.new }
+        ensures after { OnOk result (self.new ≡ (begins spot header.now self.old.heads self.old.known).after) }
+    {
+        if !is_plain(header) {
+            self.known.forget(header.stream);
+            self.is_open = false;
+            return Ok(put_compressed(writer, spot)?);
+        }
+        let types = self.known.types_for(header.stream)?;
+        Ok(self.open_frame(spot, header, types, writer)?)
+    }
+
+    /// The frame came whole. A PREPARED says the types of its statement's result: it is the RESULT that names a statement.
+    fn learn(&mut self) -> Result<(), NoMemory>
+        ensures known { OnOk result (self.new ≡ side self.old.heads (known_by self.old.frame self.old.known) self.old.frame) }
+    {
+        if !self.is_open || !is_result(&self.header) {
+            return Ok(());
+        }
+        match self.page.id() {
+            Some(id) => self.known.prepared(id.as_slice(), self.decoder.table()),
+            None => Ok(()),
+        }
+    }
+
+    /// The frame came whole.
+    #[tactic(auto, using(crate::proofs::Faults::breaks_here, crate::proofs::Faults::refused_here))]
+    fn end_frame<P: Pen>(&mut self, writer: &mut TextWriter<P>) -> Result<(), TellFault>
+        ensures text { Takes writer.old (closing_text self.old.frame) result writer.new }
+        ensures after { OnOk result (self.new ≡ (closes self.old.heads (known_by self.old.frame self.old.known) self.old.frame).after) }
+    {
+        self.learn()?;
+        Ok(self.close(writer)?)
+    }
+}
+
+/// Room for what is known of statements.
+fn nothing_known<A: Allocator + Clone>(alloc: A) -> Result<PreparedTypes<A>, AllocError>
+    ensures { IfOk result (λ known. known ≡ new_keeping STATEMENTS EXECUTES) }
+{
+    match PreparedTypes::new(alloc, STATEMENTS, EXECUTES) {
+        Ok(known) => Ok(known),
+        Err(NewPreparedError::NoMemory | NewPreparedError::BadLimit) => Err(AllocError),
+    }
+}
+
+/// Begins another frame, for whose page these types are given.
+fn restart<A: Allocator>(decoder: &mut Decoder<A>, types: Option<TypeTable<A>>)
+    requires { (state decoder.old).rules ≡ rules }
+    ensures reading { IsReading (given_of (option_map (λ table. table.nodes) types)) (state decoder.new) [] }
+    ensures given { types_given (state decoder.new) ≡ given_of (option_map (λ table. table.nodes) types) }
+{
+    let _ = decoder.restart();
+    if let Some(types) = types {
+        let _ = decoder.give(types);
+    }
+}
+
+/// Whether it is that of a RESULT.
+fn is_result(header: &Header) -> bool
+    ensures { result ≡ is_result header.now.opcode }
+{
+    header.opcode == Opcode::Result
 }
 
 /// Whether nothing more is told of a piece.

@@ -4,6 +4,7 @@ use cqlp_capture::{CaptureLimits, CaptureReader, CaptureStep, NewReaderError};
 use cqlp_decode::{Decoder, NewError};
 use cqlp_message::Frame;
 use cqlp_note::{Limits, NoMemory, Partial};
+use cqlp_prepared::{NewPreparedError, PreparedTypes};
 use cqlp_round_trip::{RoundTripError, write_and_read};
 use cqlp_session::{Client, ClientOf, Server, ServerOf, SlotsOrMemory};
 use cqlp_test_fakes::Takes;
@@ -35,6 +36,8 @@ enum Call {
     Decoder,
     /// A capture is read byte by byte.
     CaptureReader,
+    /// A table is made, its statement is prepared and executed, and its page comes.
+    PreparedTypes,
     Client,
     Server,
     ClientOf,
@@ -44,7 +47,7 @@ enum Call {
 }
 
 /// Each call, and how many requests for memory it makes.
-static CALLS: [(Call, u64); 12] = [
+static CALLS: [(Call, u64); 13] = [
     (Call::Partial, 1),
     (Call::TypeTable, 1),
     (Call::CloneTable, 2),
@@ -52,6 +55,7 @@ static CALLS: [(Call, u64); 12] = [
     (Call::CellReader, 1),
     (Call::Decoder, 4),
     (Call::CaptureReader, 2),
+    (Call::PreparedTypes, 5),
     (Call::Client, 2),
     (Call::Server, 1),
     (Call::ClientOf, 3),
@@ -145,6 +149,26 @@ fn copied_table<A: Allocator + Clone>(heap: A) -> Answer {
     }
 }
 
+/// Memory for the lists, for a table, for the one that is kept, and for that of a page, in this order; without it for the one that is kept
+/// no types are known.
+fn prepared_types<A: Allocator + Clone>(heap: A) -> Answer {
+    let mut known = match PreparedTypes::new(&heap, 1, 1) {
+        Ok(known) => known,
+        Err(NewPreparedError::NoMemory) => return Answer::NoMemory,
+        Err(NewPreparedError::BadLimit) => return Answer::Other,
+    };
+    let Ok(table) = TypeTable::new(&heap, LIMITS.entries) else {
+        return Answer::NoMemory;
+    };
+    let kept = known.prepared(b"id", &table);
+    known.executed(7, b"id");
+    match (kept, known.types_for(7)) {
+        (Ok(()), Ok(Some(_))) => Answer::Granted,
+        (Ok(()), Err(NoMemory)) | (Err(NoMemory), Ok(None)) => Answer::NoMemory,
+        _ => Answer::Other,
+    }
+}
+
 /// The frame is four events, of which none is handed out before all memory is there.
 fn written_and_read<A: Allocator + Clone>(heap: A, frame: &Frame) -> Answer {
     let mut sink = Takes::new(100);
@@ -165,6 +189,7 @@ fn asked<A: Allocator + Clone>(call: Call, heap: A, frame: &Frame) -> Answer {
         Call::CellReader => answer_of(CellReader::new(heap, &LIMITS)),
         Call::Decoder => decoder(heap),
         Call::CaptureReader => capture_reader(heap),
+        Call::PreparedTypes => prepared_types(heap),
         Call::Client => answer_of_slots(Client::new(heap, 10)),
         Call::Server => answer_of_slots(Server::new(heap, 10)),
         Call::ClientOf => answer_of_slots(ClientOf::<u64, A>::new(heap, 10)),

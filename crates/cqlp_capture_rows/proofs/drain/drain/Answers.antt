@@ -5,6 +5,7 @@ use Rattle.cqlp_decode.specs.Streams.{state}
 use Rattle.cqlp_decode.proofs.Gets.{rest_is, refuses_new}
 use Rattle.cqlp_text.proofs.Writing.{takes_nothing}
 use Rattle.cqlp_capture_rows.specs.Frames.{gifts_of}
+use Rattle.cqlp_capture_rows.specs.Reading.{types_given}
 use Rattle.cqlp_capture_rows.proofs.Reading.{drains_err, drained_breaks, drained_one, drained_refused, drained_waits}
 use Rattle.cqlp_capture_rows.proofs.drain.drain.Goals as goal
 
@@ -26,7 +27,7 @@ events-init g c = record {
 pub returns-in-More-clause-drains : goal.returns-in-More-clause-drains
 returns-in-More-clause-drains g c = λ bytes r page.
     let l = c.events in
-    let given = (state c.args.decoder.now).given in
+    let given = types_given (state c.args.decoder.now) in
     let d = l.invariant.drained bytes r page in
     let new = state c.next.follows.lender-at-none in
     let goes = rw c.in-More.is at c.next.follows.holds-at-none.0 in
@@ -36,7 +37,7 @@ returns-in-More-clause-drains g c = λ bytes r page.
 pub returns-in-Refused-clause-drains : goal.returns-in-Refused-clause-drains
 returns-in-Refused-clause-drains g c = λ bytes r page.
     let l = c.events in
-    let given = (state c.args.decoder.now).given in
+    let given = types_given (state c.args.decoder.now) in
     let d = l.invariant.drained bytes r page in
     let new = state c.next.follows.lender-at-none in
     let leads = rw (c.in-Refused.is, rest_is) at (c.next.follows.holds-at-none.1 (gifts_of given) _ _ d.after) in
@@ -45,7 +46,7 @@ returns-in-Refused-clause-drains g c = λ bytes r page.
 pub returns-in_err-put_event-in-Event-clause-drains : goal.returns-in_err-put_event-in-Event-clause-drains
 returns-in_err-put_event-in-Event-clause-drains g c = λ bytes r page.
     let l = c.events in
-    let given = (state c.args.decoder.now).given in
+    let given = types_given (state c.args.decoder.now) in
     let d = l.invariant.drained bytes r page in
     let new = state c.next.follows.lender-at-none in
     let goes = rw c.in-Event.is at c.next.follows.holds-at-none.0 in
@@ -64,7 +65,7 @@ pub events-preserved : goal.events-preserved
 events-preserved g c =
     let l = c.events in
     let input = c.args.input.now in
-    let given = (state c.args.decoder.now).given in
+    let given = types_given (state c.args.decoder.now) in
     let new = state c.next.follows.lender-at-none in
     let goes = rw c.in-Event.is at c.next.follows.holds-at-none.0 in
     let taken : c.in-Event.taken ≤ length (drop l.used input) = rw rest_is at c.in-Event.ensures.uses in

@@ -2,14 +2,14 @@ use Rattle.std.proofs.Common.{◌≡◌, ◌+◌, ◌-◌, ◌*◌, ◌≤◌, L
 use Rattle.cqlp_decode.specs.Progress.{ends_due}
 use Rattle.cqlp_decode.specs.Streams.{state}
 use Rattle.cqlp_capture_rows.specs.Frames.{page_of}
-use Rattle.cqlp_capture_rows.specs.Reading.{IsReading}
+use Rattle.cqlp_capture_rows.specs.Reading.{IsReading, types_given}
 use Rattle.cqlp_capture_rows.proofs.Reading.{Drained}
 use Rattle.cqlp_capture_rows.proofs.drain.drain.Given as goal
 
 abbrev pub invariant-events : goal.invariant-events
 invariant-events g l =
     let first = state l.fn.decoder in
-    let given = first.given in
+    let given = types_given first in
     record {
       within : l.used ≤ length l.input;
       rules : (state l.decoder).rules ≡ first.rules;

@@ -1,28 +1,20 @@
-use Rattle.std.proofs.Common.{◌≡◌, ◌∙◌, [], OnOk, ap, sym, subst, take}
-use Rattle.cqlp_note.specs.Heading.{header_bytes}
-use Rattle.cqlp_decode.specs.Streams.{state}
-use Rattle.cqlp_text.specs.Written.{Writes}
-use Rattle.cqlp_capture_rows.specs.Frames.{opened}
-use Rattle.cqlp_capture_rows.specs.Reading.{frame_of, noted}
-use Rattle.cqlp_capture_rows.specs.Sides.{Side, Telling, begins, goes_on}
-use Rattle.cqlp_capture_rows.proofs.Sides.{begins_plain}
+use Rattle.std.proofs.Common.{rules, ◌≡◌, ◌∙◌, ap, option_map, subst, sym}
+use Rattle.cqlp_type.specs.Table.{Table}
+use Rattle.cqlp_text.specs.Written.{BreaksOff}
+use Rattle.cqlp_prepared.specs.Keeping.{answered, types_for}
+use Rattle.cqlp_capture_rows.specs.Sides.{Side, Telling, begins}
+use Rattle.cqlp_capture_rows.proofs.Faults.{breaks_here}
+use Rattle.cqlp_capture_rows.proofs.Sides.{begins_opens}
 use Rattle.cqlp_capture_rows.proofs.side.Side.begin_frame.Goals as goal
 
--- the header's nine bytes are the first of a frame
-pub returns-clause-text : goal.returns-clause-text
-returns-clause-text g c =
+pub returns-in_err-open_frame-clause-text : goal.returns-in_err-open_frame-clause-text
+returns-in_err-open_frame-clause-text g c =
     let a = c.args in
-    let nine : take 9 c.padded-piece.result ≡ header_bytes a.header.now = rw c.write.ensures.bytes at c.padded-piece.ensures in
-    let none : noted c.new-self-inside-2.result.items ≡ [] = ap noted c.new-self-inside-2.ensures in
-    let given = c.restart.ensures.nothing_given in
-    let is : begins a.spot a.header.now a.self.now.heads ≡ goes_on a.spot.number (take 9 c.padded-piece.result) (opened (frame_of a.spot.at a.header.now (state c.restart.new.self).given) (noted c.new-self-inside-2.result.items)) c.self.inside.heads = begins_plain a.spot a.header.now a.self.now.heads (sym c.is_plain.ensures ∙ c.if-not-is_plain.false) ∙ (λ i. goes_on a.spot.number (sym nine i) (opened (frame_of a.spot.at a.header.now (sym given i)) (sym none i)) (ap (λ (s : Side). s.heads) (sym c.self.view_is) i)) in
-    subst (λ (z : Telling). Writes a.writer.now z.text c.go_on.result c.go_on.new.writer) (sym is) c.go_on.ensures.text
-
-pub returns-clause-after : goal.returns-clause-after
-returns-clause-after g c =
-    let a = c.args in
-    let nine : take 9 c.padded-piece.result ≡ header_bytes a.header.now = rw c.write.ensures.bytes at c.padded-piece.ensures in
-    let none : noted c.new-self-inside-2.result.items ≡ [] = ap noted c.new-self-inside-2.ensures in
-    let given = c.restart.ensures.nothing_given in
-    let is : begins a.spot a.header.now a.self.now.heads ≡ goes_on a.spot.number (take 9 c.padded-piece.result) (opened (frame_of a.spot.at a.header.now (state c.restart.new.self).given) (noted c.new-self-inside-2.result.items)) c.self.inside.heads = begins_plain a.spot a.header.now a.self.now.heads (sym c.is_plain.ensures ∙ c.if-not-is_plain.false) ∙ (λ i. goes_on a.spot.number (sym nine i) (opened (frame_of a.spot.at a.header.now (sym given i)) (sym none i)) (ap (λ (s : Side). s.heads) (sym c.self.view_is) i)) in
-    subst (λ (z : Telling). OnOk c.go_on.result (c.go_on.new.self ≡ z.after)) (sym is) c.go_on.ensures.after
+    let types = option_map (λ (table : Table). table.nodes) c.in_ok-types.types in
+    let known : option_map (λ (table : Table). table.nodes) c.in_ok-types.types ≡ types_for c.args.header.now.stream c.self.inside.known = search rules in
+    let after : c.types_for.new.self ≡ answered c.args.header.now.stream c.self.inside.known = search rules in
+    let is =
+    (λ i. begins a.spot a.header.now (ap (λ (s : Side). s.heads) (sym c.self.view_is) i) (ap (λ (s : Side). s.known) (sym c.self.view_is) i))
+    ∙ begins_opens a.spot a.header.now c.self.inside.heads c.self.inside.known c.types_for.new.self types (sym c.is_plain.ensures ∙ c.if-not-is_plain.false) known after
+    in
+    breaks_here a.writer.now c.open_frame.new.writer _ c.from_residual-in_err-open_frame.result c.from_residual-in_err-open_frame.ensures (subst (λ (z : Telling). BreaksOff a.writer.now z.text c.open_frame.new.writer) (sym is) c.in_err-open_frame.ensures.text)

@@ -1,0 +1,5 @@
+pub mod Latest
+pub mod Keeping
+pub mod History
+pub mod Requests
+pub mod Laws
