@@ -177,7 +177,8 @@ def many_statements():
     for i in range(300):
         name, types = struct.pack(">I", i), [b"\0\x09"] * 4_096
         answer = prepared(0, name, types)
-        yield from [(False, prepare(0)), *((True, piece) for piece in pieces(answer)), (False, execute(1, name)), (True, bare_page(1, b"\0\0\0\7"))]
+        yield from [(False, prepare(0)), *((True, piece) for piece in pieces(answer))]
+        yield from [(False, execute(1, name)), (True, bare_page(1, b"\0\0\0\7"))]
 
 
 def packets():

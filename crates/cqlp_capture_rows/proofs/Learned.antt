@@ -18,14 +18,6 @@ if_true : (b : Bool) (x y : Keeping) → b ≡ true → x ≡ (if b then x else 
 if_true true x y e = refl
 if_true false x y e = absurd cc
 
-if_same : (b : Bool) (x : Keeping) → x ≡ (if b then x else x)
-if_same true x = refl
-if_same false x = refl
-
-if_false : (b : Bool) (x y : Keeping) → b ≡ false → y ≡ (if b then x else y)
-if_false true x y e = absurd cc
-if_false false x y e = refl
-
 module _ (at : ℕ) (h : Header) (d : StreamState) (p : Page) (bytes : List ℕ) (known : Keeping) where
   -- a PREPARED names its statement
   pub learned : (is_open : Bool) (id : List ℕ) → IsReady is_open (types_given d) d p bytes → is_open ≡ true → is_result h.opcode ≡ true → p.id ≡ Some id
@@ -36,15 +28,3 @@ module _ (at : ℕ) (h : Header) (d : StreamState) (p : Page) (bytes : List ℕ)
       ap (λ (n : List Node). prepared id n known) (types_are (types_given d) d bytes (ready.reads refl))
       ∙ ap (λ (o : Option (List ℕ)). prepared_as o types known) (sym named ∙ ap (λ (q : Page). q.id) (ready.page refl))
       ∙ if_true (is_result h.opcode) _ known result
-
-  -- another RESULT names none
-  pub named_none : (is_open : Bool) → IsReady is_open (types_given d) d p bytes → p.id ≡ None → known ≡ known_by (frame_if is_open (frame_of at h (types_given d)) bytes) known
-  named_none false ready none = refl
-  named_none true ready none =
-      let types = types_read (types_given d) bytes in
-      if_same (is_result h.opcode) known ∙ ap (λ (o : Option (List ℕ)). if is_result h.opcode then prepared_as o types known else known) (sym none ∙ ap (λ (q : Page). q.id) (ready.page refl))
-
-  -- no RESULT came whole
-  pub no_result : (is_open : Bool) → is_result h.opcode ≡ false → known ≡ known_by (frame_if is_open (frame_of at h (types_given d)) bytes) known
-  no_result false other = refl
-  no_result true other = if_false (is_result h.opcode) _ known other

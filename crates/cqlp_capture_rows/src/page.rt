@@ -5,7 +5,8 @@ ghost use Rattle.cqlp_note.specs.Field.{Int as IntValue};
 ghost use Rattle.cqlp_grammar.specs.Events.{event_of};
 ghost use Rattle.cqlp_text.specs.PageText.{is_rows};
 ghost use Rattle.cqlp_text.specs.Written.{Writes};
-ghost use Rattle.cqlp_capture_rows.specs.Pages.{begins_page, cut_text, ends_frame, id_after, is_begun_after, is_page_kind, no_rows, page_after, page_line_if, rows_part};
+ghost use Rattle.cqlp_capture_rows.specs.Pages.{begins_page, cut_text, ends_frame, id_after, is_begun_after, is_page_kind};
+ghost use Rattle.cqlp_capture_rows.specs.Pages.{no_rows, page_after, page_line_if, rows_part};
 
 use crate::spot::{FrameSpot, put_page_line};
 use cqlp_grammar::{Event, SinkFault};

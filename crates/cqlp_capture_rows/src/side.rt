@@ -9,7 +9,8 @@ ghost use Rattle.cqlp_prepared.specs.Requests.{asked, step_asked};
 ghost use Rattle.cqlp_capture_rows.specs.Faults.{Takes};
 ghost use Rattle.cqlp_capture_rows.specs.Frames.{closing_text, given_of, rules};
 ghost use Rattle.cqlp_capture_rows.specs.Reading.{IsReading, types_given};
-ghost use Rattle.cqlp_capture_rows.specs.Sides.{begins, begun, behind, body_of, bytes_told, closes, gap_told, is_done, is_plain, is_result, known_by, opens, side, step_told, tells_of};
+ghost use Rattle.cqlp_capture_rows.specs.Sides.{begins, begun, behind, body_of, bytes_told, closes, gap_told, is_done, is_plain};
+ghost use Rattle.cqlp_capture_rows.specs.Sides.{is_result, known_by, opens, side, step_told, tells_of};
 
 use crate::drain::drain;
 use crate::fault::TellFault;

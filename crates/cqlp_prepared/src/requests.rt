@@ -1,7 +1,8 @@
 //! The requests of a connection, of which the EXECUTEs name statements.
 
 ghost use Rattle.std.specs.Prelude.{◌≡◌, ◌&&◌, ◌==◌, None};
-ghost use Rattle.cqlp_prepared.specs.Requests.{asked, begins, body_of, bytes_asked, execute_of, heard_as, is_done, names_statement, requests, silent, step_asked};
+ghost use Rattle.cqlp_prepared.specs.Requests.{asked, begins, body_of, bytes_asked, execute_of, heard_as, is_done, names_statement};
+ghost use Rattle.cqlp_prepared.specs.Requests.{silent, step_asked};
 
 use crate::execute::Execute;
 use crate::prepared_types::PreparedTypes;

@@ -1,0 +1,4 @@
+pub mod Said
+pub mod Held
+pub mod Building
+pub mod Laws

@@ -1,0 +1,105 @@
+//! The events that are held of a cell, and what is taken of them.
+
+ghost use Rattle.std.specs.Prelude.{◌≡◌, ◌↔◌, ◌∷◌, IsTrue, [], true};
+ghost use Rattle.cqlp_build_cells.specs.Held as told;
+ghost use Rattle.cqlp_build_cells.specs.Held.{Builds, HoldsFewer, HoldsNoMore, TakesStep, any, begins_with_leave, first_fault, left};
+ghost use Rattle.cqlp_kind.specs.CellStep.{Leave};
+
+use crate::step::Step;
+use std::alloc::Global;
+use std::collections::VecDeque;
+
+/// Why nothing more is taken.
+#[derive(Clone, Copy, Debug, PartialEq, Eq)]
+pub(crate) enum Fault {
+    /// Another event was due, or none.
+    NoValue,
+    /// Memory was refused.
+    NoMemory,
+}
+
+/// The events of a cell, each of which is taken once. What takes one gives a value, and where another event was due some value, and
+/// keeps the fault: nothing is taken after it.
+#[derive(Drop)]
+pub(crate) struct Held {
+    pub alloc: Global,
+    /// Each at its level.
+    pub items: VecDeque<(u32, Step)>,
+    pub fault: Option<Fault>,
+}
+
+impl Held {
+    /// Takes the next event, if nothing was refused, and gives it if it is at this level.
+    pub fn next(&mut self, level: usize) -> Option<Step>
+        ensures is { TakesStep level result self.old self.new }
+        ensures fewer { HoldsFewer result self.old self.new }
+    {
+        if self.fault.is_some() {
+            return None;
+        }
+        let Some((found, step)) = self.items.pop_front() else {
+            return None;
+        };
+        if found as usize == level {
+            Some(step)
+        } else {
+            None
+        }
+    }
+
+    /// Whether the end of a value comes next.
+    pub fn is_at_leave(&self) -> bool
+        ensures { result ≡ begins_with_leave (left self.now) }
+    {
+        matches!(self.items.front(), Some((_, Step::Leave(_))))
+    }
+
+    /// Whether nothing is left.
+    pub fn is_over(&self) -> bool
+        ensures { IsTrue result ↔ (left self.now ≡ []) }
+    {
+        self.items.is_empty()
+    }
+
+    /// Takes the end of a value at this level, after this many items.
+    pub fn leave(&mut self, level: usize, count: usize)
+        ensures is { Builds {A = Unit {0}} (λ _. Leave level count ∷ []) any tt self.old self.new }
+        ensures fewer { HoldsNoMore self.old self.new }
+    {
+        let next = self.next(level);
+        if leaves(&next, count) {
+            return;
+        }
+        self.refuse(Fault::NoValue);
+    }
+
+    /// Takes nothing more, for this reason if there was none.
+    pub fn refuse(&mut self, why: Fault)
+        ensures { self.new ≡ record self.old { fault = first_fault self.old.fault why } }
+    {
+        if self.fault.is_none() {
+            self.fault = Some(why);
+        }
+    }
+
+    /// Refuses what is left, unless this is so.
+    pub fn check(&mut self, holds: bool)
+        ensures is { Builds {A = Unit {0}} (λ _. []) (λ _. holds ≡ true) tt self.old self.new }
+        ensures fewer { HoldsNoMore self.old self.new }
+    {
+        if holds {
+            return;
+        }
+        self.refuse(Fault::NoValue);
+    }
+}
+
+/// Whether it is the end of a value after this many items.
+fn leaves(next: &Option<Step>, count: usize) -> bool
+    ensures { result ≡ told.leaves next.now count }
+{
+    match next {
+        Some(Step::Leave(found)) => *found as usize == count,
+        _ => false,
+    }
+}
