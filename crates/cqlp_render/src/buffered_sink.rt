@@ -73,7 +73,7 @@ impl<W: Target, A: Allocator, F: Form> Sink for BufferedSink<W, A, F> {
 
     ghost also = { GoesOnAtEvent };
 
-    #[inline]
+    #[inline(always)]
     fn take(&mut self, at: u64, event: &Event<'_>) -> Result<(), SinkFault> {
         self.form.write(at, event, &mut self.writer)
     }

@@ -8,3 +8,4 @@ pub mod Placed
 pub mod Waiting
 pub mod Texts
 pub mod Writing
+pub mod ItemText

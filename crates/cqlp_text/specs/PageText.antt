@@ -15,6 +15,8 @@ use Rattle.cqlp_grammar.specs.Events as reading
 use Rattle.cqlp_text.specs.declared.page_text.WrittenValue.{WrittenValue}
 use Rattle.cqlp_text.specs.declared.page_text.Turn.{Turn}
 use Rattle.cqlp_text.specs.declared.page_text.Turn.TheVariants.{First, Paired, Another}
+use Rattle.cqlp_text.specs.declared.gap.Gap.{Gap}
+use Rattle.cqlp_text.specs.declared.gap.Gap.TheVariants as gap
 use Rattle.cqlp_text.specs.Text.{quoted}
 use Rattle.cqlp_text.specs.CellText.{cell_text}
 use Rattle.hex.specs.Hex.{encode_lower}
@@ -54,6 +56,13 @@ abbrev pub before : (column : ℕ) → List WrittenValue → List ℕ
 before column [] = if column == 0 then [] else codes " | "
 before column (o ∷ os) = separator o.turn
 
+-- the text of a gap
+abbrev pub gap_text : Gap → List ℕ
+gap_text gap.Nothing = []
+gap_text gap.Bar = codes " | "
+gap_text gap.Colon = codes ": "
+gap_text gap.Comma = codes ", "
+
 -- after the last cell of a row
 abbrev pub after : (columns column : ℕ) → List WrittenValue → List ℕ
 after columns column [] = if column + 1 == columns then codes "\n" else []
@@ -79,6 +88,14 @@ with_item_if ends values = if ends then with_item values else values
 -- one more open value; no type is deeper than 64, the greatest depth that limits allow
 abbrev pub with_open : Kind → List WrittenValue → List WrittenValue
 with_open k os = if length os == 64 then os else record { kind = k; turn = First } ∷ os
+
+-- the end of a line, where one ends
+abbrev pub line_end : (ends : Bool) → List ℕ
+line_end ends = if ends then codes "\n" else []
+
+-- a text behind a gap, and where a line ends, its end
+abbrev pub item_text : Gap → List ℕ → (ends_line : Bool) → List ℕ
+item_text g text ends_line = gap_text g ++ (text ++ line_end ends_line)
 
 -- ---- the text of an event on a page
 

@@ -20,6 +20,10 @@ escaped b =
     else if b == 92 then codes "\\\\"
     else codes "\\x" ++ encode_lower (b ∷ [])
 
+-- a text between quotes, as it is
+abbrev pub between_quotes : List ℕ → List ℕ
+between_quotes text = codes "\"" ++ text ++ codes "\""
+
 abbrev pub quoted : List ℕ → List ℕ
 quoted text = codes "\"" ++ flat_map escaped text ++ codes "\""
 

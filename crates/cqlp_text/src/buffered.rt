@@ -6,6 +6,9 @@ ghost use Rattle.cqlp_text.specs.Outputs.{output, written};
 ghost use Rattle.cqlp_text.specs.Written.{Writes, unbuffered};
 
 use crate::digits::{DECIMAL_ROOM, fill_with_digits, place, place_digits, place_number};
+use crate::escape::is_plain_text;
+use crate::gap::Gap;
+use crate::items::{ITEM_ROOM, TEXT_MARGIN, place_item, place_text};
 use crate::pen::Pen;
 use crate::sending::send;
 use cqlp_grammar::SinkFault;
@@ -134,6 +137,34 @@ impl<W: Target, A: Allocator> Pen for Buffered<W, A> {
         let len = place_number(number, &mut self.buffer, self.len);
         self.len += len;
         Ok(())
+    }
+
+    #[inline(always)]
+    fn takes_item(&mut self, gap: Gap, number: u64, ends_line: bool) -> bool {
+        if ITEM_ROOM > self.buffer.len() - self.len {
+            return false;
+        }
+        let len = place_item(gap, number, ends_line, &mut self.buffer, self.len);
+        self.len += len;
+        true
+    }
+
+    #[inline(always)]
+    fn takes_text(&mut self, gap: Gap, text: &str, ends_line: bool) -> bool {
+        let room = self.buffer.len() - self.len;
+        if room < TEXT_MARGIN {
+            return false;
+        }
+        let bytes = text.as_bytes();
+        if bytes.len() > room - TEXT_MARGIN {
+            return false;
+        }
+        if !is_plain_text(bytes) {
+            return false;
+        }
+        let len = place_text(gap, bytes, ends_line, &mut self.buffer, self.len);
+        self.len += len;
+        true
     }
 
     #[inline(always)]

@@ -6,6 +6,9 @@ ghost use Rattle.cqlp_text.specs.CellText.{digits};
 /// How many decimal digits a number has at most.
 pub(crate) const DECIMAL_ROOM: usize = 20;
 
+/// What no short number reaches: one of at most eight digits is written in line.
+pub(crate) const SHORT: u64 = 100_000_000;
+
 /// The two digits of each number below 100, one after the other.
 static PAIRS: [u8; 200] =
     *b"0001020304050607080910111213141516171819202122232425262728293031323334353637383940414243444546474849\
@@ -74,7 +77,7 @@ fn write_number(number: u64, room: &mut [u8; DECIMAL_ROOM]) -> usize
     }
 }
 
-/// Puts a number to the front, its last four digits behind those before them, and answers how many there are.
+/// Puts a number to the front, its last eight digits behind those before them, and answers how many there are.
 #[inline(never)]
 fn write_long(number: u64, room: &mut [u8; DECIMAL_ROOM]) -> usize
     ensures len { result ≡ length (decimal number) }
@@ -83,9 +86,11 @@ fn write_long(number: u64, room: &mut [u8; DECIMAL_ROOM]) -> usize
     if number < 100_000_000 {
         return write_middle(number, room);
     }
-    let len = write_long(number / 10_000, room);
-    write_four(number % 10_000, room, len);
-    len + 4
+    let front = number / 10_000;
+    let len = write_long(front / 10_000, room);
+    write_four(front % 10_000, room, len);
+    write_four(number % 10_000, room, len + 4);
+    len + 8
 }
 
 /// Puts a number of at most eight digits to the front, and answers how many there are.
@@ -173,6 +178,45 @@ fn pair(number: u64) -> [u8; 2]
     [PAIRS[from], PAIRS[from + 1]]
 }
 
+/// Puts a number, as decimal digits, into a room, in line where it is short, and answers how many there are.
+#[inline(always)]
+pub(crate) fn place_in_line(number: u64, at: usize, room: &mut [u8]) -> usize
+    requires { at + length (decimal number) ≤ length room.old }
+    ensures len { result ≡ length (decimal number) }
+    ensures placed { room.new ≡ take at room.old ++ (decimal number ++ drop (at + result) room.old) }
+{
+    if number < SHORT {
+        place_short(number, at, room)
+    } else {
+        place_number(number, room, at)
+    }
+}
+
+/// Puts a short number, as decimal digits, into a room, and answers how many there are.
+#[inline(always)]
+fn place_short(number: u64, at: usize, room: &mut [u8]) -> usize
+    requires few { number < 100_000_000 }
+    requires room { at + length (decimal number) ≤ length room.old }
+    ensures len { result ≡ length (decimal number) }
+    ensures placed { room.new ≡ take at room.old ++ (decimal number ++ drop (at + result) room.old) }
+{
+    write_short_to_front(number, &mut room[at..])
+}
+
+/// Puts a short number, as decimal digits, to the front of bytes, and answers how many there are.
+#[inline(always)]
+fn write_short_to_front(number: u64, bytes: &mut [u8]) -> usize
+    requires few { number < 100_000_000 }
+    requires room { length (decimal number) ≤ length bytes.old }
+    ensures len { result ≡ length (decimal number) }
+    ensures written { bytes.new ≡ decimal number ++ drop result bytes.old }
+{
+    match bytes.first_chunk_mut::<DECIMAL_ROOM>() {
+        Some(room) => write_middle(number, room),
+        None => write_apart(number, bytes),
+    }
+}
+
 /// Puts this many digits of a number, with leading zeros, into a buffer.
 #[inline(always)]
 pub(crate) fn place_digits(number: u64, count: usize, buffer: &mut [u8], at: usize)
@@ -193,7 +237,7 @@ pub(crate) fn place(bytes: &[u8], buffer: &mut [u8], at: usize)
 
 /// Puts bytes to the front of others.
 #[inline(always)]
-fn copy_to_front(bytes: &[u8], room: &mut [u8])
+pub(crate) fn copy_to_front(bytes: &[u8], room: &mut [u8])
     requires { length bytes.now ≤ length room.old }
     ensures { room.new ≡ bytes.now ++ drop (length bytes.now) room.old }
 {

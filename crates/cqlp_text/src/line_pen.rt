@@ -5,6 +5,7 @@ ghost use Rattle.cqlp_text.specs.CellText.{digits};
 ghost use Rattle.cqlp_text.specs.Written.{Writes, unbuffered};
 
 use crate::digits::{DECIMAL_ROOM, fill_with_digits, place_number};
+use crate::gap::Gap;
 use crate::pen::Pen;
 use crate::sending::send;
 use cqlp_grammar::SinkFault;
@@ -165,6 +166,16 @@ impl<W: Target> Pen for LinePen<'_, W> {
         self.make_room(DECIMAL_ROOM)?;
         self.keep_number(number);
         Ok(())
+    }
+
+    #[inline(always)]
+    fn takes_item(&mut self, _gap: Gap, _number: u64, _ends_line: bool) -> bool {
+        false
+    }
+
+    #[inline(always)]
+    fn takes_text(&mut self, _gap: Gap, _text: &str, _ends_line: bool) -> bool {
+        false
     }
 
     #[inline(always)]

@@ -5,6 +5,9 @@ ghost use Rattle.cqlp_grammar.specs.Events.{event_of};
 ghost use Rattle.cqlp_text.specs.PageText.{page_part as text_of, place_after};
 ghost use Rattle.cqlp_text.specs.Outputs.{AppendsText, written};
 
+use crate::cells::boolean_name;
+use crate::digits::SHORT;
+use crate::gap::Gap;
 use crate::line_pen::LinePen;
 use crate::pen::Pen;
 use crate::text_writer::TextWriter;
@@ -89,7 +92,7 @@ impl Model for PagePlace {
 impl PagePlace {
     ghost use Rattle.std.specs.Prelude.{false, if◌then◌else◌, codes};
     ghost use Rattle.cqlp_note.specs.Field.{Count as CountValue, Int as IntValue};
-    ghost use Rattle.cqlp_text.specs.PageText.{no_page, after, innermost, with_item, with_item_if};
+    ghost use Rattle.cqlp_text.specs.PageText.{no_page, before, after, gap_text, innermost, with_item, with_item_if};
     ghost use Rattle.cqlp_text.specs.PageText.{with_open, without_open, place_after_field};
 
     /// Before any frame.
@@ -146,6 +149,18 @@ impl PagePlace {
         ensures { result ≡ innermost self.now.open_values }
     {
         self.open_values.get(self.free).copied()
+    }
+
+    /// What stands before a cell of this column, or before an item of the open value.
+    #[inline(always)]
+    fn gap(&self, column: u32) -> Gap
+        ensures { before column self.now.open_values ≡ gap_text result }
+    {
+        match self.innermost() {
+            None if column == 0 => Gap::Nothing,
+            None => Gap::Bar,
+            Some(open) => gap_at(open.turn),
+        }
     }
 
     /// Whether a row ends after a cell of this column, which no item of an open value is.
@@ -309,14 +324,16 @@ impl<P: Pen> TextWriter<P> {
     ghost use Rattle.cqlp_note.specs.Field.{Count as CountValue, Text as TextValue};
     ghost use Rattle.cqlp_kind.specs.CellStep as cell;
     ghost use Rattle.cqlp_text.specs.PageText.{before, column_line, page_line, event_part, field_part};
-    ghost use Rattle.cqlp_text.specs.PageText.{separator};
+    ghost use Rattle.cqlp_text.specs.PageText.{gap_text, item_text, separator, with_open, without_open};
     ghost use Rattle.cqlp_text.specs.PageText.{value_part, whole_value, part_start, part_end, end_part, opening, with_item};
     ghost use Rattle.cqlp_kind.specs.Contents.{value_of};
+    ghost use Rattle.std.specs.Fmt.{signed_decimal};
     ghost use Rattle.cqlp_text.specs.CellText.{cell_text};
+    ghost use Rattle.cqlp_text.specs.Text.{quoted};
     ghost use Rattle.cqlp_text.specs.Written.{Writes};
 
     /// Takes what is written of an event of a page, and goes to the place after it, also at a fault.
-    #[inline]
+    #[inline(always)]
     pub fn put_page_part(
         &mut self,
         place: &mut PagePlace,
@@ -335,6 +352,10 @@ impl<P: Pen> TextWriter<P> {
                 ref scalar,
                 ..
             } => self.put_leaf(place, column, scalar),
+            Event::Null { column, .. } => self.put_name_item(place, column, "null"),
+            Event::Empty { column, .. } => self.put_name_item(place, column, "empty"),
+            Event::Enter { column, kind, .. } => self.put_enter(place, column, kind),
+            Event::Leave { .. } => self.put_leave(place),
             _ => self.put_other_part(place, event),
         }
     }
@@ -435,9 +456,206 @@ impl<P: Pen> TextWriter<P> {
         ensures part { Writes self.old (whole_value place.old column (cell_text (value_of scalar.now))) result self.new }
         ensures place { place.new ≡ record place.old { column = column; open_values = with_item place.old.open_values } }
     {
+        match *scalar {
+            Scalar::Int(number) => self.put_number_item(place, column, i64::from(number)),
+            Scalar::Smallint(number) => self.put_small_item(place, column, i64::from(number)),
+            Scalar::Tinyint(number) => self.put_small_item(place, column, i64::from(number)),
+            Scalar::Bigint(number) | Scalar::Counter(number) | Scalar::Timestamp(number) => {
+                self.put_long_item(place, column, number)
+            }
+            Scalar::Varchar(text) | Scalar::Ascii(text) => self.put_text_item(place, column, text),
+            Scalar::Boolean(value) => self.put_name_item(place, column, boolean_name(value)),
+            _ => self.put_any_item(place, column, scalar),
+        }
+    }
+
+    /// The same of a number of a kind that is seldom seen.
+    #[inline(never)]
+    fn put_small_item(
+        &mut self,
+        place: &mut PagePlace,
+        column: u32,
+        number: i64,
+    ) -> Result<(), SinkFault>
+        ensures part { Writes self.old (whole_value place.old column (signed_decimal number)) result self.new }
+        ensures place { place.new ≡ record place.old { column = column; open_values = with_item place.old.open_values } }
+    {
+        self.put_number_item(place, column, number)
+    }
+
+    /// The same of a number that most often has at most eight digits, in line where it is taken.
+    #[inline(always)]
+    fn put_number_item(
+        &mut self,
+        place: &mut PagePlace,
+        column: u32,
+        number: i64,
+    ) -> Result<(), SinkFault>
+        ensures part { Writes self.old (whole_value place.old column (signed_decimal number)) result self.new }
+        ensures place { place.new ≡ record place.old { column = column; open_values = with_item place.old.open_values } }
+    {
+        let gap = place.gap(column);
+        let ends_row = place.ends_row(column);
+        place.pass_item(column);
+        self.put_short_item(gap, number, ends_row)
+    }
+
+    /// The same of a number that most often has more than eight digits.
+    #[inline(never)]
+    fn put_long_item(
+        &mut self,
+        place: &mut PagePlace,
+        column: u32,
+        number: i64,
+    ) -> Result<(), SinkFault>
+        ensures part { Writes self.old (whole_value place.old column (signed_decimal number)) result self.new }
+        ensures place { place.new ≡ record place.old { column = column; open_values = with_item place.old.open_values } }
+    {
+        let gap = place.gap(column);
+        let ends_row = place.ends_row(column);
+        place.pass_item(column);
+        self.put_item(gap, number, ends_row)
+    }
+
+    /// The same of a text.
+    #[inline(never)]
+    fn put_text_item(
+        &mut self,
+        place: &mut PagePlace,
+        column: u32,
+        text: &str,
+    ) -> Result<(), SinkFault>
+        ensures part { Writes self.old (whole_value place.old column (quoted text.now)) result self.new }
+        ensures place { place.new ≡ record place.old { column = column; open_values = with_item place.old.open_values } }
+    {
+        let gap = place.gap(column);
+        let ends_row = place.ends_row(column);
+        place.pass_item(column);
+        self.put_text(gap, text, ends_row)
+    }
+
+    /// The same of any scalar.
+    #[inline(never)]
+    fn put_any_item(
+        &mut self,
+        place: &mut PagePlace,
+        column: u32,
+        scalar: &Scalar<'_>,
+    ) -> Result<(), SinkFault>
+        ensures part { Writes self.old (whole_value place.old column (cell_text (value_of scalar.now))) result self.new }
+        ensures place { place.new ≡ record place.old { column = column; open_values = with_item place.old.open_values } }
+    {
         let written = self.put_value(place, column, scalar);
         place.pass_item(column);
         written
+    }
+
+    /// The same of a name in place of a value.
+    #[inline(never)]
+    fn put_name_item(
+        &mut self,
+        place: &mut PagePlace,
+        column: u32,
+        name: &str,
+    ) -> Result<(), SinkFault>
+        ensures part { Writes self.old (whole_value place.old column name.now) result self.new }
+        ensures place { place.new ≡ record place.old { column = column; open_values = with_item place.old.open_values } }
+    {
+        let written = self.put_named(place, column, name);
+        place.pass_item(column);
+        written
+    }
+
+    /// Takes the begin of a value with items, and goes into it, also at a fault.
+    #[inline(always)]
+    fn put_enter(&mut self, place: &mut PagePlace, column: u32, kind: Kind) -> Result<(), SinkFault>
+        ensures part { Writes self.old (before column place.old.open_values ++ opening kind) result self.new }
+        ensures place { place.new ≡
+            record place.old { column = column; open_values = with_open kind (with_item place.old.open_values) } }
+    {
+        let written = self.put_opening(place, column, kind);
+        place.enter(column, kind);
+        written
+    }
+
+    /// Takes the end of the innermost open value, and goes out of it, also at a fault.
+    #[inline(always)]
+    fn put_leave(&mut self, place: &mut PagePlace) -> Result<(), SinkFault>
+        ensures part { Writes self.old (end_part place.old.columns place.old.column place.old.open_values) result self.new }
+        ensures place { place.new ≡ record place.old { open_values = without_open place.old.open_values } }
+    {
+        let written = self.put_closing(place);
+        place.leave();
+        written
+    }
+
+    /// Takes a number as decimal digits, behind a gap, and where a row ends, its end.
+    #[inline(always)]
+    fn put_item(&mut self, gap: Gap, number: i64, ends_row: bool) -> Result<(), SinkFault>
+        ensures { Writes self.old (item_text gap (signed_decimal number) ends_row) result self.new }
+    {
+        if number >= 0 {
+            if self.takes_item(gap, number.unsigned_abs(), ends_row) {
+                return Ok(());
+            }
+        }
+        self.put_item_in_parts(gap, number, ends_row)
+    }
+
+    /// The same, where a number of more than eight digits has no code in line.
+    #[inline(always)]
+    fn put_short_item(&mut self, gap: Gap, number: i64, ends_row: bool) -> Result<(), SinkFault>
+        ensures { Writes self.old (item_text gap (signed_decimal number) ends_row) result self.new }
+    {
+        if number < SHORT as i64 {
+            self.put_item(gap, number, ends_row)
+        } else {
+            self.put_item_in_parts(gap, number, ends_row)
+        }
+    }
+
+    /// The same, one part after the other.
+    #[inline(never)]
+    fn put_item_in_parts(&mut self, gap: Gap, number: i64, ends_row: bool) -> Result<(), SinkFault>
+        ensures { Writes self.old (item_text gap (signed_decimal number) ends_row) result self.new }
+    {
+        self.put_gap(gap)?;
+        self.put_signed(number)?;
+        self.put_row_end(ends_row)
+    }
+
+    /// Takes a gap.
+    #[inline(always)]
+    fn put_gap(&mut self, gap: Gap) -> Result<(), SinkFault>
+        ensures { Writes self.old (gap_text gap) result self.new }
+    {
+        match gap {
+            Gap::Nothing => Ok(()),
+            Gap::Bar => self.put(b" | "),
+            Gap::Colon => self.put(b": "),
+            Gap::Comma => self.put(b", "),
+        }
+    }
+
+    /// Takes a text in quotes, behind a gap, and where a row ends, its end.
+    #[inline(always)]
+    fn put_text(&mut self, gap: Gap, text: &str, ends_row: bool) -> Result<(), SinkFault>
+        ensures { Writes self.old (item_text gap (quoted text.now) ends_row) result self.new }
+    {
+        if self.takes_text(gap, text, ends_row) {
+            return Ok(());
+        }
+        self.put_text_in_parts(gap, text, ends_row)
+    }
+
+    /// The same, one part after the other.
+    #[inline(never)]
+    fn put_text_in_parts(&mut self, gap: Gap, text: &str, ends_row: bool) -> Result<(), SinkFault>
+        ensures { Writes self.old (item_text gap (quoted text.now) ends_row) result self.new }
+    {
+        self.put_gap(gap)?;
+        self.put_quoted(text)?;
+        self.put_row_end(ends_row)
     }
 
     /// Takes a cell or an item that has no items, with what stands before and after it.
@@ -451,7 +669,7 @@ impl<P: Pen> TextWriter<P> {
         ensures { Writes self.old (whole_value place.now column (cell_text (value_of scalar.now))) result self.new }
     {
         self.put_before(place, column)?;
-        self.put_cell(scalar)?;
+        self.put_any_cell(scalar)?;
         self.put_row_end(place.ends_row(column))
     }
 
@@ -497,7 +715,7 @@ impl<P: Pen> TextWriter<P> {
         if ends { self.put(b"\n") } else { Ok(()) }
     }
 
-    #[inline]
+    #[inline(always)]
     fn put_opening(&mut self, place: &PagePlace, column: u32, kind: Kind) -> Result<(), SinkFault>
         ensures { Writes self.old (before column place.now.open_values ++ opening kind) result self.new }
     {
@@ -505,7 +723,7 @@ impl<P: Pen> TextWriter<P> {
         self.put(opening(kind).as_bytes())
     }
 
-    #[inline]
+    #[inline(always)]
     fn put_closing(&mut self, place: &PagePlace) -> Result<(), SinkFault>
         ensures { Writes self.old (end_part place.now.columns place.now.column place.now.open_values) result self.new }
     {
@@ -565,7 +783,7 @@ impl<P: Pen> TextWriter<P> {
 
 ghost use Rattle.std.specs.Prelude.{if◌then◌else◌, codes};
 ghost use Rattle.cqlp_text.specs.PageText.{after as text_after, closing as text_closing, opening as text_opening};
-ghost use Rattle.cqlp_text.specs.PageText.{turn_after as next_turn};
+ghost use Rattle.cqlp_text.specs.PageText.{gap_text, separator as text_at, turn_after as next_turn};
 
 /// Whether a row ends after a cell of this column.
 #[inline(always)]
@@ -573,6 +791,18 @@ fn is_last(column: u32, columns: u32) -> bool
     ensures { text_after columns column [] ≡ (if result then codes "\n" else []) }
 {
     u64::from(column) + 1 == u64::from(columns)
+}
+
+/// What stands before an item of an open value.
+#[inline(always)]
+fn gap_at(turn: Turn) -> Gap
+    ensures { text_at turn ≡ gap_text result }
+{
+    match turn {
+        Turn::First => Gap::Nothing,
+        Turn::Paired => Gap::Colon,
+        Turn::Another => Gap::Comma,
+    }
 }
 
 #[inline]

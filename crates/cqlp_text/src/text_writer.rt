@@ -1,10 +1,13 @@
 //! Text on its way to a target.
 
-ghost use Rattle.std.specs.Prelude.{◌≡◌, ◌≤◌, [], decimal};
+ghost use Rattle.std.specs.Prelude.{◌≡◌, ◌≤◌, [], true, false, decimal};
 ghost use Rattle.cqlp_text.specs.CellText.{digits};
-ghost use Rattle.cqlp_text.specs.Written.{Writes, unbuffered};
+ghost use Rattle.cqlp_text.specs.PageText.{item_text};
+ghost use Rattle.cqlp_text.specs.Text.{quoted};
+ghost use Rattle.cqlp_text.specs.Written.{Receives, Writes, unbuffered};
 
 use crate::buffered::Buffered;
+use crate::gap::Gap;
 use crate::line_pen::LinePen;
 use crate::pen::Pen;
 use cqlp_grammar::SinkFault;
@@ -56,6 +59,25 @@ impl<P: Pen> TextWriter<P> {
         ensures { Writes self.old (decimal number) result self.new }
     {
         self.pen.put_number(number)
+    }
+
+    /// Takes a number as decimal digits, behind a gap and, where a line ends, before its end. It may
+    /// take nothing, and then answers false.
+    #[inline(always)]
+    pub(crate) fn takes_item(&mut self, gap: Gap, number: u64, ends_line: bool) -> bool
+        ensures taken { result ≡ true → Receives self.old (item_text gap (decimal number) ends_line) self.new }
+        ensures left { result ≡ false → self.new ≡ self.old }
+    {
+        self.pen.takes_item(gap, number, ends_line)
+    }
+
+    /// Takes a text in quotes in the same way.
+    #[inline(always)]
+    pub(crate) fn takes_text(&mut self, gap: Gap, text: &str, ends_line: bool) -> bool
+        ensures taken { result ≡ true → Receives self.old (item_text gap (quoted text.now) ends_line) self.new }
+        ensures left { result ≡ false → self.new ≡ self.old }
+    {
+        self.pen.takes_text(gap, text, ends_line)
     }
 
     /// Takes this many digits of a number, with leading zeros.

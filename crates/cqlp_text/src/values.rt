@@ -131,13 +131,24 @@ impl<P: Pen> TextWriter<P> {
     fn put_groups(&mut self, bytes: [u8; 16]) -> Result<(), SinkFault>
         ensures { Writes self.old (address_text (V6 bytes)) result self.new }
     {
-        self.put_hex(&bytes[..2])?;
+        self.put_group(&bytes[..2])?;
         let mut rest = &bytes[2..];
         while let [high, low, after @ ..] = rest {
             self.put(b":")?;
-            self.put_hex(&[*high, *low])?;
+            self.put_group(&[*high, *low])?;
             rest = after;
         }
         Ok(())
+    }
+
+    /// Takes two bytes as four hexadecimal digits.
+    #[inline(always)]
+    fn put_group(&mut self, bytes: &[u8]) -> Result<(), SinkFault>
+        requires { length bytes.now ≡ 2 }
+        ensures { Writes self.old (encode_lower bytes.now) result self.new }
+    {
+        let mut digits = [0; 4];
+        hex::encode_to_slice(bytes, &mut digits).unwrap();
+        self.put(&digits)
     }
 }

@@ -40,7 +40,7 @@ impl<W: Target, A: Allocator, F: Form> BufferedSink<W, A, F> {
 }
 
 impl<W: Target, A: Allocator, F: Form> Sink for BufferedSink<W, A, F> {
-    #[inline]
+    #[inline(always)]
     fn take(&mut self, at: u64, event: &Event<'_>) -> Result<(), SinkFault> {
         self.form.write(at, event, &mut self.writer)
     }

@@ -88,7 +88,7 @@ impl Form for PagePlace {
         page_part(self, event, target)
     }
 
-    #[inline]
+    #[inline(always)]
     fn write<P: Pen>(
         &mut self,
         _at: u64,

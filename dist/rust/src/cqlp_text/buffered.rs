@@ -3,6 +3,9 @@
 
 use crate::kit_std::prelude::{Vec};
 use crate::cqlp_text::digits::{DECIMAL_ROOM, fill_with_digits, place, place_digits, place_number};
+use crate::cqlp_text::escape::is_plain_text;
+use crate::cqlp_text::gap::Gap;
+use crate::cqlp_text::items::{ITEM_ROOM, TEXT_MARGIN, place_item, place_text};
 use crate::cqlp_text::pen::Pen;
 use crate::cqlp_text::sending::send;
 use crate::cqlp_grammar::SinkFault;
@@ -105,6 +108,34 @@ impl<W: Target, A: Allocator> Pen for Buffered<W, A> {
         let len = place_number(number, &mut self.buffer, self.len);
         self.len += len;
         Ok(())
+    }
+
+    #[inline(always)]
+    fn takes_item(&mut self, gap: Gap, number: u64, ends_line: bool) -> bool {
+        if ITEM_ROOM > self.buffer.len() - self.len {
+            return false;
+        }
+        let len = place_item(gap, number, ends_line, &mut self.buffer, self.len);
+        self.len += len;
+        true
+    }
+
+    #[inline(always)]
+    fn takes_text(&mut self, gap: Gap, text: &str, ends_line: bool) -> bool {
+        let room = self.buffer.len() - self.len;
+        if room < TEXT_MARGIN {
+            return false;
+        }
+        let bytes = text.as_bytes();
+        if bytes.len() > room - TEXT_MARGIN {
+            return false;
+        }
+        if !is_plain_text(bytes) {
+            return false;
+        }
+        let len = place_text(gap, bytes, ends_line, &mut self.buffer, self.len);
+        self.len += len;
+        true
     }
 
     #[inline(always)]

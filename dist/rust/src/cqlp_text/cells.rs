@@ -46,7 +46,7 @@ impl<P: Pen> TextWriter<P> {
 
     /// Takes the text of a cell of any kind, in code of its own.
     #[inline(never)]
-    fn put_any_cell(&mut self, scalar: &Scalar<'_>) -> Result<(), SinkFault>
+    pub(crate) fn put_any_cell(&mut self, scalar: &Scalar<'_>) -> Result<(), SinkFault>
     {
         match *scalar {
             Scalar::Custom(bytes) | Scalar::Blob(bytes) | Scalar::Raw(bytes) => {
@@ -84,12 +84,19 @@ impl<P: Pen> TextWriter<P> {
         if bytes.len() > WIDE {
             return self.put_hex_text(bytes);
         }
+        let number = i128::from_be_bytes(extended(bytes));
+        match i64::try_from(number) {
+            Ok(number) => self.put_signed(number),
+            Err(_) => self.put_wide(number),
+        }
+    }
+
+    /// Takes a number of up to 128 bits as decimal digits.
+    #[inline(never)]
+    fn put_wide(&mut self, number: i128) -> Result<(), SinkFault>
+    {
         let mut digits = crate::itoa::Buffer::new();
-        self.put(
-            digits
-                .format(i128::from_be_bytes(extended(bytes)))
-                .as_bytes(),
-        )
+        self.put(digits.format(number).as_bytes())
     }
 
     /// Takes a decimal: the unscaled number, `e`, and the negated scale.
@@ -128,8 +135,9 @@ impl<P: Pen> TextWriter<P> {
     }
 }
 
+/// The name of a truth value.
 #[inline(always)]
-fn boolean_name(value: bool) -> &'static str
+pub(crate) fn boolean_name(value: bool) -> &'static str
 {
     if value { "true" } else { "false" }
 }

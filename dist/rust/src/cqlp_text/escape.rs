@@ -74,6 +74,13 @@ pub(crate) fn plain_len(bytes: &[u8]) -> usize
     at
 }
 
+/// Whether no byte needs an escape.
+#[inline(always)]
+pub(crate) fn is_plain_text(bytes: &[u8]) -> bool
+{
+    plain_len(bytes) == bytes.len()
+}
+
 /// How many blocks at the front need no escape, in bytes.
 #[inline(always)]
 fn plain_blocks(bytes: &[u8]) -> usize

@@ -2,6 +2,7 @@
 //! A pen for one line.
 
 use crate::cqlp_text::digits::{DECIMAL_ROOM, fill_with_digits, place_number};
+use crate::cqlp_text::gap::Gap;
 use crate::cqlp_text::pen::Pen;
 use crate::cqlp_text::sending::send;
 use crate::cqlp_grammar::SinkFault;
@@ -128,6 +129,16 @@ impl<W: Target> Pen for LinePen<'_, W> {
         self.make_room(DECIMAL_ROOM)?;
         self.keep_number(number);
         Ok(())
+    }
+
+    #[inline(always)]
+    fn takes_item(&mut self, _gap: Gap, _number: u64, _ends_line: bool) -> bool {
+        false
+    }
+
+    #[inline(always)]
+    fn takes_text(&mut self, _gap: Gap, _text: &str, _ends_line: bool) -> bool {
+        false
     }
 
     #[inline(always)]

@@ -1,6 +1,9 @@
 // Written by dist/erase from crates/cqlp_text/src/page_text.rt.
 //! Pages as text.
 
+use crate::cqlp_text::cells::boolean_name;
+use crate::cqlp_text::digits::SHORT;
+use crate::cqlp_text::gap::Gap;
 use crate::cqlp_text::line_pen::LinePen;
 use crate::cqlp_text::pen::Pen;
 use crate::cqlp_text::text_writer::TextWriter;
@@ -111,6 +114,17 @@ impl PagePlace {
     fn innermost(&self) -> Option<WrittenValue>
     {
         self.open_values.get(self.free).copied()
+    }
+
+    /// What stands before a cell of this column, or before an item of the open value.
+    #[inline(always)]
+    fn gap(&self, column: u32) -> Gap
+    {
+        match self.innermost() {
+            None if column == 0 => Gap::Nothing,
+            None => Gap::Bar,
+            Some(open) => gap_at(open.turn),
+        }
     }
 
     /// Whether a row ends after a cell of this column, which no item of an open value is.
@@ -252,7 +266,7 @@ impl<W: Target> TextWriter<LinePen<'_, W>> {
 
 impl<P: Pen> TextWriter<P> {
     /// Takes what is written of an event of a page, and goes to the place after it, also at a fault.
-    #[inline]
+    #[inline(always)]
     pub fn put_page_part(
         &mut self,
         place: &mut PagePlace,
@@ -269,6 +283,10 @@ impl<P: Pen> TextWriter<P> {
                 ref scalar,
                 ..
             } => self.put_leaf(place, column, scalar),
+            Event::Null { column, .. } => self.put_name_item(place, column, "null"),
+            Event::Empty { column, .. } => self.put_name_item(place, column, "empty"),
+            Event::Enter { column, kind, .. } => self.put_enter(place, column, kind),
+            Event::Leave { .. } => self.put_leave(place),
             _ => self.put_other_part(place, event),
         }
     }
@@ -360,9 +378,183 @@ impl<P: Pen> TextWriter<P> {
         scalar: &Scalar<'_>,
     ) -> Result<(), SinkFault>
     {
+        match *scalar {
+            Scalar::Int(number) => self.put_number_item(place, column, i64::from(number)),
+            Scalar::Smallint(number) => self.put_small_item(place, column, i64::from(number)),
+            Scalar::Tinyint(number) => self.put_small_item(place, column, i64::from(number)),
+            Scalar::Bigint(number) | Scalar::Counter(number) | Scalar::Timestamp(number) => {
+                self.put_long_item(place, column, number)
+            }
+            Scalar::Varchar(text) | Scalar::Ascii(text) => self.put_text_item(place, column, text),
+            Scalar::Boolean(value) => self.put_name_item(place, column, boolean_name(value)),
+            _ => self.put_any_item(place, column, scalar),
+        }
+    }
+
+    /// The same of a number of a kind that is seldom seen.
+    #[inline(never)]
+    fn put_small_item(
+        &mut self,
+        place: &mut PagePlace,
+        column: u32,
+        number: i64,
+    ) -> Result<(), SinkFault>
+    {
+        self.put_number_item(place, column, number)
+    }
+
+    /// The same of a number that most often has at most eight digits, in line where it is taken.
+    #[inline(always)]
+    fn put_number_item(
+        &mut self,
+        place: &mut PagePlace,
+        column: u32,
+        number: i64,
+    ) -> Result<(), SinkFault>
+    {
+        let gap = place.gap(column);
+        let ends_row = place.ends_row(column);
+        place.pass_item(column);
+        self.put_short_item(gap, number, ends_row)
+    }
+
+    /// The same of a number that most often has more than eight digits.
+    #[inline(never)]
+    fn put_long_item(
+        &mut self,
+        place: &mut PagePlace,
+        column: u32,
+        number: i64,
+    ) -> Result<(), SinkFault>
+    {
+        let gap = place.gap(column);
+        let ends_row = place.ends_row(column);
+        place.pass_item(column);
+        self.put_item(gap, number, ends_row)
+    }
+
+    /// The same of a text.
+    #[inline(never)]
+    fn put_text_item(
+        &mut self,
+        place: &mut PagePlace,
+        column: u32,
+        text: &str,
+    ) -> Result<(), SinkFault>
+    {
+        let gap = place.gap(column);
+        let ends_row = place.ends_row(column);
+        place.pass_item(column);
+        self.put_text(gap, text, ends_row)
+    }
+
+    /// The same of any scalar.
+    #[inline(never)]
+    fn put_any_item(
+        &mut self,
+        place: &mut PagePlace,
+        column: u32,
+        scalar: &Scalar<'_>,
+    ) -> Result<(), SinkFault>
+    {
         let written = self.put_value(place, column, scalar);
         place.pass_item(column);
         written
+    }
+
+    /// The same of a name in place of a value.
+    #[inline(never)]
+    fn put_name_item(
+        &mut self,
+        place: &mut PagePlace,
+        column: u32,
+        name: &str,
+    ) -> Result<(), SinkFault>
+    {
+        let written = self.put_named(place, column, name);
+        place.pass_item(column);
+        written
+    }
+
+    /// Takes the begin of a value with items, and goes into it, also at a fault.
+    #[inline(always)]
+    fn put_enter(&mut self, place: &mut PagePlace, column: u32, kind: Kind) -> Result<(), SinkFault>
+    {
+        let written = self.put_opening(place, column, kind);
+        place.enter(column, kind);
+        written
+    }
+
+    /// Takes the end of the innermost open value, and goes out of it, also at a fault.
+    #[inline(always)]
+    fn put_leave(&mut self, place: &mut PagePlace) -> Result<(), SinkFault>
+    {
+        let written = self.put_closing(place);
+        place.leave();
+        written
+    }
+
+    /// Takes a number as decimal digits, behind a gap, and where a row ends, its end.
+    #[inline(always)]
+    fn put_item(&mut self, gap: Gap, number: i64, ends_row: bool) -> Result<(), SinkFault>
+    {
+        if number >= 0 {
+            if self.takes_item(gap, number.unsigned_abs(), ends_row) {
+                return Ok(());
+            }
+        }
+        self.put_item_in_parts(gap, number, ends_row)
+    }
+
+    /// The same, where a number of more than eight digits has no code in line.
+    #[inline(always)]
+    fn put_short_item(&mut self, gap: Gap, number: i64, ends_row: bool) -> Result<(), SinkFault>
+    {
+        if number < SHORT as i64 {
+            self.put_item(gap, number, ends_row)
+        } else {
+            self.put_item_in_parts(gap, number, ends_row)
+        }
+    }
+
+    /// The same, one part after the other.
+    #[inline(never)]
+    fn put_item_in_parts(&mut self, gap: Gap, number: i64, ends_row: bool) -> Result<(), SinkFault>
+    {
+        self.put_gap(gap)?;
+        self.put_signed(number)?;
+        self.put_row_end(ends_row)
+    }
+
+    /// Takes a gap.
+    #[inline(always)]
+    fn put_gap(&mut self, gap: Gap) -> Result<(), SinkFault>
+    {
+        match gap {
+            Gap::Nothing => Ok(()),
+            Gap::Bar => self.put(b" | "),
+            Gap::Colon => self.put(b": "),
+            Gap::Comma => self.put(b", "),
+        }
+    }
+
+    /// Takes a text in quotes, behind a gap, and where a row ends, its end.
+    #[inline(always)]
+    fn put_text(&mut self, gap: Gap, text: &str, ends_row: bool) -> Result<(), SinkFault>
+    {
+        if self.takes_text(gap, text, ends_row) {
+            return Ok(());
+        }
+        self.put_text_in_parts(gap, text, ends_row)
+    }
+
+    /// The same, one part after the other.
+    #[inline(never)]
+    fn put_text_in_parts(&mut self, gap: Gap, text: &str, ends_row: bool) -> Result<(), SinkFault>
+    {
+        self.put_gap(gap)?;
+        self.put_quoted(text)?;
+        self.put_row_end(ends_row)
     }
 
     /// Takes a cell or an item that has no items, with what stands before and after it.
@@ -375,7 +567,7 @@ impl<P: Pen> TextWriter<P> {
     ) -> Result<(), SinkFault>
     {
         self.put_before(place, column)?;
-        self.put_cell(scalar)?;
+        self.put_any_cell(scalar)?;
         self.put_row_end(place.ends_row(column))
     }
 
@@ -417,14 +609,14 @@ impl<P: Pen> TextWriter<P> {
         if ends { self.put(b"\n") } else { Ok(()) }
     }
 
-    #[inline]
+    #[inline(always)]
     fn put_opening(&mut self, place: &PagePlace, column: u32, kind: Kind) -> Result<(), SinkFault>
     {
         self.put_before(place, column)?;
         self.put(opening(kind).as_bytes())
     }
 
-    #[inline]
+    #[inline(always)]
     fn put_closing(&mut self, place: &PagePlace) -> Result<(), SinkFault>
     {
         let Some(open) = place.innermost() else {
@@ -483,6 +675,17 @@ impl<P: Pen> TextWriter<P> {
 fn is_last(column: u32, columns: u32) -> bool
 {
     u64::from(column) + 1 == u64::from(columns)
+}
+
+/// What stands before an item of an open value.
+#[inline(always)]
+fn gap_at(turn: Turn) -> Gap
+{
+    match turn {
+        Turn::First => Gap::Nothing,
+        Turn::Paired => Gap::Colon,
+        Turn::Another => Gap::Comma,
+    }
 }
 
 #[inline]

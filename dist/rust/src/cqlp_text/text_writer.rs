@@ -2,6 +2,7 @@
 //! Text on its way to a target.
 
 use crate::cqlp_text::buffered::Buffered;
+use crate::cqlp_text::gap::Gap;
 use crate::cqlp_text::line_pen::LinePen;
 use crate::cqlp_text::pen::Pen;
 use crate::cqlp_grammar::SinkFault;
@@ -39,6 +40,21 @@ impl<P: Pen> TextWriter<P> {
     pub fn put_number(&mut self, number: u64) -> Result<(), SinkFault>
     {
         self.pen.put_number(number)
+    }
+
+    /// Takes a number as decimal digits, behind a gap and, where a line ends, before its end. It may
+    /// take nothing, and then answers false.
+    #[inline(always)]
+    pub(crate) fn takes_item(&mut self, gap: Gap, number: u64, ends_line: bool) -> bool
+    {
+        self.pen.takes_item(gap, number, ends_line)
+    }
+
+    /// Takes a text in quotes in the same way.
+    #[inline(always)]
+    pub(crate) fn takes_text(&mut self, gap: Gap, text: &str, ends_line: bool) -> bool
+    {
+        self.pen.takes_text(gap, text, ends_line)
     }
 
     /// Takes this many digits of a number, with leading zeros.

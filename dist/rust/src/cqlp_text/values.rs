@@ -112,13 +112,22 @@ impl<P: Pen> TextWriter<P> {
     /// Takes sixteen bytes as groups of four hexadecimal digits with colons.
     fn put_groups(&mut self, bytes: [u8; 16]) -> Result<(), SinkFault>
     {
-        self.put_hex(&bytes[..2])?;
+        self.put_group(&bytes[..2])?;
         let mut rest = &bytes[2..];
         while let [high, low, after @ ..] = rest {
             self.put(b":")?;
-            self.put_hex(&[*high, *low])?;
+            self.put_group(&[*high, *low])?;
             rest = after;
         }
         Ok(())
+    }
+
+    /// Takes two bytes as four hexadecimal digits.
+    #[inline(always)]
+    fn put_group(&mut self, bytes: &[u8]) -> Result<(), SinkFault>
+    {
+        let mut digits = [0; 4];
+        crate::hex::encode_to_slice(bytes, &mut digits).unwrap();
+        self.put(&digits)
     }
 }

@@ -7,13 +7,13 @@ pub returns-in_err-put_before : goal.returns-in_err-put_before
 returns-in_err-put_before g c =
     progress_stops _ c.from_residual.result c.from_residual.ensures.0 (progress_starts _ _) refl c.in_err-put_before.ensures
 
-pub returns-in_err-put_cell : goal.returns-in_err-put_cell
-returns-in_err-put_cell g c =
+pub returns-in_err-put_any_cell : goal.returns-in_err-put_any_cell
+returns-in_err-put_any_cell g c =
     let s1 = progress_goes_on _ (progress_starts _ _) refl c.in_ok-put_before.ensures in
-    progress_stops _ c.from_residual-in_err-put_cell.result c.from_residual-in_err-put_cell.ensures.0 s1 refl c.in_err-put_cell.ensures
+    progress_stops _ c.from_residual-in_err-put_any_cell.result c.from_residual-in_err-put_any_cell.ensures.0 s1 refl c.in_err-put_any_cell.ensures
 
 pub returns : goal.returns
 returns g c =
     let s1 = progress_goes_on _ (progress_starts _ _) refl c.in_ok-put_before.ensures in
-    let s2 = progress_goes_on _ s1 refl c.in_ok-put_cell.ensures in
+    let s2 = progress_goes_on _ s1 refl c.in_ok-put_any_cell.ensures in
     last_part _ c.put_row_end.result s2 c.ends_row.ensures c.put_row_end.ensures
