@@ -3,13 +3,15 @@
 //! A line has a name, `|`, and the words of a frame value: its fields in the order of their definition. After some names
 //! `--sum` asks for the number of the events alone, and `--cut` for a target that fails after ten bytes. A line `type |` has a type, a line
 //! `value |` a type or `-`, and a value, a line `cells |` a page that is written cell by cell, a line `lent |` one whose cells are lent
-//! twice, and a line `bind |` a type or `-`, and a value that is bound. A line `read |` or `write |` has what each call of a socket makes.
+//! twice, and a line `bind |` a type or `-`, and a value that is bound. A line `cell |` has the limits of a builder of cells, and a type. A line
+//! `read |` or `write |` has what each call of a socket makes.
 //! A line without `|` is a heading.
 #![tactic(auto)]
 
 mod bound;
 mod built;
 mod by_cell;
+mod cells;
 mod frames;
 mod lent;
 mod requests;
@@ -41,6 +43,7 @@ fn execute(rt: &HostRuntime, line: &str) -> io::Result<()> {
         Some(("value", words)) => show_value(rt, words),
         Some(("type", words)) => show_type(rt, words),
         Some(("cells", words)) => by_cell::show(rt, words),
+        Some(("cell", words)) => cells::show(rt, words),
         Some(("lent", words)) => lent::show(rt, words),
         Some(("bind", words)) => bound::show(rt, words),
         Some(("read", words)) => sockets::show_reads(rt, words),

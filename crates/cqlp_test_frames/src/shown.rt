@@ -1,7 +1,7 @@
 //! What is written of a frame, and what is read back.
 
-use crate::built;
 use crate::stops::{Stops, is_told};
+use crate::{built, cells};
 use cqlp_decode::{Decoder, Outcome, run};
 use cqlp_encode::{EncodeError, encode, encode_from};
 use cqlp_message::Frame;
@@ -42,8 +42,8 @@ pub fn write(alloc: Global, frame: &Frame) -> Written {
 }
 
 /// Prints the answer, the length that is told beforehand, the bytes, the lines of their events, the verdict, how many rests of the
-/// bytes are written after a stop, how many stops a socket makes that takes one byte at a time, and whether the frame is built again of its
-/// events.
+/// bytes are written after a stop, how many stops a socket makes that takes one byte at a time, whether the frame is built again of its
+/// events, and how many cells of a page are.
 pub fn whole(rt: &HostRuntime, frame: &Frame) -> io::Result<()> {
     let written = write(rt.alloc(), frame);
     print_whole(rt, frame, &written)
@@ -61,10 +61,11 @@ fn print_whole(rt: &HostRuntime, frame: &Frame, written: &Written) -> io::Result
         rests(rt.alloc(), frame, &written.bytes),
         stops(rt.alloc(), frame, &written.bytes, 1, 1),
         built::build_again(rt.alloc(), frame, &written.bytes).words()
-    )
+    )?;
+    cells::print_again(rt, frame, &written.bytes)
 }
 
-/// Prints the answer, the length that is told, how many events are read of the bytes, and the verdict.
+/// Prints the answer, the length that is told, how many events are read of the bytes, the verdict, and how many cells of a page are built again.
 pub fn sum(rt: &HostRuntime, frame: &Frame) -> io::Result<()> {
     let written = write(rt.alloc(), frame);
     print_sum(rt, frame, &written)
@@ -75,7 +76,8 @@ fn print_sum(rt: &HostRuntime, frame: &Frame, written: &Written) -> io::Result<(
     if written.answer.is_err() {
         return Ok(());
     }
-    print_count(rt, &written.bytes)
+    print_count(rt, &written.bytes)?;
+    cells::print_again(rt, frame, &written.bytes)
 }
 
 /// Prints what is answered where the target fails after ten bytes, and the bytes that came.

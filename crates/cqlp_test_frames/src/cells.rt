@@ -1,0 +1,114 @@
+//! Cells that are built again, of their events.
+
+use crate::shown::LIMITS;
+use crate::words::Words;
+use cqlp_build_cells::{CellBuilder, CellLimits, ends_cell};
+use cqlp_decode::{Decoder, run};
+use cqlp_grammar::{Event, Sink, SinkFault};
+use cqlp_message::{Frame, Message, Spec};
+use cqlp_test_fakes::Pieces;
+use cqlp_type::TypeTree;
+use cqlp_value::{Scalar, Value};
+use std::io;
+
+/// How much of a cell may be held.
+const ROOM: CellLimits = CellLimits {
+    events: 1_000,
+    bytes: 100_000,
+};
+
+/// Builds the cells of a page, each of its column's type, as long as they are those that are wanted.
+#[derive(Drop)]
+struct Cells<'a> {
+    builder: CellBuilder,
+    columns: &'a [Spec],
+    wanted: &'a [Value],
+    /// How many were built.
+    again: usize,
+}
+
+impl Sink for Cells<'_> {
+    ghost View = { Unit {0} };
+
+    ghost view = { λ _. tt };
+
+    ghost after = { λ _ _ _. tt };
+
+    ghost faulted = { λ _ _ _ _. Unit {0} };
+
+    /// An event that is none of a cell is refused by the builder, and passed over.
+    fn take(&mut self, _: u64, event: &Event<'_>) -> Result<(), SinkFault> {
+        if self.builder.take(event).is_err() || !ends_cell(event) {
+            return Ok(());
+        }
+        let column = self.again.checked_rem(self.columns.len()).unwrap_or(0);
+        let built = match self.columns.get(column) {
+            Some(spec) => self.builder.finish(Some(&spec.tree)),
+            None => self.builder.finish(None),
+        };
+        match (&built, self.wanted.get(self.again)) {
+            (Ok(value), Some(wanted)) if *value == *wanted => {
+                self.again += 1;
+                Ok(())
+            }
+            _ => Err(SinkFault),
+        }
+    }
+}
+
+/// Prints how many cells of a page are built again of the events of its bytes, from the first one on; of another frame nothing.
+pub fn print_again(rt: &HostRuntime, frame: &Frame, bytes: &[u8]) -> io::Result<()> {
+    let Message::Rows(page) = &frame.message else {
+        return Ok(());
+    };
+    let mut sink = Cells {
+        builder: CellBuilder::new(rt.alloc(), ROOM),
+        columns: page.meta.specs.as_deref().unwrap_or(&[]),
+        wanted: &page.cells,
+        again: 0,
+    };
+    if let Ok(mut decoder) = Decoder::new(rt.alloc(), LIMITS) {
+        let mut reader = Pieces::new(bytes, [usize::MAX; 3]);
+        run(&mut decoder, &mut reader, &mut sink, u64::MAX);
+    }
+    println!(rt; "{} of {} cells built again", sink.again, page.cells.len())
+}
+
+/// Prints what a builder answers between cells to the end of a value, then to a part of a scalar, to a text of three bytes, to an int and
+/// to the same int again, and what it makes of these. The words are how many events and bytes it may hold, and a type.
+pub fn show(rt: &HostRuntime, line: &str) -> io::Result<()> {
+    let mut words = Words::new(rt.alloc(), line);
+    let limits = CellLimits {
+        events: words.read(),
+        bytes: words.read(),
+    };
+    let tree: TypeTree = words.read();
+    words.end()?;
+    let mut builder = CellBuilder::new(rt.alloc(), limits);
+    println!(rt;
+        "{line}: {:?}, {:?}, {:?}, {:?}, {:?}, {:?}",
+        builder.take(&Event::Leave { level: 0, items: 0 }),
+        builder.take(&Event::Part {
+            row: 0,
+            column: 0,
+            level: 0,
+            offset: 0,
+            bytes: &[7],
+            last: true
+        }),
+        builder.take(&leaf(Scalar::Varchar("abc"))),
+        builder.take(&leaf(Scalar::Int(7))),
+        builder.take(&leaf(Scalar::Int(7))),
+        builder.finish(Some(&tree))
+    )
+}
+
+/// An event of a cell that is this scalar.
+fn leaf(scalar: Scalar<'_>) -> Event<'_> {
+    Event::Leaf {
+        row: 0,
+        column: 0,
+        level: 0,
+        scalar,
+    }
+}
