@@ -1,4 +1,7 @@
-//! What the tests share.
+//! What the tests share, of which each uses a part.
+#![allow(dead_code)]
+
+pub mod streams;
 
 use std::path::PathBuf;
 
