@@ -1,0 +1,4 @@
+pub mod Reading
+pub mod Given
+pub mod Directions
+pub mod Limits

@@ -1,0 +1,4 @@
+pub mod Happenings
+pub mod Frames
+pub mod Reading
+pub mod Directions
