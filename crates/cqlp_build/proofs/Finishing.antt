@@ -68,7 +68,7 @@ begins_with h g n c e = record {
 }
 
 no_rules : Rules
-no_rules = record { text = 0; cell = 0; entries = 0; depth = 0; part = 0; types = true; parts = true }
+no_rules = record { text = 0; cell = 0; entries = 0; depth = 0; part = 0; types = true; parts = true; lenient = false }
 
 pub are_events : (h : Header) (es : List Event) (x : ℕ) (f : FrameValue) → CanBeBuilt f → IsFrameOf h es x f x → AreEventsOf (Frame h ∷ es ++ End x ∷ []) f x
 are_events h es x f c i = record {

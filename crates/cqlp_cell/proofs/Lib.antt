@@ -1,4 +1,5 @@
 pub mod Gathered
+pub mod Contents
 pub mod Numbered
 pub mod Sizing
 pub mod Nesting
@@ -18,3 +19,4 @@ pub mod Leavings
 pub mod Fronts
 pub mod WholeItems
 pub mod Levels
+pub mod Lenient

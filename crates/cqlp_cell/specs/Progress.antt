@@ -2,7 +2,7 @@
 -- symbols of cqlp_kind/specs/CellStep. What a call makes of it is in Reading.
 use Rattle.std.specs.Prelude.{◌≡◌, ℕ, ◌+◌, ◌-◌, ◌^◌, ◌<◌, ◌≤◌, ◌++◌, Bool, true, false, ◌||◌, List, [], ◌∷◌, length, Option, Some}
 use Rattle.std.specs.Prelude.{None, IsSome, slice_get, nat_le, ◌==◌}
-use Rattle.cqlp_note.specs.Limits.{Rules, rules_of}
+use Rattle.cqlp_note.specs.Limits.{Rules, rules_asked}
 use Rattle.cqlp_kind.specs.declared.kind.Kind.TheVariants as kind
 use Rattle.cqlp_kind.specs.declared.node.Node.{Node}
 use Rattle.cqlp_kind.specs.Types.{NoMore}
@@ -34,7 +34,7 @@ pub record CellState : Type 0 where
 abbrev pub state_of : {A : Type 0} → CellProgress A → CellState
 state_of s =
     record {
-      rules = rules_of s.limits;
+      rules = rules_asked s.limits;
       offset = s.offset;
       stop = s.stop;
       next = s.next;

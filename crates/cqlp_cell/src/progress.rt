@@ -9,7 +9,7 @@ ghost use Rattle.cqlp_cell.specs.declared.progress.CellDue.TheVariants as due;
 
 use crate::open_values::{OpenValue, OpenValues, Order};
 use cqlp_kind::Kind;
-use cqlp_note::{Limits, Reason, Refusal};
+use cqlp_note::{Asked, Reason, Refusal};
 use cqlp_type::TypeTable;
 use std::alloc::Allocator;
 
@@ -65,7 +65,7 @@ pub(crate) struct DueValue {
 /// Where the reading of a cell stands.
 #[derive(Drop)]
 pub(crate) struct CellProgress<A: Allocator> {
-    pub limits: Limits,
+    pub limits: Asked,
     /// The offset of what is read next.
     pub offset: u64,
     /// Where the cell's container ends.
@@ -76,7 +76,6 @@ pub(crate) struct CellProgress<A: Allocator> {
 }
 
 impl<A: Allocator> CellProgress<A> {
-    ghost use Rattle.cqlp_note.specs.Limits.{rules_of};
     ghost use Rattle.cqlp_cell.specs.Progress.{state_of, due_of, due_value, state_after, ended, Stands};
 
     /// What comes next, where nothing of it has come.

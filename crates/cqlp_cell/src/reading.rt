@@ -1,7 +1,6 @@
 //! The steps of reading a cell.
 
 ghost use Rattle.std.specs.Prelude.{◌≡◌, ◌≢◌, ◌+◌, ◌-◌, ◌<◌, ◌≤◌, ◌^◌, ◌++◌, List, [], length, drop, true, false};
-ghost use Rattle.cqlp_note.specs.Limits.{rules_of};
 ghost use Rattle.cqlp_cell.specs.declared.size.Sized.TheVariants as size;
 ghost use Rattle.cqlp_cell.specs.declared.progress.CellDue.TheVariants as due;
 ghost use Rattle.cqlp_cell.specs.declared.progress.NextInCell.TheVariants as next;
@@ -16,13 +15,14 @@ ghost use Rattle.cqlp_cell.specs.Reading.{IsLengthUnder, IsPartUnder, Joined, Re
 ghost use Rattle.cqlp_cell.specs.Reading.{inner_order as order_inside, next_after};
 
 use crate::advance::{CellAdvance, CellOutline};
+use crate::content::kind_read;
 use crate::gather::{empty, gather, lend_bytes};
 use crate::number::{Number, take_number};
 use crate::open_values::{OpenValue, Order};
 use crate::progress::{Arrived, CellDue, CellProgress, DueValue, NextInCell};
 use crate::size::{Sized, size_up};
 use cqlp_kind::Kind;
-use cqlp_kind::content::{accepts, fault};
+use cqlp_kind::content::fault;
 use cqlp_note::{Partial, Reason, Refusal};
 use cqlp_type::TypeTable;
 use std::alloc::Allocator;
@@ -125,9 +125,10 @@ impl<A: Allocator> CellProgress<A> {
             self.arrived = Arrived::Scalar(len);
             return CellAdvance::More { used: input.len() };
         };
-        if !accepts(value.kind, lend_bytes(partial, input, found.content)) {
+        let bytes = lend_bytes(partial, input, found.content);
+        let Some(kind) = kind_read(self.limits.lenient, value.kind, bytes) else {
             return self.refuse(self.offset, fault(value.kind));
-        }
+        };
         let at = self.offset;
         let level = self.open_values.len();
         self.pass(4 + u64::from(len), table);
@@ -136,7 +137,7 @@ impl<A: Allocator> CellProgress<A> {
             used: found.used,
             item: CellOutline::Leaf {
                 level,
-                kind: value.kind,
+                kind,
                 content: found.content,
             },
         }

@@ -1,10 +1,10 @@
 //! The decoder of a stream of frames.
 
 ghost use Rattle.std.specs.Prelude.{◌≡◌, ◌+◌, ◌<◌, ◌≤◌, ◌^◌, ◌*◌, ◌↔◌};
-ghost use Rattle.std.specs.Prelude.{[], length, IfOk, IsErrOf, Err, Ok, max, min, None, Some};
+ghost use Rattle.std.specs.Prelude.{[], length, IfOk, IsErrOf, Err, Ok, max, min, None, Some, true};
 ghost use denote.RawPtr.{◌+ₚ◌};
 ghost use Rattle.std.specs.Borrow.{sem};
-ghost use Rattle.cqlp_note.specs.Limits.{first_bad, rules_of};
+ghost use Rattle.cqlp_note.specs.Limits.{first_bad, rules_asked, rules_of, with_lenient};
 ghost use Rattle.cqlp_note.specs.Head.{value_of};
 ghost use Rattle.cqlp_cell.specs.Items as cell;
 ghost use Rattle.cqlp_grammar.specs.Events.{event_of};
@@ -24,7 +24,7 @@ use crate::progress::StreamProgress;
 use crate::step::{Capacity, FaultAfter, Held, Step};
 use cqlp_cell::{CellItem, CellReader};
 use cqlp_grammar::{Event, Finish, Sink};
-use cqlp_note::{BadLimits, Field, Limits, NoMemory, Partial, Prim};
+use cqlp_note::{Asked, BadLimits, Field, Limits, NoMemory, Partial, Prim};
 use cqlp_type::{TypeItem, TypeReader, TypeTable};
 use std::alloc::{Allocator, Global};
 use std::marker::Model;
@@ -73,28 +73,53 @@ impl<A: Allocator + Clone> Decoder<A> {
         ensures nothing_held { IfOk result (λ d. HoldsNothing d) }
         ensures nothing_given { IfOk result (λ d. (state d).given ≡ None) }
     {
+        Self::asked(alloc, limits, false)
+    }
+
+    /// The same, for a lenient reading, which takes what nodes and drivers send against the standard. A content that its
+    /// type does not have, by its length or by its bytes, is told as [`Event::Leaf`] with [`Scalar::Raw`](cqlp_kind::Scalar::Raw),
+    /// all its bytes, and the reading goes on. All else is read as by a decoder that `new` makes.
+    pub fn lenient(alloc: A, limits: Limits) -> Result<Self, NewError>
+        ensures bad { (b : Bad) → IsErrOf result (NewError.BadLimits b) ↔ (first_bad limits ≡ Err b) }
+        ensures fresh { IfOk result (λ d. After (state d) [] []) }
+        ensures unrefused { IfOk result (λ d. (state d).refusal ≡ None) }
+        ensures rules { IfOk result (λ d. (state d).rules ≡ with_lenient true (rules_of limits)) }
+        ensures nothing_held { IfOk result (λ d. HoldsNothing d) }
+        ensures nothing_given { IfOk result (λ d. (state d).given ≡ None) }
+    {
+        Self::asked(alloc, limits, true)
+    }
+
+    fn asked(alloc: A, limits: Limits, lenient: bool) -> Result<Self, NewError>
+        ensures bad { (b : Bad) → IsErrOf result (NewError.BadLimits b) ↔ (first_bad limits ≡ Err b) }
+        ensures fresh { IfOk result (λ d. After (state d) [] []) }
+        ensures unrefused { IfOk result (λ d. (state d).refusal ≡ None) }
+        ensures rules { IfOk result (λ d. (state d).rules ≡ with_lenient lenient (rules_of limits)) }
+        ensures nothing_held { IfOk result (λ d. HoldsNothing d) }
+        ensures nothing_given { IfOk result (λ d. (state d).given ≡ None) }
+    {
         if let Err(bad) = limits.check() {
             return Err(NewError::BadLimits(bad));
         }
-        match Self::with_room(alloc, limits) {
+        match Self::with_room(alloc, Asked::new(&limits, lenient)) {
             Ok(decoder) => Ok(decoder),
             Err(NoMemory) => Err(NewError::NoMemory),
         }
     }
 
-    fn with_room(alloc: A, limits: Limits) -> Result<Self, NoMemory>
+    fn with_room(alloc: A, limits: Asked) -> Result<Self, NoMemory>
         requires cell { 1 ≤ limits.cell }
         requires entries { limits.entries < 2 ^ 31 }
         ensures fresh { IfOk result (λ d. After (state d) [] []) }
         ensures unrefused { IfOk result (λ d. (state d).refusal ≡ None) }
-        ensures rules { IfOk result (λ d. (state d).rules ≡ rules_of limits) }
+        ensures rules { IfOk result (λ d. (state d).rules ≡ rules_asked limits) }
         ensures nothing_held { IfOk result (λ d. HoldsNothing d) }
         ensures nothing_given { IfOk result (λ d. (state d).given ≡ None) }
     {
         let partial = Partial::new(alloc.clone()?, limits.text.max(limits.cell))?;
         let table = TypeTable::new(alloc.clone()?, limits.entries)?;
-        let types = TypeReader::new(alloc.clone()?, &limits)?;
-        let cells = CellReader::new(alloc, &limits)?;
+        let types = TypeReader::asked(alloc.clone()?, &limits)?;
+        let cells = CellReader::asked(alloc, &limits)?;
         let progress = StreamProgress::new(limits);
         let parts = Parts {
             partial,

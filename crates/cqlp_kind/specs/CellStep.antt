@@ -10,7 +10,7 @@ use Rattle.cqlp_note.specs.Limits.{Rules}
 use Rattle.cqlp_kind.specs.declared.kind.Kind.{Kind}
 use Rattle.cqlp_kind.specs.declared.kind.Kind.TheVariants as kind
 use Rattle.cqlp_kind.specs.Types.{Types, NoMore, Type_and, how_many}
-use Rattle.cqlp_kind.specs.Scalars.{ScalarValue, allows_size, scalar_of, fault_of}
+use Rattle.cqlp_kind.specs.Scalars.{ScalarValue, takes_size, scalar_taken, fault_of}
 
 -- What is still to be read of a cell. A level is the number of values around a value; stop is where the value
 -- around it ends.
@@ -91,10 +91,10 @@ module _ (l : Rules) (p : CellPlace) (rest : List CellSymbol) where
 
   abbrev pub scalar_step : (level : ℕ) → Kind → (n : ℕ) → Step CellEvent CellPlace
   scalar_step level k n =
-      if allows_size k n
+      if takes_size l.lenient k n
       then (if l.parts && is_opaque k && nat_lt l.part n then part_step level 4 0 n
       else if nat_lt l.cell n then Refuses (p.offset, TooLong)
-      else Takes n (λ c. leaf_step p rest level k (scalar_of k c)))
+      else Takes n (λ c. leaf_step p rest level k (scalar_taken l.lenient k c)))
       else Refuses (p.offset, BadSize)
 
   abbrev pub content_step : (level : ℕ) → Kind → Types → (n : ℕ) → Step CellEvent CellPlace

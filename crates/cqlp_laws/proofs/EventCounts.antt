@@ -25,7 +25,7 @@ use Rattle.cqlp_kind.specs.declared.kind.Kind.{Kind}
 use Rattle.cqlp_kind.specs.declared.kind.Kind.TheVariants as kind
 use Rattle.cqlp_kind.specs.Types.{Types, NoMore, Type_and, kinds}
 use Rattle.cqlp_kind.specs.TypeStep.{TypeSymbol, TypePlace, Option_at, Text_of, Fields_of, Whole, option_step, type_step_at, type_step}
-use Rattle.cqlp_kind.specs.Scalars.{ScalarValue, allows_size, scalar_of}
+use Rattle.cqlp_kind.specs.Scalars.{ScalarValue, takes_size, scalar_taken}
 use Rattle.cqlp_kind.specs.CellStep.{CellSymbol, Value_of, Items_of, Close_of, Content_from, CellEvent, CellPlace, cell_copies, values_of, is_opaque, leaf_step, fielded_step, close_step, counted_step, part_step, scalar_step, content_step, sized_step, value_step, items_step, cell_step_at, cell_step}
 use Rattle.cqlp_grammar.specs.declared.grammar.Group.{Group}
 use Rattle.cqlp_grammar.specs.declared.grammar.Group.TheVariants as group_of
@@ -297,9 +297,9 @@ module _ (l : Rules) (some : 1 ≤ l.part) (p : CellPlace) where
       leaf_pays level k (Some v) c size = omega (arith, size)
 
       scalar_pays : (level : ℕ) (k : Kind) (n : ℕ) → Always Pays (scalar_step l p rest level k n) b
-      scalar_pays level k n = either_always Pays b (allows_size k n) _ _ (λ _.
+      scalar_pays level k n = either_always Pays b (takes_size l.lenient k n) _ _ (λ _.
           either_always Pays b (l.parts && is_opaque k && ltb l.part n) _ _ (λ _. part_pays level 4 0 n (cell_dues rest) b (omega (arith, long))) (λ _.
-          either_always Pays b (ltb l.cell n) _ _ (λ _. tt) (λ _ c size. leaf_pays level k (scalar_of k c) (b ++ c) (omega (arith, long, length-append b c))))) (λ _. tt)
+          either_always Pays b (ltb l.cell n) _ _ (λ _. tt) (λ _ c size. leaf_pays level k (scalar_taken l.lenient k c) (b ++ c) (omega (arith, long, length-append b c))))) (λ _. tt)
 
       fielded_pays : (level : ℕ) (k : Kind) (inner : Types) (n : ℕ) → Always Pays (fielded_step p rest level k inner n) b
       fielded_pays level k inner n = omega (arith, long)

@@ -26,7 +26,7 @@ use Rattle.cqlp_kind.specs.declared.kind.Kind.TheVariants as kind
 use Rattle.cqlp_kind.specs.declared.node.Node.{Node}
 use Rattle.cqlp_kind.specs.Types.{Types, NoMore, Type_and, kinds}
 use Rattle.cqlp_kind.specs.TypeStep.{TypeSymbol, TypeEvent, TypePlace, Option_at, Text_of, Fields_of, Whole, symbol_copies, parameters_of, inner_symbols, arity_of, with_arity, with_span, settled, count_in, option_step, type_step_at, type_step}
-use Rattle.cqlp_kind.specs.Scalars.{ScalarValue, allows_size, scalar_of}
+use Rattle.cqlp_kind.specs.Scalars.{ScalarValue, takes_size, scalar_taken}
 use Rattle.cqlp_kind.specs.CellStep.{CellSymbol, Value_of, Items_of, Close_of, Content_from, CellEvent, CellPlace, is_opaque, leaf_step, close_step, counted_step, part_step, scalar_step, content_step, value_step, cell_step_at, cell_step}
 use Rattle.cqlp_grammar.specs.declared.grammar.Group.{Group}
 use Rattle.cqlp_grammar.specs.declared.grammar.Group.TheVariants as group_of
@@ -323,9 +323,9 @@ module _ (l : Rules) (p : CellPlace) where
     close_goes level stop taken b = either_always CellGoes b (ltb p.offset stop) _ _ (λ _. tt) (λ _. omega arith)
 
     scalar_goes : (level : ℕ) (k : Kind) (n : ℕ) (b : List ℕ) → Always CellGoes (scalar_step l p rest level k n) b
-    scalar_goes level k n b = either_always CellGoes b (allows_size k n) _ _ (λ _.
+    scalar_goes level k n b = either_always CellGoes b (takes_size l.lenient k n) _ _ (λ _.
         either_always CellGoes b (l.parts && is_opaque k && ltb l.part n) _ _ (λ _. part_goes level 4 0 n b) (λ _.
-        either_always CellGoes b (ltb l.cell n) _ _ (λ _. tt) (λ _ c long. leaf_goes level k (scalar_of k c) (b ++ c)))) (λ _. tt)
+        either_always CellGoes b (ltb l.cell n) _ _ (λ _. tt) (λ _ c long. leaf_goes level k (scalar_taken l.lenient k c) (b ++ c)))) (λ _. tt)
 
     counted_goes : (level : ℕ) (k : Kind) (inner : Types) (n : ℕ) (b : List ℕ) → Always CellGoes (counted_step p rest level k inner n) b
     unfolding number_of

@@ -27,7 +27,8 @@ use Rattle.cqlp_kind.specs.declared.node.Node.{Node}
 use Rattle.cqlp_kind.specs.Types.{Types, NoMore, Type_and, kinds}
 use Rattle.cqlp_kind.specs.TypeStep.{TypeSymbol, Option_at, Text_of, Fields_of, Whole, TypeEvent, TypePlace, begun_node, parameters_of, inner_symbols, symbol_copies, with_span, with_arity, count_in, fields_settled, option_step, type_step_at, type_step}
 use Rattle.cqlp_kind.specs.TypeStep as types
-use Rattle.cqlp_kind.specs.Scalars.{ScalarValue, only_if, allows_size, scalar_of}
+use Rattle.cqlp_cell.proofs.Contents.{kind_taken}
+use Rattle.cqlp_kind.specs.Scalars.{ScalarValue, only_if, allows_size, scalar_of, takes_size, scalar_taken}
 use Rattle.cqlp_kind.specs.CellStep.{CellSymbol, Value_of, Items_of, Close_of, Content_from, CellEvent, CellPlace, is_opaque, leaf_step, close_step, counted_step, part_step, scalar_step, content_step, value_step, cell_step_at, cell_step}
 use Rattle.cqlp_grammar.specs.declared.grammar.Group.{Group}
 use Rattle.cqlp_grammar.specs.declared.grammar.Group.TheVariants as group_of
@@ -364,9 +365,9 @@ module _ (l : Rules) (row column : ℕ) (p : CellPlace) where
   Ends x b = Lies (content_in (cell_event row column x.event)) (x.at + before_content (cell_event row column x.event)) p.offset b
 
   module _ (rest : List CellSymbol) where
-    leaf_ends : (level : ℕ) (k : Kind) (front d : List ℕ) (o : Option ScalarValue) → allows_size k (length d) ≡ true → scalar_of k d ≡ o → length front ≡ 4 → Always Ends (leaf_step p rest level k o) (front ++ d)
+    leaf_ends : (level : ℕ) (k : Kind) (front d : List ℕ) (o : Option ScalarValue) → takes_size l.lenient k (length d) ≡ true → scalar_taken l.lenient k d ≡ o → length front ≡ 4 → Always Ends (leaf_step p rest level k o) (front ++ d)
     leaf_ends level k front d None a e four = tt
-    leaf_ends level k front d (Some v) a e four = lies_behind (scalar_content v) p.offset (before_scalar v) front d four (scalar_lies k d v a e)
+    leaf_ends level k front d (Some v) a e four = let h = kind_taken l.lenient k d v a e in lies_behind (scalar_content v) p.offset (before_scalar v) front d four (scalar_lies h.0 d v h.1 h.2)
 
     part_ends : (level k offset total : ℕ) (b : List ℕ) → length b ≡ k → Always Ends (part_step l p rest level k offset total) b
     part_ends level k offset total b is = λ c long. (b, refl, omega (arith, is))
@@ -375,9 +376,9 @@ module _ (l : Rules) (row column : ℕ) (p : CellPlace) where
     close_ends level stop taken b = either_always Ends b (ltb p.offset stop) _ _ (λ _. tt) (λ _. tt)
 
     scalar_ends : (level : ℕ) (k : Kind) (n : ℕ) (b : List ℕ) → length b ≡ 4 → Always Ends (scalar_step l p rest level k n) b
-    scalar_ends level k n b four = either_always Ends b (allows_size k n) _ _ (λ fits.
+    scalar_ends level k n b four = either_always Ends b (takes_size l.lenient k n) _ _ (λ fits.
         either_always Ends b (l.parts && is_opaque k && ltb l.part n) _ _ (λ _. part_ends level 4 0 n b four) (λ _.
-        either_always Ends b (ltb l.cell n) _ _ (λ _. tt) (λ t d long. leaf_ends level k b d (scalar_of k d) (rw long fits) refl four))) (λ _. tt)
+        either_always Ends b (ltb l.cell n) _ _ (λ _. tt) (λ t d long. leaf_ends level k b d (scalar_taken l.lenient k d) (rw long fits) refl four))) (λ _. tt)
 
     counted_ends : (level : ℕ) (k : Kind) (inner : Types) (n : ℕ) (b : List ℕ) → Always Ends (counted_step p rest level k inner n) b
     unfolding number_of

@@ -1,6 +1,6 @@
 -- Where the reading of a type option and of a cell gets: by each byte one further, within the frame, and with no more
 -- nodes than the limit.
-use Rattle.std.proofs.Common.{◌≡◌, ℕ, ◌+◌, ◌-◌, ◌≤◌, ◌&&◌, ltb, leb, eqb, List, [], ◌∷◌, ◌++◌, length, drop, Option, Some, None, refl, sym, ap, ◌∙◌, subst, arith}
+use Rattle.std.proofs.Common.{◌≡◌, ℕ, ◌+◌, ◌-◌, ◌≤◌, false, ◌&&◌, ltb, leb, eqb, List, [], ◌∷◌, ◌++◌, length, drop, Option, Some, None, refl, sym, ap, ◌∙◌, subst, arith}
 use Rattle.std.specs.Int.{w16, w32, from_be_bytes}
 use Rattle.std.proofs.lemmas.Bool.{ltb-false, leb-false}
 use Rattle.std.proofs.lemmas.List.{append-nil, length-append}
@@ -18,7 +18,7 @@ use Rattle.cqlp_kind.specs.declared.node.Node.{Node}
 use Rattle.cqlp_kind.specs.Types.{Types, NoMore, Type_and, kinds}
 use Rattle.cqlp_kind.specs.TypeStep.{TypeSymbol, Option_at, Text_of, Fields_of, Whole, TypeEvent, TypePlace, parameters_of, inner_symbols, symbol_copies, with_arity, with_span, begun_node, settled, type_place, option_step, count_in, type_step_at, type_step}
 use Rattle.cqlp_type.proofs.Nodes.{length_with_span, length_with_arity}
-use Rattle.cqlp_kind.specs.Scalars.{ScalarValue, allows_size, scalar_of}
+use Rattle.cqlp_kind.specs.Scalars.{ScalarValue, takes_size, scalar_taken}
 use Rattle.cqlp_kind.specs.CellStep.{CellSymbol, Value_of, Items_of, Close_of, Content_from, CellEvent, CellPlace, is_opaque, leaf_step, close_step, counted_step, part_step, scalar_step, content_step, value_step, cell_step_at, cell_step}
 use Rattle.cqlp_value.specs.Values.{Values, ValueSpells, value_items}
 use Rattle.cqlp_value.proofs.ReadBack.{Comes, runs_come}
@@ -115,9 +115,9 @@ module _ (l : Rules) (p : CellPlace) where
     close_goes level stop taken b = either_always Goes b (ltb p.offset stop) _ _ (λ _. tt) (λ _. refl)
 
     scalar_goes : (level : ℕ) (k : Kind) (n : ℕ) (b : List ℕ) → Always Goes (scalar_step l p rest level k n) b
-    scalar_goes level k n b = either_always Goes b (allows_size k n) _ _ (λ _.
+    scalar_goes level k n b = either_always Goes b (takes_size l.lenient k n) _ _ (λ _.
         either_always Goes b (l.parts && is_opaque k && ltb l.part n) _ _ (λ _. part_goes level 4 0 n b) (λ _.
-        either_always Goes b (ltb l.cell n) _ _ (λ _. tt) (λ _ c long. leaf_goes level k (scalar_of k c) (b ++ c)))) (λ _. tt)
+        either_always Goes b (ltb l.cell n) _ _ (λ _. tt) (λ _ c long. leaf_goes level k (scalar_taken l.lenient k c) (b ++ c)))) (λ _. tt)
 
     counted_goes : (level : ℕ) (k : Kind) (inner : Types) (n : ℕ) (b : List ℕ) → Always Goes (counted_step p rest level k inner n) b
     unfolding number_of
@@ -165,10 +165,10 @@ pub record IsCellRead (l : Rules) (k : Kind) (inner : Types) (at stop : ℕ) (b 
   pub within : at + length b ≤ stop
   pub onward : q.offset ≡ at + length b
 
-pub cell_back : (l : Rules) (k : Kind) (inner : Types) (at stop : ℕ) (q : CellPlace) (b : List ℕ) (es : List (ℕ × CellEvent)) → at ≤ stop → q.symbols ≡ [] → Runs (cell_step l) (record { offset = at; symbols = Value_of k inner 0 stop ∷ [] }) b es q []
+pub cell_back : (l : Rules) → l.lenient ≡ false → (k : Kind) (inner : Types) (at stop : ℕ) (q : CellPlace) (b : List ℕ) (es : List (ℕ × CellEvent)) → at ≤ stop → q.symbols ≡ [] → Runs (cell_step l) (record { offset = at; symbols = Value_of k inner 0 stop ∷ [] }) b es q []
     → IsCellRead l k inner at stop b es q
-cell_back l k inner at stop q b es inside done r =
-    let h : Comes l (Value_of k inner 0 stop ∷ []) at es b = runs_come l es (record { offset = at; symbols = Value_of k inner 0 stop ∷ [] }) q b r done in
+cell_back l strict k inner at stop q b es inside done r =
+    let h : Comes l (Value_of k inner 0 stop ∷ []) at es b = runs_come l strict es (record { offset = at; symbols = Value_of k inner 0 stop ∷ [] }) q b r done in
     let all : b ≡ h.front = h.whole ∙ ap (λ (y : List ℕ). h.front ++ y) h.later.1 ∙ append-nil h.front in
     let its = value_items l at k inner h.values in
     record {

@@ -16,7 +16,7 @@ use Rattle.cqlp_kind.specs.declared.kind.Kind.{Kind}
 use Rattle.cqlp_kind.specs.declared.kind.Kind.TheVariants as kind
 use Rattle.cqlp_kind.specs.Types.{Types, NoMore, Type_and}
 use Rattle.cqlp_kind.specs.TypeStep.{TypeSymbol, TypePlace, type_step}
-use Rattle.cqlp_kind.specs.Scalars.{ScalarValue, allows_size, scalar_of}
+use Rattle.cqlp_kind.specs.Scalars.{ScalarValue, takes_size, scalar_taken}
 use Rattle.cqlp_kind.specs.CellStep.{CellSymbol, Value_of, Items_of, Close_of, Content_from, CellEvent, CellPlace, cell_copies, values_of, is_opaque, leaf_step, close_step, counted_step, part_step, scalar_step, content_step, value_step, cell_step_at, cell_step}
 use Rattle.cqlp_grammar.specs.declared.grammar.Role.{Role}
 use Rattle.cqlp_grammar.specs.Productions.{Symbol, Stream, In, In_type, Cell_due, In_cell, Extra, message, following, fault_in}
@@ -96,9 +96,9 @@ module _ (l : Rules) (stop : ℕ) (p : CellPlace) where
     close_goes level end taken b le = either_always Goes b (ltb p.offset end) _ _ (λ _. tt) (λ _. made rest (length b) fit le)
 
     scalar_goes : (level : ℕ) (k : Kind) (n : ℕ) (b : List ℕ) → (p.offset + length b) + n ≤ stop → Always Goes (scalar_step l p rest level k n) b
-    scalar_goes level k n b le = either_always Goes b (allows_size k n) _ _ (λ _.
+    scalar_goes level k n b le = either_always Goes b (takes_size l.lenient k n) _ _ (λ _.
         either_always Goes b (l.parts && is_opaque k && ltb l.part n) _ _ (λ _. part_goes level 4 0 n b (omega (arith, le))) (λ _.
-        either_always Goes b (ltb l.cell n) _ _ (λ _. tt) (λ _ c long. leaf_goes level k (scalar_of k c) (b ++ c) (omega (arith, le, long, length-append b c))))) (λ _. tt)
+        either_always Goes b (ltb l.cell n) _ _ (λ _. tt) (λ _ c long. leaf_goes level k (scalar_taken l.lenient k c) (b ++ c) (omega (arith, le, long, length-append b c))))) (λ _. tt)
 
     counted_goes : (level : ℕ) (k : Kind) (inner : Types) (n : ℕ) (b : List ℕ) → length b ≡ 4 → p.offset + 4 + n ≤ stop → Always Goes (counted_step p rest level k inner n) b
     unfolding number_of

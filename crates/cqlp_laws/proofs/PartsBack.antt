@@ -262,7 +262,7 @@ module _ (l : Rules) (stop : ℕ) where
 
     -- ---- a cell
 
-    module _ (row column : ℕ) (c : Kind) (inner : Types) where
+    module _ (row column : ℕ) (c : Kind) (inner : Types) (strict : l.lenient ≡ false) where
       abbrev of_cell : CellPlace → Place
       of_cell = place_of_cells row column (inside at stop rest told) rest
 
@@ -286,7 +286,7 @@ module _ (l : Rules) (stop : ℕ) where
       cell_whole : (items : List (ℕ × CellEvent)) (last : CellPlace) (front between : List ℕ) (es later : List (ℕ × Event)) → b ≡ front ++ between → es ≡ map (λ e. (e.0, cell_event row column e.1)) items ++ later → last.symbols ≡ []
           → Runs (cell_step l) first_value front items last [] → length es ≤ n → Reads l (of_cell last) between later q left → ReadsParts l at stop (Cell_due row column c inner ∷ rest) told b es q left
       cell_whole items last front between es later whole events over run le onward =
-          cell_joined items last front between es later whole events over (cells_kept l items first_value last front run) (cell_back l c inner at stop last front items room over run)
+          cell_joined items last front between es later whole events over (cells_kept l items first_value last front run) (cell_back l strict c inner at stop last front items room over run)
           (shorter_part (λ e. (e.0, cell_event row column e.1)) items es later n events (some_values items last front over run) le) onward
 
       cell_read : (e : ℕ × Event) (es : List (ℕ × Event)) → length (e ∷ es) ≤ n → Reads l (inside at stop (Cell_due row column c inner ∷ rest) told) b (e ∷ es) q left → ReadsParts l at stop (Cell_due row column c inner ∷ rest) told b (e ∷ es) q left
@@ -298,7 +298,7 @@ module _ (l : Rules) (stop : ℕ) where
 
 -- ---- all parts
 
-module _ (l : Rules) (stop : ℕ) (on : l.types ≡ true) where
+module _ (l : Rules) (stop : ℕ) (on : l.types ≡ true) (strict : l.lenient ≡ false) where
   read_by : (n : ℕ) → Shorter l stop n
   read_by n es at [] told b q left lt due room ends run = absurd due
   read_by n es at (Stream ∷ rest) told b q left lt due room ends run = absurd due
@@ -314,9 +314,9 @@ module _ (l : Rules) (stop : ℕ) (on : l.types ≡ true) where
   read_by (suc n) (e ∷ es) at (In_type ts ∷ rest) told b q left lt due room ends run =
       subst (λ (us : List TypeSymbol). ReadsParts l at stop (In_type us ∷ rest) told b (e ∷ es) q left) (sym due.0)
       (type_read l stop n (read_by n) at rest told b q left due.1 room ends (e ∷ es) (omega arith) (subst (λ (us : List TypeSymbol). Reads l (inside at stop (In_type us ∷ rest) told) b (e ∷ es) q left) due.0 run))
-  read_by (suc n) (e ∷ es) at (Cell_due row column k inner ∷ rest) told b q left lt due room ends run = cell_read l stop n (read_by n) at rest told b q left due room ends row column k inner e es (omega arith) run
+  read_by (suc n) (e ∷ es) at (Cell_due row column k inner ∷ rest) told b q left lt due room ends run = cell_read l stop n (read_by n) at rest told b q left due room ends row column k inner strict e es (omega arith) run
 
 -- What is read in a frame, up to where its end or a header is due, begins with parts that its bytes spell.
-pub parts_back : (l : Rules) (at stop : ℕ) (ss : List Symbol) (told : Types) (b : List ℕ) (es : List (ℕ × Event)) (q : Place) (left : List ℕ) → l.types ≡ true → AreDue ss → at ≤ stop → IsAtEnd q.symbols → Reads l (inside at stop ss told) b es q left
+pub parts_back : (l : Rules) (at stop : ℕ) (ss : List Symbol) (told : Types) (b : List ℕ) (es : List (ℕ × Event)) (q : Place) (left : List ℕ) → l.types ≡ true → l.lenient ≡ false → AreDue ss → at ≤ stop → IsAtEnd q.symbols → Reads l (inside at stop ss told) b es q left
     → ReadsParts l at stop ss told b es q left
-parts_back l at stop ss told b es q left on due room ends run = read_by l stop on (suc (length es)) es at ss told b q left (omega arith) due room ends run
+parts_back l at stop ss told b es q left on strict due room ends run = read_by l stop on strict (suc (length es)) es at ss told b q left (omega arith) due room ends run

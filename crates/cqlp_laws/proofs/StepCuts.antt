@@ -16,7 +16,7 @@ use Rattle.cqlp_kind.specs.declared.kind.Kind.{Kind}
 use Rattle.cqlp_kind.specs.declared.kind.Kind.TheVariants as kind
 use Rattle.cqlp_kind.specs.Types.{Types, NoMore, Type_and, kinds, has_no_items}
 use Rattle.cqlp_kind.specs.TypeStep.{TypeSymbol, TypePlace, Option_at, Text_of, Fields_of, Whole, option_step, type_step_at}
-use Rattle.cqlp_kind.specs.Scalars.{allows_size, scalar_of}
+use Rattle.cqlp_kind.specs.Scalars.{takes_size, scalar_taken}
 use Rattle.cqlp_kind.specs.CellStep.{CellSymbol, Value_of, Items_of, Close_of, Content_from, CellPlace, leaf_step, part_step, scalar_step, content_step, value_step, cell_step_at}
 use Rattle.cqlp_grammar.specs.Productions.{Symbol, Stream, In, In_type, Cell_due, In_cell, Extra}
 use Rattle.cqlp_laws.specs.Excess.{with_limits, first_number, IsLong16, IsLong32, IsLongField, comes_in_parts, IsLongValue, IsLongInCell, IsOption, IsOver, ExceedsInType, ExceedsAt}
@@ -238,10 +238,10 @@ module _ (l : Rules) (text cell entries depth : ℕ) (texts : l.text ≤ text) (
       scalar_cut k scalar came low fit =
           let n = first_number 4 w32 bytes in
           let E = LongValue k in
-          either_cut AtLimit E 4 (drop 4 bytes) (allows_size k n) _ _ _ _ (λ ok.
+          either_cut AtLimit E 4 (drop 4 bytes) (takes_size l.lenient k n) _ _ _ _ (λ ok.
           either_cut AtLimit E 4 (drop 4 bytes) (comes_in_parts l k n) _ _ _ _ (λ t. same refl (clean_says AtLimit (part_step l p rest level 4 0 n) 4 (drop 4 bytes) (λ c. tt)) (λ f e. let no : true ≡ false = sym t ∙ e.1.1.whole in absurd cc)) (λ one.
           limit_cut AtLimit E 4 (drop 4 bytes) l.cell cell n (p.offset, TooLong) _ _ cells (λ lt. (refl, (refl, record { scalar = scalar; content = (low, record { came = came; fits = fit; long = lt }); allowed = ok; whole = one }))) (λ ge.
-          same refl (clean_says AtLimit (Takes n (λ c. leaf_step p rest level k (scalar_of k c))) 4 (drop 4 bytes) (λ c. leaf_never p rest level k (scalar_of k c))) (λ f e. absurd (omega (arith, ge, e.1.1.content.1.long))))))
+          same refl (clean_says AtLimit (Takes n (λ c. leaf_step p rest level k (scalar_taken l.lenient k c))) 4 (drop 4 bytes) (λ c. leaf_never p rest level k (scalar_taken l.lenient k c))) (λ f e. absurd (omega (arith, ge, e.1.1.content.1.long))))))
           (λ t. same refl (λ e. e) (λ f e. let no : true ≡ false = sym e.1.1.allowed ∙ t in absurd cc))
 
       no_scalar : (k : Kind) → has_no_items k ≡ false → (f : ℕ × Reason) → LongValue k f → ⊥

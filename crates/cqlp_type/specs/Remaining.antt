@@ -13,7 +13,7 @@ use Rattle.cqlp_note.specs.Heading.{beside_number}
 use Rattle.cqlp_note.specs.Partial.{item_value}
 use Rattle.cqlp_kind.specs.declared.kind.Kind.{Kind}
 use Rattle.cqlp_kind.specs.declared.node.Node.{Node}
-use Rattle.cqlp_note.specs.declared.limits.Limits.{Limits}
+use Rattle.cqlp_note.specs.declared.limits.Asked.{Asked}
 use Rattle.cqlp_type.specs.declared.remaining.Remaining.{Remaining}
 use Rattle.cqlp_type.specs.declared.remaining.OptionStage.{OptionStage}
 use Rattle.cqlp_type.specs.declared.remaining.OptionStage.TheVariants as stage
@@ -62,7 +62,7 @@ abbrev pub HasRoom : OptionStage → Nest → Type 0
 HasRoom s n = n.height + opened s ≤ n.room
 
 -- the same of what is still to be read, in a reader with these limits
-abbrev pub Fits : {A : Type 0} → Limits → Remaining A → Type 0
+abbrev pub Fits : {A : Type 0} → Asked → Remaining A → Type 0
 Fits l r = HasRoom r.stage r.open_options × (r.open_options.room ≡ l.depth)
 
 abbrev pub symbols_of : {A : Type 0} → Remaining A → List TypeSymbol

@@ -2,7 +2,7 @@
 
 ghost use Rattle.std.specs.Prelude.{◌≡◌, ◌+◌, ◌<◌, ◌≤◌, ◌++◌, ◌∷◌, List, ℕ, true, length, IfOk};
 ghost use Rattle.cqlp_note.specs.Partial.{item_value};
-ghost use Rattle.cqlp_note.specs.Limits.{rules_of};
+ghost use Rattle.cqlp_note.specs.Limits.{rules_asked};
 ghost use Rattle.cqlp_type.specs.OpenOptions.{entered, entered_symbols};
 ghost use Rattle.cqlp_type.specs.declared.remaining.OptionStage.TheVariants as stage;
 ghost use Rattle.cqlp_type.specs.Remaining.{Closes, FollowsId, FollowsItem, HasRoom, IsPart, Keeps, Settles};
@@ -13,7 +13,7 @@ use crate::advance::TypeOutline;
 use crate::open_options::{NextOption, OpenOptions};
 use crate::table::TypeTable;
 use cqlp_kind::{Kind, Node};
-use cqlp_note::{Field, FieldOutline, Limits, Prim, Reason};
+use cqlp_note::{Asked, Field, FieldOutline, Prim, Reason};
 use std::alloc::Allocator;
 
 /// What of an option is read now.
@@ -48,7 +48,7 @@ impl<A: Allocator> Remaining<A> {
     /// Goes on after an item: what part of the option it is, or why its type is refused.
     pub(crate) fn follow<C: Allocator>(
         &mut self,
-        limits: &Limits,
+        limits: &Asked,
         item: FieldOutline,
         table: &mut TypeTable<C>,
     ) -> Result<TypeOutline, Reason>
@@ -56,14 +56,14 @@ impl<A: Allocator> Remaining<A> {
         requires lawful { HasRoom self.old.stage self.old.open_options }
         requires depth { self.old.open_options.room ≡ limits.now.depth }
         requires entries { limits.now.entries ≤ table.old.room }
-        requires types { Keeps (rules_of limits.now) (symbols_of self.old) table.old.nodes (number_of item) }
+        requires types { Keeps (rules_asked limits.now) (symbols_of self.old) table.old.nodes (number_of item) }
         ensures lawful { HasRoom self.new.stage self.new.open_options }
         ensures depth { self.new.open_options.room ≡ limits.now.depth }
         ensures under_way { is_under_way self.new.stage ≡ true }
         ensures table { table.new.room ≡ table.old.room }
         ensures entries { length table.old.nodes ≤ limits.now.entries → length table.new.nodes ≤ limits.now.entries }
         ensures part { IfOk result (λ q. IsPart (symbols_of self.old) item q) }
-        ensures follows { FollowsItem (rules_of limits.now) self.old table.old item result self.new table.new }
+        ensures follows { FollowsItem (rules_asked limits.now) self.old table.old item result self.new table.new }
     {
         match self.stage {
             OptionStage::Idle | OptionStage::Done => unreachable!(),
@@ -96,7 +96,7 @@ impl<A: Allocator> Remaining<A> {
     /// Goes on after the id of an option, whose node is added to the table.
     fn take_id<C: Allocator>(
         &mut self,
-        limits: &Limits,
+        limits: &Asked,
         id: u16,
         table: &mut TypeTable<C>,
     ) -> Result<TypeOutline, Reason>
@@ -104,14 +104,14 @@ impl<A: Allocator> Remaining<A> {
         requires lawful { HasRoom self.old.stage self.old.open_options }
         requires depth { self.old.open_options.room ≡ limits.now.depth }
         requires entries { limits.now.entries ≤ table.old.room }
-        requires types { Keeps (rules_of limits.now) (symbols_of self.old) table.old.nodes id }
+        requires types { Keeps (rules_asked limits.now) (symbols_of self.old) table.old.nodes id }
         ensures lawful { HasRoom self.new.stage self.new.open_options }
         ensures depth { self.new.open_options.room ≡ limits.now.depth }
         ensures under_way { is_under_way self.new.stage ≡ true }
         ensures table { table.new.room ≡ table.old.room }
         ensures entries { length table.old.nodes ≤ limits.now.entries → length table.new.nodes ≤ limits.now.entries }
         ensures part { IfOk result (λ q. (k : Kind) × (q ≡ TypeOutline.Node k)) }
-        ensures follows { FollowsId (rules_of limits.now) self.old table.old id result self.new table.new }
+        ensures follows { FollowsId (rules_asked limits.now) self.old table.old id result self.new table.new }
     {
         let Some(kind) = Kind::from_id(id) else {
             return Err(Reason::BadType);
