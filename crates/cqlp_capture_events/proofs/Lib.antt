@@ -1,6 +1,3 @@
 pub mod Parts
-pub mod Walks
-pub mod Reading
-pub mod Sides
 pub mod Heard
 pub mod WrittenOnce

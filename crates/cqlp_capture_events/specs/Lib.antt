@@ -1,7 +1,4 @@
-pub mod Spots
-pub mod Frames
-pub mod Reading
-pub mod Sides
+pub mod Lines
 pub mod Tables
 pub mod Listening
 pub mod Capturing

@@ -1,23 +1,32 @@
 -- The connections that are watched, each in a slot of a table.
-use Rattle.std.specs.Prelude.{ℕ, ◌==◌, Bool, true, false, List, [], Option, Some, None, slice_index_or, slice_set}
+use Rattle.std.specs.Prelude.{◌≡◌, ℕ, ◌==◌, Bool, true, false, List, [], Option, Some, None, slice_index_or, slice_set}
 use Rattle.std.specs.List.{position}
 use Rattle.cqlp_connections.specs.declared.ends.Way.{Way}
 use Rattle.cqlp_connections.specs.declared.ends.Way.TheVariants.{Requests, Responses}
 use Rattle.cqlp_connections.specs.declared.told.Told.{Told}
-use Rattle.cqlp_capture_events.specs.Sides.{Side, Telling, begun, step_told}
+use Rattle.cqlp_capture_frames.specs.Directions.{Direction, Telling, begun, step_told}
+use Rattle.cqlp_capture_events.specs.declared.lines.Lines.{Lines}
+use Rattle.cqlp_capture_events.specs.Lines.{line_manner, lines_of, rules}
 
 -- a connection's number, if the slot is not free, and its two directions
 pub record Slot : Type 0 where
   pub number : Option ℕ
-  pub requests : Side
-  pub responses : Side
+  pub requests : Direction
+  pub responses : Direction
 
-abbrev pub slot : Option ℕ → (requests responses : Side) → Slot
+abbrev pub slot : Option ℕ → (requests responses : Direction) → Slot
 slot number requests responses = record { number = number; requests = requests; responses = responses }
 
 -- a connection of which nothing came
 abbrev pub fresh : Option ℕ → Slot
-fresh number = slot number (begun false false) (begun true false)
+fresh number = slot number (begun rules false false) (begun rules true false)
+
+-- Both are read by the limits.
+pub record IsSlot (requests responses : Direction) : Type 0 where
+  pub rules_of_requests : requests.rules ≡ rules
+  pub rules_of_responses : responses.rules ≡ rules
+  pub requests_go : requests.responses ≡ false
+  pub responses_go : responses.responses ≡ true
 
 abbrev pub is_same : Option ℕ → Option ℕ → Bool
 is_same None None = true
@@ -56,15 +65,15 @@ pub record Heard : Type 0 where
   pub text : List ℕ
   pub slot : Slot
 
-abbrev pub of_requests : Telling → Slot → Heard
+abbrev pub of_requests : Telling Lines → Slot → Heard
 of_requests t s = record { text = t.text; slot = slot s.number t.after s.responses }
 
-abbrev pub of_responses : Telling → Slot → Heard
+abbrev pub of_responses : Telling Lines → Slot → Heard
 of_responses t s = record { text = t.text; slot = slot s.number s.requests t.after }
 
 abbrev pub heard_of : Way → Told → List ℕ → Slot → Heard
-heard_of Requests t b s = of_requests (step_told t.step t.number false t.at b s.requests) s
-heard_of Responses t b s = of_responses (step_told t.step t.number true t.at b s.responses) s
+heard_of Requests t b s = of_requests (step_told line_manner t.step t.at b (lines_of t.number false) s.requests) s
+heard_of Responses t b s = of_responses (step_told line_manner t.step t.at b (lines_of t.number true) s.responses) s
 
 abbrev pub heard : Told → List ℕ → Slot → Heard
 heard t b s = heard_of t.way t b s

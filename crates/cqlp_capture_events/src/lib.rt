@@ -2,14 +2,11 @@
 #![tactic(auto)]
 
 mod capturing;
-mod drain;
 mod events;
-mod history;
 pub mod laws;
 mod limits;
-mod side;
+mod lines;
 mod slot;
-mod spot;
 mod table;
 
 pub use capturing::write_events;

@@ -1,12 +1,15 @@
 //! One connection that is watched.
 
-ghost use Rattle.std.specs.Prelude.{◌≡◌, IfOk, OnOk};
+ghost use Rattle.std.specs.Prelude.{◌≡◌, false, IfOk, OnOk};
 ghost use Rattle.cqlp_text.specs.Written.{Writes};
-ghost use Rattle.cqlp_capture_events.specs.Sides.{begun, step_told};
+ghost use Rattle.cqlp_capture_frames.specs.Directions.{begun};
+ghost use Rattle.cqlp_capture_events.specs.Lines.{lines_of, rules};
 
-use crate::side::Side;
-use crate::spot::Spot;
+use crate::limits::LIMITS;
+use crate::lines::Lines;
+use cqlp_capture_frames::Direction;
 use cqlp_connections::{Told, Way};
+use cqlp_decode::NewError;
 use cqlp_grammar::SinkFault;
 use cqlp_text::{Pen, TextWriter};
 use std::alloc::{AllocError, Allocator, Global};
@@ -16,16 +19,18 @@ use std::marker::Model;
 #[derive(Drop)]
 pub(crate) struct Slot<A: Allocator = Global> {
     number: Option<u64>,
-    requests: Side<A>,
-    responses: Side<A>,
+    requests: Direction<A>,
+    responses: Direction<A>,
 }
 
 impl<A: Allocator> Model for Slot<A> {
-    ghost use Rattle.cqlp_capture_events.specs.Tables.{Slot, slot};
+    ghost use Rattle.cqlp_capture_events.specs.Tables.{IsSlot, Slot, slot};
 
     ghost Value = { Slot };
 
     ghost view = { λ s. slot s.number s.requests s.responses };
+
+    ghost invariant = { λ s. IsSlot s.requests s.responses };
 }
 
 impl<A: Allocator + Clone> Slot<A> {
@@ -38,9 +43,22 @@ impl<A: Allocator + Clone> Slot<A> {
     {
         Ok(Slot {
             number: None,
-            requests: Side::new(alloc.clone()?, false)?,
-            responses: Side::new(alloc, true)?,
+            requests: new_direction(alloc.clone()?, false)?,
+            responses: new_direction(alloc, true)?,
         })
+    }
+}
+
+/// A direction of which nothing came. All memory is taken here.
+fn new_direction<A: Allocator + Clone>(
+    alloc: A,
+    responses: bool,
+) -> Result<Direction<A>, AllocError>
+    ensures { IfOk result (λ d. d ≡ begun rules responses false) }
+{
+    match Direction::new(alloc, LIMITS, responses) {
+        Ok(direction) => Ok(direction),
+        Err(NewError::NoMemory | NewError::BadLimits(_)) => Err(AllocError),
     }
 }
 
@@ -64,8 +82,8 @@ impl<A: Allocator> Slot<A> {
         ensures { self.new ≡ fresh (Some number) }
     {
         self.number = Some(number);
-        self.requests.begin(false, false);
-        self.responses.begin(true, false);
+        self.requests.restart(false);
+        self.responses.restart(false);
     }
 
     /// The connection leaves, and the slot is free.
@@ -86,23 +104,23 @@ impl<A: Allocator> Slot<A> {
         ensures after { OnOk result (self.new ≡ (heard told.now bytes.now self.old).slot) }
     {
         match told.way {
-            Way::Requests => self
-                .requests
-                .hear(told.step, spot_of(told, false), bytes, writer),
-            Way::Responses => self
-                .responses
-                .hear(told.step, spot_of(told, true), bytes, writer),
+            Way::Requests => {
+                let mut lines = lines_of(told.number, false);
+                self.requests
+                    .hear(told.step, told.at, bytes, &mut lines, writer)
+            }
+            Way::Responses => {
+                let mut lines = lines_of(told.number, true);
+                self.responses
+                    .hear(told.step, told.at, bytes, &mut lines, writer)
+            }
         }
     }
 }
 
-/// Where something is told.
-fn spot_of(told: &Told, responses: bool) -> Spot
-    ensures { result ≡ record { number = told.now.number; responses = responses; at = told.now.at } }
+/// The lines of a direction of the connection with this number.
+fn lines_of(number: u64, responses: bool) -> Lines
+    ensures { result ≡ lines_of number responses }
 {
-    Spot {
-        number: told.number,
-        responses,
-        at: told.at,
-    }
+    Lines { number, responses }
 }

@@ -1,0 +1,136 @@
+-- What is told of one direction of a connection.
+use Rattle.std.specs.Prelude.{◌≡◌, ℕ, zero, suc, ◌+◌, ◌-◌, ◌*◌, ◌==◌, ◌&&◌, Bool, true, false, not, nat_le, if◌then◌else◌}
+use Rattle.std.specs.Prelude.{List, [], ◌++◌, length, take, drop, Option, Some, None, Result, Ok, Err}
+use Rattle.cqlp_note.specs.declared.header.Header.{Header}
+use Rattle.cqlp_note.specs.declared.header.TheConstants.Header.{LONGEST_BODY}
+use Rattle.cqlp_note.specs.Heading.{answers, has, header_bytes, same}
+use Rattle.cqlp_note.specs.Limits.{Rules}
+use Rattle.cqlp_text.specs.Written.{Receives, Written}
+use Rattle.cqlp_reassembly.specs.declared.stream.StreamStep.{StreamStep}
+use Rattle.cqlp_reassembly.specs.declared.stream.StreamStep.TheVariants as step
+use Rattle.cqlp_watch.specs.declared.heads.Heads.{Heads}
+use Rattle.cqlp_watch.specs.declared.heads.Heard.{Heard}
+use Rattle.cqlp_watch.specs.declared.heads.Heard.TheVariants as heard_as
+use Rattle.cqlp_watch.specs.Directions as watch
+use Rattle.cqlp_watch.specs.Directions.{Steps, anew}
+use Rattle.cqlp_capture_frames.specs.Faults.{Stops}
+use Rattle.cqlp_capture_frames.specs.Happenings.{Happening, Manner, Begins, Compressed, Closes, Ends, Gap, after_all, texts}
+use Rattle.cqlp_capture_frames.specs.Frames.{Open, behind, more_of, open_after, opened, taken, types_read}
+
+-- The rules that its frames are read by, whether they are responses, where they begin and end, and the frame of which bytes are read, if there
+-- is one.
+pub record Direction : Type 0 where
+  pub rules : Rules
+  pub responses : Bool
+  pub heads : Heads
+  pub frame : Option Open
+
+abbrev pub direction : Rules → (responses : Bool) → Heads → Option Open → Direction
+direction rules responses heads frame = record { rules = rules; responses = responses; heads = heads; frame = frame }
+
+-- Nothing came. Its first byte begins a frame or not.
+abbrev pub begun : Rules → (responses from_start : Bool) → Direction
+begun rules responses from_start = direction rules responses (anew responses from_start) None
+
+abbrev pub with_heads : Heads → Direction → Direction
+with_heads heads d = direction d.rules d.responses heads d.frame
+
+abbrev pub with_frame : Option Open → Direction → Direction
+with_frame frame d = direction d.rules d.responses d.heads frame
+
+-- Its rules stay, and whether it is that of the responses.
+abbrev pub IsSame : (old new : Direction) → Type 0
+IsSame old new = (new.rules ≡ old.rules) × (new.responses ≡ old.responses)
+
+-- the text of what is told, the direction after it, and what is known of what happened
+pub record Telling (S : Type 0) : Type 0 where
+  pub text : List ℕ
+  pub after : Direction
+  pub known : S
+
+abbrev pub telling : {S : Type 0} → List ℕ → Direction → S → Telling S
+telling text after known = record { text = text; after = after; known = known }
+
+abbrev pub before : {S : Type 0} → List ℕ → Telling S → Telling S
+before text t = telling (text ++ t.text) t.after t.known
+
+-- The text was taken, and this is left; or a fault came within the text.
+abbrev pub IsTold : {S F : Type 0} → (refuses : F → Bool) → Telling S → Result (Unit {0}) F → (old new : Written) → Direction → S → Type 0
+IsTold refuses t (Ok u) old new d s = Receives old t.text new × (d ≡ t.after) × (s ≡ t.known)
+IsTold refuses t (Err e) old new d s = Stops (refuses e) old t.text new
+
+-- It is not compressed, goes in its opcode's direction, and is not too long (section 2).
+abbrev pub is_plain : Header → Bool
+is_plain h = (not (has h.flags 0x01) && same (answers h.opcode) h.response) && nat_le h.length LONGEST_BODY
+
+abbrev pub is_done : Heard → Bool
+is_done heard_as.More = true
+is_done h = false
+
+module _ {S : Type 0} (m : Manner S) where
+  -- this happens, and leaves this direction
+  abbrev pub happens : Happening → S → Direction → Telling S
+  happens h s d = telling (m.text s h) d (m.after s h)
+
+  -- no more is read of the frame, if one is open
+  abbrev pub closes : Option Open → S → Direction → Telling S
+  closes None s d = telling [] (with_frame None d) s
+  closes (Some f) s d = happens Closes s (with_frame None d)
+
+  -- the frame came whole, if one is open
+  abbrev pub ends : Option Open → S → Direction → Telling S
+  ends None s d = telling [] (with_frame None d) s
+  ends (Some f) s d = happens (Ends (types_read d.rules f.given f.bytes)) s (with_frame None d)
+
+  -- ---- a frame: its header and its body, as far as they come one after the other
+
+  abbrev pub goes_on : List ℕ → Open → S → Direction → Telling S
+  goes_on b f s d = telling (texts m s (more_of d.rules f b)) (with_frame (open_after d.rules f b) d) (after_all m s (more_of d.rules f b))
+
+  abbrev pub begins_plain : (at : ℕ) → Header → S → Direction → Telling S
+  begins_plain at h s d =
+      before (m.text s (Begins at h))
+      (goes_on (header_bytes h) (opened at (taken d.rules (m.types s at h)) []) (m.after s (Begins at h)) d)
+
+  abbrev pub begins : (at : ℕ) → Header → S → Direction → Telling S
+  begins at h s d = if is_plain h then begins_plain at h s d else happens (Compressed at h) s (with_frame None d)
+
+  abbrev pub body : List ℕ → Option Open → S → Direction → Telling S
+  body b None s d = telling [] (with_frame None d) s
+  body b (Some f) s d = goes_on b f s d
+
+  -- the bytes that lie before this offset, and what they are
+  abbrev pub tells : (end : ℕ) → List ℕ → Heard → S → Direction → Telling S
+  tells end b (heard_as.Begins h) s d = begins (end - 9) h s d
+  tells end b heard_as.Body s d = body b d.frame s d
+  tells end b (heard_as.Ends f) s d = ends d.frame s d
+  tells end b heard_as.Stray s d = closes d.frame s d
+  tells end b heard_as.More s d = telling [] d s
+
+  -- ---- bytes, step by step. Their first one begins a segment or not.
+
+  abbrev pub all_told : (steps at : ℕ) → (begins : Bool) → List ℕ → S → Direction → Telling S
+  all_told zero at begins b s d = telling [] d s
+  all_told (suc n) at begins b s d =
+      let x = watch.heard None begins b d.heads in
+      let t = tells (behind at x.step.used) (take x.step.used b) x.step.heard s (with_heads x.after d) in
+      if is_done x.step.heard then t
+      else before t.text (all_told n (behind at x.step.used) (begins && x.step.used == 0) (drop x.step.used b) t.known t.after)
+
+  -- as many steps as they can take: each uses some byte, or ends a frame
+  abbrev pub bytes_told : (at : ℕ) → (begins : Bool) → List ℕ → S → Direction → Telling S
+  bytes_told at begins b s d = all_told (2 * length b + 2) at begins b s d
+
+  -- ---- what a stream tells: the first bytes of a segment's payload begin it
+
+  abbrev pub gap_told : (at length : ℕ) → Telling S → Telling S
+  gap_told at n t = before t.text (happens (Gap at n) t.known t.after)
+
+  abbrev pub step_told : StreamStep → (at : ℕ) → List ℕ → S → Direction → Telling S
+  step_told (step.Began syn) at b s d = closes d.frame s (begun d.rules d.responses syn)
+  step_told (step.Payload from count) at b s d = bytes_told at (from == 0) b s d
+  step_told (step.Held count) at b s d = bytes_told at false b s d
+  step_told (step.Gap n) at b s d = gap_told at n (closes d.frame s (with_heads (watch.after_gap n d.heads).after d))
+  step_told step.Ended at b s d = closes d.frame s (with_heads (watch.after_end d.heads).after d)
+  step_told step.Reset at b s d = closes d.frame s (with_heads (watch.after_end d.heads).after d)
+  step_told step.Done at b s d = telling [] d s
