@@ -22,10 +22,10 @@ use Rattle.cqlp_build.proofs.Finishing.{built_of, directed_by, header_by, none_l
 use Rattle.cqlp_build.proofs.Steps.{AreNone}
 
 begins_of : (h : Header) (n : ℕ) (f : FrameValue) → BeginsWith h f → BeginsWith (of_length h n) f
-begins_of h n f b = record { flags = b.flags; stream = b.stream; opcode = b.opcode; agrees = b.agrees; built = b.built }
+begins_of h n f b = record { flags = b.flags; stream = b.stream; opcode = b.opcode; agrees = b.agrees; built = b.built; cells = b.cells }
 
 begins_back : (h : Header) (n : ℕ) (f : FrameValue) → BeginsWith (of_length h n) f → BeginsWith h f
-begins_back h n f b = record { flags = b.flags; stream = b.stream; opcode = b.opcode; agrees = b.agrees; built = b.built }
+begins_back h n f b = record { flags = b.flags; stream = b.stream; opcode = b.opcode; agrees = b.agrees; built = b.built; cells = b.cells }
 
 module _ (h : Header) (n : ℕ) (f : FrameValue) (old new : Held) (b : Builds (λ g. told (frame_parts g)) (BeginsWith h) f old new) where
   none_by : IsRefused old ⊎ AreNone (λ g. told (frame_parts g)) (BeginsWith h) old

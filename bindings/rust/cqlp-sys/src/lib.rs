@@ -1,5 +1,5 @@
 //! The interface of libcqlp, as `include/cqlp.h` has it, and what it asks of a caller holds here too. The crate `cqlp` has a safe decoder
-//! and a safe encoder over it.
+//! over it.
 #![deny(missing_docs)]
 #![allow(non_camel_case_types)]
 
@@ -22,24 +22,6 @@ pub const CQLP_NO_MEMORY: u32 = 5;
 pub const CQLP_NO_DECODER: u32 = 6;
 /// The handle has a decoder already.
 pub const CQLP_IN_USE: u32 = 7;
-/// There are more bytes than there is room for.
-pub const CQLP_NO_ROOM: u32 = 27;
-/// Types are nested deeper than 64, of a frame that is written.
-pub const CQLP_TOO_DEEP: u32 = 34;
-/// No event is like this one.
-pub const CQLP_NO_EVENT: u32 = 38;
-/// An event of another place.
-pub const CQLP_MISPLACED: u32 = 39;
-/// An event of a page, or a part.
-pub const CQLP_UNBUILT: u32 = 40;
-/// There are more than 268435456 fields.
-pub const CQLP_TOO_MANY_FIELDS: u32 = 41;
-/// The contents have more than 268435456 bytes.
-pub const CQLP_TOO_MANY_BYTES: u32 = 42;
-/// There are bytes behind the contents of the events.
-pub const CQLP_LEFT_OVER: u32 = 43;
-/// No frame has these events.
-pub const CQLP_NO_SUCH_FRAME: u32 = 44;
 
 /// All of the input was used, and more is wanted.
 pub const CQLP_STOP_MORE: u8 = 0;
@@ -453,16 +435,6 @@ pub struct cqlp_holding {
     pub levels: u32,
 }
 
-/// What [`cqlp_encode`] made of events.
-#[repr(C)]
-#[derive(Clone, Copy, Debug, Default)]
-pub struct cqlp_encoded {
-    /// How many bytes the frame has, 9 to 268435465; 0 where there is no frame.
-    pub length: usize,
-    /// Which event is refused, from 0; how many there are where it is none of them, or where all are taken.
-    pub event: usize,
-}
-
 // The library's own layouts, as bindings/c/test.c has them.
 const _: () = assert!(size_of::<cqlp_event>() == 56 + 2 * size_of::<*const u8>());
 const _: () = assert!(offset_of!(cqlp_event, bytes) == 32 + 2 * size_of::<*const u8>());
@@ -470,7 +442,6 @@ const _: () = assert!(offset_of!(cqlp_event, octets) == 54 + 2 * size_of::<*cons
 const _: () = assert!(size_of::<cqlp_decoder>() == 56 + size_of::<*const u8>());
 const _: () = assert!(size_of::<cqlp_limits>() == 20);
 const _: () = assert!(size_of::<cqlp_holding>() == 12);
-const _: () = assert!(size_of::<cqlp_encoded>() == 2 * size_of::<usize>());
 
 extern "C" {
     /// Makes a decoder in a handle that has none.
@@ -497,15 +468,4 @@ extern "C" {
 
     /// How a stream ends that is there whole.
     pub fn cqlp_check(limits: *const cqlp_limits, stream: *const u8, length: usize, end: *mut cqlp_end) -> u32;
-
-    /// Writes the frame that has these events, whose contents come one after the other; no pointer in an event is followed.
-    pub fn cqlp_encode(
-        events: *const cqlp_event,
-        count: usize,
-        contents: *const u8,
-        length: usize,
-        bytes: *mut u8,
-        room: usize,
-        encoded: *mut cqlp_encoded,
-    ) -> u32;
 }

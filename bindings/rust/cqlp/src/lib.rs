@@ -1,9 +1,8 @@
-//! The CQL binary protocol, version 4 (`native_protocol_v4.spec` of Apache Cassandra), read as events, and written of them.
+//! The CQL binary protocol, version 4 (`native_protocol_v4.spec` of Apache Cassandra), read as events.
 //!
 //! A [`Decoder`] takes the bytes of a connection, or of a file of frames, in pieces of any size. Its events borrow from it and from
 //! the piece, so the next call waits until they are let go. It holds no more than its [`Limits`] say, whatever lengths and counts a
 //! peer sends. It stands on libcqlp, which is written in Rattle and proved: the events are those that the bytes used say, in order.
-//! [`encode`] and [`Composer`] write the frame that has given events, or name the one that is refused; pages the library does not write.
 //! Not proved is this crate, which is thin: it calls the library, and gives what it puts Rust's types.
 //!
 //! ```
@@ -46,12 +45,10 @@
 #![deny(missing_docs)]
 
 mod decoder;
-mod encode;
 mod event;
 mod line;
 mod names;
 
 pub use decoder::{check, BadLimit, Batch, Decoder, Events, Held, Limits, NewError, Refusal, Stop, Verdict};
-pub use encode::{encode, Composer, EncodeError};
 pub use event::{Bound, Event, Frame, Place, Scalar, What};
-pub use names::{Code, Field, Kind, Opcode, Reason};
+pub use names::{Field, Kind, Opcode, Reason};

@@ -1,22 +1,22 @@
-//! Fields, kinds, opcodes, reasons and codes, by name.
+//! Fields, kinds, opcodes and reasons, by name.
 
 use std::fmt;
 
 /// Writes an enum of numbers of the library. A number that a later library adds is `Other`.
 macro_rules! numbers {
-    ($(#[$what:meta])* $name:ident: $of:ty { $($(#[$doc:meta])* $variant:ident = $number:path, $word:literal;)* }) => {
+    ($(#[$what:meta])* $name:ident { $($(#[$doc:meta])* $variant:ident = $number:path, $word:literal;)* }) => {
         $(#[$what])*
         #[derive(Clone, Copy, Debug, PartialEq, Eq, Hash)]
         #[non_exhaustive]
         pub enum $name {
             $($(#[$doc])* $variant,)*
             /// A number that has no name here.
-            Other($of),
+            Other(u8),
         }
 
         impl $name {
             /// What has this number.
-            pub fn of(number: $of) -> $name {
+            pub fn of(number: u8) -> $name {
                 match number {
                     $($number => $name::$variant,)*
                     other => $name::Other(other),
@@ -24,7 +24,7 @@ macro_rules! numbers {
             }
 
             /// Its number.
-            pub fn number(self) -> $of {
+            pub fn number(self) -> u8 {
                 match self {
                     $($name::$variant => $number,)*
                     $name::Other(number) => number,
@@ -46,7 +46,7 @@ macro_rules! numbers {
 
 numbers! {
     /// The field of a message that an event has.
-    Field: u8 {
+    Field {
         /// The id of the tracing session, a `[uuid]`, where the header has the flag 02. Section 2.2.
         TraceId = cqlp_sys::CQLP_FIELD_TRACE_ID, "TraceId";
         /// How many warnings come, a `[short]`, where the header has the flag 08. Section 2.2.
@@ -164,7 +164,7 @@ numbers! {
 
 numbers! {
     /// The kind of a type: the id of its type option, section 4.2.5.2.
-    Kind: u8 {
+    Kind {
         /// The type `custom`.
         Custom = cqlp_sys::CQLP_KIND_CUSTOM, "custom";
         /// The type `ascii`.
@@ -222,7 +222,7 @@ numbers! {
 
 numbers! {
     /// Why a stream is refused.
-    Reason: u8 {
+    Reason {
         /// The first byte of a header is neither 04 nor 84.
         BadVersion = cqlp_sys::CQLP_REASON_BAD_VERSION, "BadVersion";
         /// A header's flags announce compression.
@@ -288,7 +288,7 @@ mod opcodes {
 
 numbers! {
     /// The opcode of a frame. Section 2.4.
-    Opcode: u8 {
+    Opcode {
         /// ERROR.
         Error = opcodes::ERROR, "ERROR";
         /// STARTUP.
@@ -321,27 +321,5 @@ numbers! {
         AuthResponse = opcodes::AUTH_RESPONSE, "AUTH_RESPONSE";
         /// AUTH_SUCCESS.
         AuthSuccess = opcodes::AUTH_SUCCESS, "AUTH_SUCCESS";
-    }
-}
-
-numbers! {
-    /// Why events were not written, as `include/cqlp.h` says of `cqlp_encode`.
-    Code: u32 {
-        /// Memory was refused.
-        NoMemory = cqlp_sys::CQLP_NO_MEMORY, "NoMemory";
-        /// A type option is nested deeper than 64.
-        TooDeep = cqlp_sys::CQLP_TOO_DEEP, "TooDeep";
-        /// Nobody knows the event, its field, its kind or its opcode, or its number is out of its range.
-        NoEvent = cqlp_sys::CQLP_NO_EVENT, "NoEvent";
-        /// It is a frame's header and not the first event, or the other way round, or comes after the end; or there is no event.
-        Misplaced = cqlp_sys::CQLP_MISPLACED, "Misplaced";
-        /// It is of a page, or a part: these the library does not write.
-        Unbuilt = cqlp_sys::CQLP_UNBUILT, "Unbuilt";
-        /// There are more than 268,435,456 fields.
-        TooManyFields = cqlp_sys::CQLP_TOO_MANY_FIELDS, "TooManyFields";
-        /// The contents have more than 268,435,456 bytes.
-        TooManyBytes = cqlp_sys::CQLP_TOO_MANY_BYTES, "TooManyBytes";
-        /// One event is of another field than is due, or does not agree with what comes before it, or some are missing, or a text is too long.
-        NoSuchFrame = cqlp_sys::CQLP_NO_SUCH_FRAME, "NoSuchFrame";
     }
 }

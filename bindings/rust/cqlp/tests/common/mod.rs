@@ -1,7 +1,4 @@
-//! What the tests share, of which each uses a part.
-#![allow(dead_code)]
-
-pub mod streams;
+//! What the tests share.
 
 use std::path::PathBuf;
 
