@@ -196,7 +196,10 @@ func innerOf(typ *Type, kind Kind, at int) *Type {
 	case KindList, KindSet:
 		return &typ.Inner[0]
 	}
-	return &typ.Inner[at]
+	if at < len(typ.Inner) {
+		return &typ.Inner[at]
+	}
+	return nil // bytes after the last field, as a lenient reading gives them
 }
 
 func (c *cell) items(begin *Event, typ *Type) any {
@@ -223,7 +226,7 @@ func (c *cell) items(begin *Event, typ *Type) any {
 	return items
 }
 
-// namedValues are the fields of a UDT, without names where the type is not known.
+// namedValues are the fields of a UDT, without names where the type is not known. Bytes after the last field have none.
 func namedValues(items []any, typ *Type) []NamedValue {
 	named := make([]NamedValue, len(items))
 	for i, item := range items {

@@ -66,7 +66,15 @@ type Frames struct {
 
 // NewFrames makes a decoder for what is read. Close frees it, and does not close the io.Reader.
 func NewFrames(source io.Reader, limits Limits) (*Frames, error) {
-	reader, err := NewReader(source, limits)
+	return newFrames(NewReader(source, limits))
+}
+
+// NewLenientFrames makes one for a lenient reading, as NewLenientDecoder. The rows of its pages are those of a RowReader that is lenient.
+func NewLenientFrames(source io.Reader, limits Limits) (*Frames, error) {
+	return newFrames(NewLenientReader(source, limits))
+}
+
+func newFrames(reader *Reader, err error) (*Frames, error) {
 	if err != nil {
 		return nil, err
 	}

@@ -37,7 +37,16 @@ type Reader struct {
 
 // NewReader makes a decoder for what is read. Close frees it, and does not close the io.Reader.
 func NewReader(source io.Reader, limits Limits) (*Reader, error) {
-	decoder, err := NewDecoder(limits)
+	return newReader(source, limits, NewDecoder)
+}
+
+// NewLenientReader makes one for a lenient reading, as NewLenientDecoder.
+func NewLenientReader(source io.Reader, limits Limits) (*Reader, error) {
+	return newReader(source, limits, NewLenientDecoder)
+}
+
+func newReader(source io.Reader, limits Limits, newDecoder func(Limits) (*Decoder, error)) (*Reader, error) {
+	decoder, err := newDecoder(limits)
 	if err != nil {
 		return nil, err
 	}

@@ -42,7 +42,17 @@ type Page struct {
 
 // NewRowReader makes a decoder for what is read. Close frees it, and does not close the io.Reader.
 func NewRowReader(source io.Reader, limits Limits) (*RowReader, error) {
-	reader, err := NewReader(source, limits)
+	return newRowReader(NewReader(source, limits))
+}
+
+// NewLenientRowReader makes one for a lenient reading, as NewLenientDecoder: Values has a content that its type does not have as []byte, and
+// Scan puts it into bytes or a string, and into nothing else. Bytes after the last field of a tuple are an item more; of a UDT they are a
+// value without a name.
+func NewLenientRowReader(source io.Reader, limits Limits) (*RowReader, error) {
+	return newRowReader(NewLenientReader(source, limits))
+}
+
+func newRowReader(reader *Reader, err error) (*RowReader, error) {
 	if err != nil {
 		return nil, err
 	}

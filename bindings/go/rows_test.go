@@ -91,6 +91,115 @@ func onePage(t *testing.T, types []Type, values ...any) []byte {
 	return b
 }
 
+// lenientRow reads the one row of a page.
+func lenientRow(t *testing.T, page []byte) *RowReader {
+	t.Helper()
+	r, err := NewLenientRowReader(bytes.NewReader(page), DefaultLimits())
+	if err != nil {
+		t.Fatal(err)
+	}
+	t.Cleanup(func() { r.Close() })
+	if !r.Next() {
+		t.Fatal(r.Err())
+	}
+	return r
+}
+
+func TestScanOfAContentThatItsTypeDoesNotHave(t *testing.T) {
+	// a bigint of the digits 123, an inet of five bytes, a time of 24 hours, a text with a surrogate, a list of an int of three bytes
+	row := "840000010800000063 00000002 00000001 00000005 0001 6b 0001 74 0001 61 0002 0001 62 0010 0001 63 0012 0001 64 000d 0001 65 0020 0009 00000001" +
+		"00000003 313233 00000005 7f00000102 00000008 00004e94914f0000 00000003 eda080 0000000b 00000001 00000003 313233"
+	page := unhex(t, row)
+	if r := rowReader(t, bytes.NewReader(page)); r.Next() || r.Err() == nil {
+		t.Fatal("it is refused")
+	}
+	r := lenientRow(t, page)
+	wanted := []any{[]byte("123"), []byte("\x7f\x00\x00\x01\x02"), []byte("\x00\x00\x4e\x94\x91\x4f\x00\x00"), []byte("\xed\xa0\x80"), []any{[]byte("123")}}
+	if found := r.Values(); !reflect.DeepEqual(found, wanted) {
+		t.Fatal(found)
+	}
+	var some any
+	var raw RawBytes
+	var octets []byte
+	var words, list = "", [][]byte(nil)
+	if err := r.Scan(&some, &raw, &octets, &words, &list); err != nil {
+		t.Fatal(err)
+	}
+	if !reflect.DeepEqual([]any{some, []byte(raw), octets, []byte(words), []any{list[0]}}, wanted) {
+		t.Fatal(some, raw, octets, words, list)
+	}
+	for _, to := range []any{
+		new(int), new(int64), new(int32), new(int8), new(uint16), new(bool), new(float64), new(*int64), new(big.Int), new(sql.NullInt64),
+		new(sql.NullFloat64), new(sql.NullBool), new(time.Time), new(UUID), new(net.IP), new(netip.Addr), new(Decimal), new([]int),
+	} {
+		for column := 0; column < 3; column++ {
+			pointers := make([]any, 5)
+			pointers[column] = to
+			var failed *ScanError
+			if err := r.Scan(pointers...); !errors.As(err, &failed) || failed.Column != column || !strings.Contains(err.Error(), "raw does not go into") {
+				t.Fatalf("%T: %v", to, err)
+			}
+		}
+	}
+	if err := r.Scan(nil, nil, nil, nil, new([]int64)); err == nil {
+		t.Fatal("digits are no number")
+	}
+	var text sql.NullString
+	if err := r.Scan(nil, nil, nil, &text, nil); err != nil || text.String != "\xed\xa0\x80" {
+		t.Fatal(text, err)
+	}
+}
+
+func TestScanOfBytesAfterTheLastField(t *testing.T) {
+	// a tuple of an int, a UDT of a field a, and a UDT without fields; each with bytes more; and a bigint of a type that no kind has
+	row := "840000010800000067 00000002 00000001 00000004 0001 6b 0001 74 0001 61 0031 0001 0009 0001 62 0030 0001 6b 0001 75 0001 0001 61 0009" +
+		"0001 63 0030 0001 6b 0001 76 0000 0001 64 0015 00000001" +
+		"0000000b 00000004 00000007 010203 00000006 ffffffff 0405 00000001 06 00000002 3132"
+	page := unhex(t, row)
+	r := lenientRow(t, page)
+	wanted := []any{
+		[]any{int64(7), []byte{1, 2, 3}}, []NamedValue{{"a", nil}, {"", []byte{4, 5}}}, []NamedValue{{"", []byte{6}}}, []byte("12"),
+	}
+	if found := r.Values(); !reflect.DeepEqual(found, wanted) {
+		t.Fatalf("%#v", found)
+	}
+	var items []any
+	var fields map[string]any
+	var named []NamedValue
+	var raw []byte
+	if err := r.Scan(&items, &fields, &named, &raw); err != nil {
+		t.Fatal(err)
+	}
+	if !reflect.DeepEqual([]any{items, named, raw}, []any{wanted[0], wanted[2], wanted[3]}) {
+		t.Fatal(items, named, raw)
+	}
+	if !reflect.DeepEqual(fields, map[string]any{"a": nil, "": []byte{4, 5}}) {
+		t.Fatal(fields)
+	}
+	for column, to := range []any{new([]int64), new(map[string]*int64), new(map[string]int64), new(int64)} {
+		pointers := make([]any, 4)
+		pointers[column] = to
+		if err := r.Scan(pointers...); err == nil {
+			t.Fatalf("%T has no place for bytes", to)
+		}
+	}
+	frames, err := NewLenientFrames(bytes.NewReader(page), DefaultLimits())
+	if err != nil {
+		t.Fatal(err)
+	}
+	defer frames.Close()
+	frame, err := frames.Next()
+	if err != nil || !reflect.DeepEqual(frame.Message.(*Rows).Rows, [][]any{wanted}) {
+		t.Fatal(frame, err)
+	}
+	if _, err := NewLenientRowReader(bytes.NewReader(page), Limits{}); err == nil {
+		t.Fatal("limits of 0 are out of their ranges")
+	}
+	if _, err := NewLenientFrames(bytes.NewReader(page), Limits{}); err == nil {
+		t.Fatal("limits of 0 are out of their ranges")
+	}
+}
+
 // bound is a value that goes into its type.
 func bound(t *testing.T, typ Type, value any) Value {
 	t.Helper()

@@ -127,7 +127,7 @@ func (c *cell) into(v reflect.Value) error {
 			return err
 		}
 	}
-	if to, ok := to.(scanner); ok {
+	if to, ok := to.(scanner); ok && !c.isOdd() {
 		return to.Scan(driverValue(c.value()))
 	}
 	e := &c.events[0]
@@ -141,6 +141,8 @@ func (c *cell) into(v reflect.Value) error {
 		return nil
 	case v.Kind() == reflect.Pointer:
 		return c.intoPointer(v)
+	case c.isOdd():
+		return c.intoBytes(v)
 	case e.Tag == TagNull:
 		c.take()
 		if v.Kind() != reflect.Slice && v.Kind() != reflect.Map {
@@ -182,6 +184,23 @@ func (c *cell) intoPointer(v reflect.Value) error {
 	}
 	v.Set(made)
 	return nil
+}
+
+// isOdd says whether the next value is a content that its type does not have, as a lenient reading gives it, of a type that is no text.
+func (c *cell) isOdd() bool {
+	e, kind := &c.events[0], kindOf(c.typ)
+	return e.Tag == TagLeaf && e.Kind == KindRaw && kind != KindRaw && !isText(kind)
+}
+
+// intoBytes puts such a content into bytes or a string alone: digits in it are no number, and four bytes no address.
+func (c *cell) intoBytes(v reflect.Value) error {
+	e := c.take()
+	if _, address := v.Interface().(net.IP); !address {
+		if err, ok := convertText(string(e.Content), v); ok {
+			return err
+		}
+	}
+	return mismatch(e, v.Interface())
 }
 
 // intoScalar puts the value, which is neither null nor has items.
@@ -321,11 +340,17 @@ func (c *cell) intoItems(v reflect.Value) error {
 	return mismatch(begin, v.Interface())
 }
 
-// intoSlice has as many items as the value says, since all that came are there; fields of a tuple that did not come are zero.
+// intoSlice has as many items as the value says, since all that came are there; fields of a tuple that did not come are zero, and bytes after
+// its last field are an item more.
 func (c *cell) intoSlice(v reflect.Value, begin *Event, typ *Type) error {
 	count := int(begin.Number)
 	v.Set(reflect.MakeSlice(v.Type(), count, count))
-	return c.each(begin, typ, func(at int) error { return c.into(v.Index(at)) })
+	return c.each(begin, typ, func(at int) error {
+		if at == v.Len() {
+			v.Set(reflect.Append(v, reflect.Zero(v.Type().Elem())))
+		}
+		return c.into(v.Index(at))
+	})
 }
 
 func (c *cell) intoMap(v reflect.Value, begin *Event, typ *Type) error {
@@ -365,7 +390,11 @@ func (c *cell) intoFields(v reflect.Value, begin *Event, typ *Type) error {
 		if err := c.into(item); err != nil {
 			return err
 		}
-		found.SetMapIndex(reflect.ValueOf(typ.Names[at]).Convert(v.Type().Key()), item)
+		name := "" // of bytes after the last field
+		if at < len(typ.Names) {
+			name = typ.Names[at]
+		}
+		found.SetMapIndex(reflect.ValueOf(name).Convert(v.Type().Key()), item)
 		return nil
 	})
 	v.Set(found)

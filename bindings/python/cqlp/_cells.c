@@ -20,12 +20,15 @@ typedef struct items {
   PyObject *key;    /* of a map the key whose value is still to come, else NULL */
 } items;
 
+/* What is said of a number of a column: it is there, null, of no bytes, or of a content that its type does not have. */
+enum state { IS_THERE, IS_NULL, IS_EMPTY, IS_ODD };
+
 /* The cells of a column of a page. */
 typedef struct column {
   uint8_t kind;
   uint8_t size;      /* the bytes of a number; 0 where the values are in a list */
   char *numbers;     /* so many bytes for each */
-  char *missing;     /* NULL where no number is missing; else a byte for each: 0 is there, 1 null, 2 no bytes */
+  char *missing;     /* NULL where no number is missing; else the state of each */
   Py_ssize_t length; /* how many numbers there are */
   Py_ssize_t room;   /* and how many have room */
   PyObject *values;  /* the list, or NULL */
@@ -176,7 +179,8 @@ static int enter(cells *self, const cqlp_event *event) {
   return 1;
 }
 
-/* A tuple, or of a udt a dict by the names of its fields. Those that did not come are None. */
+/* A tuple, or of a udt a dict by the names of its fields. Those that did not come are None. Bytes after the last field, as a lenient reading
+ * gives them, are an item more of a tuple; in a dict their name is that of no letters. */
 static PyObject *fields(items *of) {
   while (of->count < of->wanted) {
     if (PyList_Append(of->values, Py_None) < 0) return NULL;
@@ -187,6 +191,7 @@ static PyObject *fields(items *of) {
   Py_ssize_t told = found == NULL ? 0 : PyTuple_Size(names);
   for (Py_ssize_t at = 0; found != NULL && at < told && at < of->count; at++)
     if (PyDict_SetItem(found, PyTuple_GetItem(names, at), PyList_GetItem(of->values, at)) < 0) Py_CLEAR(found);
+  if (found != NULL && told < of->count && PyDict_SetItemString(found, "", PyList_GetItem(of->values, told)) < 0) Py_CLEAR(found);
   return found;
 }
 
@@ -281,9 +286,14 @@ static uint8_t width_of(long kind) {
   }
 }
 
-/* The bits of a number of a column, the lowest first: of a scalar, or 0 where it is missing. A date counts from 1970. */
+/* What an event of a cell says of a number of this column. */
+static enum state state_of(const column *of, const cqlp_event *event) {
+  if (event->tag == CQLP_TAG_LEAF) return event->kind == of->kind ? IS_THERE : IS_ODD;
+  return event->tag == CQLP_TAG_NULL ? IS_NULL : IS_EMPTY;
+}
+
+/* The bits of a number of a column that is there, the lowest first. A date counts from 1970. */
 static uint64_t bits_of(const column *of, const cqlp_event *event) {
-  if (event->tag != CQLP_TAG_LEAF) return 0;
   if (of->kind == CQLP_KIND_DATE) return (uint64_t)(event->number - ((int64_t)1 << 31));
   if (of->kind != CQLP_KIND_FLOAT && of->kind != CQLP_KIND_DOUBLE) return (uint64_t)event->number;
   uint64_t bits = 0;
@@ -321,10 +331,11 @@ static int put_number(column *of, const cqlp_event *event) {
   Py_ssize_t before = of->room;
   if (!grow((void **)&of->numbers, of->length, &of->room, of->size)) return 0;
   if (of->missing != NULL && before < of->room && !grow_missing(of, before)) return 0;
-  write_number(of->numbers + of->length * of->size, of->size, bits_of(of, event));
-  if (event->tag != CQLP_TAG_LEAF) {
+  enum state state = state_of(of, event);
+  write_number(of->numbers + of->length * of->size, of->size, state == IS_THERE ? bits_of(of, event) : 0);
+  if (state != IS_THERE) {
     if (of->missing == NULL && !grow_missing(of, 0)) return 0;
-    of->missing[of->length] = event->tag == CQLP_TAG_NULL ? 1 : 2;
+    of->missing[of->length] = (char)state;
   }
   of->length++;
   return 1;

@@ -3,7 +3,7 @@
 import sys
 from array import array
 from dataclasses import dataclass
-from typing import Any, Iterator, List, NamedTuple, Optional, Tuple, Union
+from typing import Any, Dict, Iterator, List, NamedTuple, Optional, Tuple, Union
 
 from . import _pages
 from ._decoder import Limits, Record, Skip
@@ -14,7 +14,7 @@ from .messages import Rows, _Frames
 from .numbers import Kind, Tag
 
 # The kinds whose values are in an array, and the code of its items.
-_CODES = {
+_CODES: Dict[int, str] = {
     Kind.BOOLEAN: "b",
     Kind.TINYINT: "b",
     Kind.SMALLINT: "h",
@@ -28,6 +28,8 @@ _CODES = {
     Kind.DOUBLE: "d",
 }
 _LEAF, _NULL, _EMPTY, _PART = map(int, (Tag.LEAF, Tag.NULL, Tag.EMPTY, Tag.PART))
+# What the byte of a number says of it.
+_IS_THERE, _IS_NULL, _IS_EMPTY, _IS_ODD = range(4)
 
 
 class Series(NamedTuple):
@@ -39,7 +41,8 @@ class Series(NamedTuple):
     """Numbers in an array: of a boolean 0 or 1, of a date the days from 1970, of a timestamp milliseconds from 1970, of a time
     nanoseconds since midnight, and 0 where one is missing. Of other types a list, with the values that `rows` gives."""
     missing: Optional[bytes]
-    """None where no number is missing; else a byte for each: 0 where it is there, 1 where it is null, 2 where it has no bytes."""
+    """None where no number is missing; else a byte for each: 0 where it is there, 1 where it is null, 2 where it has no bytes, 3 where a
+    lenient reading found a content that is none of its type: `rows` gives its bytes."""
 
     def numpy(self) -> Any:
         """The numbers as an array of NumPy, over the same memory. NumPy has to be there."""
@@ -72,23 +75,33 @@ class PageColumns:
 class _Numbers:
     """The numbers of a column, as _cells.c puts them."""
 
-    def __init__(self, kind: Kind) -> None:
+    def __init__(self, kind: Union[Kind, int]) -> None:
         self.kind = kind
-        self.values = array(_CODES[kind])
+        self.values: "array[Any]" = array(_CODES[kind])
         self.missing: Optional[bytearray] = None
         # floats are kept as their bytes, so that those that are no number stay as they are
         self.octets = bytearray()
 
     def add(self, record: Record) -> None:
-        tag = record[9]
-        if tag != _LEAF:
-            self.missing = bytearray(len(self)) if self.missing is None else self.missing
+        state = self._state(record)
+        if state != _IS_THERE and self.missing is None:
+            self.missing = bytearray(len(self))
         if self.missing is not None:
-            self.missing.append(0 if tag == _LEAF else 1 if tag == _NULL else 2)
+            self.missing.append(state)
         if self.kind in (Kind.FLOAT, Kind.DOUBLE):
-            self.octets += record[8][: self.values.itemsize] if tag == _LEAF else bytes(self.values.itemsize)
+            self.octets += record[8][: self.values.itemsize] if state == _IS_THERE else bytes(self.values.itemsize)
         else:
-            self.values.append(record[3] - (1 << 31) if tag == _LEAF and self.kind == Kind.DATE else record[3])
+            self.values.append(self._number(record) if state == _IS_THERE else 0)
+
+    def _state(self, record: Record) -> int:
+        tag = record[9]
+        if tag == _LEAF:
+            return _IS_THERE if record[11] == self.kind else _IS_ODD
+        return _IS_NULL if tag == _NULL else _IS_EMPTY
+
+    def _number(self, record: Record) -> int:
+        number: int = record[3]
+        return number - (1 << 31) if self.kind == Kind.DATE else number
 
     def __len__(self) -> int:
         return len(self.values) + len(self.octets) // self.values.itemsize
@@ -122,7 +135,7 @@ class _ColumnCells(_Cells):
             if self.at == len(self.found):
                 self.found.append([])
             column = self.found[self.at]
-            if isinstance(column, _Numbers) and not self.open:
+            if isinstance(column, _Numbers):
                 column.add(record)
             elif self.add(record, content):
                 column.append(self.row.pop())
@@ -153,11 +166,11 @@ class _Columns(_Frames):
     def page(self, page: Rows) -> PageColumns:
         """The page whose frame has ended."""
         told, types = page.metadata.columns, self.types_of(page)
-        found = getattr(self.cells, "columns", list)()
+        found: List[Tuple[Any, Optional[bytes]]] = getattr(self.cells, "columns", list)()
         series = []
         for at, (values, missing) in enumerate(found):
             if types and types[at].kind in _CODES:
-                numbers = array(_CODES[types[at].kind])
+                numbers: "array[Any]" = array(_CODES[types[at].kind])
                 numbers.frombytes(values)
                 values = numbers
             series.append(Series(told[at] if told else None, values, None if missing is None else bytes(missing)))
@@ -172,14 +185,16 @@ def columns(
     piece: int = 65536,
     progress: Optional[Progress] = None,
     skip: Optional[Skip] = None,
+    lenient: bool = False,
 ) -> Iterator[PageColumns]:
     """The pages of a stream, each once it is whole, column by column. A page is held whole, as by `frames`, and `longest` bounds it.
 
     Where the stream is refused or cut, Refused or Cut is raised after the last page that ends before that place. With `skip` a frame that is
-    refused within its body is passed over, and it is told which.
+    refused within its body is passed over, and it is told which. With `lenient` a content that its type does not have is bytes in a list, and
+    in an array a number that is missing.
     """
     found = _Columns(longest, limits.types)
-    for batch in batches(source, limits, piece, progress, _pages._compiled is not None, skip=skip):
+    for batch in batches(source, limits, piece, progress, _pages._compiled is not None, skip=skip, lenient=lenient):
         for frame in found.take(batch):
             if isinstance(frame.message, Rows):
                 yield found.page(frame.message)

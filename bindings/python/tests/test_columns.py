@@ -17,12 +17,11 @@ from cqlp import messages as m
 
 from .streams import BINDINGS, streams
 from .test_cells import told
-from .test_pages import INT, NOTHING, NULL, SCALARS, VARCHAR, cell, list_of, made, page, text
+from .test_pages import COMPILED, INT, NOTHING, NULL, SCALARS, VARCHAR, cell, list_of, made, page, text
 
 ITEMS = {Kind.BOOLEAN: "b", Kind.TINYINT: "b", Kind.SMALLINT: "h", Kind.INT: "i", Kind.DATE: "i", Kind.FLOAT: "f", Kind.DOUBLE: "d"}
 ITEMS.update((kind, "q") for kind in (Kind.BIGINT, Kind.COUNTER, Kind.TIMESTAMP, Kind.TIME))
 EPOCH = datetime(1970, 1, 1, tzinfo=timezone.utc)
-COMPILED = [_pages._compiled, None] if _pages._compiled else [None]
 
 
 def number(value: Any) -> Any:
@@ -117,6 +116,33 @@ class Columns(unittest.TestCase):
                 ((found,), _) = read(data, cqlp.Limits(), compiled)
                 octets = found.series[0].values.tobytes()
                 self.assertEqual(struct.unpack("=%d%s" % (len(bits), form[1]), octets), bits)
+
+    def test_a_content_that_its_type_does_not_have(self) -> None:
+        """It is missing among numbers, whatever it begins with, and bytes in a list."""
+        odd = {
+            0x02: (b"\x01" * 7, struct.pack(">q", 9), 9),
+            0x04: (b"\x01\x01", b"\x01", 1),
+            0x05: (b"\x01" * 9, struct.pack(">q", -9), -9),
+            0x07: (struct.pack(">f", 1.5), struct.pack(">d", 1.5), 1.5),
+            0x08: (struct.pack(">d", 1.5), struct.pack(">f", 0.5), 0.5),
+            0x09: (b"123", struct.pack(">i", 7), 7),
+            0x0B: (b"\x01" * 4, struct.pack(">q", 1000), 1000),
+            0x11: (b"\x80", struct.pack(">I", (1 << 31) + 3), 3),
+            0x12: (struct.pack(">q", 86_400_000_000_000), struct.pack(">q", 5), 5),
+            0x13: (b"\x01", b"\0\x02", 2),
+            0x14: (b"\0\x01", b"\xff", -1),
+        }
+        options = [struct.pack(">H", id) for id in odd]
+        rows = [[cell(good) for _, good, _ in odd.values()], [cell(bad) for bad, _, _ in odd.values()], [NULL] * len(odd), [NOTHING] * len(odd)]
+        data = page(options + [VARCHAR], [row + [last] for row, last in zip(rows, [cell(b"a"), cell(b"\xed\xa0\x80"), NULL, NOTHING])])
+        for compiled in COMPILED:
+            for piece in (1, 65536):
+                (found,), end = read(data, cqlp.Limits(), compiled, piece=piece, lenient=True)
+                self.assertIsNone(end)
+                for series, (_, _, good) in zip(found.series, odd.values()):
+                    self.assertEqual((list(series.values), series.missing), ([good, 0, 0, 0], b"\0\x03\x01\x02"))
+                self.assertEqual(found.series[-1][1:], (["a", b"\xed\xa0\x80", None, ""], None))
+            self.assertEqual(read(data, cqlp.Limits(), compiled)[0], [])
 
     def test_a_series_by_name(self) -> None:
         (first, second) = cqlp.columns(BINDINGS / "pages.bin")

@@ -11,11 +11,15 @@ import unittest
 from datetime import date, datetime, time, timezone
 from decimal import Context, Decimal
 from ipaddress import ip_address
+from unittest import mock
 from uuid import UUID
 
 import cqlp
+from cqlp import _pages
 
 from .streams import BINDINGS
+
+COMPILED = [_pages._compiled, None] if _pages._compiled else [None]
 
 
 def cell(content: bytes) -> bytes:
@@ -85,6 +89,32 @@ def list_of(*items: bytes) -> bytes:
     return cell(struct.pack(">i", len(items)) + b"".join(items))
 
 
+def map_of(*items: bytes) -> bytes:
+    return cell(struct.pack(">i", len(items) // 2) + b"".join(items))
+
+
+# of types that are numbers, times and addresses: contents that they do not have, some of which are digits
+ODD = [
+    (0x02, b"123"),
+    (0x04, b"\0\x01"),
+    (0x05, b"1"),
+    (0x06, b"\0\0\0\x01"),
+    (0x07, struct.pack(">f", 1.5)),
+    (0x08, struct.pack(">d", 1.5)),
+    (0x09, b"123"),
+    (0x0B, b"123"),
+    (0x0C, U16[1:]),
+    (0x0F, U16),
+    (0x10, b"1.2.3"),
+    (0x11, b"1"),
+    (0x12, struct.pack(">q", 86_400_000_000_000)),
+    (0x13, b"1"),
+    (0x14, b"12"),
+    (0x01, b"\xff"),
+    (0x0D, b"\xed\xa0\x80"),
+]
+
+
 class Values(unittest.TestCase):
     def test_scalars(self) -> None:
         for id, content, value in SCALARS:
@@ -94,6 +124,54 @@ class Values(unittest.TestCase):
         custom = page([b"\0\0" + text(b"C")], [[cell(b"\x01")], [NULL], [NOTHING]])
         self.assertEqual(list(cqlp.rows(custom)), [(b"\x01",), (None,), (b"",)])
         self.assertEqual(cqlp.Nanoseconds(86_399_999_999_999).time(), time(23, 59, 59, 999_999))
+
+    def test_a_content_that_its_type_does_not_have_is_bytes(self) -> None:
+        for id, content in ODD:
+            option = struct.pack(">H", id)
+            columns = [option, b"\0\x20" + option, b"\0\x21" + option + INT]
+            data = page(columns, [[cell(content), list_of(cell(content)), map_of(cell(content), cell(b"\0\0\0\x07"))]])
+            with self.assertRaises(cqlp.Refused):
+                list(cqlp.rows(data))
+            for compiled in COMPILED:
+                with mock.patch.object(_pages, "_compiled", compiled):
+                    (row,) = cqlp.rows(data, lenient=True)
+                self.assertEqual(row, (content, [content], {content: 7}))
+
+    def test_bytes_after_the_last_field(self) -> None:
+        """An item more of a tuple, and of a udt a value whose name has no letters, in whatever parts they come."""
+        pair = b"\0\x31\0\x02" + INT + VARCHAR
+        person = b"\0\x30" + text(b"k") + text(b"person") + b"\0\x01" + text(b"age") + INT
+        none = b"\0\x30" + text(b"k") + text(b"none") + b"\0\0"
+        seven, rest = cell(b"\0\0\0\x07"), bytes(range(70))
+        data = page(
+            [pair, person, b"\0\x20" + person, none, INT],
+            [
+                [cell(seven + NULL + rest), cell(seven + rest), list_of(cell(seven), cell(NULL + b"\0")), cell(b"\x01"), seven],
+                [cell(seven), cell(seven), list_of(), NULL, seven],
+            ],
+        )
+        wanted = [
+            ((7, None, rest), {"age": 7, "": rest}, [{"age": 7}, {"age": None, "": b"\0"}], {"": b"\x01"}, 7),
+            ((7, None), {"age": 7}, [], None, 7),
+        ]
+        with self.assertRaises(cqlp.Refused):
+            list(cqlp.rows(data))
+        for compiled in COMPILED:
+            with mock.patch.object(_pages, "_compiled", compiled):
+                for limits in (cqlp.Limits(), cqlp.Limits(cell=32)):
+                    for piece in (1, 65536):
+                        self.assertEqual(list(cqlp.rows(data, limits, piece=piece, lenient=True)), wanted)
+                self.assertEqual(list(next(cqlp.frames(data, lenient=True)).message.rows), wanted)
+
+    def test_a_type_that_no_kind_has(self) -> None:
+        data = page([b"\0\x15", b"\0\x20\0\x15", INT], [[cell(b"\0\0\0\x07"), list_of(cell(b"7"), NULL), cell(b"\0\0\0\x07")]])
+        with self.assertRaises(cqlp.Refused):
+            list(cqlp.rows(data))
+        for compiled in COMPILED:
+            with mock.patch.object(_pages, "_compiled", compiled):
+                (found,) = cqlp.Pages(data, lenient=True)
+                self.assertEqual([str(column.type) for column in found.columns], ["raw", "list<raw>", "int"])
+                self.assertEqual(list(cqlp.rows(data, lenient=True)), [(b"\0\0\0\x07", [b"7", None], 7)])
 
     def test_a_long_decimal_is_exact(self) -> None:
         for sign in (1, -1):

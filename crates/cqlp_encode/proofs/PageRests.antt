@@ -2,7 +2,7 @@
 use Rattle.std.proofs.Common.{◌≡◌, ℕ, ◌+◌, ◌-◌, ◌<◌, ◌≤◌, ◌==◌, if◌then◌else◌, Bool, true, false, not, List, [], ◌∷◌, ◌++◌, take, drop, nat_le, nat_lt, Option, Some, None, Result, Ok, Err, inl, inr, refl, sym, ap, ◌∙◌, subst, arith}
 use Rattle.std.proofs.lemmas.List.{take_all}
 use Rattle.std.proofs.lemmas.Bool.Decides.{nat_tests}
-use Rattle.std.specs.Prelude.{⊤}
+use Rattle.std.specs.Prelude.{⊤, IsErr, IsErrAnd}
 use Rattle.std.specs.Io.KnownBytes.{Appends}
 use Rattle.cqlp_note.specs.Outputs.{Output, Offered}
 use Rattle.cqlp_value.specs.Values.{Values, values_size, values_bytes}
@@ -83,6 +83,11 @@ module _ (p : PageState) (cells : List Values) (fits : Bool) (w v : Values) (s :
   rest_refused error.PastLength old failed is = (cell_refuses p cells v _ failed is, refl, refl)
   rest_refused error.NotDone old failed is = (cell_refuses p cells v _ failed is, refl, refl)
   rest_refused (error.Write k) old failed is = absurd (never_write (p.left == 0) (not (cells_fit (page p) (cells ++ v ∷ []))) (nat_lt p.free (values_size v)) k is)
+
+  -- the same as the answer of a call
+  pub rest_refused_as : (r : Result ⊤ PageError) (e : PageError) (old : Output) → IsErr r × IsErrAnd r (λ f. f ≡ e) → p.failed ≡ true → Checks (before_cut p) cells v (Err e) → AddsRest p cells v old r old p
+  rest_refused_as (Ok u) e old is failed c = absurd is.1
+  rest_refused_as (Err f) e old is failed c = rw is.1 (rest_refused e old failed c)
 
   module _ (old new : Output) (size taken : ℕ) (failed : p.failed ≡ true) (fit : fits ≡ true) (same : size ≡ values_size w) (none : cell_error (before_cut p) cells v ≡ None) where
     is : size ≡ values_size v

@@ -1,5 +1,6 @@
 //! Values of cells, written.
 
+ghost use Rattle.std.specs.Prelude.{◌≡◌, ◌+◌, ◌-◌, ◌^◌, min};
 ghost use Rattle.cqlp_value.specs.Measures.{listed_pairs, listed_values};
 ghost use Rattle.cqlp_value.specs.Owned.{atom_of, value_and, value_of};
 ghost use Rattle.cqlp_kind.specs.Scalars.{content_of};
@@ -19,20 +20,21 @@ pub fn put_value<W: Target>(out: &mut Staged<'_, W>, value: &Value)
 {
     match value {
         Value::Leaf(atom) => put_atom(out, atom),
-        _ => put_any(out, value),
+        _ => put_measured(out, value, content_len(value)),
     }
 }
 
-/// The same of a value that is mostly no scalar.
+/// The same of a value whose content has this many bytes, of which a null has none.
 #[cycle(put_value)]
-fn put_any<W: Target>(out: &mut Staged<'_, W>, value: &Value)
+pub fn put_measured<W: Target>(out: &mut Staged<'_, W>, value: &Value, content: u64)
+    requires { 4 + content ≡ min (values_size (value_of value.now)) (2 ^ 64 - 1) }
     ensures { PutsWithin (values_size (value_of value.now)) out.old (values_bytes (value_of value.now)) out.new }
 {
     match value {
         Value::Null => out.put_int(-1),
         Value::Leaf(atom) => put_atom(out, atom),
         _ => {
-            out.put_count32(content_len(value) as usize);
+            out.put_count32(content as usize);
             put_inside(out, value);
         }
     }
@@ -87,7 +89,7 @@ fn put_pairs<W: Target>(out: &mut Staged<'_, W>, pairs: &[(Value, Value)])
 
 /// Takes a scalar with its length.
 #[inline(always)]
-fn put_atom<W: Target>(out: &mut Staged<'_, W>, atom: &Atom)
+pub fn put_atom<W: Target>(out: &mut Staged<'_, W>, atom: &Atom)
     ensures { let v = Scalar_and (atom_of atom.now) NoValue in PutsWithin (values_size v) out.old (values_bytes v) out.new }
 {
     match atom.content() {

@@ -2,9 +2,10 @@
 //! made until then is given back.
 
 use cqlp::capture::{CaptureEnd, CaptureLimits, CaptureReader, CaptureStep, Control, Stream, StreamStep};
+use cqlp::columns::{BatchLimits, Columns, MakeError, TakeError};
 use cqlp::frame::{Atom, BindError, Frame, OwnedBound, ReadError, TypeTree, Value, bind_value, raw_value, read_value};
 use cqlp::memory::{AllocError, Box, String, Vec};
-use cqlp::{Global, Kind, Limits};
+use cqlp::{Event, Global, Kind, Limits, Scalar, TableError, table_of};
 use std::alloc::{GlobalAlloc, Layout, System};
 use std::cell::Cell;
 use std::ptr::null_mut;
@@ -171,6 +172,17 @@ fn values_that_are_bound() {
     }
 }
 
+/// A table, a text, open options and the bytes of the options, of which the table alone stays.
+#[test]
+fn tables() {
+    let types = [tuple().unwrap(), TypeTree::Plain(Kind::Int)];
+    finds_just_what_is_there(4, || match table_of(Global, &types) {
+        Ok(table) if table.capacity() == table.len() as usize => Answer::Granted,
+        Err(TableError::NoMemory) => Answer::NoMemory,
+        _ => Answer::Other,
+    });
+}
+
 #[test]
 fn answers_to_other_versions() {
     finds_just_what_is_there(1, || match Frame::version_error(Global, &[5, 0, 0, 7, 5, 0, 0, 0, 0]) {
@@ -214,5 +226,30 @@ fn streams_of_captures() {
         let read = stream.read_held(&mut bytes);
         let expected = [StreamStep::Began { syn: true }, StreamStep::Done, StreamStep::Held { count: 5 }];
         if steps == expected && bytes[..read] == *b"abcde" { Answer::Granted } else { Answer::Other }
+    });
+}
+
+/// A batch takes memory when it is made, five times for a column of texts, and none while it takes rows, is full, is cleared and takes rows again.
+#[test]
+fn columns() {
+    let limits = BatchLimits { columns: 2, rows: 9, bytes: 20, content: 4 };
+    finds_just_what_is_there(10, || {
+        let mut columns = match Columns::new(Global, limits, &[Kind::Int, Kind::Varchar]) {
+            Ok(columns) => columns,
+            Err(MakeError::NoMemory) => return Answer::NoMemory,
+            Err(_) => return Answer::Other,
+        };
+        let number = Event::Leaf { row: 0, column: 0, level: 0, scalar: Scalar::Int(7) };
+        let text = Event::Leaf { row: 0, column: 1, level: 0, scalar: Scalar::Varchar("text") };
+        for _ in 0..2 {
+            while columns.take(&number) == Ok(()) {
+                columns.take(&text).unwrap();
+            }
+            if (columns.rows(), columns.take(&number)) != (6, Err(TakeError::Full)) {
+                return Answer::Other;
+            }
+            columns.clear();
+        }
+        Answer::Granted
     });
 }

@@ -1,6 +1,6 @@
 //! Values of cells whose bytes were changed at random: what `read_value` takes is written and read again as the same value, alone and as the
 //! cell of a page, and what it refuses the decoder refuses at the same byte of a page, also of one without metadata whose types are given to
-//! it. CQLP_STREAMS is how many values there are, 3,000 where it is not set.
+//! it in a table that is made of them. CQLP_STREAMS is how many values there are, 3,000 where it is not set.
 #![forbid(unsafe_code)]
 
 mod common;
@@ -11,7 +11,8 @@ use cqlp::frame::{
 };
 use cqlp::memory::Box;
 use cqlp::text::render_rows;
-use cqlp::{Decoder, Finish, Global, Kind, Limits, OfStd, Outcome, Reason, Refusal, TypeTable};
+use cqlp::{Decoder, Finish, Global, Kind, Limits, Node, OfStd, Outcome, Reason, Refusal, TypeTable, table_of};
+use std::slice::from_ref;
 
 const PLAIN: [Kind; 19] = [
     Kind::Ascii,
@@ -156,6 +157,10 @@ fn read_page(stream: &[u8], given: Option<TypeTable>) -> (Finish, Vec<u8>, TypeT
     (finish, row, decoder.table().clone_table().unwrap())
 }
 
+fn nodes(table: &TypeTable) -> Vec<Node> {
+    (0..table.len()).map(|i| table.node(i).unwrap()).collect()
+}
+
 /// How a reading ends where it refuses this, or nothing, in a cell after this many bytes of a page.
 fn ending(refused: Option<Refusal>, head: u64, cell: &[u8]) -> Finish {
     match refused {
@@ -211,7 +216,9 @@ fn mutated_values() {
         assert_eq!(finish, ending(refused, head, &bytes), "{about}");
 
         let (stream, head) = with_bytes(&bare_page(), &bytes);
-        let by_given = read_page(&stream, Some(table));
+        let given = table_of(Global, from_ref(column(&mut page))).unwrap();
+        assert_eq!(nodes(&given), nodes(&table), "{about}");
+        let by_given = read_page(&stream, Some(given));
         assert_eq!((by_given.0, by_given.1), (ending(refused, head, &bytes), row), "{about}");
     }
     assert!(read > count() / 4, "{read}");

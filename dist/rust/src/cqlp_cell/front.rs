@@ -3,7 +3,7 @@
 
 use crate::cqlp_kind::content::{read_array, scalar};
 use crate::cqlp_kind::{Kind, Scalar};
-use crate::cqlp_note::Limits;
+use crate::cqlp_note::Asked;
 
 /// A scalar, and how many bytes it takes with its length.
 #[derive(Clone, Copy, Debug, PartialEq, Eq)]
@@ -13,10 +13,11 @@ pub struct FrontScalar<'a> {
 }
 
 /// The value of this kind at the front of the input, in a container with room for this many bytes, where it is a scalar
-/// that a `CellReader` would hand out whole and all its bytes are there. Section 6 of `native_protocol_v4.spec`.
+/// of its type that a `CellReader` would hand out whole, lenient or not, and all its bytes are there. Section 6 of
+/// `native_protocol_v4.spec`.
 #[inline(always)]
 pub fn front_scalar<'a>(
-    limits: &Limits,
+    limits: &Asked,
     kind: Kind,
     room: u64,
     input: &'a [u8],

@@ -2,6 +2,7 @@
 //! How cells of the CQL native protocol v4 are read.
 
 mod advance;
+mod content;
 mod front;
 mod gather;
 mod item;

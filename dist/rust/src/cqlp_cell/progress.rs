@@ -3,7 +3,7 @@
 
 use crate::cqlp_cell::open_values::{OpenValue, OpenValues, Order};
 use crate::cqlp_kind::Kind;
-use crate::cqlp_note::{Limits};
+use crate::cqlp_note::{Asked};
 use crate::cqlp_type::TypeTable;
 use crate::kit_std::alloc::Allocator;
 
@@ -16,7 +16,8 @@ pub(crate) enum NextInCell {
     Cell(Option<u32>),
     /// What the open values say.
     Items,
-    /// The bytes of a long scalar from this offset on, of this many in all.
+    /// The bytes of a long scalar, or those behind the last field of the innermost value, from this offset on, of this many
+    /// in all.
     Part { offset: u32, total: u32 },
 }
 
@@ -33,7 +34,7 @@ pub(crate) enum Arrived {
     Counted(u32),
     /// The length of a long scalar, and some of its first part.
     First(u32),
-    /// Some of a later part.
+    /// Some of a later part, or of the first one behind the last field of the innermost value.
     Later,
 }
 
@@ -58,7 +59,7 @@ pub(crate) struct DueValue {
 
 /// Where the reading of a cell stands.
 pub(crate) struct CellProgress<A: Allocator> {
-    pub limits: Limits,
+    pub limits: Asked,
     /// The offset of what is read next.
     pub offset: u64,
     /// Where the cell's container ends.
@@ -154,6 +155,13 @@ fn value_at<A: Allocator>(table: &TypeTable<A>, node: u32, stop: u64) -> DueValu
     }
 }
 
+/// Whether so many bytes behind the last field of a value are read on, since the caller is lenient.
+#[inline]
+fn reads_further(limits: &Asked, left: u64) -> bool
+{
+    limits.lenient && 0 < limits.cell && 0 < left && left < 1 << 32
+}
+
 impl OpenValue {
     /// Whether no further item begins at this offset.
     #[inline]
@@ -163,6 +171,16 @@ impl OpenValue {
             Order::Elements | Order::Keys => self.left == 0,
             Order::Values => false,
             Order::Fields => self.left == 0 || self.stop <= offset,
+        }
+    }
+
+    /// Whether bytes behind its last field are read on from this offset, since the caller is lenient.
+    #[inline]
+    pub(crate) fn has_further(self, limits: &Asked, offset: u64) -> bool
+    {
+        match self.order {
+            Order::Fields => reads_further(limits, self.stop - offset),
+            Order::Elements | Order::Keys | Order::Values => false,
         }
     }
 

@@ -7,7 +7,7 @@ use crate::cqlp_cell::level::Level;
 use crate::cqlp_cell::open_values::OpenValues;
 use crate::cqlp_cell::progress::{Arrived, CellProgress, NextInCell};
 use crate::cqlp_cell::whole::BareItem;
-use crate::cqlp_note::{Limits, NoMemory, Partial};
+use crate::cqlp_note::{Asked, Limits, NoMemory, Partial};
 use crate::cqlp_type::TypeTable;
 use crate::kit_std::alloc::{Allocator, Global};
 
@@ -20,6 +20,12 @@ pub struct CellReader<A: Allocator = Global> {
 impl<A: Allocator> CellReader<A> {
     /// With room for the nesting that the limits allow. Parts have at least one byte.
     pub(crate) fn new(alloc: A, limits: &Limits) -> Result<Self, NoMemory>
+    {
+        Self::asked(alloc, &Asked::new(limits, false))
+    }
+
+    /// The same, where the caller may ask for a lenient reading.
+    pub(crate) fn asked(alloc: A, limits: &Asked) -> Result<Self, NoMemory>
     {
         Ok(CellReader {
             progress: CellProgress {

@@ -2,13 +2,14 @@
 //! The steps of reading a cell.
 
 use crate::cqlp_cell::advance::{CellAdvance, CellOutline};
+use crate::cqlp_cell::content::kind_read;
 use crate::cqlp_cell::gather::{empty, gather, lend_bytes};
 use crate::cqlp_cell::number::{Number, take_number};
 use crate::cqlp_cell::open_values::{OpenValue, Order};
 use crate::cqlp_cell::progress::{Arrived, CellDue, CellProgress, DueValue, NextInCell};
 use crate::cqlp_cell::size::{Sized, size_up};
 use crate::cqlp_kind::Kind;
-use crate::cqlp_kind::content::{accepts, fault};
+use crate::cqlp_kind::content::fault;
 use crate::cqlp_note::{Partial, Reason, Refusal};
 use crate::cqlp_type::TypeTable;
 use crate::kit_std::alloc::Allocator;
@@ -39,7 +40,7 @@ impl<A: Allocator> CellProgress<A> {
                     self.end();
                     CellAdvance::Done
                 }
-                CellDue::Close(value) => self.close(value),
+                CellDue::Close(value) => self.leave(value, partial, table, input),
                 CellDue::Value => self.advance_length(false, partial, table, input),
                 CellDue::Part { offset, total } => {
                     self.advance_part(false, offset, total, partial, table, input)
@@ -59,9 +60,12 @@ impl<A: Allocator> CellProgress<A> {
                 NextInCell::Part { offset, total } => {
                     self.advance_part(true, offset, total, partial, table, input)
                 }
+                NextInCell::Items => {
+                    let value = self.open_values.last().unwrap();
+                    self.advance_further(true, value, partial, table, input)
+                }
                 NextInCell::Nothing => unreachable!(),
                 NextInCell::Cell(_) => unreachable!(),
-                NextInCell::Items => unreachable!(),
             },
         }
     }
@@ -82,9 +86,10 @@ impl<A: Allocator> CellProgress<A> {
             self.arrived = Arrived::Scalar(len);
             return CellAdvance::More { used: input.len() };
         };
-        if !accepts(value.kind, lend_bytes(partial, input, found.content)) {
+        let bytes = lend_bytes(partial, input, found.content);
+        let Some(kind) = kind_read(self.limits.lenient, value.kind, bytes) else {
             return self.refuse(self.offset, fault(value.kind));
-        }
+        };
         let at = self.offset;
         let level = self.open_values.len();
         self.pass(4 + u64::from(len), table);
@@ -93,7 +98,7 @@ impl<A: Allocator> CellProgress<A> {
             used: found.used,
             item: CellOutline::Leaf {
                 level,
-                kind: value.kind,
+                kind,
                 content: found.content,
             },
         }
@@ -317,6 +322,41 @@ impl<A: Allocator> CellProgress<A> {
                 self.after_length(value, number, used, partial, table, input)
             }
         }
+    }
+
+    /// Ends the innermost value, or goes on behind its last field, where the caller is lenient.
+    fn leave(
+        &mut self,
+        value: OpenValue,
+        partial: &mut Partial<A>,
+        table: &TypeTable<A>,
+        input: &[u8],
+    ) -> CellAdvance
+    {
+        if value.has_further(&self.limits, self.offset) {
+            self.advance_further(false, value, partial, table, input)
+        } else {
+            self.close(value)
+        }
+    }
+
+    /// Takes the next bytes behind the last field of the innermost value, which come as the parts of a long scalar do.
+    fn advance_further(
+        &mut self,
+        begun: bool,
+        value: OpenValue,
+        partial: &mut Partial<A>,
+        table: &TypeTable<A>,
+        input: &[u8],
+    ) -> CellAdvance
+    {
+        let total = (value.stop - self.offset) as u32;
+        self.next = NextInCell::Part { offset: 0, total };
+        let answer = self.advance_part(begun, 0, total, partial, table, input);
+        if let CellAdvance::More { .. } = answer {
+            self.next = NextInCell::Items;
+        }
+        answer
     }
 
     /// Ends the innermost value.

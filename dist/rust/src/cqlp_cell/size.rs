@@ -3,7 +3,7 @@
 
 use crate::cqlp_kind::Kind;
 use crate::cqlp_kind::content::allows;
-use crate::cqlp_note::{Limits, Reason};
+use crate::cqlp_note::{Asked, Reason};
 
 /// What a value is by its length.
 #[derive(Clone, Copy)]
@@ -24,7 +24,7 @@ pub(crate) enum Sized {
 /// What a value of this kind is by the four bytes of its length, in a container with room for this many bytes from
 /// there on.
 #[inline]
-pub(crate) fn size_up(limits: &Limits, kind: Kind, room: u64, len: u32) -> Sized
+pub(crate) fn size_up(limits: &Asked, kind: Kind, room: u64, len: u32) -> Sized
 {
     if len > i32::MAX as u32 {
         Sized::Null
@@ -39,7 +39,7 @@ pub(crate) fn size_up(limits: &Limits, kind: Kind, room: u64, len: u32) -> Sized
 
 /// The same of a value that has bytes, and room for them.
 #[inline]
-fn size_content(limits: &Limits, kind: Kind, len: u32) -> Sized
+fn size_content(limits: &Asked, kind: Kind, len: u32) -> Sized
 {
     match kind {
         Kind::List | Kind::Set | Kind::Map => Sized::Counted(len),
@@ -50,9 +50,9 @@ fn size_content(limits: &Limits, kind: Kind, len: u32) -> Sized
 
 /// The same of a scalar.
 #[inline]
-fn size_scalar(limits: &Limits, kind: Kind, len: u32) -> Sized
+fn size_scalar(limits: &Asked, kind: Kind, len: u32) -> Sized
 {
-    if !allows(kind, len as usize) {
+    if !takes(limits.lenient, kind, len) {
         Sized::Refused(Reason::BadSize)
     } else if len <= limits.cell {
         Sized::Scalar(len)
@@ -61,6 +61,13 @@ fn size_scalar(limits: &Limits, kind: Kind, len: u32) -> Sized
     } else {
         Sized::Refused(Reason::TooLong)
     }
+}
+
+/// Whether a content of this many bytes, which are not none, is read on: the type allows so many, or the caller is lenient.
+#[inline]
+fn takes(lenient: bool, kind: Kind, len: u32) -> bool
+{
+    lenient || allows(kind, len as usize)
 }
 
 /// Whether a scalar of this kind comes in parts where it is long.

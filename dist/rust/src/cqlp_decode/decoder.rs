@@ -8,11 +8,11 @@ use crate::cqlp_decode::given::{GiveError, GiveReason, GivenUse};
 use crate::cqlp_decode::item_loop::take_items;
 use crate::cqlp_decode::page_loop::take_cells;
 use crate::cqlp_decode::parts::Parts;
-use crate::cqlp_decode::progress::StreamProgress;
+use crate::cqlp_decode::progress::{StreamProgress, StreamStage};
 use crate::cqlp_decode::step::{Capacity, FaultAfter, Held, Step};
 use crate::cqlp_cell::{CellItem, CellReader};
 use crate::cqlp_grammar::{Event, Finish, Sink};
-use crate::cqlp_note::{BadLimits, Field, Limits, NoMemory, Partial, Prim};
+use crate::cqlp_note::{Asked, BadLimits, Field, IoFault, Limits, NoMemory, Partial, Prim, Source};
 use crate::cqlp_type::{TypeItem, TypeReader, TypeTable};
 use crate::kit_std::alloc::{Allocator, Global};
 
@@ -41,21 +41,40 @@ impl<A: Allocator + Clone> Decoder<A> {
     /// only ones.
     pub fn new(alloc: A, limits: Limits) -> Result<Self, NewError>
     {
+        Self::asked(alloc, limits, false)
+    }
+
+    /// The same, for a lenient reading, which takes what nodes and drivers send against the standard, and goes on:
+    ///
+    /// - A content that its type does not have, by its length or by its bytes, is told as [`Event::Leaf`] with
+    ///   [`Scalar::Raw`](crate::cqlp_kind::Scalar::Raw), all its bytes.
+    /// - The bytes that a tuple or a user-defined value has behind its last field are told as [`Event::Part`] before its
+    ///   `Leave`, at the level of its fields, in parts of at most `cell` bytes whose offsets begin at 0.
+    /// - A type option of an id that no kind has is told as [`Kind::Raw`](crate::cqlp_kind::Kind::Raw), and has no parameters.
+    ///
+    /// All else is read as by a decoder that `new` makes.
+    pub fn lenient(alloc: A, limits: Limits) -> Result<Self, NewError>
+    {
+        Self::asked(alloc, limits, true)
+    }
+
+    fn asked(alloc: A, limits: Limits, lenient: bool) -> Result<Self, NewError>
+    {
         if let Err(bad) = limits.check() {
             return Err(NewError::BadLimits(bad));
         }
-        match Self::with_room(alloc, limits) {
+        match Self::with_room(alloc, Asked::new(&limits, lenient)) {
             Ok(decoder) => Ok(decoder),
             Err(NoMemory) => Err(NewError::NoMemory),
         }
     }
 
-    fn with_room(alloc: A, limits: Limits) -> Result<Self, NoMemory>
+    fn with_room(alloc: A, limits: Asked) -> Result<Self, NoMemory>
     {
         let partial = Partial::new(alloc.clone()?, limits.text.max(limits.cell))?;
         let table = TypeTable::new(alloc.clone()?, limits.entries)?;
-        let types = TypeReader::new(alloc.clone()?, &limits)?;
-        let cells = CellReader::new(alloc, &limits)?;
+        let types = TypeReader::asked(alloc.clone()?, &limits)?;
+        let cells = CellReader::asked(alloc, &limits)?;
         let progress = StreamProgress::new(limits);
         let parts = Parts {
             partial,
@@ -98,8 +117,9 @@ impl<A: Allocator> Decoder<A> {
 
     /// Gives types for a page whose result has the flag No_metadata (0x04, section 4.2.5.2 of
     /// `native_protocol_v4.spec`): they wait for the first page that has it and as many columns as they are, type its
-    /// cells, and type no other page unless they are given again. The table that was held before comes back. A table
-    /// that is not taken comes back with the first reason against it, and nothing changes.
+    /// cells, and type no other page unless they are given again. Given once a frame's header came, and taken back at its
+    /// end, they type that frame's page or none. The table that was held before comes back. A table that is not taken
+    /// comes back with the first reason against it, and nothing changes.
     pub fn give(&mut self, table: TypeTable<A>) -> Result<Option<TypeTable<A>>, GiveError<A>>
     {
         if let Some(why) = self.reason(&table) {
@@ -164,6 +184,24 @@ impl<A: Allocator> Decoder<A> {
     pub fn held_address(&self, start: usize) -> *const u8
     {
         self.parts.partial.address(start)
+    }
+
+    /// Whether a content of a field or of a cell is gathered, of which more bytes are missing than one read of a run gives.
+    pub(crate) fn gathers(&self) -> bool
+    {
+        self.progress.refusal.is_none()
+            && matches!(
+                self.progress.stage,
+                StreamStage::Field(_) | StreamStage::InCell(_)
+            )
+            && self.parts.partial.gathers_more(4096)
+    }
+
+    /// Reads the next bytes of the content that is gathered straight into the memory that holds it, by one call of the
+    /// reader for up to 4,096 bytes. It does what `next` does of these bytes, which is to want more.
+    pub(crate) fn read_content<R: Source>(&mut self, reader: &mut R) -> Result<usize, IoFault>
+    {
+        self.parts.partial.read_from(reader, 4096)
     }
 
     /// The types of the metadata begun last: those handed out since the field MetaFlags was.

@@ -14,7 +14,7 @@ use crate::cqlp_decode::progress::{StreamProgress, StreamStage, limit_on};
 use crate::cqlp_decode::step::FaultAfter;
 use crate::cqlp_grammar::{Event, Role, Sink, SinkFault, Want, fault_in};
 use crate::cqlp_kind::content::read_array;
-use crate::cqlp_note::{Field, Header, Limits, Notation, front_field};
+use crate::cqlp_note::{Asked, Field, Header, Notation, front_field};
 use crate::kit_std::alloc::Allocator;
 
 /// Hands what is due to the sink, as far as the loop takes it, and answers how many bytes of the input it takes.
@@ -45,7 +45,7 @@ pub(crate) fn take_fields<S: Sink, A: Allocator>(
 /// offset, and has room for this many bytes.
 #[inline(always)]
 fn hand_plain<S: Sink>(
-    limits: &Limits,
+    limits: &Asked,
     notation: Notation,
     field: Field,
     room: u64,
@@ -75,7 +75,7 @@ fn hand_plain<S: Sink>(
 /// The same of a field of this notation.
 #[inline(always)]
 fn hand_front<S: Sink>(
-    limits: &Limits,
+    limits: &Asked,
     notation: Notation,
     field: Field,
     room: u64,

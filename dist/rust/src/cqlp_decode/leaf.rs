@@ -9,12 +9,12 @@ use crate::cqlp_decode::page_loop::Handed;
 use crate::cqlp_cell::{DueItem, front_scalar};
 use crate::cqlp_grammar::{Event, Sink, SinkFault};
 use crate::cqlp_kind::Kind;
-use crate::cqlp_note::Limits;
+use crate::cqlp_note::Asked;
 
 /// Hands the item at the front of the input to the sink, if it is a scalar and all its bytes are there.
 #[inline(always)]
 pub fn hand_leaf<S: Sink>(
-    limits: &Limits,
+    limits: &Asked,
     due: DueItem,
     page: CellCursor,
     input: &[u8],
@@ -50,7 +50,7 @@ pub fn hand_leaf<S: Sink>(
 /// The same of an item of this kind.
 #[inline(always)]
 pub fn hand_kind<S: Sink>(
-    limits: &Limits,
+    limits: &Asked,
     kind: Kind,
     due: DueItem,
     page: CellCursor,

@@ -4,7 +4,7 @@
 use crate::cqlp_decode::given::GivenUse;
 use crate::cqlp_grammar::{Role, has, number};
 use crate::cqlp_kind::Kind;
-use crate::cqlp_note::{Limits, Prim};
+use crate::cqlp_note::{Asked, Prim};
 use crate::cqlp_type::TypeTable;
 use crate::kit_std::alloc::Allocator;
 
@@ -144,7 +144,7 @@ fn has_types<A: Allocator>(table: &TypeTable<A>, count: u32) -> bool
 /// The page that begins after a field of this role that has this value, if it has a cell. A given table types it where
 /// it was found to serve.
 pub fn find_page<A: Allocator>(
-    limits: &Limits,
+    limits: &Asked,
     role: Role,
     value: Prim<'_>,
     table: &TypeTable<A>,
@@ -160,7 +160,7 @@ pub fn find_page<A: Allocator>(
 }
 
 /// The types of this many columns, whose metadata has these flags.
-fn columns_of(limits: &Limits, flags: u32, columns: u32, served: bool) -> Columns
+fn columns_of(limits: &Asked, flags: u32, columns: u32, served: bool) -> Columns
 {
     match (limits.types, served, has(flags, 0x04)) {
         (true, true, _) => Columns::Given,

@@ -15,7 +15,7 @@ use crate::cqlp_cell::DueItem;
 use crate::cqlp_grammar::{Event, Sink, SinkFault};
 use crate::cqlp_kind::Kind;
 use crate::cqlp_kind::content::read_array;
-use crate::cqlp_note::Limits;
+use crate::cqlp_note::Asked;
 use crate::kit_std::alloc::Allocator;
 
 /// What became of the cell that is due.
@@ -91,7 +91,7 @@ pub(crate) fn take_cells<S: Sink, A: Allocator>(
 /// this many bytes.
 #[inline(always)]
 fn hand_cell<S: Sink>(
-    limits: &Limits,
+    limits: &Asked,
     kind: Kind,
     room: u64,
     page: CellCursor,

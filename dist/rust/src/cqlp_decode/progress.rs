@@ -8,7 +8,7 @@ use crate::cqlp_decode::page::{CellCursor, find_page, page_table, serves};
 use crate::cqlp_decode::parts::Parts;
 use crate::cqlp_cell::{CellAdvance, CellReader, front_scalar};
 use crate::cqlp_grammar::{Expected, Finish, Role, Upcoming, Want, fault_in};
-use crate::cqlp_note::{self as note, Field, Header, Limits, Notation, Partial, Prim, Reason, Refusal};
+use crate::cqlp_note::{self as note, Asked, Field, Header, Notation, Partial, Prim, Reason, Refusal};
 use crate::cqlp_type::{TypeAdvance, TypeReader, TypeTable};
 use crate::kit_std::alloc::Allocator;
 
@@ -31,7 +31,7 @@ pub enum StreamStage {
 
 /// Where the reading of a stream stands, but for the field, type option or cell that is under way.
 pub struct StreamProgress {
-    pub limits: Limits,
+    pub limits: Asked,
     /// The start of the frame under way.
     pub frame: u64,
     /// The first byte of what is read now.
@@ -50,7 +50,7 @@ pub struct StreamProgress {
 
 impl StreamProgress {
     /// At the start of a stream.
-    pub fn new(limits: Limits) -> Self
+    pub fn new(limits: Asked) -> Self
     {
         StreamProgress {
             limits,
@@ -453,7 +453,7 @@ fn count_field_bytes<A: Allocator>(partial: &Partial<A>) -> u64
 
 /// The most bytes of a content in this notation.
 #[inline(always)]
-pub fn limit_on(limits: &Limits, notation: Notation) -> u32
+pub fn limit_on(limits: &Asked, notation: Notation) -> u32
 {
     match notation {
         Notation::Text16 | Notation::Text32 => limits.text,

@@ -6,7 +6,7 @@ use crate::cqlp_encode::value_writing::offer_content;
 use crate::cqlp_message::OwnedBound;
 use crate::cqlp_note::{Header, IoFault, Target};
 use crate::cqlp_type::TypeTree;
-use crate::cqlp_value::{Atom, Value, fits, value_size};
+use crate::cqlp_value::{Atom, Value, fitting_size};
 use crate::kit_std::alloc::{AllocError, Global};
 
 error! {
@@ -39,7 +39,7 @@ impl From<AllocError> for BindError {
 ///
 /// # Errors
 ///
-/// In this order: [`BindError::Unfit`] where [`fits`] says that the value is none of the type, and [`BindError::TooLong`], before memory is
+/// In this order: [`BindError::Unfit`] where [`fits`](crate::cqlp_value::fits) says that the value is none of the type, and [`BindError::TooLong`], before memory is
 /// asked for; [`BindError::NoMemory`] where it was refused.
 pub fn bind_value(
     alloc: Global,
@@ -78,10 +78,10 @@ pub fn raw_value(alloc: Global, value: &Value, of: Option<&TypeTree>) -> Result<
 /// What follows the length of a value of this type.
 fn content(alloc: Global, value: &Value, of: Option<&TypeTree>) -> Result<Vec<u8>, BindError>
 {
-    if !fits(value, of) {
-        return Err(BindError::Unfit);
-    }
-    let size = value_size(value);
+    let size = match fitting_size(value, of) {
+        Some(size) => size,
+        None => return Err(BindError::Unfit),
+    };
     if size > u64::from(Header::LONGEST_BODY) {
         return Err(BindError::TooLong);
     }

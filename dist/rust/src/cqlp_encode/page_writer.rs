@@ -6,7 +6,7 @@ use crate::cqlp_encode::writing::write_parts;
 use crate::cqlp_message::{Frame, Message, Unfit};
 use crate::cqlp_note::Target;
 use crate::cqlp_type::TypeTree;
-use crate::cqlp_value::{Value, fits, value_size};
+use crate::cqlp_value::{Value, fitting_size};
 
 error! {
 /// Why a page was not begun, a cell was not written, or a page is not done.
@@ -116,8 +116,8 @@ impl<'a> PageWriter<'a> {
     /// is as it was. Then [`PageError::Write`] at the first call of the target that fails or takes nothing.
     pub fn cell<W: Target>(&mut self, value: &Value, target: &mut W) -> Result<(), PageError>
     {
-        let fits = self.frame.fits_column(self.column, value);
-        self.put(value, fits, target)
+        let size = self.frame.column_size(self.column, value);
+        self.put(value, size, target)
     }
 
     /// Writes the next cell of a page whose columns are not told to this target, where it is a value of a type that the caller names: as
@@ -125,7 +125,7 @@ impl<'a> PageWriter<'a> {
     ///
     /// # Errors
     ///
-    /// Those of [`cell`](Self::cell): [`PageError::Unfit`] where the value is none of its type, as [`fits`] says, and where the
+    /// Those of [`cell`](Self::cell): [`PageError::Unfit`] where the value is none of its type, as [`fits`](crate::cqlp_value::fits) says, and where the
     /// page's columns are told.
     pub fn cell_as<W: Target>(
         &mut self,
@@ -134,8 +134,8 @@ impl<'a> PageWriter<'a> {
         target: &mut W,
     ) -> Result<(), PageError>
     {
-        let fits = fits_untold(&self.frame.message, value, of);
-        self.put(value, fits, target)
+        let size = untold_size(&self.frame.message, value, of);
+        self.put(value, size, target)
     }
 
     /// Goes on with the cell in which an earlier call stopped: writes the bytes of the value behind those that targets took, and is then
@@ -149,8 +149,8 @@ impl<'a> PageWriter<'a> {
     /// took. Then [`PageError::Write`] at the first call of the target that fails or takes nothing; this may be called again.
     pub fn go_on<W: Target>(&mut self, value: &Value, target: &mut W) -> Result<(), PageError>
     {
-        let fits = self.frame.fits_column(self.column, value);
-        self.put_rest(value, fits, target)
+        let size = self.frame.column_size(self.column, value);
+        self.put_rest(value, size, target)
     }
 
     /// The same of a cell that [`cell_as`](Self::cell_as) writes.
@@ -165,8 +165,8 @@ impl<'a> PageWriter<'a> {
         target: &mut W,
     ) -> Result<(), PageError>
     {
-        let fits = fits_untold(&self.frame.message, value, of);
-        self.put_rest(value, fits, target)
+        let size = untold_size(&self.frame.message, value, of);
+        self.put_rest(value, size, target)
     }
 
     /// How many bytes the frame has, with all its cells, all of which the targets of the calls took: where they were several, all
@@ -189,11 +189,16 @@ impl<'a> PageWriter<'a> {
         Ok(self.written)
     }
 
-    /// Writes the next cell, if it is a value that fits.
-    fn put<W: Target>(&mut self, value: &Value, fits: bool, target: &mut W) -> Result<(), PageError>
+    /// Writes the next cell, if it is a value that fits and so has a size.
+    fn put<W: Target>(
+        &mut self,
+        value: &Value,
+        size: Option<u64>,
+        target: &mut W,
+    ) -> Result<(), PageError>
     {
-        let size = self.check(value, fits)?;
-        let taken = offer_value(value, 0, target);
+        let size = self.check(size)?;
+        let taken = offer_value(value, size, 0, target);
         if taken < size {
             self.fail(taken);
             return Err(PageError::Write {
@@ -204,11 +209,11 @@ impl<'a> PageWriter<'a> {
         Ok(())
     }
 
-    /// Writes what targets have not taken of the cell in which one failed, if it is a value that fits.
+    /// Writes what targets have not taken of the cell in which one failed, if it is a value that fits and so has a size.
     fn put_rest<W: Target>(
         &mut self,
         value: &Value,
-        fits: bool,
+        size: Option<u64>,
         target: &mut W,
     ) -> Result<(), PageError>
     {
@@ -216,11 +221,11 @@ impl<'a> PageWriter<'a> {
             return Err(PageError::OutOfTurn);
         }
         let mut writer = self.before_cut();
-        let size = writer.check(value, fits)?;
+        let size = writer.check(size)?;
         if size <= self.cut {
             return Err(PageError::OutOfTurn);
         }
-        let taken = offer_value(value, self.cut, target);
+        let taken = offer_value(value, size, self.cut, target);
         if taken < size {
             writer.fail(taken);
             *self = writer;
@@ -247,8 +252,8 @@ impl<'a> PageWriter<'a> {
         }
     }
 
-    /// How many bytes the next cell has, or why the value is not it.
-    fn check(&self, value: &Value, fits: bool) -> Result<u32, PageError>
+    /// How many bytes the next cell has, or why a value of this size is not it.
+    fn check(&self, size: Option<u64>) -> Result<u32, PageError>
     {
         if self.failed {
             return Err(PageError::Write {
@@ -258,10 +263,10 @@ impl<'a> PageWriter<'a> {
         if self.left == 0 {
             return Err(PageError::OutOfTurn);
         }
-        if !fits {
-            return Err(PageError::Unfit(Unfit::CellType));
-        }
-        let size = value_size(value);
+        let size = match size {
+            Some(size) => size,
+            None => return Err(PageError::Unfit(Unfit::CellType)),
+        };
         if size > u64::from(self.free) {
             return Err(PageError::PastLength);
         }
@@ -288,14 +293,14 @@ impl<'a> PageWriter<'a> {
     }
 }
 
-/// Whether a value of this type is a cell of a page whose columns are not told.
-fn fits_untold(message: &Message, value: &Value, of: &TypeTree) -> bool
+/// How many bytes spell a value of this type, if it is one and a cell of a page whose columns are not told.
+fn untold_size(message: &Message, value: &Value, of: &TypeTree) -> Option<u64>
 {
     match message {
         Message::Rows(page) => match &page.meta.specs {
-            None => fits(value, Some(of)),
-            Some(_) => false,
+            None => fitting_size(value, Some(of)),
+            Some(_) => None,
         },
-        _ => false,
+        _ => None,
     }
 }

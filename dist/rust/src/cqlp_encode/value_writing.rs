@@ -1,11 +1,14 @@
 // Written by dist/erase from crates/cqlp_encode/src/value_writing.rt.
 //! A value, written.
 
-use crate::cqlp_encode::staged::Staged;
-use crate::cqlp_encode::values::{put_inside, put_value};
+use crate::cqlp_encode::staged::{Staged, offer_after};
+use crate::cqlp_encode::values::{put_atom, put_inside, put_measured};
 use crate::cqlp_note::{Header, Target};
 use crate::cqlp_type::TypeTree;
-use crate::cqlp_value::{Value, fits, value_size};
+use crate::cqlp_value::{Atom, Content, Value, fitting_size};
+
+/// How many bytes of a content, at most, are copied behind its length.
+const FEW: usize = 28;
 
 error! {
 /// Why a value was not written, or not whole.
@@ -30,7 +33,7 @@ pub enum ValueError {
 ///
 /// # Errors
 ///
-/// In this order: [`ValueError::Unfit`] where [`fits`] says that the value is none of the type, and [`ValueError::TooLong`],
+/// In this order: [`ValueError::Unfit`] where [`fits`](crate::cqlp_value::fits) says that the value is none of the type, and [`ValueError::TooLong`],
 /// before anything is written; [`ValueError::Write`] at the first call of the target that fails or takes nothing.
 pub fn write_value<W: Target>(
     value: &Value,
@@ -38,15 +41,15 @@ pub fn write_value<W: Target>(
     target: &mut W,
 ) -> Result<u32, ValueError>
 {
-    if !fits(value, of) {
-        return Err(ValueError::Unfit);
-    }
-    let size = value_size(value);
+    let size = match fitting_size(value, of) {
+        Some(size) => size,
+        None => return Err(ValueError::Unfit),
+    };
     if size > u64::from(Header::LONGEST_BODY) {
         return Err(ValueError::TooLong);
     }
     let len = size as u32;
-    let taken = offer_value(value, 0, target);
+    let taken = offer_value(value, len, 0, target);
     if taken < len {
         Err(ValueError::Write { written: taken })
     } else {
@@ -54,12 +57,70 @@ pub fn write_value<W: Target>(
     }
 }
 
-/// Writes a value with its length, but for its first bytes, `before` many, and answers how many of its bytes the target took or
-/// had from before.
-pub(crate) fn offer_value<W: Target>(value: &Value, before: u32, target: &mut W) -> u32
+/// Writes a value with its length, of `size` bytes in all, but for its first bytes, `before` many, and answers how many of its bytes
+/// the target took or had from before.
+#[inline(always)]
+pub(crate) fn offer_value<W: Target>(value: &Value, size: u32, before: u32, target: &mut W) -> u32
+{
+    match value {
+        Value::Leaf(atom) => {
+            if before == 0 {
+                offer_atom(atom, target)
+            } else {
+                offer_any(value, size, before, target)
+            }
+        }
+        _ => offer_any(value, size, before, target),
+    }
+}
+
+/// The same of a scalar.
+#[inline(always)]
+fn offer_atom<W: Target>(atom: &Atom, target: &mut W) -> u32
+{
+    match atom.content() {
+        Content::One(bytes) => offer_bytes(&bytes, target),
+        Content::Two(bytes) => offer_bytes(&bytes, target),
+        Content::Four(bytes) => offer_bytes(&bytes, target),
+        Content::Eight(bytes) => offer_bytes(&bytes, target),
+        Content::Lent(bytes) => {
+            if bytes.len() <= FEW {
+                offer_bytes(bytes, target)
+            } else {
+                offer_long(atom, target)
+            }
+        }
+        Content::Decimal(_, _) => offer_long(atom, target),
+    }
+}
+
+/// The same of a content of few bytes.
+#[inline(always)]
+fn offer_bytes<W: Target>(content: &[u8], target: &mut W) -> u32
+{
+    let mut bytes = [0; FEW + 4];
+    let end = content.len() + 4;
+    bytes[..4].copy_from_slice(&content.len().to_be_bytes()[4..]);
+    bytes[4..end].copy_from_slice(content);
+    offer_after(target, 0, &bytes[..end]) as u32
+}
+
+/// The same of a scalar of many bytes.
+fn offer_long<W: Target>(atom: &Atom, target: &mut W) -> u32
+{
+    let mut out = Staged::new(target, 0);
+    put_atom(&mut out, atom);
+    out.flush();
+    let taken = out.taken();
+    let _ = out.into_inner();
+    taken as u32
+}
+
+/// The same of any value, of which the target may have the first bytes.
+fn offer_any<W: Target>(value: &Value, size: u32, before: u32, target: &mut W) -> u32
 {
     let mut out = Staged::new(target, u64::from(before));
-    put_value(&mut out, value);
+    put_measured(&mut out, value, u64::from(size) - 4);
     out.flush();
     let taken = out.taken();
     let _ = out.into_inner();

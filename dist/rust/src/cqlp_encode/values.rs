@@ -11,18 +11,18 @@ pub fn put_value<W: Target>(out: &mut Staged<'_, W>, value: &Value)
 {
     match value {
         Value::Leaf(atom) => put_atom(out, atom),
-        _ => put_any(out, value),
+        _ => put_measured(out, value, content_len(value)),
     }
 }
 
-/// The same of a value that is mostly no scalar.
-fn put_any<W: Target>(out: &mut Staged<'_, W>, value: &Value)
+/// The same of a value whose content has this many bytes, of which a null has none.
+pub(crate) fn put_measured<W: Target>(out: &mut Staged<'_, W>, value: &Value, content: u64)
 {
     match value {
         Value::Null => out.put_int(-1),
         Value::Leaf(atom) => put_atom(out, atom),
         _ => {
-            out.put_count32(content_len(value) as usize);
+            out.put_count32(content as usize);
             put_inside(out, value);
         }
     }
@@ -71,7 +71,7 @@ fn put_pairs<W: Target>(out: &mut Staged<'_, W>, pairs: &[(Value, Value)])
 
 /// Takes a scalar with its length.
 #[inline(always)]
-fn put_atom<W: Target>(out: &mut Staged<'_, W>, atom: &Atom)
+pub fn put_atom<W: Target>(out: &mut Staged<'_, W>, atom: &Atom)
 {
     match atom.content() {
         Content::One(bytes) => out.put_content(&bytes),

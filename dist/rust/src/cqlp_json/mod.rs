@@ -6,5 +6,6 @@ mod member;
 mod string;
 
 pub use line::{json_line, put_json_line};
-pub use member::{put_bytes, put_scalar, put_word};
+pub use member::{put_bytes, put_word};
+pub(crate) use member::{put_scalar};
 pub use string::put_string;

@@ -6,7 +6,7 @@ use crate::cqlp_message::message::Message;
 use crate::cqlp_message::response::{Metadata, Spec};
 use crate::cqlp_message::unfit::Unfit;
 use crate::cqlp_note::Header;
-use crate::cqlp_value::{Value, fits};
+use crate::cqlp_value::{Value, fitting_size};
 
 impl Frame {
     /// How many bytes it has, with its header and cells of this many bytes after its parts; or why it is no page that can be
@@ -71,9 +71,17 @@ impl Frame {
     /// Null, Empty or a Raw leaf. False past the last column, and where it is no page.
     pub fn fits_column(&self, column: usize, value: &Value) -> bool
     {
+        self.column_size(column, value).is_some()
+    }
+
+    /// How many bytes spell a value of the type of this column of its page, as [`fitting_size`] says it; None where
+    /// [`fits_column`](Self::fits_column) is false.
+    #[inline]
+    pub fn column_size(&self, column: usize, value: &Value) -> Option<u64>
+    {
         match &self.message {
-            Message::Rows(page) => page.meta.fits_column(column, value),
-            _ => false,
+            Message::Rows(page) => page.meta.column_size(column, value),
+            _ => None,
         }
     }
 }
@@ -100,21 +108,29 @@ impl Message {
 }
 
 impl Metadata {
-    /// Whether a value is one of the type of this column.
-    fn fits_column(&self, column: usize, value: &Value) -> bool
+    /// How many bytes spell a value of the type of this column, or None where it is none.
+    #[inline]
+    fn column_size(&self, column: usize, value: &Value) -> Option<u64>
     {
         match &self.specs {
-            Some(specs) => fits_spec(specs, column, value),
-            None => column < self.columns as usize && fits(value, None),
+            Some(specs) => spec_size(specs, column, value),
+            None => {
+                if column < self.columns as usize {
+                    fitting_size(value, None)
+                } else {
+                    None
+                }
+            }
         }
     }
 }
 
-/// Whether a value is one of the type that is told of this column.
-fn fits_spec(specs: &[Spec], column: usize, value: &Value) -> bool
+/// The same of the type that is told of this column.
+#[inline]
+fn spec_size(specs: &[Spec], column: usize, value: &Value) -> Option<u64>
 {
     match specs.get(column) {
-        Some(spec) => fits(value, Some(&spec.tree)),
-        None => false,
+        Some(spec) => fitting_size(value, Some(&spec.tree)),
+        None => None,
     }
 }

@@ -5,7 +5,7 @@ use crate::cqlp_message::part::{PartRef, TakesParts};
 use crate::cqlp_message::request::OwnedBound;
 use crate::cqlp_note::Address;
 use crate::cqlp_type::{TypeTree, check_type, type_size};
-use crate::cqlp_value::{Value, fits, value_size};
+use crate::cqlp_value::{Value, fitting_size, value_size};
 
 /// What is found of parts.
 #[derive(Clone, Copy)]
@@ -28,16 +28,29 @@ impl Tally {
         Tally::fixed(0)
     }
 
-    /// That of these parts and of those.
+    /// Counts those of these parts, too.
     #[inline(always)]
-    fn and(self, other: Tally) -> Tally
+    fn add(&mut self, other: Tally)
     {
-        Tally {
-            counts: self.counts && other.counts,
-            texts: self.texts && other.texts,
-            cells: self.cells && other.cells,
-            size: self.size.saturating_add(other.size),
+        if !other.is_fit() {
+            self.note(other);
         }
+        self.size = self.size.saturating_add(other.size);
+    }
+
+    /// Whether everything fits.
+    #[inline(always)]
+    fn is_fit(&self) -> bool
+    {
+        self.counts && self.texts && self.cells
+    }
+
+    /// Notes what does not fit of these.
+    fn note(&mut self, other: Tally)
+    {
+        self.counts = self.counts && other.counts;
+        self.texts = self.texts && other.texts;
+        self.cells = self.cells && other.cells;
     }
 
     /// That of a part.
@@ -117,9 +130,12 @@ impl Tally {
     #[inline(always)]
     fn cell(value: &Value, tree: Option<&TypeTree>) -> Tally
     {
-        Tally {
-            cells: fits(value, tree),
-            ..Tally::fixed(value_size(value))
+        match fitting_size(value, tree) {
+            Some(size) => Tally::fixed(size),
+            None => Tally {
+                cells: false,
+                ..Tally::fixed(value_size(value))
+            },
         }
     }
 
@@ -169,6 +185,6 @@ fn is_int(count: usize) -> bool
 impl TakesParts for Tally {
     #[inline(always)]
     fn take(&mut self, part: PartRef<'_>) {
-        *self = self.and(Tally::of(part));
+        self.add(Tally::of(part));
     }
 }

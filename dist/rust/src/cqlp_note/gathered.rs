@@ -3,6 +3,7 @@
 
 use crate::kit_std::prelude::{Vec};
 use crate::cqlp_note::refusal::NoMemory;
+use crate::cqlp_note::streams::{IoFault, Source};
 use crate::kit_std::alloc::Allocator;
 
 /// The bytes so far of a content, in memory that is taken once: its capacity is the room, and it lies in one place, for as
@@ -73,6 +74,21 @@ impl<A: Allocator> GatheredContent<A> {
         self.bytes.slice_mut(start..end).copy_from_slice(piece);
         self.len = end as u32;
     }
+
+    /// Adds at the end what one call of a reader gives, which is up to `most` bytes: it reads them where they belong.
+    pub(crate) fn read_from<R: Source>(&mut self, reader: &mut R, most: usize) -> Result<usize, IoFault>
+    {
+        let start = self.len as usize;
+        let end = start + most;
+        fill_to(&mut self.bytes, end);
+        match reader.read(self.bytes.slice_mut(start..end)) {
+            Ok(count) => {
+                self.len += count as u32;
+                Ok(count)
+            }
+            Err(IoFault) => Err(IoFault),
+        }
+    }
 }
 
 /// The memory of a vector is in a block, so that addresses behind its first are counted on from it. It has nothing to do.
@@ -84,6 +100,15 @@ fn address_after<A: Allocator>(bytes: &Vec<u8, A>, start: usize) -> *const u8
 {
     has_address(bytes);
     unsafe { bytes.as_ptr().byte_add(start) }
+}
+
+/// Adds zeros behind the bytes that there are, so that there are at least so many.
+fn fill_to<A: Allocator>(bytes: &mut Vec<u8, A>, end: usize)
+{
+    let written = bytes.len();
+    if written < end {
+        add_zeros(bytes, end - written);
+    }
 }
 
 /// Adds this many zeros.

@@ -1,5 +1,5 @@
 // Written by dist/erase from crates/cqlp_note/src/limits.rt.
-//! The limits that a caller sets.
+//! The limits that a caller sets. The greatest length of a body is none of them: it is `Header::LONGEST_BODY`.
 
 /// What a reader of frames holds at most, and what it reads.
 #[derive(Clone, Copy, Debug, PartialEq, Eq)]
@@ -16,6 +16,35 @@ pub struct Limits {
     pub types: bool,
     /// Whether a blob, custom or raw scalar longer than `cell` comes in parts of that size.
     pub parts: bool,
+}
+
+/// What a reader of frames is asked for: the limits, and how it reads.
+#[derive(Clone, Copy)]
+pub struct Asked {
+    pub text: u32,
+    pub cell: u32,
+    pub entries: u32,
+    pub depth: u32,
+    pub types: bool,
+    pub parts: bool,
+    /// Whether what a type does not have is taken as raw bytes.
+    pub lenient: bool,
+}
+
+impl Asked {
+    /// These limits, for a reading that is lenient or not.
+    pub fn new(limits: &Limits, lenient: bool) -> Self
+    {
+        Asked {
+            text: limits.text,
+            cell: limits.cell,
+            entries: limits.entries,
+            depth: limits.depth,
+            types: limits.types,
+            parts: limits.parts,
+            lenient,
+        }
+    }
 }
 
 /// The numbers that a limit may be.

@@ -10,6 +10,7 @@ use crate::cqlp_note::head::{
 };
 use crate::cqlp_note::prim::{BoundValue, Primitive};
 use crate::cqlp_note::refusal::{NoMemory, Reason, Refusal};
+use crate::cqlp_note::streams::{IoFault, Source};
 use crate::cqlp_note::utf8::is_text;
 use crate::kit_std::alloc::{Allocator, Global};
 
@@ -292,6 +293,29 @@ impl<A: Allocator> Partial<A> {
         let lies = ContentPlace::InInput { start, len: size };
         let item = FieldOutline::Content { form, lies };
         FieldAdvance::Got { used, item }
+    }
+
+    /// Whether a content is gathered, some of which has come, and more than this many bytes of it are missing.
+    pub fn gathers_more(&self, most: usize) -> bool
+    {
+        match self.stage {
+            FieldStage::Content { len, .. } if !self.content.is_empty() => {
+                let missing = (len - self.content.len()) as usize;
+                most < missing
+            }
+            _ => false,
+        }
+    }
+
+    /// Reads the next bytes of the content that is gathered straight into the buffer, by one call of the reader for up
+    /// to `most` bytes. It does what `advance` does of these bytes, which is to want more.
+    pub(crate) fn read_from<R: Source>(&mut self, reader: &mut R, most: usize) -> Result<usize, IoFault>
+    {
+        match self.stage {
+            FieldStage::Idle => unreachable!(),
+            FieldStage::Front => unreachable!(),
+            FieldStage::Content { .. } => self.content.read_from(reader, most),
+        }
     }
 
     /// Ends the field by a refusal.

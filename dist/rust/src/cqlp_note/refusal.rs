@@ -1,5 +1,5 @@
 // Written by dist/erase from crates/cqlp_note/src/refusal.rt.
-//! Why bytes are refused, and why a call is.
+//! Why bytes are refused, and why a call is. `Header::read` has the order in which a header is refused, head.rt that of a field.
 
 use crate::kit_std::alloc::AllocError;
 

@@ -1,5 +1,5 @@
 // Written by dist/erase from crates/cqlp_note/src/utf8.rt.
-//! Bytes that are a text.
+//! Bytes that are a text. A text that comes in pieces is looked at once, when its last byte is there: `accepts` in partial.rt.
 
 /// Whether these bytes are UTF-8. ASCII, which most texts are, is found out eight bytes at a time.
 #[inline]

@@ -1,7 +1,7 @@
 // Written by dist/erase from crates/cqlp_render/src/showing.rt.
 //! A whole stream, shown or checked.
 
-use crate::kit_std::prelude::{Vec, vec};
+use crate::kit_std::prelude::{Clone, Vec, vec};
 use crate::cqlp_render::buffered_sink::BufferedSink;
 use crate::cqlp_render::form::{CsvRows, Form, JsonLines, JsonRows, Lines, Nothing};
 use crate::cqlp_render::render::{TextSink, run_flushing};
@@ -28,7 +28,7 @@ pub(crate) fn show<R: Source, O: Target, E: Target, A: Allocator>(
     err: E,
 ) -> (u8, O, E)
 {
-    show_as(alloc, limits, TextForm::Lines, input, out, err)
+    show_as(alloc, limits, false, TextForm::Lines, input, out, err)
 }
 
 /// Writes the text of the pages of a stream to `out`, and the verdict line or fault line to `err`. Answers the exit
@@ -44,6 +44,7 @@ pub(crate) fn rows<R: Source, O: Target, E: Target, A: Allocator>(
     show_as(
         alloc,
         limits,
+        false,
         TextForm::Pages(PagePlace::new()),
         input,
         out,
@@ -51,33 +52,35 @@ pub(crate) fn rows<R: Source, O: Target, E: Target, A: Allocator>(
     )
 }
 
-/// Writes the events of a stream to `out` as text in a form, and the verdict line or fault line to `err`. Answers the exit
-/// status, and the two outputs.
+/// Writes the events of a stream, whose reading is lenient or not, to `out` as text in a form, and the verdict line or fault line
+/// to `err`. Answers the exit status, and the two outputs.
 pub(crate) fn show_as<R: Source, O: Target, E: Target, A: Allocator>(
     alloc: &A,
     limits: Limits,
+    lenient: bool,
     form: TextForm,
     input: &mut R,
     out: O,
     err: E,
 ) -> (u8, O, E)
 {
-    let (ending, out) = write_as(alloc, limits, form, input, out);
+    let (ending, out) = write_as(alloc, limits, lenient, form, input, out);
     let (status, err) = conclude(ending, err);
     (status, out, err)
 }
 
-/// Reads a stream, and writes the verdict line to `out` or the fault line to `err`. Answers the exit status, and the
-/// two outputs.
+/// Reads a stream, leniently or not, and writes the verdict line to `out` or the fault line to `err`. Answers the exit status,
+/// and the two outputs.
 pub(crate) fn check<R: Source, O: Target, E: Target, A: Allocator>(
     alloc: &A,
     limits: Limits,
+    lenient: bool,
     input: &mut R,
     out: O,
     err: E,
 ) -> (u8, O, E)
 {
-    let (ending, mut out) = read_through(alloc, limits, input, out);
+    let (ending, mut out) = read_through(alloc, limits, lenient, input, out);
     let Ending::Finished(_) = ending else {
         let (status, err) = conclude(ending, err);
         return (status, out, err);
@@ -93,11 +96,12 @@ pub(crate) fn check<R: Source, O: Target, E: Target, A: Allocator>(
 fn read_through<R: Source, O: Target, A: Allocator>(
     alloc: &A,
     limits: Limits,
+    lenient: bool,
     input: &mut R,
     out: O,
 ) -> (Ending, O)
 {
-    let Some(mut decoder) = decoder_within(alloc, limits) else {
+    let Some(mut decoder) = decoder_within(alloc, limits, lenient) else {
         return (Ending::NoMemory, out);
     };
     let mut sink = TextSink::new(out, Nothing);
@@ -109,18 +113,26 @@ fn read_through<R: Source, O: Target, A: Allocator>(
 fn write_as<R: Source, O: Target, A: Allocator>(
     alloc: &A,
     limits: Limits,
+    lenient: bool,
     form: TextForm,
     input: &mut R,
     out: O,
 ) -> (Ending, O)
 {
     match form {
-        TextForm::Lines => write_text(alloc, limits, Lines, input, out),
-        TextForm::JsonLines => write_text(alloc, limits, JsonLines, input, out),
-        TextForm::Pages(place) => write_text(alloc, limits, place, input, out),
-        TextForm::JsonRows(place) => write_text(alloc, limits, JsonRows(place), input, out),
-        TextForm::CsvRows(place) => write_text(alloc, limits, CsvRows(place), input, out),
-        TextForm::Nothing => write_text(alloc, limits, Nothing, input, out),
+        TextForm::Lines => write_text(alloc, limits, lenient, Lines, input, out),
+        TextForm::JsonLines => write_text(alloc, limits, lenient, JsonLines, input, out),
+        TextForm::Pages(place) => write_text(alloc, limits, lenient, place, input, out),
+        TextForm::JsonRows(place) => write_text(
+            alloc,
+            limits,
+            lenient,
+            JsonRows(place),
+            input,
+            out,
+        ),
+        TextForm::CsvRows(place) => write_text(alloc, limits, lenient, CsvRows(place), input, out),
+        TextForm::Nothing => write_text(alloc, limits, lenient, Nothing, input, out),
     }
 }
 
@@ -128,12 +140,13 @@ fn write_as<R: Source, O: Target, A: Allocator>(
 fn write_text<R: Source, O: Target, F: Form, A: Allocator>(
     alloc: &A,
     limits: Limits,
+    lenient: bool,
     form: F,
     input: &mut R,
     out: O,
 ) -> (Ending, O)
 {
-    let Some(mut decoder) = decoder_within(alloc, limits) else {
+    let Some(mut decoder) = decoder_within(alloc, limits, lenient) else {
         return (Ending::NoMemory, out);
     };
     let Ok(buffer) = vec![in alloc; 0; ROOM] else {
@@ -143,13 +156,31 @@ fn write_text<R: Source, O: Target, F: Form, A: Allocator>(
     (ending_of(outcome), out)
 }
 
-/// A decoder at the start of a stream, within these limits; none where memory was wanting.
-fn decoder_within<'a, A: Allocator>(alloc: &'a A, limits: Limits) -> Option<Decoder<&'a A>>
+/// A decoder at the start of a stream, within these limits, lenient or not; none where memory was wanting.
+fn decoder_within<'a, A: Allocator>(
+    alloc: &'a A,
+    limits: Limits,
+    lenient: bool,
+) -> Option<Decoder<&'a A>>
 {
-    match Decoder::new(alloc, limits) {
+    match new_decoder(alloc, limits, lenient) {
         Ok(decoder) => Some(decoder),
         Err(NewError::NoMemory) => None,
         Err(NewError::BadLimits(_)) => unreachable!(),
+    }
+}
+
+/// A decoder, which is lenient or not.
+fn new_decoder<A: Allocator + Clone>(
+    alloc: A,
+    limits: Limits,
+    lenient: bool,
+) -> Result<Decoder<A>, NewError>
+{
+    if lenient {
+        Decoder::lenient(alloc, limits)
+    } else {
+        Decoder::new(alloc, limits)
     }
 }
 

@@ -6,13 +6,13 @@ use crate::cqlp_type::item::TypePush;
 use crate::cqlp_type::open_options::OpenOptions;
 use crate::cqlp_type::remaining::{OptionStage, Remaining};
 use crate::cqlp_type::table::TypeTable;
-use crate::cqlp_note::{FieldAdvance, Limits, NoMemory, Notation, Partial, Refusal};
+use crate::cqlp_note::{Asked, FieldAdvance, Limits, NoMemory, Notation, Partial, Refusal};
 use crate::kit_std::alloc::{Allocator, Global};
 
 /// Reads type options, one at a time. Its texts are read in the caller's `Partial`, and its types go into the caller's
 /// table.
 pub struct TypeReader<A: Allocator = Global> {
-    limits: Limits,
+    limits: Asked,
     /// The offset of the item that is read now.
     at: u64,
     /// The end of the frame.
@@ -27,6 +27,12 @@ pub struct TypeReader<A: Allocator = Global> {
 impl<A: Allocator> TypeReader<A> {
     /// With room for the nesting that the limits allow.
     pub fn new(alloc: A, limits: &Limits) -> Result<Self, NoMemory>
+    {
+        Self::asked(alloc, &Asked::new(limits, false))
+    }
+
+    /// The same, where the caller may ask for a lenient reading.
+    pub fn asked(alloc: A, limits: &Asked) -> Result<Self, NoMemory>
     {
         Ok(TypeReader {
             limits: *limits,

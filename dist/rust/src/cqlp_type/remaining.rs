@@ -5,7 +5,7 @@ use crate::cqlp_type::advance::TypeOutline;
 use crate::cqlp_type::open_options::{NextOption, OpenOptions};
 use crate::cqlp_type::table::TypeTable;
 use crate::cqlp_kind::{Kind, Node};
-use crate::cqlp_note::{Field, FieldOutline, Limits, Prim, Reason};
+use crate::cqlp_note::{Asked, Field, FieldOutline, Prim, Reason};
 use crate::kit_std::alloc::Allocator;
 
 /// What of an option is read now.
@@ -39,7 +39,7 @@ impl<A: Allocator> Remaining<A> {
     /// Goes on after an item: what part of the option it is, or why its type is refused.
     pub(crate) fn follow<C: Allocator>(
         &mut self,
-        limits: &Limits,
+        limits: &Asked,
         item: FieldOutline,
         table: &mut TypeTable<C>,
     ) -> Result<TypeOutline, Reason>
@@ -75,12 +75,12 @@ impl<A: Allocator> Remaining<A> {
     /// Goes on after the id of an option, whose node is added to the table.
     fn take_id<C: Allocator>(
         &mut self,
-        limits: &Limits,
+        limits: &Asked,
         id: u16,
         table: &mut TypeTable<C>,
     ) -> Result<TypeOutline, Reason>
     {
-        let Some(kind) = Kind::from_id(id) else {
+        let Some(kind) = option_kind(limits.lenient, id) else {
             return Err(Reason::BadType);
         };
         if self.open_options.len() >= limits.depth {
@@ -103,6 +103,15 @@ impl<A: Allocator> Remaining<A> {
             _ => enter_option(&mut self.open_options, node, false, arity, table),
         };
         Ok(TypeOutline::Node(kind))
+    }
+}
+
+/// The kind of an option of this id: of an unknown type, where no kind has the id and the caller is lenient.
+fn option_kind(lenient: bool, id: u16) -> Option<Kind>
+{
+    match Kind::from_id(id) {
+        None if lenient => Some(Kind::Raw),
+        known => known,
     }
 }
 

@@ -106,6 +106,18 @@ impl Atom {
         }
     }
 
+    /// How many bytes it has with the four of its length, or None where [`is_allowed`](Self::is_allowed) is false. What it
+    /// holds is then in the range of its types.
+    #[inline(always)]
+    pub fn allowed_size(&self) -> Option<u64>
+    {
+        if self.is_allowed() {
+            Some(self.content_len() + 4)
+        } else {
+            None
+        }
+    }
+
     /// Whether its content is one of its kind: it is not empty, an ascii is ASCII, a timeuuid is of version 1, a time
     /// is within a day, and a decimal has an unscaled number.
     #[inline(always)]

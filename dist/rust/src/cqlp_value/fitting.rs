@@ -6,7 +6,7 @@ use crate::cqlp_value::value::{Atom, Value};
 use crate::cqlp_type::{Kind, TypeTree};
 
 /// The most items that a count says.
-const MOST: usize = i32::MAX as usize;
+pub const MOST: usize = i32::MAX as usize;
 
 /// Whether a value is one of this type, or of a cell without a type. Section 6 of `native_protocol_v4.spec`.
 ///
@@ -162,6 +162,16 @@ fn has_some(of: Kind, len: usize, tree: &TypeTree) -> bool
 #[inline(always)]
 fn kind(tree: &TypeTree) -> Kind
 {
+    if let TypeTree::Plain(kind) = tree {
+        *kind
+    } else {
+        kind_with_inner(tree)
+    }
+}
+
+/// The same of a type that is mostly not plain.
+fn kind_with_inner(tree: &TypeTree) -> Kind
+{
     match tree {
         TypeTree::Plain(kind) => *kind,
         TypeTree::Custom(_) => Kind::Custom,
@@ -174,7 +184,8 @@ fn kind(tree: &TypeTree) -> Kind
 }
 
 /// Whether two kinds are the same.
-fn is(one: Kind, other: Kind) -> bool
+#[inline(always)]
+pub fn is(one: Kind, other: Kind) -> bool
 {
     one == other
 }

@@ -3,6 +3,7 @@
 
 mod atom;
 mod convert;
+mod fitted;
 mod fitting;
 mod measure;
 mod value;
@@ -13,6 +14,7 @@ pub use crate::cqlp_cell::{
 };
 pub use crate::cqlp_kind::{Scalar};
 pub(crate) use crate::cqlp_kind::{scalar};
+pub use fitted::fitting_size;
 pub use fitting::fits;
 pub use measure::{content_len, value_len, value_size};
 pub use value::{Atom, Value};

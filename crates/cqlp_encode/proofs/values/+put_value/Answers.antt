@@ -4,8 +4,8 @@ use Rattle.cqlp_value.proofs.OwnedLists.{list_is, set_is, map_is, tuple_is, udt_
 use Rattle.cqlp_encode.proofs.Contents.{within_nil, known_put, counted_inside, fields_inside, value_put, pair_put}
 use Rattle.cqlp_encode.proofs.values.+put_value.Goals as goal
 
-pub put_any-returns-in_default : goal.put_any-returns-in_default
-put_any-returns-in_default g t c = known_put c.args.value.now _ _ _ _ c.in_default.not-Null c.content_len.ensures c.put_count32.ensures c.put_inside.ensures
+pub put_measured-returns-in_default : goal.put_measured-returns-in_default
+put_measured-returns-in_default g t c = known_put c.args.value.now _ _ _ _ c.in_default.not-Null c.requires c.put_count32.ensures c.put_inside.ensures
 
 pub put_inside-returns-in-List : goal.put_inside-returns-in-List
 put_inside-returns-in-List g t c =

@@ -1,0 +1,13 @@
+use Rattle.cqlp_columns.proofs.BatchLaws.{one_answer_of_batch}
+use Rattle.cqlp_columns.proofs.OneSpelling.{one_spelling}
+use Rattle.cqlp_columns.proofs.OneAnswer.{one_answer}
+use Rattle.cqlp_columns.proofs.laws.one_answer.Goals as goal
+
+pub returns-clause-take : goal.returns-clause-take
+returns-clause-take c = one_answer
+
+pub returns-clause-batch : goal.returns-clause-batch
+returns-clause-batch c = one_answer_of_batch
+
+pub returns-clause-bytes : goal.returns-clause-bytes
+returns-clause-bytes c = one_spelling

@@ -1,0 +1,138 @@
+-- Batches of rows as columns.
+use Rattle.std.specs.Prelude.{◌≡◌, ℕ, zero, suc, ◌+◌, ◌%◌, ◌==◌, Bool, ◌&&◌, not, nat_lt, true, List, [], ◌∷◌, drop, length, map, ◌⊎◌}
+use Rattle.std.specs.Prelude.{Option, Some, None, is_some, Result, Ok, Err, if◌then◌else◌}
+use Rattle.std.specs.Option.{unwrap_or}
+use Rattle.std.specs.List.{AllByRecursion, list_all}
+use Rattle.cqlp_kind.specs.declared.kind.Kind.{Kind}
+use Rattle.cqlp_grammar.specs.Events.{Event}
+use Rattle.cqlp_columns.specs.declared.layout.Layout.TheVariants.{Variable}
+use Rattle.cqlp_columns.specs.declared.column.MakeError.{MakeError}
+use Rattle.cqlp_columns.specs.declared.column.MakeError.TheVariants.{NoMemory, TooManyColumns, Unsupported}
+use Rattle.cqlp_columns.specs.declared.column.Refusal.{Refusal}
+use Rattle.cqlp_columns.specs.declared.column.Refusal.TheVariants as no
+use Rattle.cqlp_columns.specs.declared.columns.BatchLimits.{BatchLimits}
+use Rattle.cqlp_columns.specs.declared.columns.TakeError.{TakeError}
+use Rattle.cqlp_columns.specs.declared.columns.TakeError.TheVariants.{Full, Part as APart, OutOfOrder, NotOfKind, TooLong}
+use Rattle.cqlp_columns.specs.Arrays.{Column, column_of, is_long, refusal_of, room_in, with_cell}
+use Rattle.cqlp_columns.specs.Cells.{Cell, is_of}
+use Rattle.cqlp_columns.specs.Findings.{Finding, Nothing, Part, Whole, cell_count, cells_among}
+use Rattle.cqlp_columns.specs.Layouts.{layout_of}
+
+-- how large it may be, its columns, and the column of the next cell
+pub record Batch : Type 0 where
+  pub limits : BatchLimits
+  pub columns : List Column
+  pub next : ℕ
+
+abbrev pub batch : BatchLimits → List Column → (next : ℕ) → Batch
+batch limits columns next = record { limits = limits; columns = columns; next = next }
+
+-- ---- what it has of a page
+
+-- a column of this kind, with these cells
+abbrev pub filled : BatchLimits → Kind → List Cell → Column
+filled l k cells = column_of k (unwrap_or (layout_of k) Variable) l.rows (l.bytes + l.content) cells
+
+-- columns of these kinds, from the one of a number on, each with its cells among events
+abbrev pub columns_from : BatchLimits → (at : ℕ) → List Kind → List Event → List Column
+columns_from l at [] es = []
+columns_from l at (k ∷ ks) es = filled l k (cells_among at es) ∷ columns_from l (at + 1) ks es
+
+-- Each column has just its cells among these events, in the arrays that Arrow gives them; and cells come in the order of the columns, so that
+-- the number of cells so far tells the column of the next.
+abbrev pub batch_of : BatchLimits → List Kind → List Event → Batch
+batch_of l kinds es = batch l (columns_from l 0 kinds es) (cell_count es % length kinds)
+
+abbrev pub HasTaken : BatchLimits → List Kind → List Event → Batch → Type 0
+HasTaken l kinds es b = b ≡ batch_of l kinds es
+
+-- ---- one without rows
+
+abbrev pub has_layout : Kind → Bool
+has_layout k = is_some (layout_of k)
+
+-- why no batch is made of columns of these kinds
+abbrev pub refusal_of_kinds : BatchLimits → List Kind → Option MakeError
+refusal_of_kinds l kinds = if nat_lt l.columns (length kinds) then Some TooManyColumns else (if list_all has_layout kinds then None else Some Unsupported)
+
+-- what a call answers, where this is the reason why not: without one, no more than that memory is refused
+abbrev pub IsMade : {B : Type 0} → Option MakeError → Result B MakeError → Type 0
+IsMade why (Ok b) = why ≡ None
+IsMade why (Err e) = e ≡ unwrap_or why NoMemory
+
+abbrev pub empty_column : BatchLimits → Kind → Column
+empty_column l k = filled l k []
+
+abbrev pub empty_columns : BatchLimits → List Kind → List Column
+empty_columns l kinds = map (empty_column l) kinds
+
+abbrev pub cleared : Column → Column
+cleared a = column_of a.kind a.layout a.rows a.size []
+
+-- as many as the last column has cells
+abbrev pub rows_in : List Column → ℕ
+rows_in [] = 0
+rows_in (a ∷ []) = length a.valid
+rows_in (a ∷ b ∷ cols) = rows_in (b ∷ cols)
+
+-- ---- room
+
+-- There is room for one more row.
+abbrev pub has_room : BatchLimits → List Column → Bool
+has_room l cols = list_all (room_in l.rows l.bytes) cols
+
+-- A column has the room that the limits give it.
+abbrev pub IsSized : BatchLimits → Column → Type 0
+IsSized l a = (a.rows ≡ l.rows) × (a.size ≡ l.bytes + l.content)
+
+-- In a row that is under way each column has room for its cell.
+pub record IsReady (l : BatchLimits) (cols : List Column) (next : ℕ) : Type 0 where
+  pub sized : AllByRecursion (IsSized l) cols
+  pub room : (next ≡ 0) ⊎ (has_room l (drop next cols) ≡ true)
+
+-- ---- one more event
+
+-- the column of the cell after one of this column
+abbrev pub next_after : (column columns : ℕ) → ℕ
+next_after k n = (k + 1) % n
+
+-- why a column with room does not take a cell
+abbrev pub fault_in : BatchLimits → Cell → Column → Option TakeError
+fault_in l c a = if is_of a.kind c then (if is_long l.content c a then Some TooLong else None) else Some NotOfKind
+
+-- the same of the column of a number, if there is one
+abbrev pub fault_among : BatchLimits → (column : ℕ) → Cell → List Column → Option TakeError
+fault_among l k c [] = Some OutOfOrder
+fault_among l zero c (a ∷ cols) = fault_in l c a
+fault_among l (suc k) c (a ∷ cols) = fault_among l k c cols
+
+-- why a cell of a column is not taken: it is not the next, or a row begins without room, or its column does not take it
+abbrev pub fault_at : (column : ℕ) → Cell → Batch → Option TakeError
+fault_at k c b =
+    if k == b.next then (if (k == 0) && not (has_room b.limits b.columns) then Some Full else fault_among b.limits k c b.columns)
+    else Some OutOfOrder
+
+abbrev pub refusal_to : Finding → Batch → Option TakeError
+refusal_to Nothing b = None
+refusal_to Part b = Some APart
+refusal_to (Whole k c) b = fault_at k c b
+
+-- what a call answers, where this is the reason why not
+abbrev pub IsAnswerOf : Option TakeError → Result (Unit {0}) TakeError → Type 0
+IsAnswerOf why (Ok u) = why ≡ None
+IsAnswerOf why (Err e) = why ≡ Some e
+
+-- why the column of a number does not take a cell by itself
+abbrev pub refusal_among : (column : ℕ) → Cell → List Column → Option Refusal
+refusal_among k c [] = Some no.Full
+refusal_among zero c (a ∷ cols) = refusal_of c a
+refusal_among (suc k) c (a ∷ cols) = refusal_among k c cols
+
+-- with a cell more in the column of a number
+abbrev pub with_cell_in : (column : ℕ) → Cell → List Column → List Column
+with_cell_in k c [] = []
+with_cell_in zero c (a ∷ cols) = with_cell c a ∷ cols
+with_cell_in (suc k) c (a ∷ cols) = a ∷ with_cell_in k c cols
+
+abbrev pub with_cell_at : (column : ℕ) → Cell → Batch → Batch
+with_cell_at k c b = batch b.limits (with_cell_in k c b.columns) (next_after k (length b.columns))

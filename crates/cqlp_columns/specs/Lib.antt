@@ -1,0 +1,7 @@
+pub mod Bits
+pub mod Layouts
+pub mod Cells
+pub mod Arrays
+pub mod Findings
+pub mod Batches
+pub mod Laws

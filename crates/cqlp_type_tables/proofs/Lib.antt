@@ -1,0 +1,8 @@
+pub mod Appending
+pub mod Counts
+pub mod Filling
+pub mod Fitting
+pub mod Options
+pub mod Ranges
+pub mod Reading
+pub mod TableLaws

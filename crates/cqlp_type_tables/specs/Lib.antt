@@ -1,0 +1,4 @@
+pub mod Writing
+pub mod Reading
+pub mod Making
+pub mod Laws

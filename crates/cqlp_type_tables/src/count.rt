@@ -1,0 +1,67 @@
+//! How many nodes types have.
+
+ghost use Rattle.std.specs.Prelude.{◌≡◌, ◌-◌, ◌^◌, false, min};
+ghost use Rattle.cqlp_type.specs.Trees.{options_in};
+ghost use Rattle.cqlp_type.specs.TypeLists.{listed_fields, listed_types};
+ghost use Rattle.cqlp_type.specs.TypeTrees.{tree_of, trees_size};
+
+use cqlp_type::{TypeTree, type_size};
+
+/// How many nodes a type has, those of its inner types counted; 2^64 - 1 where there are more.
+#[cycle(count_nodes)]
+fn count_nodes(tree: &TypeTree) -> u64
+    ensures { result ≡ min (options_in (tree_of tree.now)) (2 ^ 64 - 1) }
+{
+    match tree {
+        TypeTree::Plain(_) => 1,
+        TypeTree::Custom(_) => 1,
+        TypeTree::List(inner) => count_nodes(inner).saturating_add(1),
+        TypeTree::Set(inner) => count_nodes(inner).saturating_add(1),
+        TypeTree::Map(key, value) => {
+            count_nodes(key)
+                .saturating_add(count_nodes(value))
+                .saturating_add(1)
+        }
+        TypeTree::Udt {
+            keyspace: _,
+            name: _,
+            fields,
+        } => count_fields(fields).saturating_add(1),
+        TypeTree::Tuple(types) => count_types(types).saturating_add(1),
+    }
+}
+
+/// The same of types side by side.
+#[cycle(count_nodes)]
+pub(crate) fn count_types(types: &[TypeTree]) -> u64
+    ensures { result ≡ min (options_in (listed_types types.now)) (2 ^ 64 - 1) }
+{
+    let mut count: u64 = 0;
+    for tree in types {
+        count = count.saturating_add(count_nodes(tree));
+    }
+    count
+}
+
+/// The same of inner types with names.
+#[cycle(count_nodes)]
+fn count_fields(fields: &[(String, TypeTree)]) -> u64
+    ensures { result ≡ min (options_in (listed_fields fields.now)) (2 ^ 64 - 1) }
+{
+    let mut count: u64 = 0;
+    for (_name, tree) in fields {
+        count = count.saturating_add(count_nodes(tree));
+    }
+    count
+}
+
+/// How many bytes the options of types have; 2^64 - 1 where there are more.
+pub(crate) fn types_size(types: &[TypeTree]) -> u64
+    ensures { result ≡ min (trees_size false (listed_types types.now)) (2 ^ 64 - 1) }
+{
+    let mut size: u64 = 0;
+    for tree in types {
+        size = size.saturating_add(type_size(tree));
+    }
+    size
+}

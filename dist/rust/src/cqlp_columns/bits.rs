@@ -1,0 +1,70 @@
+// Written by dist/erase from crates/cqlp_columns/src/bits.rt.
+//! Bits in a row.
+
+use crate::kit_std::prelude::{Vec};
+use crate::kit_std::alloc::{AllocError, Allocator};
+
+/// Bits in memory that is taken once: eight in a byte, the first of them the least.
+pub(crate) struct Bits<A: Allocator> {
+    /// As many as there is room for. There are zeros behind the bits so far.
+    bytes: Vec<u8, A>,
+    len: usize,
+}
+
+impl<A: Allocator> Bits<A> {
+    /// With room for at least so many bits. This is the one call that takes memory.
+    pub fn new(alloc: A, room: u32) -> Result<Self, AllocError>
+    {
+        let count = room.div_ceil(8) as usize;
+        let mut bytes = Vec::with_capacity(alloc, count)?;
+        bytes.resize(count, 0).unwrap();
+        Ok(Bits { bytes, len: 0 })
+    }
+
+    /// How many there are.
+    pub fn len(&self) -> usize
+    {
+        self.len
+    }
+
+    /// Adds a bit at the end.
+    #[inline]
+    pub(crate) fn push(&mut self, bit: bool)
+    {
+        add_bit(self.bytes.as_mut_slice(), self.len, bit);
+        self.len += 1;
+    }
+
+    /// Removes all bits, and keeps the memory.
+    pub fn clear(&mut self)
+    {
+        fill_zeros(self.bytes.as_mut_slice());
+        self.len = 0;
+    }
+
+    /// The bytes that have the bits, and zeros behind the last.
+    pub fn as_slice(&self) -> &[u8]
+    {
+        &self.bytes[..self.len.div_ceil(8)]
+    }
+}
+
+/// Adds the bit behind so many, where the bytes have only zeros.
+#[inline]
+fn add_bit(bytes: &mut [u8], at: usize, bit: bool)
+{
+    if bit {
+        bytes[at / 8] += WORTH[at % 8];
+    }
+}
+
+/// What the bits of a byte are worth.
+const WORTH: [u8; 8] = [1, 2, 4, 8, 16, 32, 64, 128];
+
+/// Makes each byte a zero.
+fn fill_zeros(bytes: &mut [u8])
+{
+    for byte in bytes.iter_mut() {
+        *byte = 0;
+    }
+}

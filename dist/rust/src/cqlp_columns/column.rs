@@ -1,0 +1,307 @@
+// Written by dist/erase from crates/cqlp_columns/src/column.rt.
+//! A column of a batch.
+
+use crate::kit_std::prelude::{Clone, Vec};
+use crate::cqlp_columns::bits::Bits;
+use crate::cqlp_columns::cell::{Cell, is_empty, is_true, is_valid, kind_of, put_scalar, stored_len};
+use crate::cqlp_columns::layout::{Layout, layout_of};
+use crate::cqlp_kind::Kind;
+use crate::kit_std::alloc::{AllocError, Allocator, Global};
+
+error! {
+/// Why no column is made.
+#[derive(Clone, Copy, Debug, PartialEq, Eq)]
+pub enum MakeError {
+    /// Values of the kind have items.
+    #[error("values with items")]
+    Unsupported,
+    /// Columns of a batch: there are more than it may have.
+    #[error("too many columns")]
+    TooManyColumns,
+    #[error("no memory")]
+    NoMemory,
+}
+}
+
+error! {
+/// Why a column does not take a cell.
+#[derive(Clone, Copy, Debug, PartialEq, Eq)]
+pub enum Refusal {
+    /// It is none of the column's kind.
+    #[error("a value of another kind")]
+    NotOfKind,
+    /// There is no room for it.
+    #[error("no room")]
+    Full,
+}
+}
+
+/// The cells of a column, in arrays as Apache Arrow lays them out. All memory is taken when it is made.
+pub struct Column<A: Allocator = Global> {
+    kind: Kind,
+    layout: Layout,
+    rows: u32,
+    size: usize,
+    values: Vec<u8, A>,
+    /// The values, where they are bits.
+    truths: Bits<A>,
+    offsets: Vec<u64, A>,
+    valid: Bits<A>,
+    empty: Bits<A>,
+}
+
+impl<A: Allocator> Column<A> {
+    /// With no cells, and room for so many, which have at most `size` bytes of values. This is the one call that takes memory: `size`, 8 bytes for each cell and
+    /// one more, and three bits for each cell.
+    ///
+    /// # Errors
+    ///
+    /// `Unsupported` where values of the kind have items; `NoMemory` where memory is refused.
+    pub fn new(alloc: A, kind: Kind, rows: u32, size: usize) -> Result<Self, MakeError>
+    where
+        A: Clone,
+    {
+        match layout_of(kind) {
+            None => Err(MakeError::Unsupported),
+            Some(layout) => match Column::with_layout(alloc, kind, layout, rows, size) {
+                Ok(column) => Ok(column),
+                Err(_) => Err(MakeError::NoMemory),
+            },
+        }
+    }
+
+    /// With no cells, in this layout.
+    fn with_layout(
+        alloc: A,
+        kind: Kind,
+        layout: Layout,
+        rows: u32,
+        size: usize,
+    ) -> Result<Self, AllocError>
+    where
+        A: Clone,
+    {
+        let mut offsets = Vec::with_capacity(alloc.clone()?, rows as usize + 1)?;
+        put_offset(&mut offsets, layout, 0);
+        Ok(Column {
+            kind,
+            layout,
+            rows,
+            size,
+            values: Vec::with_capacity(alloc.clone()?, size)?,
+            truths: Bits::new(alloc.clone()?, rows)?,
+            offsets,
+            valid: Bits::new(alloc.clone()?, rows)?,
+            empty: Bits::new(alloc, rows)?,
+        })
+    }
+
+    /// The kind of its values.
+    pub fn kind(&self) -> Kind
+    {
+        self.kind
+    }
+
+    /// How its values lie in memory.
+    pub fn layout(&self) -> Layout
+    {
+        self.layout
+    }
+
+    /// The values, one after the other, also zeros for cells without one; where they are bits, the bytes that have them.
+    pub fn values(&self) -> &[u8]
+    {
+        match self.layout {
+            Layout::Bits => self.truths.as_slice(),
+            Layout::Fixed(_) | Layout::Variable => &self.values,
+        }
+    }
+
+    /// Where each value begins in the bytes, and where the last one ends; none where the layout is not of values of any length. Below 2^63.
+    pub fn offsets(&self) -> &[u64]
+    {
+        &self.offsets
+    }
+
+    /// A bit for each cell: whether it has a value.
+    pub fn validity(&self) -> &[u8]
+    {
+        self.valid.as_slice()
+    }
+
+    /// A bit for each cell: whether it has a value of no bytes. Among numbers and other values of a fixed length these have no other place, and
+    /// count as having no value.
+    pub fn empties(&self) -> &[u8]
+    {
+        self.empty.as_slice()
+    }
+
+    /// How many cells it has.
+    pub fn len(&self) -> usize
+    {
+        self.valid.len()
+    }
+
+    /// Whether it has none.
+    pub fn is_empty(&self) -> bool
+    {
+        self.valid.len() == 0
+    }
+
+    /// Whether it has fewer cells than so many, and no more bytes of values than so many.
+    pub(crate) fn has_room(&self, rows: u32, bytes: u32) -> bool
+    {
+        self.valid.len() < rows as usize && self.values.len() <= bytes as usize
+    }
+
+    /// Whether more bytes than so many stand for a cell.
+    #[inline]
+    pub(crate) fn is_long(&self, cell: &Cell<'_>, content: u32) -> bool
+    {
+        cell_len(self.layout, cell) > content as usize
+    }
+
+    /// Whether a cell can be one of it.
+    #[inline]
+    pub(crate) fn is_of(&self, cell: &Cell<'_>) -> bool
+    {
+        is_of(self.kind, cell)
+    }
+
+    /// Takes the next cell. Its arrays are those of the cells before, and of this one behind them.
+    ///
+    /// # Errors
+    ///
+    /// `NotOfKind` for a scalar of another kind than the column's; else `Full` where there is no room for it. Nothing changes then.
+    #[inline]
+    pub fn take(&mut self, cell: &Cell<'_>) -> Result<(), Refusal>
+    {
+        match self.refusal(cell) {
+            Some(why) => Err(why),
+            None => {
+                self.push(cell);
+                Ok(())
+            }
+        }
+    }
+
+    /// Why it does not take a cell.
+    #[inline]
+    pub fn refusal(&self, cell: &Cell<'_>) -> Option<Refusal>
+    {
+        if !is_of(self.kind, cell) {
+            return Some(Refusal::NotOfKind);
+        }
+        if self.fits(cell) {
+            None
+        } else {
+            Some(Refusal::Full)
+        }
+    }
+
+    /// Whether there is room for a cell.
+    #[inline]
+    fn fits(&self, cell: &Cell<'_>) -> bool
+    {
+        self.valid.len() < self.rows as usize
+            && self.values.len() <= self.size
+            && cell_len(self.layout, cell) <= self.size - self.values.len()
+    }
+
+    /// Adds a cell.
+    #[inline]
+    pub(crate) fn push(&mut self, cell: &Cell<'_>)
+    {
+        put_cell(&mut self.values, self.layout, cell);
+        put_bit(&mut self.truths, self.layout, cell);
+        put_offset(&mut self.offsets, self.layout, self.values.len() as u64);
+        self.valid.push(is_valid(self.layout, cell));
+        self.empty.push(is_empty(cell));
+    }
+
+    /// Removes all cells, and keeps the memory.
+    pub fn clear(&mut self)
+    {
+        self.values.clear();
+        self.truths.clear();
+        self.offsets.clear();
+        put_offset(&mut self.offsets, self.layout, 0);
+        self.valid.clear();
+        self.empty.clear();
+    }
+}
+
+/// Whether a cell can be one of a column of this kind.
+#[inline(always)]
+fn is_of(kind: Kind, cell: &Cell<'_>) -> bool
+{
+    match *cell {
+        Cell::Null | Cell::Empty => true,
+        Cell::Holds(ref scalar) => is(kind_of(scalar), kind),
+    }
+}
+
+/// Whether two kinds are the same.
+#[inline(always)]
+fn is(one: Kind, other: Kind) -> bool
+{
+    one == other
+}
+
+/// How many bytes stand in a cell's place.
+#[inline(always)]
+fn cell_len(layout: Layout, cell: &Cell<'_>) -> usize
+{
+    match *cell {
+        Cell::Null | Cell::Empty => blank_len(layout),
+        Cell::Holds(ref scalar) => stored_len(scalar),
+    }
+}
+
+/// How many bytes stand in the place of a cell without a value.
+#[inline(always)]
+fn blank_len(layout: Layout) -> usize
+{
+    match layout {
+        Layout::Bits | Layout::Variable => 0,
+        Layout::Fixed(width) => width as usize,
+    }
+}
+
+/// Adds the bytes in a cell's place, for which there is room.
+#[inline(always)]
+fn put_cell<A: Allocator>(values: &mut Vec<u8, A>, layout: Layout, cell: &Cell<'_>)
+{
+    match *cell {
+        Cell::Null | Cell::Empty => put_zeros(values, blank_len(layout)),
+        Cell::Holds(ref scalar) => put_scalar(values, scalar),
+    }
+}
+
+/// Adds zeros, for which there is room.
+#[inline(always)]
+fn put_zeros<A: Allocator>(values: &mut Vec<u8, A>, count: usize)
+{
+    let end = values.len() + count;
+    values.resize(end, 0).unwrap();
+}
+
+/// Adds the bit in a cell's place, where values are bits.
+#[inline(always)]
+fn put_bit<A: Allocator>(truths: &mut Bits<A>, layout: Layout, cell: &Cell<'_>)
+{
+    match layout {
+        Layout::Bits => truths.push(is_true(cell)),
+        Layout::Fixed(_) | Layout::Variable => {}
+    }
+}
+
+/// Adds an offset, where the layout has offsets.
+#[inline(always)]
+fn put_offset<A: Allocator>(offsets: &mut Vec<u64, A>, layout: Layout, offset: u64)
+{
+    match layout {
+        Layout::Variable => offsets.push_reserved(offset),
+        Layout::Bits | Layout::Fixed(_) => {}
+    }
+}

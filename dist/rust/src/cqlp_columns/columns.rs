@@ -1,0 +1,250 @@
+// Written by dist/erase from crates/cqlp_columns/src/columns.rt.
+//! Rows of a page as columns.
+
+use crate::kit_std::prelude::{Clone, Vec};
+use crate::cqlp_columns::cell::Cell;
+use crate::cqlp_columns::column::{Column, MakeError};
+use crate::cqlp_columns::found::{Found, found_in};
+use crate::cqlp_columns::layout::layout_of;
+use crate::cqlp_grammar::Event;
+use crate::cqlp_kind::Kind;
+use crate::kit_std::alloc::{AllocError, Allocator, Global};
+
+/// How large a batch may be.
+#[derive(Clone, Copy, Debug, PartialEq, Eq)]
+pub struct BatchLimits {
+    /// How many columns.
+    pub columns: u32,
+    /// How many rows.
+    pub rows: u32,
+    /// With how many bytes of values in a column no further row begins; those of its last row come on top of it.
+    pub bytes: u32,
+    /// How many bytes one value may have.
+    pub content: u32,
+}
+
+error! {
+/// Why an event is not taken. Nothing changes then.
+#[derive(Clone, Copy, Debug, PartialEq, Eq)]
+pub enum TakeError {
+    /// A row begins for which there is no room: the batch is to be read and cleared, and then the event is taken.
+    #[error("the batch is full")]
+    Full,
+    /// A part of a cell: a value with items, an item of one, or bytes of a long content.
+    #[error("a part of a cell")]
+    Part,
+    /// Its column is not the next one.
+    #[error("a cell of another column than the next")]
+    OutOfOrder,
+    /// A value of another kind than its column's.
+    #[error("a value of another kind than its column's")]
+    NotOfKind,
+    /// A value of more bytes than a value may have.
+    #[error("a value that is too long")]
+    TooLong,
+}
+}
+
+/// Rows of a page as columns: a batch of them, in memory that is taken once. An event of a page is taken, or refused by name.
+pub struct Columns<A: Allocator = Global> {
+    limits: BatchLimits,
+    columns: Vec<Column<A>, A>,
+    /// The column of the next cell.
+    next: usize,
+}
+
+impl<A: Allocator> Columns<A> {
+    /// With no rows, and a column for each of these kinds. This is the one call that takes memory: for each column `bytes` and `content`, 8 bytes for
+    /// each row and one more, and three bits for each row.
+    ///
+    /// # Errors
+    ///
+    /// In this order: `TooManyColumns`; `Unsupported` where values of one of the kinds have items; `NoMemory` where memory is refused.
+    pub fn new(alloc: A, limits: BatchLimits, kinds: &[Kind]) -> Result<Self, MakeError>
+    where
+        A: Clone,
+    {
+        if kinds.len() > limits.columns as usize {
+            return Err(MakeError::TooManyColumns);
+        }
+        if !have_layouts(kinds) {
+            return Err(MakeError::Unsupported);
+        }
+        match make_columns(alloc, limits, kinds) {
+            Ok(columns) => Ok(Columns {
+                limits,
+                columns,
+                next: 0,
+            }),
+            Err(_) => Err(MakeError::NoMemory),
+        }
+    }
+
+    /// The columns. Where a row is under way, the first of them have a cell more than [`Columns::rows`] says.
+    pub fn columns(&self) -> &[Column<A>]
+    {
+        &self.columns
+    }
+
+    /// How many whole rows there are.
+    pub fn rows(&self) -> usize
+    {
+        match self.columns.last() {
+            None => 0,
+            Some(column) => column.len(),
+        }
+    }
+
+    /// Takes the next event of a page. Events that are not of cells change nothing.
+    ///
+    /// # Errors
+    ///
+    /// `Part`, `OutOfOrder`; where a row begins for which there is no room, `Full`; else `NotOfKind` or `TooLong`. Nothing changes then. In mid-row there is
+    /// always room.
+    #[inline]
+    pub fn take(&mut self, event: &Event<'_>) -> Result<(), TakeError>
+    {
+        match found_in(event) {
+            Found::Nothing => Ok(()),
+            Found::Part => Err(TakeError::Part),
+            Found::Cell { column, cell } => self.put(column as usize, &cell),
+        }
+    }
+
+    /// Takes the next cell.
+    #[inline]
+    fn put(&mut self, column: usize, cell: &Cell<'_>) -> Result<(), TakeError>
+    {
+        match self.fault(column, cell) {
+            Some(why) => Err(why),
+            None => {
+                put_in(self.columns.as_mut_slice(), column, cell);
+                self.next = next_after(column, self.columns.len());
+                Ok(())
+            }
+        }
+    }
+
+    /// Why a cell of a column is not taken.
+    #[inline]
+    fn fault(&self, column: usize, cell: &Cell<'_>) -> Option<TakeError>
+    {
+        if column != self.next {
+            return Some(TakeError::OutOfOrder);
+        }
+        if column == 0 && !has_room(&self.columns, self.limits) {
+            return Some(TakeError::Full);
+        }
+        fault_among(&self.columns, self.limits, column, cell)
+    }
+
+    /// Removes all rows, also one that is under way, and keeps the memory.
+    pub fn clear(&mut self)
+    {
+        clear_all(self.columns.as_mut_slice());
+        self.next = 0;
+    }
+}
+
+/// Whether values of each kind are scalars.
+fn have_layouts(kinds: &[Kind]) -> bool
+{
+    kinds.iter().all(|kind| has_layout(*kind))
+}
+
+/// Whether values of a kind are scalars.
+fn has_layout(kind: Kind) -> bool
+{
+    layout_of(kind).is_some()
+}
+
+/// A column for each kind.
+fn make_columns<A: Allocator + Clone>(
+    alloc: A,
+    limits: BatchLimits,
+    kinds: &[Kind],
+) -> Result<Vec<Column<A>, A>, AllocError>
+{
+    let mut columns = Vec::with_capacity(alloc.clone()?, kinds.len())?;
+    for kind in kinds {
+        columns.push_reserved(make_column(alloc.clone()?, limits, *kind)?);
+    }
+    Ok(columns)
+}
+
+/// A column of a kind.
+fn make_column<A: Allocator + Clone>(
+    alloc: A,
+    limits: BatchLimits,
+    kind: Kind,
+) -> Result<Column<A>, AllocError>
+{
+    let size = limits.bytes as usize + limits.content as usize;
+    match Column::new(alloc, kind, limits.rows, size) {
+        Ok(column) => Ok(column),
+        Err(_) => Err(AllocError),
+    }
+}
+
+/// Whether there is room for one more row.
+fn has_room<A: Allocator>(columns: &[Column<A>], limits: BatchLimits) -> bool
+{
+    columns
+        .iter()
+        .all(|column| column.has_room(limits.rows, limits.bytes))
+}
+
+/// Why the column of a number does not take a cell.
+#[inline]
+fn fault_among<A: Allocator>(
+    columns: &[Column<A>],
+    limits: BatchLimits,
+    column: usize,
+    cell: &Cell<'_>,
+) -> Option<TakeError>
+{
+    if column < columns.len() {
+        fault_in(&columns[column], limits, cell)
+    } else {
+        Some(TakeError::OutOfOrder)
+    }
+}
+
+/// Why a column does not take a cell, where there is room.
+#[inline]
+fn fault_in<A: Allocator>(
+    column: &Column<A>,
+    limits: BatchLimits,
+    cell: &Cell<'_>,
+) -> Option<TakeError>
+{
+    if !column.is_of(cell) {
+        Some(TakeError::NotOfKind)
+    } else if column.is_long(cell, limits.content) {
+        Some(TakeError::TooLong)
+    } else {
+        None
+    }
+}
+
+/// Adds a cell to the column of a number, which takes it.
+#[inline]
+fn put_in<A: Allocator>(columns: &mut [Column<A>], column: usize, cell: &Cell<'_>)
+{
+    columns[column].push(cell);
+}
+
+/// Removes the cells of each column.
+fn clear_all<A: Allocator>(columns: &mut [Column<A>])
+{
+    for column in columns.iter_mut() {
+        column.clear();
+    }
+}
+
+/// The column of the cell after one of this column.
+#[inline(always)]
+fn next_after(column: usize, columns: usize) -> usize
+{
+    if column + 1 == columns { 0 } else { column + 1 }
+}

@@ -1,0 +1,105 @@
+// Written by dist/erase from crates/cqlp_type_tables/src/making.rt.
+//! A table out of types.
+
+use crate::kit_std::prelude::{Clone, Vec};
+use crate::cqlp_type_tables::check::are_writable;
+use crate::cqlp_type_tables::count::{count_types, types_size};
+use crate::cqlp_type_tables::writing::put_tree;
+use crate::cqlp_note::{Header, Limits, NoMemory, Partial};
+use crate::cqlp_type::{TypeAdvance, TypeReader, TypeTable, TypeTree};
+use crate::kit_std::alloc::Allocator;
+
+error! {
+/// Why there is no table of types.
+#[derive(Clone, Copy, Debug, PartialEq, Eq)]
+pub enum TableError {
+    /// One of the types has no option: `check_type` says what is in the way.
+    #[error("a type cannot be written")]
+    NotWritable,
+    /// The options of the types have more than 268,435,456 bytes together, so no body of a frame has them.
+    #[error("the types are longer than the body of a frame can be")]
+    TooLong,
+    #[error("no memory")]
+    NoMemory,
+}
+}
+
+/// The table that the options of these types leave once they are read, one after the other, with room for just their
+/// nodes. Such a table is what `Decoder::give` takes for a page without metadata: the types of its columns in order.
+/// Section 4.2.5.2 of `native_protocol_v4.spec`.
+///
+/// The memory that the reading takes is given back before it returns.
+///
+/// # Errors
+///
+/// [`TableError::NotWritable`] where one of the types has no option, and else [`TableError::TooLong`] where their options have too
+/// many bytes together; [`TableError::NoMemory`] only where neither holds.
+pub fn table_of<A: Allocator + Clone>(
+    alloc: A,
+    types: &[TypeTree],
+) -> Result<TypeTable<A>, TableError>
+{
+    if !are_writable(types) {
+        return Err(TableError::NotWritable);
+    }
+    let size = types_size(types);
+    if size > Header::LONGEST_BODY as u64 {
+        return Err(TableError::TooLong);
+    }
+    match read_types(alloc, types, size as u32) {
+        Ok(table) => Ok(table),
+        Err(_) => Err(TableError::NoMemory),
+    }
+}
+
+/// The same of types whose options have this many bytes.
+fn read_types<A: Allocator + Clone>(
+    alloc: A,
+    types: &[TypeTree],
+    size: u32,
+) -> Result<TypeTable<A>, NoMemory>
+{
+    let nodes = count_types(types) as u32;
+    let limits = Limits {
+        text: size.min(LONGEST_TEXT),
+        cell: 0,
+        entries: nodes,
+        depth: nodes,
+        types: true,
+        parts: false,
+    };
+    let mut table = TypeTable::new(alloc.clone()?, nodes)?;
+    let mut partial = Partial::new(alloc.clone()?, limits.text)?;
+    let mut reader = TypeReader::new(alloc.clone()?, &limits)?;
+    let mut option = Vec::new(alloc);
+    for tree in types {
+        add_type(&mut reader, &mut partial, &mut table, &mut option, tree)?;
+    }
+    Ok(table)
+}
+
+/// The most bytes of a text in an option.
+const LONGEST_TEXT: u32 = 65_535;
+
+/// Adds a type: its option, as it is read.
+fn add_type<A: Allocator>(
+    reader: &mut TypeReader<A>,
+    partial: &mut Partial<A>,
+    table: &mut TypeTable<A>,
+    option: &mut Vec<u8, A>,
+    tree: &TypeTree,
+) -> Result<(), NoMemory>
+{
+    option.clear();
+    put_tree(option, tree)?;
+    reader.begin(0, option.len() as u64);
+    let mut start = 0;
+    loop {
+        match reader.advance(partial, table, &option[start..]) {
+            TypeAdvance::Item { used, .. } => start += used,
+            TypeAdvance::Done => return Ok(()),
+            TypeAdvance::More { .. } => unreachable!(),
+            TypeAdvance::Refused(_) => unreachable!(),
+        }
+    }
+}

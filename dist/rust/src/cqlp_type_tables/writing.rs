@@ -1,0 +1,96 @@
+// Written by dist/erase from crates/cqlp_type_tables/src/writing.rt.
+//! Type options, written into memory.
+
+use crate::kit_std::prelude::{String, Vec};
+use crate::cqlp_note::NoMemory;
+use crate::cqlp_type::{Kind, TypeTree};
+use crate::kit_std::alloc::Allocator;
+
+/// Appends a type's option.
+pub(crate) fn put_tree<A: Allocator>(out: &mut Vec<u8, A>, tree: &TypeTree) -> Result<(), NoMemory>
+{
+    match tree {
+        TypeTree::Plain(kind) => put_kind(out, *kind),
+        TypeTree::Custom(class) => {
+            put_kind(out, Kind::Custom)?;
+            put_text(out, class)
+        }
+        TypeTree::List(inner) => {
+            put_kind(out, Kind::List)?;
+            put_tree(out, inner)
+        }
+        TypeTree::Set(inner) => {
+            put_kind(out, Kind::Set)?;
+            put_tree(out, inner)
+        }
+        TypeTree::Map(key, value) => {
+            put_kind(out, Kind::Map)?;
+            put_tree(out, key)?;
+            put_tree(out, value)
+        }
+        TypeTree::Udt {
+            keyspace,
+            name,
+            fields,
+        } => {
+            put_kind(out, Kind::Udt)?;
+            put_text(out, keyspace)?;
+            put_text(out, name)?;
+            put_count(out, fields.len())?;
+            put_fields(out, fields)
+        }
+        TypeTree::Tuple(types) => {
+            put_kind(out, Kind::Tuple)?;
+            put_count(out, types.len())?;
+            put_types(out, types)
+        }
+    }
+}
+
+/// Appends the options of inner types without names.
+fn put_types<A: Allocator>(out: &mut Vec<u8, A>, types: &[TypeTree]) -> Result<(), NoMemory>
+{
+    for tree in types {
+        put_tree(out, tree)?;
+    }
+    Ok(())
+}
+
+/// Appends the options of inner types, each after its name.
+fn put_fields<A: Allocator>(
+    out: &mut Vec<u8, A>,
+    fields: &[(String, TypeTree)],
+) -> Result<(), NoMemory>
+{
+    for (name, tree) in fields {
+        put_text(out, name)?;
+        put_tree(out, tree)?;
+    }
+    Ok(())
+}
+
+/// Appends an option's id; 0 of the kind that has none.
+fn put_kind<A: Allocator>(out: &mut Vec<u8, A>, kind: Kind) -> Result<(), NoMemory>
+{
+    let id = match kind {
+        Kind::Raw => 0,
+        _ => kind.id(),
+    };
+    put_count(out, id as usize)
+}
+
+/// Appends a \[string\].
+fn put_text<A: Allocator>(out: &mut Vec<u8, A>, text: &str) -> Result<(), NoMemory>
+{
+    put_count(out, text.len())?;
+    out.extend_from_slice(text.as_bytes())?;
+    Ok(())
+}
+
+/// Appends a number of two bytes, the lowest two of this.
+fn put_count<A: Allocator>(out: &mut Vec<u8, A>, count: usize) -> Result<(), NoMemory>
+{
+    let bytes = count.to_be_bytes();
+    out.extend_from_slice(&bytes[6..])?;
+    Ok(())
+}
