@@ -2,6 +2,7 @@ pub mod Continuing
 pub mod Taking
 pub mod Options
 pub mod Bindings
+pub mod Few
 pub mod Contents
 pub mod PartsTaken
 pub mod FramesTaken
@@ -15,3 +16,4 @@ pub mod Attempts
 pub mod PageAnswers
 pub mod RestAnswers
 pub mod PageWhole
+pub mod Filled

@@ -3,6 +3,7 @@ use Rattle.std.proofs.Common.{◌≡◌, ℕ, ◌+◌, ◌-◌, ◌<◌, ◌≤�
 use Rattle.std.proofs.lemmas.List.{take_all}
 use Rattle.std.proofs.lemmas.Bool.Decides.{nat_tests}
 use Rattle.std.specs.Prelude.{⊤}
+use Rattle.std.specs.Result.{IsErr, IsErrAnd}
 use Rattle.std.specs.Io.KnownBytes.{Appends}
 use Rattle.cqlp_note.specs.Outputs.{Output, Offered}
 use Rattle.cqlp_value.specs.Values.{Values, values_size, values_bytes}
@@ -83,6 +84,11 @@ module _ (p : PageState) (cells : List Values) (fits : Bool) (w v : Values) (s :
   rest_refused error.PastLength old failed is = (cell_refuses p cells v _ failed is, refl, refl)
   rest_refused error.NotDone old failed is = (cell_refuses p cells v _ failed is, refl, refl)
   rest_refused (error.Write k) old failed is = absurd (never_write (p.left == 0) (not (cells_fit (page p) (cells ++ v ∷ []))) (nat_lt p.free (values_size v)) k is)
+
+  -- what is handed on is the refusal
+  pub rest_err : (e : PageError) (r : Result ⊤ PageError) (old : Output) → IsErr r → IsErrAnd r (λ x. x ≡ e) → p.failed ≡ true → Checks (before_cut p) cells v (Err e) → AddsRest p cells v old r old p
+  rest_err e (Ok u) old err from failed is = absurd cc
+  rest_err e (Err x) old err from failed is = rest_refused x old failed (rw from is)
 
   module _ (old new : Output) (size taken : ℕ) (failed : p.failed ≡ true) (fit : fits ≡ true) (same : size ≡ values_size w) (none : cell_error (before_cut p) cells v ≡ None) where
     is : size ≡ values_size v

@@ -1,10 +1,11 @@
 -- A page that is written cell by cell, one call after the other.
-use Rattle.std.proofs.Common.{◌≡◌, ℕ, zero, suc, ◌+◌, ◌-◌, ◌*◌, ◌<◌, ◌≤◌, ◌==◌, if◌then◌else◌, Bool, true, false, not, List, [], ◌∷◌, ◌++◌, length, nat_lt, Option, Some, None, Result, Ok, Err, refl, sym, ap, ◌∙◌, subst, inl, inr, arith}
+use Rattle.std.proofs.Common.{◌≡◌, ℕ, zero, suc, ◌+◌, ◌-◌, ◌*◌, ◌<◌, ◌≤◌, ◌==◌, ◌^◌, if◌then◌else◌, Bool, true, false, not, min, is_some, List, [], ◌∷◌, ◌++◌, length, nat_lt, Option, Some, None, Result, Ok, Err, refl, sym, ap, ◌∙◌, subst, inl, inr, arith}
 use Rattle.std.proofs.lemmas.List.{length-append}
 use Rattle.std.proofs.lemmas.Bool.{lt-ltb, le-ltb}
 use Rattle.std.proofs.lemmas.Bool.Decides.{nat_tests}
 use Rattle.std.proofs.Math.Nat.{lt_of_mul-lt-mul_right, mul-zero, zero-mul}
-use Rattle.std.specs.Prelude.{⊤}
+use Rattle.std.specs.Prelude.{⊤, IfSome}
+use Rattle.cqlp_note.specs.declared.header.TheConstants.Header.{LONGEST_BODY}
 use Rattle.cqlp_note.specs.Heading.{IsLawful}
 use Rattle.cqlp_note.specs.Outputs.{Output, Offered}
 use Rattle.cqlp_value.specs.Values.{Values, values_size, values_bytes}
@@ -24,7 +25,7 @@ use Rattle.cqlp_encode.specs.declared.page_writer.PageError.TheVariants as error
 use Rattle.cqlp_encode.specs.PageWriting.{PageState, page, After, Begins, BeginsFrom, Finishes, Adds, cells_after, cell_error, one_more, failed_after}
 use Rattle.cqlp_encode.specs.Encoding.{Continued, header_and_parts}
 use Rattle.cqlp_encode.proofs.Continuing.{anew}
-use Rattle.cqlp_encode.specs.PagePlaces.{IsPlace, StandsFor}
+use Rattle.cqlp_encode.specs.PagePlaces.{HasSize, IsPlace, StandsFor}
 
 -- ---- before the first cell
 
@@ -129,6 +130,18 @@ stands p at v fits place is n cells a = record {
   size = λ e. refl;
   bytes = λ e. refl;
 }
+
+-- ---- the size of a value that fits
+
+pub fits_where_some : (size : Option ℕ) (n : ℕ) → size ≡ Some n → is_some size ≡ true
+fits_where_some (Some m) n is = refl
+fits_where_some None n is = absurd cc
+
+pub size_of_some : (size : Option ℕ) (n : ℕ) (v : Values) → IfSome size (HasSize v) → size ≡ Some n → n ≤ LONGEST_BODY → n ≡ values_size v
+size_of_some (Some m) n v has is small =
+    let same : m ≡ n = cc in
+    omega arith
+size_of_some None n v has is small = absurd cc
 
 -- ---- a cell
 

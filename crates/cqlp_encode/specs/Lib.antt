@@ -7,3 +7,4 @@ pub mod PageWriting
 pub mod UntoldPages
 pub mod PagePlaces
 pub mod Laws
+pub mod Filling

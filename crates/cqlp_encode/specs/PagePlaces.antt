@@ -1,5 +1,5 @@
 -- Where a writer of a page stands among its columns, the bounds of its numbers, and what a check of a cell answers.
-use Rattle.std.specs.Prelude.{◌≡◌, ℕ, ◌+◌, ◌*◌, ◌<◌, ◌≤◌, ◌++◌, Bool, true, false, List, [], ◌∷◌, Some, None, Result, Ok, Err}
+use Rattle.std.specs.Prelude.{◌≡◌, ℕ, ◌+◌, ◌-◌, ◌*◌, ◌^◌, ◌<◌, ◌≤◌, ◌++◌, min, Bool, true, false, List, [], ◌∷◌, Some, None, Result, Ok, Err}
 use Rattle.cqlp_note.specs.declared.header.TheConstants.Header.{LONGEST_BODY}
 use Rattle.cqlp_message.specs.Pages.{page_columns, cells_wanted, cells_fit}
 use Rattle.cqlp_value.specs.Values.{Values, values_size, values_bytes}
@@ -17,6 +17,10 @@ pub record IsPlace (p : PageState) (at : ℕ) : Type 0 where
   pub bounded : p.written + p.free ≤ 9 + LONGEST_BODY + p.cut
   pub cut : p.cut ≤ p.written
   pub uncut : p.failed ≡ false → p.cut ≡ 0
+
+-- This is how many bytes spell it; 2^64 - 1 where there are more.
+abbrev pub HasSize : Values → ℕ → Type 0
+HasSize v size = size ≡ min (values_size v) (2 ^ 64 - 1)
 
 -- What a check of the next cell answers: how many bytes it has, or why the value is not it.
 abbrev pub Checks : PageState → List Values → Values → Result ℕ PageError → Type 0

@@ -9,7 +9,7 @@ use crate::value_writing::offer_content;
 use cqlp_message::OwnedBound;
 use cqlp_note::{Header, IoFault, Target};
 use cqlp_type::TypeTree;
-use cqlp_value::{Atom, Value, fits, value_size};
+use cqlp_value::{Atom, Value, fitting_size};
 use std::alloc::{AllocError, Global};
 use thiserror::Error;
 
@@ -43,7 +43,7 @@ impl From<AllocError> for BindError {
 ///
 /// # Errors
 ///
-/// In this order: [`BindError::Unfit`] where [`fits`] says that the value is none of the type, and [`BindError::TooLong`], before memory is
+/// In this order: [`BindError::Unfit`] where [`fits`](cqlp_value::fits) says that the value is none of the type, and [`BindError::TooLong`], before memory is
 /// asked for; [`BindError::NoMemory`] where it was refused.
 pub fn bind_value(
     alloc: Global,
@@ -85,10 +85,10 @@ pub fn raw_value(alloc: Global, value: &Value, of: Option<&TypeTree>) -> Result<
 fn content(alloc: Global, value: &Value, of: Option<&TypeTree>) -> Result<Vec<u8>, BindError>
     ensures { Makes (λ c. IsContent value.now c.items) value.now (option_map (λ t. t.now) of.entry) result }
 {
-    if !fits(value, of) {
-        return Err(BindError::Unfit);
-    }
-    let size = value_size(value);
+    let size = match fitting_size(value, of) {
+        Some(size) => size,
+        None => return Err(BindError::Unfit),
+    };
     if size > u64::from(Header::LONGEST_BODY) {
         return Err(BindError::TooLong);
     }

@@ -1,19 +1,20 @@
 //! A page whose cells are written one by one.
 
-ghost use Rattle.std.specs.Prelude.{◌≡◌, ◌+◌, ◌<◌, ◌≤◌, List, ℕ, IfOk, true, false};
+ghost use Rattle.std.specs.Prelude.{◌≡◌, ◌+◌, ◌<◌, ◌≤◌, List, ℕ, IfOk, IfSome, Some, is_some, false};
 ghost use Rattle.cqlp_note.specs.declared.header.TheConstants.Header.{LONGEST_BODY};
 ghost use Rattle.cqlp_note.specs.Outputs.{written};
 ghost use Rattle.cqlp_value.specs.Owned.{value_of};
 ghost use Rattle.cqlp_value.specs.Values.{Values, values_size};
 ghost use Rattle.cqlp_message.specs.Owned.{message_of};
-ghost use Rattle.cqlp_encode.specs.UntoldPages as untold;
+ghost use Rattle.cqlp_encode.specs.PagePlaces.{HasSize};
+ghost use Rattle.cqlp_encode.specs.UntoldPages.{fits_untold};
 
 use crate::value_writing::offer_value;
 use crate::writing::write_parts;
 use cqlp_message::{Frame, Message, Unfit};
 use cqlp_note::Target;
 use cqlp_type::TypeTree;
-use cqlp_value::{Value, fits, value_size};
+use cqlp_value::{Value, fitting_size};
 use std::marker::Model;
 use thiserror::Error;
 
@@ -164,8 +165,8 @@ impl<'a> PageWriter<'a> {
         ensures after { (n : ℕ) (cells : List Values) → After self.old n cells →
             After self.new n (cells_after result cells (value_of value.now)) }
     {
-        let fits = self.frame.fits_column(self.column, value);
-        self.put(value, fits, target)
+        let size = self.frame.column_size(self.column, value);
+        self.put(value, size, target)
     }
 
     /// Writes the next cell of a page whose columns are not told to this target, where it is a value of a type that the caller names: as
@@ -173,7 +174,7 @@ impl<'a> PageWriter<'a> {
     ///
     /// # Errors
     ///
-    /// Those of [`cell`](Self::cell): [`PageError::Unfit`] where the value is none of its type, as [`fits`] says, and where the
+    /// Those of [`cell`](Self::cell): [`PageError::Unfit`] where the value is none of its type, as [`fits`](cqlp_value::fits) says, and where the
     /// page's columns are told.
     pub fn cell_as<W: Target>(
         &mut self,
@@ -187,8 +188,8 @@ impl<'a> PageWriter<'a> {
         ensures after { (n : ℕ) (cells : List Values) → After self.old n cells →
             After self.new n (cells_after result cells (cell_of (page self.old) value.now of.now)) }
     {
-        let fits = fits_untold(&self.frame.message, value, of);
-        self.put(value, fits, target)
+        let size = untold_size(&self.frame.message, value, of);
+        self.put(value, size, target)
     }
 
     /// Goes on with the cell in which an earlier call stopped: writes the bytes of the value behind those that targets took, and is then
@@ -207,8 +208,8 @@ impl<'a> PageWriter<'a> {
         ensures after { (n : ℕ) (cells : List Values) → After self.old n cells →
             After self.new n (cells_after result cells (value_of value.now)) }
     {
-        let fits = self.frame.fits_column(self.column, value);
-        self.put_rest(value, fits, target)
+        let size = self.frame.column_size(self.column, value);
+        self.put_rest(value, size, target)
     }
 
     /// The same of a cell that [`cell_as`](Self::cell_as) writes.
@@ -228,8 +229,8 @@ impl<'a> PageWriter<'a> {
         ensures after { (n : ℕ) (cells : List Values) → After self.old n cells →
             After self.new n (cells_after result cells (cell_of (page self.old) value.now of.now)) }
     {
-        let fits = fits_untold(&self.frame.message, value, of);
-        self.put_rest(value, fits, target)
+        let size = untold_size(&self.frame.message, value, of);
+        self.put_rest(value, size, target)
     }
 
     /// How many bytes the frame has, with all its cells, all of which the targets of the calls took: where they were several, all
@@ -253,12 +254,18 @@ impl<'a> PageWriter<'a> {
         Ok(self.written)
     }
 
-    /// Writes the next cell, if it is a value that fits.
-    fn put<W: Target>(&mut self, value: &Value, fits: bool, target: &mut W) -> Result<(), PageError>
-        ensures { (cells : List Values) (cell : Values) → StandsFor self.old cells fits (value_of value.now) cell →
+    /// Writes the next cell, if it is a value that fits and so has a size.
+    fn put<W: Target>(
+        &mut self,
+        value: &Value,
+        size: Option<u64>,
+        target: &mut W,
+    ) -> Result<(), PageError>
+        requires { IfSome size (HasSize (value_of value.now)) }
+        ensures { (cells : List Values) (cell : Values) → StandsFor self.old cells (is_some size) (value_of value.now) cell →
             Adds self.old cells cell (written W.Target target.old) result (written W.Target target.new) self.new }
     {
-        let size = self.check(value, fits)?;
+        let size = self.check(size)?;
         let taken = offer_value(value, 0, target);
         if taken < size {
             self.fail(taken);
@@ -270,21 +277,22 @@ impl<'a> PageWriter<'a> {
         Ok(())
     }
 
-    /// Writes what targets have not taken of the cell in which one failed, if it is a value that fits.
+    /// Writes what targets have not taken of the cell in which one failed, if it is a value that fits and so has a size.
     fn put_rest<W: Target>(
         &mut self,
         value: &Value,
-        fits: bool,
+        size: Option<u64>,
         target: &mut W,
     ) -> Result<(), PageError>
-        ensures { (cells : List Values) (cell : Values) → StandsFor self.old cells fits (value_of value.now) cell →
+        requires { IfSome size (HasSize (value_of value.now)) }
+        ensures { (cells : List Values) (cell : Values) → StandsFor self.old cells (is_some size) (value_of value.now) cell →
             AddsRest self.old cells cell (written W.Target target.old) result (written W.Target target.new) self.new }
     {
         if !self.failed {
             return Err(PageError::OutOfTurn);
         }
         let mut writer = self.before_cut();
-        let size = writer.check(value, fits)?;
+        let size = writer.check(size)?;
         if size <= self.cut {
             return Err(PageError::OutOfTurn);
         }
@@ -316,12 +324,11 @@ impl<'a> PageWriter<'a> {
         }
     }
 
-    /// How many bytes the next cell has, or why the value is not it.
-    fn check(&self, value: &Value, fits: bool) -> Result<u32, PageError>
-        ensures checks { (cells : List Values) (cell : Values) →
-            StandsFor self.now cells fits (value_of value.now) cell → Checks self.now cells cell result }
-        ensures fits { IfOk result (λ _. fits ≡ true) }
-        ensures size { IfOk result (λ size. size ≡ values_size (value_of value.now)) }
+    /// How many bytes the next cell has, or why a value of this size is not it.
+    fn check(&self, size: Option<u64>) -> Result<u32, PageError>
+        ensures checks { (v : Values) → IfSome size (HasSize v) → (cells : List Values) (cell : Values) →
+            StandsFor self.now cells (is_some size) v cell → Checks self.now cells cell result }
+        ensures size { IfOk result (λ len. size ≡ Some len) }
         ensures sound { IfOk result (λ _. self.now.failed ≡ false) }
         ensures left { IfOk result (λ _. 0 < self.now.left) }
         ensures room { IfOk result (λ size. size ≤ self.now.free) }
@@ -335,10 +342,10 @@ impl<'a> PageWriter<'a> {
         if self.left == 0 {
             return Err(PageError::OutOfTurn);
         }
-        if !fits {
-            return Err(PageError::Unfit(Unfit::CellType));
-        }
-        let size = value_size(value);
+        let size = match size {
+            Some(size) => size,
+            None => return Err(PageError::Unfit(Unfit::CellType)),
+        };
         if size > u64::from(self.free) {
             return Err(PageError::PastLength);
         }
@@ -372,15 +379,16 @@ impl<'a> PageWriter<'a> {
     }
 }
 
-/// Whether a value of this type is a cell of a page whose columns are not told.
-fn fits_untold(message: &Message, value: &Value, of: &TypeTree) -> bool
-    ensures { result ≡ untold.fits_untold (message_of message.now) value.now of.now }
+/// How many bytes spell a value of this type, if it is one and a cell of a page whose columns are not told.
+fn untold_size(message: &Message, value: &Value, of: &TypeTree) -> Option<u64>
+    ensures fits { is_some result ≡ fits_untold (message_of message.now) value.now of.now }
+    ensures size { IfSome result (HasSize (value_of value.now)) }
 {
     match message {
         Message::Rows(page) => match &page.meta.specs {
-            None => fits(value, Some(of)),
-            Some(_) => false,
+            None => fitting_size(value, Some(of)),
+            Some(_) => None,
         },
-        _ => false,
+        _ => None,
     }
 }

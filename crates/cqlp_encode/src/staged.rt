@@ -1,11 +1,15 @@
 //! Bytes on their way to a target.
 
-ghost use Rattle.std.specs.Prelude.{◌≡◌, ◌+◌, ◌≤◌, ◌++◌, [], length, min, ◌-◌, ◌^◌};
+ghost use Rattle.std.specs.Prelude.{◌≡◌, ◌+◌, ◌≤◌, ◌++◌, [], length, min, ◌-◌, ◌^◌, true, false};
 ghost use Rattle.cqlp_note.specs.Outputs.{written};
+ghost use Rattle.cqlp_value.specs.Owned.{value_of};
+ghost use Rattle.cqlp_value.specs.Values.{values_bytes};
 ghost use Rattle.cqlp_encode.specs.Encoding.{Continued};
 ghost use Rattle.cqlp_encode.specs.Progress.{Puts, begun};
 
+use crate::filling::fill;
 use cqlp_note::{Target, offer};
+use cqlp_value::Value;
 use std::marker::Model;
 
 /// How many bytes wait at most before they are passed on.
@@ -94,6 +98,21 @@ impl<'a, W: Target> Staged<'a, W> {
         }
     }
 
+    /// Takes a value with its length, if there is room for all of it, and answers whether there is.
+    #[inline(always)]
+    pub fn put_if_room(&mut self, value: &Value) -> bool
+        ensures put { result ≡ true → Puts self.old (values_bytes (value_of value.now)) self.new }
+        ensures left { result ≡ false → self.new ≡ self.old }
+    {
+        match fill(value, &mut self.buffer, self.len) {
+            Some(end) => {
+                self.len = end;
+                true
+            }
+            None => false,
+        }
+    }
+
     /// Takes bytes once all that waits is passed on.
     fn put_after_flush(&mut self, bytes: &[u8])
         ensures { Puts self.old bytes.now self.new }
@@ -147,7 +166,8 @@ impl<'a, W: Target> Staged<'a, W> {
 }
 
 /// Passes bytes on, but for the first of them, this many, until the target fails, and answers how many of them it took or had from before.
-fn offer_after<W: Target>(target: &mut W, skip: u64, bytes: &[u8]) -> usize
+#[inline(always)]
+pub fn offer_after<W: Target>(target: &mut W, skip: u64, bytes: &[u8]) -> usize
     ensures { Continued skip (written W.Target target.old) bytes.now result (written W.Target target.new) }
 {
     let from = (bytes.len() as u64).min(skip) as usize;

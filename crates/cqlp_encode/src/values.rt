@@ -1,5 +1,7 @@
 //! Values of cells, written.
 
+ghost use Rattle.std.specs.Prelude.{◌≢◌};
+ghost use Rattle.cqlp_value.specs.declared.value.Value.{Null};
 ghost use Rattle.cqlp_value.specs.Measures.{listed_pairs, listed_values};
 ghost use Rattle.cqlp_value.specs.Owned.{atom_of, value_and, value_of};
 ghost use Rattle.cqlp_kind.specs.Scalars.{content_of};
@@ -31,11 +33,25 @@ fn put_any<W: Target>(out: &mut Staged<'_, W>, value: &Value)
     match value {
         Value::Null => out.put_int(-1),
         Value::Leaf(atom) => put_atom(out, atom),
-        _ => {
-            out.put_count32(content_len(value) as usize);
-            put_inside(out, value);
-        }
+        _ => put_known(out, value),
     }
+}
+
+/// The same of a value that is not null. Its length is measured before only where what waits has no room for it.
+#[cycle(put_value)]
+fn put_known<W: Target>(out: &mut Staged<'_, W>, value: &Value)
+    requires { value.now ≢ Null }
+    ensures { PutsWithin (values_size (value_of value.now)) out.old (values_bytes (value_of value.now)) out.new }
+{
+    if out.put_if_room(value) {
+        return;
+    }
+    out.flush();
+    if out.put_if_room(value) {
+        return;
+    }
+    out.put_count32(content_len(value) as usize);
+    put_inside(out, value);
 }
 
 /// Takes what follows a value's length.
@@ -87,7 +103,7 @@ fn put_pairs<W: Target>(out: &mut Staged<'_, W>, pairs: &[(Value, Value)])
 
 /// Takes a scalar with its length.
 #[inline(always)]
-fn put_atom<W: Target>(out: &mut Staged<'_, W>, atom: &Atom)
+pub fn put_atom<W: Target>(out: &mut Staged<'_, W>, atom: &Atom)
     ensures { let v = Scalar_and (atom_of atom.now) NoValue in PutsWithin (values_size v) out.old (values_bytes v) out.new }
 {
     match atom.content() {

@@ -1,7 +1,8 @@
 //! Pages whose cells are written one by one, after all else of their frame.
 
-ghost use Rattle.std.specs.Prelude.{◌≡◌, IfOk, None, map};
+ghost use Rattle.std.specs.Prelude.{◌≡◌, ◌-◌, ◌^◌, IfOk, IfSome, None, is_some, map, min};
 ghost use Rattle.cqlp_value.specs.Owned.{value_of};
+ghost use Rattle.cqlp_value.specs.Values.{values_size};
 ghost use Rattle.cqlp_message.specs.Bodies.{cell_types, column_types};
 ghost use Rattle.cqlp_message.specs.Owned.{frame_of, message_of, metadata_of, spec_of};
 ghost use Rattle.cqlp_message.specs.Pages as pages;
@@ -11,7 +12,7 @@ use crate::message::Message;
 use crate::response::{Metadata, Spec};
 use crate::unfit::Unfit;
 use cqlp_note::Header;
-use cqlp_value::{Value, fits};
+use cqlp_value::{Value, fitting_size};
 
 impl Frame {
     ghost use Rattle.cqlp_message.specs.Frames.{FrameIsInRange, frame_size, if_none};
@@ -89,9 +90,19 @@ impl Frame {
     pub fn fits_column(&self, column: usize, value: &Value) -> bool
         ensures { result ≡ pages.fits_column (types_of_page (frame_of self.now).message) column (value_of value.now) }
     {
+        self.column_size(column, value).is_some()
+    }
+
+    /// How many bytes spell a value of the type of this column of its page, as [`fitting_size`] says it; None where
+    /// [`fits_column`](Self::fits_column) is false.
+    #[inline]
+    pub fn column_size(&self, column: usize, value: &Value) -> Option<u64>
+        ensures fits { is_some result ≡ pages.fits_column (types_of_page (frame_of self.now).message) column (value_of value.now) }
+        ensures size { IfSome result (λ size. size ≡ min (values_size (value_of value.now)) (2 ^ 64 - 1)) }
+    {
         match &self.message {
-            Message::Rows(page) => page.meta.fits_column(column, value),
-            _ => false,
+            Message::Rows(page) => page.meta.column_size(column, value),
+            _ => None,
         }
     }
 }
@@ -120,23 +131,33 @@ impl Message {
 }
 
 impl Metadata {
-    /// Whether a value is one of the type of this column.
-    fn fits_column(&self, column: usize, value: &Value) -> bool
-        ensures { result ≡ pages.fits_column (cell_types (metadata_of self.now)) column (value_of value.now) }
+    /// How many bytes spell a value of the type of this column, or None where it is none.
+    #[inline]
+    fn column_size(&self, column: usize, value: &Value) -> Option<u64>
+        ensures fits { is_some result ≡ pages.fits_column (cell_types (metadata_of self.now)) column (value_of value.now) }
+        ensures size { IfSome result (λ size. size ≡ min (values_size (value_of value.now)) (2 ^ 64 - 1)) }
     {
         match &self.specs {
-            Some(specs) => fits_spec(specs, column, value),
-            None => column < self.columns as usize && fits(value, None),
+            Some(specs) => spec_size(specs, column, value),
+            None => {
+                if column < self.columns as usize {
+                    fitting_size(value, None)
+                } else {
+                    None
+                }
+            }
         }
     }
 }
 
-/// Whether a value is one of the type that is told of this column.
-fn fits_spec(specs: &[Spec], column: usize, value: &Value) -> bool
-    ensures { result ≡ pages.fits_column (column_types (map spec_of specs.now)) column (value_of value.now) }
+/// The same of the type that is told of this column.
+#[inline]
+fn spec_size(specs: &[Spec], column: usize, value: &Value) -> Option<u64>
+    ensures fits { is_some result ≡ pages.fits_column (column_types (map spec_of specs.now)) column (value_of value.now) }
+    ensures size { IfSome result (λ size. size ≡ min (values_size (value_of value.now)) (2 ^ 64 - 1)) }
 {
     match specs.get(column) {
-        Some(spec) => fits(value, Some(&spec.tree)),
-        None => false,
+        Some(spec) => fitting_size(value, Some(&spec.tree)),
+        None => None,
     }
 }

@@ -16,7 +16,7 @@ use crate::part::{PartRef, TakesParts};
 use crate::request::OwnedBound;
 use cqlp_note::Address;
 use cqlp_type::{TypeTree, check_type, type_size};
-use cqlp_value::{Value, fits, value_size};
+use cqlp_value::{Value, fitting_size, value_size};
 
 /// What is found of parts.
 #[derive(Clone, Copy)]
@@ -40,20 +40,39 @@ impl Tally {
         Tally::fixed(0)
     }
 
-    /// That of these parts and of those.
+    /// Counts those of these parts, too.
     #[inline(always)]
-    fn and(self, other: Tally) -> Tally
-        ensures counts { result.counts ≡ (self.counts && other.counts) }
-        ensures texts { result.texts ≡ (self.texts && other.texts) }
-        ensures cells { result.cells ≡ (self.cells && other.cells) }
-        ensures size { result.size ≡ min (self.size + other.size) (2 ^ 64 - 1) }
+    fn add(&mut self, other: Tally)
+        ensures counts { self.new.counts ≡ (self.old.counts && other.counts) }
+        ensures texts { self.new.texts ≡ (self.old.texts && other.texts) }
+        ensures cells { self.new.cells ≡ (self.old.cells && other.cells) }
+        ensures size { self.new.size ≡ min (self.old.size + other.size) (2 ^ 64 - 1) }
     {
-        Tally {
-            counts: self.counts && other.counts,
-            texts: self.texts && other.texts,
-            cells: self.cells && other.cells,
-            size: self.size.saturating_add(other.size),
+        if !other.is_fit() {
+            self.note(other);
         }
+        self.size = self.size.saturating_add(other.size);
+    }
+
+    /// Whether everything fits.
+    #[inline(always)]
+    fn is_fit(&self) -> bool
+        ensures { result ≡ (self.now.counts && self.now.texts && self.now.cells) }
+    {
+        self.counts && self.texts && self.cells
+    }
+
+    /// Notes what does not fit of these.
+    fn note(&mut self, other: Tally)
+        ensures { self.new ≡ record self.old {
+          counts = self.old.counts && other.counts;
+          texts = self.old.texts && other.texts;
+          cells = self.old.cells && other.cells;
+        } }
+    {
+        self.counts = self.counts && other.counts;
+        self.texts = self.texts && other.texts;
+        self.cells = self.cells && other.cells;
     }
 
     /// That of a part.
@@ -151,9 +170,12 @@ impl Tally {
         ensures size { result.size ≡ min (values_size (value_of value.now)) (2 ^ 64 - 1) }
         ensures range { AreInRange (value_of value.now) }
     {
-        Tally {
-            cells: fits(value, tree),
-            ..Tally::fixed(value_size(value))
+        match fitting_size(value, tree) {
+            Some(size) => Tally::fixed(size),
+            None => Tally {
+                cells: false,
+                ..Tally::fixed(value_size(value))
+            },
         }
     }
 
@@ -215,6 +237,6 @@ impl TakesParts for Tally {
 
     #[inline(always)]
     fn take(&mut self, part: PartRef<'_>) {
-        *self = self.and(Tally::of(part));
+        self.add(Tally::of(part));
     }
 }

@@ -1,5 +1,7 @@
 //! What a decoder says that passes over frames.
 
+use crate::gifts::table;
+use crate::reading::AMPLE;
 use crate::script::Script;
 use cqlp_decode::{Event, Finish, Sink, SinkFault};
 use cqlp_skip::{Fed, SkippingDecoder};
@@ -64,9 +66,11 @@ fn said(
     pieces: (usize, usize),
 ) -> io::Result<String> {
     let heap = LocalHeap::new(alloc, script.room)?;
+    let tables = LocalHeap::new(alloc, AMPLE)?;
     let Ok(mut decoder) = SkippingDecoder::new(&heap, script.limits) else {
         return Err(io::Error::from(io::ErrorKind::OutOfMemory));
     };
+    give_types(alloc, &tables, &mut decoder, script.given)?;
     let (first, size) = pieces;
     let (front, back) = stream.split_at(first.min(stream.len()));
     let mut lines = Lines {
@@ -81,6 +85,20 @@ fn said(
     let mut text = lines.text;
     write!(text, "{:?}\n", decoder.finish())?;
     Ok(text)
+}
+
+/// Gives a decoder the types of the last metadata of a stream, if there is one.
+fn give_types<'a>(
+    alloc: Global,
+    tables: &'a LocalHeap,
+    decoder: &mut SkippingDecoder<&'a LocalHeap>,
+    given: Option<&str>,
+) -> io::Result<()> {
+    if let Some(digits) = given {
+        let table = table(alloc, tables, digits)?;
+        let _ = decoder.give(table);
+    }
+    Ok(())
 }
 
 /// Writes down what is said of one more piece, up to a frame that cannot be passed over.
@@ -98,20 +116,46 @@ fn take(
             return Ok(lines);
         };
         rest = rest.get(used..).unwrap_or(&[]);
-        match decoder.skip() {
-            Ok(skipped) => {
-                let refusal = skipped.refusal;
-                write!(
-                    lines.text,
-                    "skipped {} {:?} at {}, stream {}\n",
-                    skipped.at, refusal.why, refusal.at, skipped.header.stream
-                )?;
-            }
-            Err(error) => {
-                write!(lines.text, "{error:?}\n")?;
-                return Ok(lines);
-            }
+        if !pass_over(decoder, &mut lines.text)? {
+            return Ok(lines);
         }
     }
     Ok(lines)
+}
+
+/// Passes over the frame that is refused, if it can be, and writes down which. A table of types that is held is tried again before,
+/// taken back, and given again behind the frame.
+fn pass_over(decoder: &mut SkippingDecoder<&LocalHeap>, text: &mut String) -> io::Result<bool> {
+    let mut kept = decoder.take_given();
+    if let Some(table) = kept {
+        kept = match decoder.give(table) {
+            Ok(_) => None,
+            Err(error) => {
+                write!(text, "{:?}\n", error.why)?;
+                Some(error.table)
+            }
+        };
+    }
+    match decoder.skip() {
+        Ok(skipped) => {
+            let refusal = skipped.refusal;
+            write!(
+                text,
+                "skipped {} {:?} at {}, stream {}\n",
+                skipped.at, refusal.why, refusal.at, skipped.header.stream
+            )?;
+        }
+        Err(error) => {
+            write!(text, "{error:?}\n")?;
+            return Ok(false);
+        }
+    }
+    if let Some(table) = kept {
+        let alone = match decoder.give(table) {
+            Ok(before) => before.is_none(),
+            Err(_) => false,
+        };
+        write!(text, "given again {alone}\n")?;
+    }
+    Ok(true)
 }

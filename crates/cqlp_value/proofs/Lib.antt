@@ -11,3 +11,4 @@ pub mod ScalarsWritten
 pub mod ValuesWritten
 pub mod ScalarItems
 pub mod OneFront
+pub mod CountedSizes

@@ -1,5 +1,5 @@
 -- Values of a program's own as values of cells.
-use Rattle.std.specs.Prelude.{◌≡◌, ℕ, ℤ, pos, ◌+ℤ◌, ◌^◌, Option, Some, None, is_nan, to_bits, if◌then◌else◌}
+use Rattle.std.specs.Prelude.{◌≡◌, ℕ, pos, ◌+ℤ◌, ◌^◌, Option, Some, None, is_nan, to_bits, if◌then◌else◌}
 use lib.Ieee.{Float, binary32, binary64}
 use Rattle.std.specs.Net.Addr.{ipv4_octets, ipv6_octets}
 use Rattle.std.specs.declared.net.ip_addr.IpAddr.{IpAddr}

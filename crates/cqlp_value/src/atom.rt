@@ -1,6 +1,6 @@
 //! Scalars that a program owns: their kinds, and the bytes of their contents.
 
-ghost use Rattle.std.specs.Prelude.{◌≡◌, ◌++◌, length};
+ghost use Rattle.std.specs.Prelude.{◌≡◌, ◌++◌, ◌+◌, IfSome, is_some, length};
 ghost use Rattle.cqlp_value.specs.Owned.{atom_of};
 ghost use Rattle.cqlp_value.specs.Measures.{content_in};
 ghost use Rattle.cqlp_kind.specs.Scalars.{IsInRange, allows_size, content_of, kind_of, scalar_fits};
@@ -113,6 +113,21 @@ impl Atom {
             Content::Eight(_) => 8,
             Content::Lent(bytes) => bytes.len() as u64,
             Content::Decimal(_, unscaled) => unscaled.len() as u64 + 4,
+        }
+    }
+
+    /// How many bytes it has with the four of its length, or None where [`is_allowed`](Self::is_allowed) is false. What it
+    /// holds is then in the range of its types.
+    #[inline(always)]
+    pub fn allowed_size(&self) -> Option<u64>
+        ensures allowed { is_some result ≡ scalar_fits (atom_of self.now) }
+        ensures size { IfSome result (λ size. size ≡ 4 + length (content_of (atom_of self.now))) }
+        ensures range { IfSome result (λ _. IsInRange (atom_of self.now)) }
+    {
+        if self.is_allowed() {
+            Some(self.content_len() + 4)
+        } else {
+            None
         }
     }
 

@@ -15,7 +15,7 @@ use crate::value::{Atom, Value};
 use cqlp_type::{Kind, TypeTree};
 
 /// The most items that a count says.
-const MOST: usize = i32::MAX as usize;
+pub const MOST: usize = i32::MAX as usize;
 
 /// Whether a value is one of this type, or of a cell without a type. Section 6 of `native_protocol_v4.spec`.
 ///
@@ -197,6 +197,17 @@ fn has_some(of: Kind, len: usize, tree: &TypeTree) -> bool
 fn kind(tree: &TypeTree) -> Kind
     ensures { result ≡ kind_in (head_of tree.now) }
 {
+    if let TypeTree::Plain(kind) = tree {
+        *kind
+    } else {
+        kind_with_inner(tree)
+    }
+}
+
+/// The same of a type that is mostly not plain.
+fn kind_with_inner(tree: &TypeTree) -> Kind
+    ensures { result ≡ kind_in (head_of tree.now) }
+{
     match tree {
         TypeTree::Plain(kind) => *kind,
         TypeTree::Custom(_) => Kind::Custom,
@@ -209,7 +220,8 @@ fn kind(tree: &TypeTree) -> Kind
 }
 
 /// Whether two kinds are the same.
-fn is(one: Kind, other: Kind) -> bool
+#[inline(always)]
+pub fn is(one: Kind, other: Kind) -> bool
     ensures { result ≡ is_kind one other }
 {
     one == other

@@ -202,6 +202,7 @@ struct Readme;
 mod checked;
 mod cqlp_capture;
 mod cqlp_cell;
+mod cqlp_columns;
 mod cqlp_decode;
 mod cqlp_encode;
 mod cqlp_grammar;
@@ -235,6 +236,11 @@ pub use cqlp_note::OfStd;
 pub use cqlp_type::TypeTable;
 pub use kit_std::alloc::Global;
 
+/// Columns of pages, in the layout of Apache Arrow.
+pub mod columns {
+    pub use crate::cqlp_columns::{Cell, Column, Layout, MakeError, Refusal, layout_of};
+}
+
 /// Values of frames, and what writes them.
 pub mod frame {
     pub use crate::cqlp_encode::{BindError, EncodeError, PageError, PageWriter, ValueError, bind_value, encode, encode_from, raw_value, write_value};
@@ -244,7 +250,7 @@ pub mod frame {
     };
     pub use crate::cqlp_read::{ReadError, read_value};
     pub use crate::cqlp_type::{TreeCheck, TypeTree, check_type, type_len};
-    pub use crate::cqlp_value::{Atom, Content, Value, content_len, fits, value_len, value_size};
+    pub use crate::cqlp_value::{Atom, Content, Value, content_len, fits, fitting_size, value_len, value_size};
 }
 
 /// The codes of errors after whose message more fields come, by their names. Section 9 of `native_protocol_v4.spec`.

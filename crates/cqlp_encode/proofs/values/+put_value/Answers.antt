@@ -1,11 +1,26 @@
 use Rattle.std.proofs.Common.{◌≡◌, length, arith}
 use Rattle.std.proofs.lemmas.List.{take_all}
 use Rattle.cqlp_value.proofs.OwnedLists.{list_is, set_is, map_is, tuple_is, udt_is}
-use Rattle.cqlp_encode.proofs.Contents.{within_nil, known_put, counted_inside, fields_inside, value_put, pair_put}
+use Rattle.cqlp_encode.proofs.Contents.{whole, within_nil, known_put, counted_inside, fields_inside, value_put, pair_put}
+use Rattle.cqlp_encode.proofs.Taking.{puts_then}
 use Rattle.cqlp_encode.proofs.values.+put_value.Goals as goal
 
-pub put_any-returns-in_default : goal.put_any-returns-in_default
-put_any-returns-in_default g t c = known_put c.args.value.now _ _ _ _ c.in_default.not-Null c.content_len.ensures c.put_count32.ensures c.put_inside.ensures
+pub put_known-returns-then-put_if_room : goal.put_known-returns-then-put_if_room
+put_known-returns-then-put_if_room g t c = whole _ _ _ _ (c.put_if_room.ensures.put c.if-put_if_room.true)
+
+pub put_known-returns-then-put_if_room-2 : goal.put_known-returns-then-put_if_room-2
+put_known-returns-then-put_if_room-2 g t c =
+    let left = c.put_if_room.ensures.left c.if-put_if_room.false in
+    let flushed = rw left at c.flush.ensures.puts in
+    whole _ _ _ _ (puts_then _ _ _ _ _ flushed (c.put_if_room-2.ensures.put c.if-put_if_room-2.true))
+
+pub put_known-returns : goal.put_known-returns
+put_known-returns g t c =
+    let left = c.put_if_room.ensures.left c.if-put_if_room.false in
+    let flushed = rw left at c.flush.ensures.puts in
+    let later = c.put_if_room-2.ensures.left c.if-put_if_room-2.false in
+    let count = rw later at c.put_count32.ensures in
+    known_put c.args.value.now _ _ _ _ c.requires c.content_len.ensures (puts_then _ _ _ _ _ flushed count) c.put_inside.ensures
 
 pub put_inside-returns-in-List : goal.put_inside-returns-in-List
 put_inside-returns-in-List g t c =

@@ -1,4 +1,4 @@
-use Rattle.std.proofs.Common.{ℕ, List}
+use Rattle.std.proofs.Common.{ℕ, List, is_some}
 use Rattle.cqlp_value.specs.Owned.{value_of}
 use Rattle.cqlp_value.specs.Values.{Values}
 use Rattle.cqlp_encode.specs.PagePlaces.{StandsFor}
@@ -9,7 +9,7 @@ use Rattle.cqlp_encode.proofs.page_writer.PageWriter.cell.Goals as goal
 pub returns-clause-adds : goal.returns-clause-adds
 returns-clause-adds g c n cells a =
     let v = value_of c.args.value.now in
-    let s : (n : ℕ) (cells : List Values) → After c.args.self.now n cells → StandsFor c.args.self.now cells c.fits_column-fits.result v v = rw (← c.self.view_is) (stands _ c.self.inside.column v _ c.self.invariant c.fits_column-fits.ensures) in
+    let s : (n : ℕ) (cells : List Values) → After c.args.self.now n cells → StandsFor c.args.self.now cells (is_some c.column_size-size.result) v v = rw (← c.self.view_is) (stands _ c.self.inside.column v _ c.self.invariant c.column_size-size.ensures.fits) in
     c.put.ensures cells v (s n cells a)
 
 pub returns-clause-after : goal.returns-clause-after

@@ -1,0 +1,5 @@
+use Rattle.cqlp_encode.proofs.Filled.{then_filled}
+use Rattle.cqlp_encode.proofs.filling.fill_content.Goals as goal
+
+pub returns-in-Some : goal.returns-in-Some
+returns-in-Some c = then_filled _ _ _ _ _ _ _ _ (rw c.in-Some.is at c.fill_count.ensures) c.fill_bytes.ensures
