@@ -1,15 +1,16 @@
 #!/usr/bin/env bash
-# Times the encoder on the pages that pages.py makes, as values in memory. cqlp_bench_pages writes each page once and 21 times into a
-# Vec, whole or cell by cell, and so does encode.rs, an encoder written by hand, with and without a check of what it writes. A
-# twentieth of the difference, in time of the processor, is the time of one writing; the best of five is told, with its MB/s.
+# Times the encoder on the pages that pages.py makes, as values in memory. The program in pages/, which cargo compiles over dist/rust, writes
+# each page once and 21 times into a Vec, whole or cell by cell, and so does encode.rs, an encoder written by hand, with and without a
+# check of what it writes. A twentieth of the difference, in time of the processor, is the time of one writing; the best of five is
+# told, with its MB/s.
 set -euo pipefail
 
 here=$(dirname -- "$(readlink -f -- "${BASH_SOURCE[0]}")")
-crate=$here/../crates/cqlp_bench_pages
+program=$here/out/release/pages
 room=$(mktemp -d)
 trap 'rm -rf "$room"' EXIT
 
-(cd "$crate" && rt run <stdin >/dev/null 2>"$room/built") || { cat "$room/built" >&2; exit 1; } # builds the program
+cargo build --release --offline --quiet --manifest-path "$here/pages/Cargo.toml" --target-dir "$here/out"
 rustc --edition 2021 -O -C codegen-units=1 -o "$room/by_hand" "$here/encode.rs"
 
 # The milliseconds of the processor that a program takes for a line.
@@ -40,6 +41,6 @@ for page in 'rows 1000000' 'collections 200000' 'columns 5000' 'blobs 96'; do
     echo "$page, $bytes bytes"
     tell 'by hand' "$by_hand"
     tell 'by hand, checked' "$(once "$room/by_hand" "$page" checked)"
-    tell encode "$(once "$crate/out/cqlp_bench_pages" "$page")"
-    tell 'cell by cell' "$(once "$crate/out/cqlp_bench_pages" "$page" cells)"
+    tell encode "$(once "$program" "$page")"
+    tell 'cell by cell' "$(once "$program" "$page" cells)"
 done

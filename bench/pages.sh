@@ -1,29 +1,29 @@
 #!/usr/bin/env bash
-# Times cqlp_bench_pages, which reads a stream in pieces of 4,096 bytes and counts its events, on the pages that pages.py makes: with
-# their metadata, and without it, where the same types are given. Where valgrind is there, it counts instructions for each event
-# on a smaller page of each kind.
+# Times the program in pages/, which cargo compiles over dist/rust, where it reads a stream in pieces of 4,096 bytes and counts its events, on
+# the pages that pages.py makes: with their metadata, and without it, where the same types are given. Where valgrind is there, it
+# counts instructions for each event on a smaller page of each kind.
 set -eu
 
 here=$(dirname -- "$(readlink -f -- "${BASH_SOURCE[0]}")")
-crate=$here/../crates/cqlp_bench_pages
+program=$here/out/release/pages
 room=$(mktemp -d)
 trap 'rm -rf "$room"' EXIT
 
-(cd "$crate" && rt run <stdin >/dev/null) # builds the program
+cargo build --release --offline --quiet --manifest-path "$here/pages/Cargo.toml" --target-dir "$here/out"
 
 # Times the program on a page; the words after it are the program's.
 tell() {
     local page=$1
     shift
-    echo "$(stat -c %s "$page") bytes, $("$crate/out/cqlp_bench_pages" count "$@" <"$page")"
+    echo "$(stat -c %s "$page") bytes, $("$program" count "$@" <"$page")"
     for _ in 1 2 3; do
         start=$(date +%s%N)
-        "$crate/out/cqlp_bench_pages" count "$@" <"$page" >/dev/null
+        "$program" count "$@" <"$page" >/dev/null
         spent=$(($(date +%s%N) - start))
         echo "  $((spent / 1000000)) ms, $(($(stat -c %s "$page") * 1000 / (spent + 1))) MB/s"
     done
     if [ -x /usr/bin/time ]; then
-        /usr/bin/time -f '  %M KiB resident' "$crate/out/cqlp_bench_pages" count "$@" <"$page" 2>&1 >/dev/null
+        /usr/bin/time -f '  %M KiB resident' "$program" count "$@" <"$page" 2>&1 >/dev/null
     fi
 }
 
@@ -32,8 +32,8 @@ count() {
     local page=$1
     shift
     if command -v valgrind >/dev/null; then
-        events=$("$crate/out/cqlp_bench_pages" count "$@" <"$page" | cut -d' ' -f1)
-        valgrind --tool=callgrind --callgrind-out-file="$room/calls" "$crate/out/cqlp_bench_pages" count "$@" <"$page" >/dev/null 2>"$room/told"
+        events=$("$program" count "$@" <"$page" | cut -d' ' -f1)
+        valgrind --tool=callgrind --callgrind-out-file="$room/calls" "$program" count "$@" <"$page" >/dev/null 2>"$room/told"
         echo "  $(($(sed -n 's/.*Collected : //p' "$room/told") / events)) instructions an event; by function:"
         callgrind_annotate "$room/calls" | grep -E '^ *[0-9,]+ \(' | sed -n '2,6s/ \[.*//; 2,6s/???://; 2,6p'
     fi

@@ -1,8 +1,8 @@
 #!/usr/bin/env python3
 """Writes bindings/streams.txt, which the tests of all wrappers read, to standard output: bindings/streams.py > bindings/streams.txt
 
-Its streams, and what is said of them, are the data of the crates cqlp_test_vectors and cqlp_test_commands, which were written by hand or taken
-from the definition. Of each stream there are: a line `stream NAME` with the limits text, cell, entries, depth and the switches types and
+Its streams, and what is said of them, are the data of the crate cqlp_test_commands, which were written by hand or taken from the definition. Those
+below a line `## NAME` have that name, and come first. Of each stream there are: a line `stream NAME` with the limits text, cell, entries, depth and the switches types and
 parts; a line `bytes` with the stream in hexadecimal digits; the lines of its events, as `cqlp show` writes them; and a line `end` with the
 verdict. Lines of JSON are left out.
 """
@@ -25,16 +25,19 @@ def stanzas(path):
     for line in path.read_text("utf-8").splitlines():
         if line.startswith("== "):
             found.append((line[3:], []))
-        elif found and not line.startswith("# "):
+        elif found and not line.startswith(("# ", "## ")):
             found[-1][1].append(line)
     return found
 
 
 def inputs(path):
+    """The name, if there is one, the words and the bytes of each command line."""
+    name = None
     for line in path.read_text("utf-8").splitlines():
         words, bar, digits = line.partition("|")
         if bar:
-            yield words.strip(), bytes_of(digits)
+            yield name, words.strip(), bytes_of(digits)
+        name = line[3:] if line.startswith("## ") else None
 
 
 def limits(words, text, cell, entries, depth):
@@ -51,15 +54,6 @@ def write(name, bounds, digits, lines, verdict):
     print("end", verdict)
 
 
-def vectors():
-    crate = CRATES / "cqlp_test_vectors"
-    said = stanzas(crate / "stdout")
-    for (words, digits), (name, lines) in zip(inputs(crate / "stdin"), said):
-        assert words == name
-        lines = [line for line in lines if not line.startswith("{")]
-        write(words.split()[0], limits(words, 64, 64, 8, 3), digits, lines[:-1], lines[-1])
-
-
 def commands():
     """Those command lines that show a stream from standard input, none of whose frames is passed over."""
     crate = CRATES / "cqlp_test_commands"
@@ -67,18 +61,20 @@ def commands():
     for name, lines in stanzas(crate / "stdout"):
         said.setdefault(name, []).append(lines)
     shown = [
-        (words, digits)
-        for words, digits in inputs(crate / "stdin")
+        (name, words, digits)
+        for name, words, digits in inputs(crate / "stdin")
         if re.fullmatch(r"show( --.*)? -", words) and "--json" not in words
     ]
-    count = 0
-    for words, digits in shown:
+    streams = []
+    for name, words, digits in shown:
         lines = said[words].pop(0)
         at = next(i for i, line in enumerate(lines) if line.startswith("-- "))
         if not lines[at + 1].startswith("skipped "):
-            count += 1
-            write("shown_%d" % count, limits(words, 1 << 20, 1 << 20, 4096, 16), digits, lines[:at], lines[at + 1])
+            streams.append((name, limits(words, 1 << 20, 1 << 20, 4096, 16), digits, lines[:at], lines[at + 1]))
+    named = [stream for stream in streams if stream[0]]
+    others = [("shown_%d" % n, *stream[1:]) for n, stream in enumerate((stream for stream in streams if not stream[0]), 1)]
+    for stream in named + others:
+        write(*stream)
 
 
-vectors()
 commands()

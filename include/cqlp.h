@@ -59,7 +59,7 @@
  * - No pointer is null, but that of an input or a stream whose length is 0, and that of what has a room of 0, may be. Each
  *   points to as much as its type and the number after it say, aligned for its type, and no two that are given to one call
  *   overlap.
- * - A handle is CQLP_NO_DECODER_YET before cqlp_new, CQLP_NO_CLIENT_YET before cqlp_client_new, CQLP_NO_SERVER_YET before
+ * - A handle is CQLP_NO_DECODER_YET before cqlp_new or cqlp_new_lenient, CQLP_NO_CLIENT_YET before cqlp_client_new, CQLP_NO_SERVER_YET before
  *   cqlp_server_new, and CQLP_NO_TYPES_YET before cqlp_types_of and cqlp_take_given. Nothing but these calls writes or copies it from then on until it is freed, and it is not given to another call
  *   of this library while one runs on it.
  * - The array of events and the other structs that calls write are memory that may be written; what was in them does not
@@ -135,7 +135,7 @@ extern "C" {
 #define CQLP_TOO_FAR 37              /* the frame ends past the greatest offset */
 #define CQLP_NO_EVENT 38             /* no event is like this one */
 #define CQLP_MISPLACED 39            /* an event of another place */
-#define CQLP_UNBUILT 40              /* an event of a page, or a part */
+#define CQLP_UNBUILT 40              /* a part of a scalar */
 #define CQLP_TOO_MANY_FIELDS 41      /* there are more than 268435456 fields */
 #define CQLP_TOO_MANY_BYTES 42       /* the contents have more than 268435456 bytes */
 #define CQLP_LEFT_OVER 43            /* there are bytes behind the contents of the events */
@@ -520,6 +520,12 @@ typedef struct cqlp_encoded {
  * first limit in this order that is out of its range, CQLP_NO_MEMORY, or CQLP_IN_USE where the handle has a decoder. */
 uint32_t cqlp_new(const cqlp_limits *limits, cqlp_decoder *decoder);
 
+/* The same, for a lenient reading, which takes what nodes and drivers send against the standard, as a time of 24 hours: a content that its
+ * type does not have, by its length or by its bytes, is put as a CQLP_TAG_LEAF of the kind CQLP_KIND_RAW with all its bytes, and the reading
+ * goes on. All else is read as by a decoder that cqlp_new makes.
+ * Answers what cqlp_new does. */
+uint32_t cqlp_new_lenient(const cqlp_limits *limits, cqlp_decoder *decoder);
+
 /* Takes the next bytes of the stream, and puts the events that they end into the array, at most `room`; the members after
  * them stay as they were. `batch` says how many bytes were used and why it stopped:
  * - CQLP_STOP_MORE: all of the input was used. Give the bytes that come after it.
@@ -669,20 +675,20 @@ uint32_t cqlp_write_header(const cqlp_header *fields, uint8_t bytes[9]);
  * CQLP_TAG_BOUND with CQLP_MARK_NONE, and of each CQLP_TAG_LEAF of the kinds custom, ascii, blob, decimal, varchar, varint and raw, as many bytes
  * as its `length` says. No pointer in an event is followed. The members that a tag does not use are not looked at, nor are offsets, the length of
  * the body in CQLP_TAG_FRAME, which is counted, and the number of an end: bytes after the last field are left out. Of an address `octets` says
- * whether it has 4 or 16 bytes.
- * Where there is no event, no content or no room, its pointer may be null. It asks for memory for a copy of the contents, for each field, and for
- * the bytes of the frame, and gives all of it back.
+ * whether it has 4 or 16 bytes. The cells of a page have the types that its columns tell, and are raw where none are told.
+ * Where there is no event, no content or no room, its pointer may be null. It asks for memory for a copy of the contents, for each event, for the
+ * values of a page, and for the bytes of the frame, and gives all of it back.
  * Answers CQLP_DONE, and the bytes behind the frame are as they were; what was written is read as these events by a decoder whose limits allow it.
  * Else all bytes are as they were:
  * - CQLP_NO_ROOM: `length` says how many bytes the frame has. So a call with a `room` of 0 measures it.
  * - Of the event that `event` names, and the first that is so: CQLP_UNBUILT where it is a CQLP_TAG_PART, which says neither how long the content is
  *   nor all of it; CQLP_NO_EVENT where nobody knows its tag, its field, its kind, its opcode or its mark, or its number or stream id is out of its
  *   range, or its address has neither 4 nor 16 bytes, or its text is not UTF-8, or `contents` has no more bytes as many as its length says;
- *   CQLP_MISPLACED where it is a CQLP_TAG_FRAME and not the first event, or the other way round, or comes after the end; CQLP_UNBUILT where it is the
- *   kind of a page, CQLP_RESULT_ROWS, or of a cell; CQLP_TOO_MANY_FIELDS; CQLP_TOO_DEEP where a type option is nested deeper than 64;
- *   CQLP_TOO_MANY_BYTES. So pages are not written.
- * - Of all events together: CQLP_LEFT_OVER; CQLP_MISPLACED where there is no event; CQLP_NO_SUCH_FRAME where one is of another field than is due, or
- *   does not agree with what comes before it, as a count and how many come, or some are missing, or a text has more bytes than its length can say.
+ *   CQLP_MISPLACED where it is a CQLP_TAG_FRAME and not the first event, or the other way round, or comes after the end; CQLP_TOO_MANY_FIELDS;
+ *   CQLP_TOO_DEEP where a type option is nested deeper than 64; CQLP_TOO_MANY_BYTES.
+ * - Of all events together: CQLP_LEFT_OVER; CQLP_MISPLACED where there is no event; CQLP_NO_SUCH_FRAME where one is of another field or cell than is
+ *   due, or does not agree with what comes before it, as a count and how many come or a cell and its column's type, or some are missing, or a text has
+ *   more bytes than its length can say.
  * - CQLP_NO_MEMORY, and `event` says at which event. */
 uint32_t cqlp_encode(const cqlp_event *events, size_t count, const uint8_t *contents, size_t length, uint8_t *bytes, size_t room,
                      cqlp_encoded *encoded);

@@ -1,8 +1,8 @@
 /* Frames written of their events. bindings/streams.txt comes on standard input. The events of each whole frame there are handed to
- * cqlp_encode: what it writes is read as these events, and is the frame itself, but where the frame has bytes after its last field or a null
- * of another length than -1; a frame with a page is refused. Then prepared statements are made at random, with types of all kinds, and events
- * are changed at random, from a fixed seed: what is written is read as these events, and what is refused has written nothing. Events, contents
- * and bytes lie at edges. */
+ * cqlp_encode: what it writes is read as these events, and is the frame itself, but where the frame has bytes after its last field, a null of
+ * another length than -1 or a true of another byte than 1; a page of which a scalar comes in parts, or whose cells were read without their
+ * types, is refused. Then prepared statements are made at random, with types of all kinds, and events are changed at random, from a fixed seed:
+ * what is written is read as these events, and what is refused has written nothing. Events, contents and bytes lie at edges. */
 #include "give.h"
 
 enum { MOST = 128, LONG = 4096 };
@@ -56,6 +56,34 @@ static uint32_t encode(const told *told, size_t room, uint8_t **bytes, cqlp_enco
   return code;
 }
 
+/* What is told of a scalar of a cell. */
+static cqlp_event plain_scalar(const cqlp_event *event, cqlp_event of) {
+  size_t octets = 0;
+  switch (event->kind) {
+    case CQLP_KIND_FLOAT: octets = 4; break;
+    case CQLP_KIND_DOUBLE: octets = 8; break;
+    case CQLP_KIND_UUID: case CQLP_KIND_TIMEUUID: octets = 16; break;
+    case CQLP_KIND_INET: of.octets = event->octets; octets = event->octets; break;
+    default:
+      if (has_content(event)) of.length = event->length;
+      else of.number = event->number;
+  }
+  memcpy(of.bytes, event->bytes, octets);
+  if (event->kind == CQLP_KIND_DECIMAL) of.extra = event->extra;
+  return of;
+}
+
+/* What is told of a cell; the end of a value names none. */
+static cqlp_event plain_cell(const cqlp_event *event, cqlp_event of) {
+  of.level = event->level;
+  if (event->tag == CQLP_TAG_ENTER || event->tag == CQLP_TAG_LEAVE) of.number = event->number;
+  if (event->tag == CQLP_TAG_LEAVE) return of;
+  of.row = event->row;
+  of.column = event->column;
+  if (event->tag == CQLP_TAG_ENTER || event->tag == CQLP_TAG_LEAF) of.kind = event->kind;
+  return event->tag == CQLP_TAG_LEAF ? plain_scalar(event, of) : of;
+}
+
 /* What is told of a field, without what its tag has no use for, offsets, and lengths of frames. */
 static cqlp_event plain(const cqlp_event *event) {
   cqlp_event of = {0};
@@ -72,6 +100,7 @@ static cqlp_event plain(const cqlp_event *event) {
     of.kind = event->kind;
     return of;
   }
+  if (event->tag >= CQLP_TAG_LEAF && event->tag <= CQLP_TAG_LEAVE) return plain_cell(event, of);
   of.field = event->field;
   if (event->tag == CQLP_TAG_UUID || event->tag == CQLP_TAG_INET)
     memcpy(of.bytes, event->bytes, event->tag == CQLP_TAG_INET && event->octets == 4 ? 4 : 16);
@@ -115,24 +144,28 @@ static void check_read(const told *told, const uint8_t *bytes, size_t length) {
   CHECK(cqlp_free(&decoder) == CQLP_DONE);
 }
 
-static int is_page(const told *told) {
-  for (size_t i = 0; i < told->count; i++) {
-    const cqlp_event *event = &told->events[i];
-    if (event->tag == CQLP_TAG_INT && event->field == CQLP_FIELD_RESULT_KIND && event->number == CQLP_RESULT_ROWS) return 1;
-  }
+/* Whether an event has this tag. */
+static int has_tag(const told *told, uint8_t tag) {
+  for (size_t i = 0; i < told->count; i++)
+    if (told->events[i].tag == tag) return 1;
   return 0;
 }
 
-static size_t same, others, pages;
+static size_t same, others, parts, untyped;
 
 /* A whole frame as it came, and what is written of its events, in all rooms that are too short, and in two that are not. */
-static void write_again(const char *name, const told *told, const uint8_t *frame, size_t length) {
+static void write_again(const char *name, const cqlp_limits *limits, const told *told, const uint8_t *frame, size_t length) {
   uint8_t *bytes;
   cqlp_encoded encoded;
   uint32_t code = encode(told, length, &bytes, &encoded);
-  if (is_page(told)) {
-    CHECK(code == CQLP_UNBUILT);
-    pages++;
+  if (has_tag(told, CQLP_TAG_PART)) {
+    CHECK(code == CQLP_UNBUILT && told->events[encoded.event].tag == CQLP_TAG_PART);
+    parts++;
+    return;
+  }
+  if (!limits->types && has_tag(told, CQLP_TAG_TYPE_NODE)) {
+    CHECK(code == CQLP_NO_SUCH_FRAME);
+    untyped++;
     return;
   }
   CHECK(code == CQLP_DONE);
@@ -180,7 +213,7 @@ static void write_stream(const char *name, const cqlp_limits *limits, const uint
     }
     note(&told, &event);
     if (event.tag != CQLP_TAG_END) continue;
-    write_again(name, &told, stream + from, (size_t)event.at - from);
+    write_again(name, limits, &told, stream + from, (size_t)event.at - from);
     keep(&told);
   } while (batch.stop == CQLP_STOP_FULL);
   CHECK(cqlp_free(&decoder) == CQLP_DONE);
@@ -337,7 +370,7 @@ static void change(told *told) {
   static const int64_t NUMBERS[] = {0, 1, -1, 2, 3, 4, 5, 255, 256, 65535, 65536, 2147483647, 2147483648, -2147483648, 4294967295, 4294967296, INT64_MAX, INT64_MIN};
   size_t i = below(told->count), j = below(told->count);
   cqlp_event *event = &told->events[i], other = told->events[j];
-  switch (below(17)) {
+  switch (below(20)) {
     case 0: event->tag = (uint8_t)below(22); break;
     case 1: event->field = (uint8_t)below(60); break;
     case 2: event->field = other.field; break;
@@ -353,7 +386,10 @@ static void change(told *told) {
     case 12: told->length = below(2) ? below(told->length + 1) : told->length + below(3); break;
     case 13: told->events[j] = *event; *event = other; break;
     case 14: event->kind = below(8) ? (uint8_t)below(54) : CQLP_KIND_RAW; break;
-    case 15: if (told->count > 1) memmove(event, event + 1, (--told->count - i) * sizeof *event); break;
+    case 15: event->row += (uint32_t)below(3) - 1; break;
+    case 16: event->column += (uint32_t)below(3) - 1; break;
+    case 17: event->level += (uint32_t)below(3) - 1; break;
+    case 18: if (told->count > 1) memmove(event, event + 1, (--told->count - i) * sizeof *event); break;
     default:
       if (told->count == MOST) break;
       memmove(event + 1, event, (told->count++ - i) * sizeof *event);
@@ -435,7 +471,7 @@ static void refuse_each(void) {
     {"too few bytes of a cell", 2, {.tag = CQLP_TAG_LEAF, .kind = CQLP_KIND_BLOB, .length = 1}},
     {"a null", 2, {.tag = CQLP_TAG_NULL}},
     {"a part", 2, {.tag = CQLP_TAG_PART}},
-    {"a page", 2, {.tag = CQLP_TAG_INT, .field = CQLP_FIELD_RESULT_KIND, .number = CQLP_RESULT_ROWS}},
+    {"the kind of a page", 2, {.tag = CQLP_TAG_INT, .field = CQLP_FIELD_RESULT_KIND, .number = CQLP_RESULT_ROWS}},
     {"another field than is due", 2, {.tag = CQLP_TAG_SHORT, .field = CQLP_FIELD_SERIAL_CONSISTENCY}},
     {"another direction", 0, {.tag = CQLP_TAG_FRAME, .opcode = CQLP_OPCODE_QUERY, .mark = CQLP_MARK_RESPONSE}},
     {"compression", 0, {.tag = CQLP_TAG_FRAME, .opcode = CQLP_OPCODE_QUERY, .flags = 1}},
@@ -448,6 +484,35 @@ static void refuse_each(void) {
   }
   cqlp_encoded encoded = {1, 1};
   CHECK(cqlp_encode(NULL, 0, NULL, 0, NULL, 0, &encoded) == CQLP_MISPLACED && encoded.event == 0 && encoded.length == 0);
+}
+
+/* A page of which one event is another: what is refused, and at which event. */
+static void refuse_pages(void) {
+  static const struct { const char *what; size_t which; cqlp_event with; } CASES[] = {
+    {"a page", 19, {.tag = CQLP_TAG_END}},
+    {"a scalar in parts", 12, {.tag = CQLP_TAG_PART, .kind = CQLP_KIND_VARCHAR, .length = 1}},
+    {"a cell of another row", 17, {.tag = CQLP_TAG_NULL}},
+    {"a cell of another column", 18, {.tag = CQLP_TAG_EMPTY, .row = 1}},
+    {"an item at another level", 15, {.tag = CQLP_TAG_NULL, .column = 1}},
+    {"an item of another kind", 14, {.tag = CQLP_TAG_LEAF, .column = 1, .level = 1, .kind = CQLP_KIND_BIGINT, .number = 7}},
+    {"another number of items", 13, {.tag = CQLP_TAG_ENTER, .column = 1, .kind = CQLP_KIND_LIST, .number = 3}},
+    {"another number of items at the end", 16, {.tag = CQLP_TAG_LEAVE, .number = 3}},
+    {"a row less", 11, {.tag = CQLP_TAG_COUNT, .field = CQLP_FIELD_ROWS, .number = 1}},
+    {"a row that is cut", 18, {.tag = CQLP_TAG_END}},
+    {"a column less", 3, {.tag = CQLP_TAG_COUNT, .field = CQLP_FIELD_COLUMNS, .number = 1}},
+  };
+  for (size_t i = 0; i < sizeof CASES / sizeof *CASES; i++) {
+    static told told;
+    uint8_t *bytes;
+    cqlp_encoded encoded;
+    make_page(told.events);
+    told.events[CASES[i].which] = CASES[i].with;
+    told.count = CASES[i].with.tag == CQLP_TAG_END ? CASES[i].which + 1 : OF_PAGE;
+    memcpy(told.contents, page_contents, told.length = strlen(page_contents));
+    uint32_t code = encode(&told, 200, &bytes, &encoded);
+    printf("%s: %s at %zu\n", CASES[i].what, cqlp_name(CQLP_GROUP_CODE, code), encoded.event);
+    if (code == CQLP_DONE) check_read(&told, bytes, encoded.length);
+  }
 }
 
 static size_t bytes_of(const char *digits, uint8_t *bytes, size_t room) {
@@ -472,11 +537,12 @@ int main(int count, char **words) {
     else if (strncmp(line, "bytes ", 6) == 0)
       write_stream(name, &limits, stream, bytes_of(line + 6, stream, sizeof stream));
   }
-  printf("frames: %zu the same, %zu others, %zu pages\n", same, others, pages);
+  printf("frames: %zu the same, %zu others, %zu in parts, %zu without types\n", same, others, parts, untyped);
   prepare_some(1000);
   prepare_deep(63);
   prepare_deep(64);
   refuse_each();
+  refuse_pages();
   if (count > 2) state = strtoull(words[2], NULL, 10) | 1;
   write_changed(count > 1 ? strtoul(words[1], NULL, 10) : 100000);
   for (size_t i = 0; i < sizeof codes / sizeof *codes; i++)

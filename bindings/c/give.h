@@ -42,6 +42,36 @@ static inline void see(seen *seen, const cqlp_event *event) {
   seen->events++;
 }
 
+/* The events of a page of two rows, a text and a list of two ints in each, one of them null, or null and empty; and their contents. */
+enum { OF_PAGE = 20 };
+static const char page_contents[] = "ktabx";
+
+static inline void make_page(cqlp_event events[OF_PAGE]) {
+  const cqlp_event page[OF_PAGE] = {
+    {.tag = CQLP_TAG_FRAME, .opcode = CQLP_OPCODE_RESULT, .extra = 7, .mark = CQLP_MARK_RESPONSE},
+    {.tag = CQLP_TAG_INT, .field = CQLP_FIELD_RESULT_KIND, .number = CQLP_RESULT_ROWS},
+    {.tag = CQLP_TAG_INT, .field = CQLP_FIELD_META_FLAGS, .number = 1},
+    {.tag = CQLP_TAG_COUNT, .field = CQLP_FIELD_COLUMNS, .number = 2},
+    {.tag = CQLP_TAG_TEXT, .field = CQLP_FIELD_KEYSPACE, .length = 1},
+    {.tag = CQLP_TAG_TEXT, .field = CQLP_FIELD_TABLE, .length = 1},
+    {.tag = CQLP_TAG_TEXT, .field = CQLP_FIELD_COLUMN_NAME, .length = 1},
+    {.tag = CQLP_TAG_TYPE_NODE, .kind = CQLP_KIND_VARCHAR},
+    {.tag = CQLP_TAG_TEXT, .field = CQLP_FIELD_COLUMN_NAME, .length = 1},
+    {.tag = CQLP_TAG_TYPE_NODE, .kind = CQLP_KIND_LIST},
+    {.tag = CQLP_TAG_TYPE_NODE, .kind = CQLP_KIND_INT},
+    {.tag = CQLP_TAG_COUNT, .field = CQLP_FIELD_ROWS, .number = 2},
+    {.tag = CQLP_TAG_LEAF, .kind = CQLP_KIND_VARCHAR, .length = 1},
+    {.tag = CQLP_TAG_ENTER, .column = 1, .kind = CQLP_KIND_LIST, .number = 2},
+    {.tag = CQLP_TAG_LEAF, .column = 1, .level = 1, .kind = CQLP_KIND_INT, .number = 7},
+    {.tag = CQLP_TAG_NULL, .column = 1, .level = 1},
+    {.tag = CQLP_TAG_LEAVE, .number = 2},
+    {.tag = CQLP_TAG_NULL, .row = 1},
+    {.tag = CQLP_TAG_EMPTY, .row = 1, .column = 1},
+    {.tag = CQLP_TAG_END},
+  };
+  memcpy(events, page, sizeof page);
+}
+
 enum { PIECE, EVENTS, BYTES, AREAS };
 
 /* The last bytes, this many, of an area after which no byte may be read or written, so that a step outside ends the test, also

@@ -43,7 +43,7 @@ static const uint8_t query[] = {4, 0, 0, 7, 7, 0, 0, 0, 13, 0, 0, 0, 6, 'a', 'b'
 static const uint8_t bad[] = {4, 0, 0, 7, 7, 0, 0, 0, 13, 0, 0, 0, 6, 'a', 0xC3, 'c', 'd', 'e', 'f', 0, 1, 0};
 
 /* A call that asks for memory, with what it is given. */
-enum { NEW, CHECK_ALL, CLIENT, SERVER, TYPES_OF, TAKE_GIVEN, ENCODE };
+enum { NEW, CHECK_ALL, CLIENT, SERVER, TYPES_OF, TAKE_GIVEN, ENCODE, ENCODE_PAGE };
 
 typedef struct row {
   const char *name;
@@ -65,6 +65,7 @@ static const row ROWS[] = {
     {"cqlp_types_of, into a new handle", CQLP_DEFAULT_LIMITS, 0, TYPES_OF},
     {"cqlp_take_given, into a new handle", CQLP_DEFAULT_LIMITS, 0, TAKE_GIVEN},
     {"cqlp_encode, one text", CQLP_DEFAULT_LIMITS, 0, ENCODE},
+    {"cqlp_encode, a page", CQLP_DEFAULT_LIMITS, 0, ENCODE_PAGE},
 };
 
 /* What the caller gives to be written: the handles, an end, and room for bytes. */
@@ -74,7 +75,7 @@ typedef struct given {
   cqlp_server server;
   cqlp_types types;
   cqlp_end end;
-  uint8_t bytes[32];
+  uint8_t bytes[128];
 } given;
 
 /* A PREPARE of a text of six bytes, of its events. */
@@ -84,6 +85,16 @@ static uint32_t encode_text(uint8_t *bytes, size_t room) {
   cqlp_encoded encoded = {0, 0};
   uint32_t code = cqlp_encode(events, 2, (const uint8_t *)"abcdef", 6, bytes, room, &encoded);
   CHECK(code == CQLP_DONE ? encoded.length == 19 && encoded.event == 2 : encoded.length == 0 && encoded.event <= 2);
+  return code;
+}
+
+/* A page, of its events. */
+static uint32_t encode_page(uint8_t *bytes, size_t room) {
+  cqlp_event events[OF_PAGE];
+  cqlp_encoded encoded = {0, 0};
+  make_page(events);
+  uint32_t code = cqlp_encode(events, OF_PAGE, (const uint8_t *)page_contents, strlen(page_contents), bytes, room, &encoded);
+  CHECK(code == CQLP_DONE ? encoded.length == 76 && encoded.event == OF_PAGE : encoded.length == 0 && encoded.event <= OF_PAGE);
   return code;
 }
 
@@ -119,6 +130,7 @@ static uint32_t call(const row *row, given *given, size_t refuse) {
     case TYPES_OF: code = cqlp_types_of(&typed, &given->types); break;
     case TAKE_GIVEN: code = cqlp_take_given(&typed, &given->types); break;
     case ENCODE: code = encode_text(given->bytes, sizeof given->bytes); break;
+    case ENCODE_PAGE: code = encode_page(given->bytes, sizeof given->bytes); break;
     default: code = cqlp_new(&row->limits, &given->decoder);
   }
   refused = 0;
@@ -162,6 +174,8 @@ static void serve_and_free(const row *row, given *given) {
     CHECK(cqlp_types_free(&given->types) == CQLP_DONE);
   } else if (row->call == ENCODE) {
     CHECK(memcmp(given->bytes, "\x04\0\0\0\x09\0\0\0\x0a\0\0\0\x06" "abcdef", 19) == 0);
+  } else if (row->call == ENCODE_PAGE) {
+    CHECK(memcmp(given->bytes, "\x84\0\0\x07\x08\0\0\0\x43\0\0\0\x02", 13) == 0);
   } else if (row->call == CHECK_ALL) {
     CHECK(given->end.verdict == CQLP_END_WHOLE && given->end.bytes == sizeof query);
   } else {

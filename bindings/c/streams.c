@@ -1,6 +1,6 @@
-/* Streams as data: the lines of crates/cqlp_test_vectors/stdin come on standard input, each a name, `--raw` or `--parts`, `|` and
- * hexadecimal digits. Of each stream the offset and the tag of its events and its verdict are printed, as they stand in
- * crates/cqlp_test_vectors/stdout, and each cut of it has to give the same, with each content in its place. Then bytes of each stream are
+/* Streams as data: those of bindings/streams.txt within the limits below come on standard input, each a name, `--raw` or `--parts`, `|` and
+ * hexadecimal digits (bindings/build). Of each stream the offset and the tag of its events and its verdict are printed, as they stand in
+ * that file, and each cut of it has to give the same, with each content in its place. Then bytes of each stream are
  * replaced by others, one and four at each place, so that lengths and counts lie: however it is cut, the events and the verdict are
  * those of the whole, and no byte past a piece or past the array is read or written. */
 #include "give.h"

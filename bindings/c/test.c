@@ -20,6 +20,10 @@ static const uint8_t query[] = {4, 0, 0, 7, 7, 0, 0, 0, 13, 0, 0, 0, 6, 'a', 'b'
 static const uint8_t decimal[] = {0x84, 0, 0, 0, 8, 0, 0, 0, 37, 0, 0, 0, 2, 0, 0, 0, 1, 0, 0, 0, 1, 0, 1, 'k', 0, 1,
                                   't', 0, 1, 'c', 0, 6, 0, 0, 0, 1, 0, 0, 0, 6, 0, 0, 0, 2, 0x30, 0x39};
 
+/* A page of two cells of the type int, the second of which has three bytes. */
+static const uint8_t odd[] = {0x84, 0, 0, 1, 8, 0, 0, 0, 40, 0, 0, 0, 2, 0, 0, 0, 1, 0, 0, 0, 1, 0, 0, 0, 0,
+                              0, 1, 'n', 0, 9, 0, 0, 0, 2, 0, 0, 0, 4, 0, 0, 0, 7, 0, 0, 0, 3, 0, 1, 2};
+
 static void print_event(const cqlp_event *e) {
   printf("%llu tag %u", (unsigned long long)e->at, e->tag);
   if (e->field) printf(" field %u", e->field);
@@ -123,6 +127,32 @@ static void print_handles(void) {
   CHECK(cqlp_free(&decoder) == CQLP_DONE);
 }
 
+/* A content that its type does not have is refused, and put as raw bytes by a decoder that is lenient. */
+static void read_leniently(void) {
+  cqlp_limits limits = CQLP_DEFAULT_LIMITS;
+  cqlp_decoder decoder = CQLP_NO_DECODER_YET;
+  cqlp_event events[ROOM];
+  cqlp_batch batch;
+  cqlp_end end;
+  memset(events, 0, sizeof events);
+  memset(&batch, 0, sizeof batch);
+  memset(&end, 0, sizeof end);
+  limits.depth = 0;
+  CHECK(cqlp_new_lenient(&limits, &decoder) == CQLP_BAD_DEPTH);
+  limits.depth = 16;
+  CHECK(cqlp_new(&limits, &decoder) == CQLP_DONE && cqlp_new_lenient(&limits, &decoder) == CQLP_IN_USE);
+  CHECK(cqlp_next(&decoder, odd, sizeof odd, events, ROOM, &batch) == CQLP_DONE);
+  CHECK(batch.stop == CQLP_STOP_REFUSED && batch.reason == CQLP_REASON_BAD_SIZE && batch.at == 42);
+  CHECK(cqlp_free(&decoder) == CQLP_DONE && cqlp_new_lenient(&limits, &decoder) == CQLP_DONE);
+  CHECK(cqlp_next(&decoder, odd, sizeof odd, events, ROOM, &batch) == CQLP_DONE && batch.stop == CQLP_STOP_MORE);
+  const cqlp_event *first = &events[batch.events - 3], *second = first + 1;
+  CHECK(first->tag == CQLP_TAG_LEAF && first->kind == CQLP_KIND_INT && first->number == 7);
+  CHECK(second->tag == CQLP_TAG_LEAF && second->kind == CQLP_KIND_RAW && second->row == 1 && second->at == 42);
+  CHECK(second->length == 3 && second->content == odd + sizeof odd - 3);
+  CHECK(cqlp_finish(&decoder, &end) == CQLP_DONE && end.verdict == CQLP_END_WHOLE && end.bytes == sizeof odd);
+  CHECK(cqlp_free(&decoder) == CQLP_DONE);
+}
+
 /* No byte and no room may be given by a null pointer. */
 static void give_nothing(void) {
   cqlp_limits limits = CQLP_DEFAULT_LIMITS;
@@ -207,6 +237,7 @@ int main(void) {
   print_stream("a page that is cut", page, 52);
   print_stream("a length of 256 MB and a byte", hostile, sizeof hostile);
   print_handles();
+  read_leniently();
   give_nothing();
   refuse_without_room();
   copy_empty();

@@ -21,9 +21,9 @@ typedef struct {
   cqlp_event events[CQLP_ROOM];
 } cqlp_box;
 
-static inline cqlp_box *cqlp_box_new(const cqlp_limits *limits, uint32_t *code) {
+static inline cqlp_box *cqlp_box_new(const cqlp_limits *limits, int lenient, uint32_t *code) {
   cqlp_box *box = calloc(1, sizeof *box);
-  *code = box ? cqlp_new(limits, &box->decoder) : CQLP_NO_MEMORY;
+  *code = !box ? CQLP_NO_MEMORY : lenient ? cqlp_new_lenient(limits, &box->decoder) : cqlp_new(limits, &box->decoder);
   if (box && *code != CQLP_DONE) {
     free(box);
     box = NULL;

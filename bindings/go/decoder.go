@@ -185,9 +185,15 @@ type Decoder struct {
 }
 
 // NewDecoder makes a decoder at the start of a stream. All of its memory in C is asked for here, and given back by Close.
-func NewDecoder(limits Limits) (*Decoder, error) {
+func NewDecoder(limits Limits) (*Decoder, error) { return newDecoder(limits, 0) }
+
+// NewLenientDecoder makes one for a lenient reading: a content that its type does not have, by its length or by its bytes, is a Leaf of the
+// kind KindRaw with all its bytes, and the reading goes on.
+func NewLenientDecoder(limits Limits) (*Decoder, error) { return newDecoder(limits, 1) }
+
+func newDecoder(limits Limits, lenient C.int) (*Decoder, error) {
 	native, code := limits.native(), C.uint32_t(0)
-	box := C.cqlp_box_new(&native, &code)
+	box := C.cqlp_box_new(&native, lenient, &code)
 	if err := done(code); err != nil {
 		return nil, err
 	}

@@ -42,6 +42,26 @@ func TestNineBytes(t *testing.T) {
 	}
 }
 
+func TestAContentThatNoTypeHas(t *testing.T) {
+	// a page of two cells of the type int, the second of which has three bytes
+	odd := unhex(t, "840000010800000028 00000002 00000001 00000001 0000 0000 0001 6e 0009 00000002 00000004 00000007 00000003 000102")
+	if verdict, err := Check(DefaultLimits(), odd); err != nil || verdict.String() != "refused 42 BadSize" {
+		t.Fatal(verdict, err)
+	}
+	d, err := NewLenientDecoder(DefaultLimits())
+	if err != nil {
+		t.Fatal(err)
+	}
+	defer d.Close()
+	lines := linesOf(t, d, odd)
+	if got := strings.Join(lines[len(lines)-3:], "|"); got != "34 Leaf 0 0 0 7|42 Leaf 1 0 0 0x000102|49 End 0" {
+		t.Fatal(got)
+	}
+	if _, err := NewLenientDecoder(Limits{}); err == nil {
+		t.Fatal("limits of 0 are out of their ranges")
+	}
+}
+
 func TestARefusalStays(t *testing.T) {
 	d := decoder(t, DefaultLimits())
 	if lines := linesOf(t, d, unhex(t, options+tooLong)); len(lines) != 2 {

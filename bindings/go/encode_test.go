@@ -51,22 +51,37 @@ func allToldFrames(t *testing.T) (found []toldFrame) {
 	return found
 }
 
-// hasTypes says whether it is a page, or has a type option.
-func hasTypes(events []Event) bool {
+// hasTag says whether one of the events has this tag.
+func hasTag(events []Event, tag Tag) bool {
 	for _, event := range events {
-		if event.Tag == TagTypeNode || event.Field == FieldResultKind && ResultKind(event.Number) == ResultRows {
+		if event.Tag == tag {
 			return true
 		}
 	}
 	return false
 }
 
-// spelled are the bytes of a frame without those after its last field, and with a null of the length -1. There is no other way to spell it.
+// refusal is why the frame is not written, or 0: a scalar of a cell comes in parts, or cells were read without their types.
+func refusal(frame toldFrame) Code {
+	switch {
+	case hasTag(frame.events, TagPart):
+		return CodeUnbuilt
+	case hasTag(frame.events, TagTypeNode) && !frame.limits.Types:
+		return CodeNoSuchFrame
+	}
+	return 0
+}
+
+// spelled are the bytes of a frame without those after its last field, with a null of the length -1, and with 1 for true. There is no other way to
+// spell it.
 func spelled(frame toldFrame) []byte {
 	data, base := clone(frame.bytes), frame.events[0].At
 	for _, event := range frame.events {
 		if event.Tag == TagNull || event.Mark == MarkNull {
 			copy(data[event.At-base:], "\xff\xff\xff\xff")
+		}
+		if event.Tag == TagLeaf && event.Kind == KindBoolean {
+			data[event.At-base+4] = byte(event.Number)
 		}
 	}
 	data = data[:len(data)-int(frame.events[len(frame.events)-1].Number)]
@@ -146,19 +161,13 @@ func sameEvent(a, b Event) bool {
 	return content && fmt.Sprint(a) == fmt.Sprint(b)
 }
 
-// widened are limits by which all is read that has the types and parts of these.
-func widened(limits Limits) Limits {
-	limits.Text, limits.Entries, limits.Depth = 4096, 128, 64
-	if !limits.Parts {
-		limits.Cell = 4096
-	}
-	return limits
-}
+// readsAll are limits by which all that is written is read whole.
+var readsAll = Limits{Text: 4096, Cell: 4096, Entries: 128, Depth: 64, Types: true}
 
 // mustRead compares what is read of a frame with the events that it was written of.
-func mustRead(t *testing.T, limits Limits, data []byte, events []Event) {
+func mustRead(t *testing.T, data []byte, events []Event) {
 	t.Helper()
-	read := toldFrames(t, stream{limits: limits, bytes: data})
+	read := toldFrames(t, stream{limits: readsAll, bytes: data})
 	if events[len(events)-1].Tag != TagEnd {
 		events = append(events[:len(events):len(events)], Event{Tag: TagEnd})
 	}
@@ -177,11 +186,14 @@ func TestStreamsAreWrittenAsTheyCame(t *testing.T) {
 	for _, frame := range allToldFrames(t) {
 		data, err := EncodeEvents(frame.events)
 		if err != nil {
-			if !errors.Is(err, CodeUnbuilt) || !hasTypes(frame.events) || data != nil {
+			if !errors.Is(err, refusal(frame)) || data != nil {
 				t.Fatal(frame.name, err)
 			}
 			left++
 			continue
+		}
+		if refusal(frame) != 0 {
+			t.Fatal(frame.name, refusal(frame))
 		}
 		if !bytes.Equal(data, spelled(frame)) {
 			t.Fatalf("%s: % x\nand not\n% x", frame.name, data, spelled(frame))
@@ -195,7 +207,7 @@ func TestStreamsAreWrittenAsTheyCame(t *testing.T) {
 			others++
 		}
 	}
-	if written < 62 || others < 5 || written+left < 87 {
+	if written < 82 || others < 7 || left < 5 {
 		t.Fatal(written, others, left)
 	}
 }
@@ -205,11 +217,11 @@ func TestAStreamIsEncodedEventByEvent(t *testing.T) {
 	for _, s := range streams(t) {
 		var target, wanted bytes.Buffer
 		for _, frame := range toldFrames(t, s) {
-			if _, err := EncodeEvents(frame.events); err == nil {
+			if refusal(frame) == 0 {
 				wanted.Write(spelled(frame))
 			}
 		}
-		if err := copyEvents(t, NewEncoder(&target), s); err != nil && !errors.Is(err, CodeUnbuilt) {
+		if err := copyEvents(t, NewEncoder(&target), s); err != nil && !errors.Is(err, CodeUnbuilt) && !errors.Is(err, CodeNoSuchFrame) {
 			t.Fatal(s.name, err)
 		}
 		if !bytes.Equal(target.Bytes(), wanted.Bytes()) {
@@ -306,7 +318,7 @@ func TestEventsChangedAtRandom(t *testing.T) {
 			t.Fatal(err)
 		}
 		codes[0]++
-		mustRead(t, widened(frame.limits), data, events)
+		mustRead(t, data, events)
 	}
 	for _, code := range []Code{0, CodeNoEvent, CodeMisplaced, CodeNoSuchFrame} {
 		if codes[code] < times/20 {

@@ -530,7 +530,7 @@ const (
 	CodeNoEvent Code = 38
 	// CodeMisplaced: an event of another place.
 	CodeMisplaced Code = 39
-	// CodeUnbuilt: a type option, or an event of a page.
+	// CodeUnbuilt: a part of a scalar of a cell.
 	CodeUnbuilt Code = 40
 	// CodeTooManyFields: there are more than 268435456 fields.
 	CodeTooManyFields Code = 41

@@ -3,7 +3,7 @@
 import sys
 from array import array
 from dataclasses import dataclass
-from typing import Any, Iterator, List, NamedTuple, Optional, Tuple, Union
+from typing import Any, Dict, Iterator, List, NamedTuple, Optional, Tuple, Union
 
 from . import _pages
 from ._decoder import Limits, Record, Skip
@@ -14,7 +14,7 @@ from .messages import Rows, _Frames
 from .numbers import Kind, Tag
 
 # The kinds whose values are in an array, and the code of its items.
-_CODES = {
+_CODES: Dict[int, str] = {
     Kind.BOOLEAN: "b",
     Kind.TINYINT: "b",
     Kind.SMALLINT: "h",
@@ -72,9 +72,9 @@ class PageColumns:
 class _Numbers:
     """The numbers of a column, as _cells.c puts them."""
 
-    def __init__(self, kind: Kind) -> None:
+    def __init__(self, kind: Union[Kind, int]) -> None:
         self.kind = kind
-        self.values = array(_CODES[kind])
+        self.values: "array[Any]" = array(_CODES[kind])
         self.missing: Optional[bytearray] = None
         # floats are kept as their bytes, so that those that are no number stay as they are
         self.octets = bytearray()
@@ -122,7 +122,7 @@ class _ColumnCells(_Cells):
             if self.at == len(self.found):
                 self.found.append([])
             column = self.found[self.at]
-            if isinstance(column, _Numbers) and not self.open:
+            if isinstance(column, _Numbers):
                 column.add(record)
             elif self.add(record, content):
                 column.append(self.row.pop())
@@ -153,11 +153,11 @@ class _Columns(_Frames):
     def page(self, page: Rows) -> PageColumns:
         """The page whose frame has ended."""
         told, types = page.metadata.columns, self.types_of(page)
-        found = getattr(self.cells, "columns", list)()
+        found: List[Tuple[Any, Optional[bytes]]] = getattr(self.cells, "columns", list)()
         series = []
         for at, (values, missing) in enumerate(found):
             if types and types[at].kind in _CODES:
-                numbers = array(_CODES[types[at].kind])
+                numbers: "array[Any]" = array(_CODES[types[at].kind])
                 numbers.frombytes(values)
                 values = numbers
             series.append(Series(told[at] if told else None, values, None if missing is None else bytes(missing)))

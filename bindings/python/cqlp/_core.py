@@ -25,9 +25,9 @@ def must_be_done(code: int) -> None:
 def event_of(frame: Union[Event, Frame]) -> _native.Event:
     """As much of an event of a frame as a core looks at."""
     if isinstance(frame, Frame):
-        tag, mark, stream = Tag.FRAME, Mark.RESPONSE if frame.response else Mark.NONE, frame.stream
+        tag, mark, stream = int(Tag.FRAME), int(Mark.RESPONSE if frame.response else Mark.NONE), frame.stream
     else:
-        tag, mark, stream = frame.tag, frame.mark, frame.extra
+        tag, mark, stream = int(frame.tag), int(frame.mark), frame.extra
     if not (-32768 <= stream < 32768 and 0 <= frame.opcode < 256):
         raise BadCall(Code.NO_FRAME)
     return _native.Event(tag=tag, mark=mark, extra=stream, opcode=frame.opcode)
@@ -99,7 +99,7 @@ class Core:
             raise BadCall(Code.BAD_SLOTS)
         must_be_done(self._calls.new(slots, self._handle))
 
-    def _keep(self, call: Callable[[int], int], value: Any) -> None:
+    def _keep(self, call: Callable[[int], Any], value: Any) -> None:
         """Makes a call that hands this value in, and keeps it where the call is done."""
         must_be_done(call(self._given))
         self._values[self._given] = value
@@ -111,7 +111,8 @@ class Core:
         phase = ctypes.c_uint8()
         with self._lock:
             must_be_done(self._calls.phase(self._handle, phase))
-        return _PHASES[phase.value]
+        found: Union[Phase, int] = _PHASES[phase.value]
+        return found
 
     def close(self) -> None:
         """Frees the core, and lets the values go; a second time does nothing. Each other call raises Closed from then on."""

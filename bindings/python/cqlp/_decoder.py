@@ -163,7 +163,7 @@ def _must_be_done(code: int) -> None:
 
 def _address(data: bytes) -> int:
     """Where the bytes of an object lie, as long as it lives."""
-    return ctypes.cast(data, ctypes.c_void_p).value or 0
+    return ctypes.cast(ctypes.c_char_p(data), ctypes.c_void_p).value or 0
 
 
 def _verdict(end: _native.End) -> Verdict:
@@ -206,6 +206,9 @@ class Placed:
     def __len__(self) -> int:
         return self.count
 
+    def __iter__(self) -> "Iterator[Tuple[Record, bytes]]":
+        return (self[at] for at in range(self.count))
+
     def __getitem__(self, at: int) -> "Tuple[Record, bytes]":
         if not 0 <= at < self.count:
             raise IndexError(at)
@@ -223,15 +226,17 @@ class Decoder:
     It is closed by `close`, or as a context manager, or when it is let go. A lock keeps calls from several threads apart.
     """
 
-    def __init__(self, limits: Limits = Limits(), *, room: int = 256) -> None:
-        """All of its memory is asked for here. `room` is how many events one call of the library puts."""
+    def __init__(self, limits: Limits = Limits(), *, room: int = 256, lenient: bool = False) -> None:
+        """All of its memory is asked for here. `room` is how many events one call of the library puts. With `lenient` a content that its
+        type does not have, by its length or by its bytes, is a Leaf of the kind RAW with all its bytes, and the reading goes on."""
         self._handle = _native.DecoderHandle()
         self._lock = threading.Lock()
         self._room = max(1, room)
         self._array = (_native.Event * self._room)()
         self._bytes = (ctypes.c_char * ctypes.sizeof(self._array)).from_buffer(self._array)
         self._batch = _native.Batch()
-        _must_be_done(_native.library.cqlp_new(limits._native(), self._handle))
+        new = _native.library.cqlp_new_lenient if lenient else _native.library.cqlp_new
+        _must_be_done(new(limits._native(), self._handle))
 
     def decode(self, data: bytes) -> List[Event]:
         """The events that the next bytes of the stream end. Where the stream is refused, here or before, Refused is raised, and has
@@ -277,7 +282,7 @@ class Decoder:
             with types._lock:
                 _must_be_done(_native.library.cqlp_types_of(types._handle, table))
             with self._lock:
-                return _native.library.cqlp_give(self._handle, table)
+                return int(_native.library.cqlp_give(self._handle, table))
         finally:
             _native.library.cqlp_types_free(table)
 

@@ -10,12 +10,7 @@ from ._decoder import _FIELDS, _TAGS, BadCall
 from ._events import Event, camel
 from .numbers import Kind, Mark, Tag
 
-try:
-    from . import _told as _compiled
-except ImportError:
-    _compiled = None
-if _compiled and _compiled.EVENT_SIZE != _native.RECORD.size:
-    _compiled = None
+_compiled: Any = _native.compiled("_told")
 
 # No event has more bytes in its frame than these and its content.
 _MOST = 24

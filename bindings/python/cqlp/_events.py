@@ -1,6 +1,6 @@
 """Events, and their lines."""
 
-from typing import NamedTuple, Optional, Union
+from typing import Callable, Dict, NamedTuple, Optional, Tuple, Union
 
 from ._values import LEAVES, UNSET, ValueOf, address, leaf_text, quoted, uuid_of
 from .numbers import Field, Kind, Mark, Opcode, Tag
@@ -40,7 +40,7 @@ class Event(NamedTuple):
         if tag == Tag.TEXT:
             return self.content.decode("utf-8")
         if tag in (Tag.BYTES, Tag.BOUND):
-            return {Mark.NULL: None, Mark.UNSET: UNSET}.get(self.mark, self.content)
+            return _ABSENT.get(self.mark, self.content)
         if tag == Tag.PART:
             return self.content
         if tag == Tag.UUID:
@@ -54,6 +54,10 @@ class Event(NamedTuple):
         return " ".join([str(self.at), camel(self.tag), *(words(self) if words else ())])
 
 
+_ABSENT: Dict[int, ValueOf] = {Mark.NULL: None, Mark.UNSET: UNSET}
+_ABSENT_WORDS: Dict[int, str] = {Mark.NULL: "null", Mark.UNSET: "unset"}
+
+
 def camel(number: Optional[int]) -> str:
     """The name of a field, a tag or a reason, as lines have it; a number that has none is itself."""
     name = getattr(number, "name", None)
@@ -64,21 +68,20 @@ def _kind(event: Event) -> str:
     return getattr(event.kind, "name", str(event.kind)).lower()
 
 
-def _numbered(event: Event) -> tuple:
+def _numbered(event: Event) -> Tuple[str, ...]:
     return camel(event.field), str(event.number)
 
 
-def _lent(event: Event) -> tuple:
+def _lent(event: Event) -> Tuple[str, ...]:
     """Bytes, or that there are none."""
-    word = {Mark.NULL: "null", Mark.UNSET: "unset"}.get(event.mark)
-    return camel(event.field), word or "0x" + event.content.hex()
+    return camel(event.field), _ABSENT_WORDS.get(event.mark) or "0x" + event.content.hex()
 
 
-def _place(event: Event) -> tuple:
+def _place(event: Event) -> Tuple[str, ...]:
     return str(event.row), str(event.column), str(event.level)
 
 
-_WORDS = {
+_WORDS: Dict[int, Callable[[Event], Tuple[str, ...]]] = {
     Tag.FRAME: lambda e: (
         "response" if e.mark == Mark.RESPONSE else "request",
         "%02x" % e.flags,

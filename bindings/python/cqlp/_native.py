@@ -1,10 +1,12 @@
 """The calls of include/cqlp.h, by ctypes."""
 
 import ctypes
+import importlib
 import os
 import struct
 from ctypes import POINTER, c_char_p, c_int16, c_int32, c_int64, c_size_t, c_uint8, c_uint32, c_uint64, c_void_p
 from pathlib import Path
+from typing import Any
 
 
 class Limits(ctypes.Structure):
@@ -90,6 +92,16 @@ RECORD = struct.Struct("@QPNqIIIi16sBBBBBBB0Q")
 if RECORD.size != ctypes.sizeof(Event):
     raise ImportError("cqlp: an event has another size here")
 
+
+def compiled(name: str) -> Any:
+    """The module in C of this name, where it was built and its events have this size; else None."""
+    try:
+        module = importlib.import_module("." + name, __package__)
+    except ImportError:
+        return None
+    return module if module.EVENT_SIZE == RECORD.size else None
+
+
 DONE, BAD_TEXT, BAD_CELL, BAD_ENTRIES, BAD_DEPTH, NO_MEMORY, NO_DECODER, IN_USE, NO_CLIENT, BAD_SLOTS = range(10)
 NO_SERVER, NO_ROOM = 23, 27
 
@@ -110,6 +122,7 @@ library = _load()
 
 for name, result, arguments in (
     ("cqlp_new", c_uint32, [POINTER(Limits), POINTER(DecoderHandle)]),
+    ("cqlp_new_lenient", c_uint32, [POINTER(Limits), POINTER(DecoderHandle)]),
     ("cqlp_next", c_uint32, [POINTER(DecoderHandle), c_void_p, c_size_t, c_void_p, c_size_t, POINTER(Batch)]),
     ("cqlp_skip", c_uint32, [POINTER(DecoderHandle), POINTER(Skipped)]),
     ("cqlp_finish", c_uint32, [POINTER(DecoderHandle), POINTER(End)]),

@@ -1,21 +1,16 @@
 """The rows of pages, as Python values."""
 
 from itertools import chain
-from typing import Any, Iterator, List, NamedTuple, Optional, Tuple, Union
+from typing import Any, Dict, Iterator, List, NamedTuple, Optional, Tuple, Union
 
 from . import _native
-from ._decoder import BadCall, Cut, Decoder, Limits, Placed, Record, Skip, event_of
+from ._decoder import BadCall, Cut, Decoder, Limits, Record, Skip, event_of
 from ._events import Event
 from ._sources import Batch, Progress, Source, _pieces, batches
 from ._values import EMPTY, LEAVES, ValueOf
 from .numbers import Code, End, Field, Kind, Mark, Tag
 
-try:
-    from . import _cells as _compiled
-except ImportError:
-    _compiled = None
-if _compiled and _compiled.EVENT_SIZE != _native.RECORD.size:
-    _compiled = None
+_compiled: Any = _native.compiled("_cells")
 
 Row = Tuple[ValueOf, ...]
 _ROWS_RESULT = 2
@@ -27,7 +22,7 @@ _BYTES = (Kind.BLOB, Kind.CUSTOM, Kind.RAW)
 class Type(NamedTuple):
     """The type of a column."""
 
-    kind: Kind
+    kind: Union[Kind, int]
     inner: "Tuple[Type, ...]" = ()
     """The types in it: one of a list or a set, a key's and a value's of a map, one for each field of a tuple or a udt."""
     names: Tuple[str, ...] = ()
@@ -52,13 +47,13 @@ class Column(NamedTuple):
 
 
 _RAW = Type(Kind.RAW)
-_ARITY = {Kind.LIST: 1, Kind.SET: 1, Kind.MAP: 2}
+_ARITY: Dict[int, int] = {Kind.LIST: 1, Kind.SET: 1, Kind.MAP: 2}
 
 
 class _Open:
     """A type option whose parameters are still to come."""
 
-    def __init__(self, kind: Kind) -> None:
+    def __init__(self, kind: Union[Kind, int]) -> None:
         self.kind = kind
         self.inner: List[Type] = []
         self.names: List[str] = []
@@ -184,10 +179,12 @@ class Pages:
         progress: Optional[Progress] = None,
         types: "Optional[Types]" = None,
         skip: Optional[Skip] = None,
+        lenient: bool = False,
     ) -> None:
-        """`types` are those of the pages that come without metadata and have as many columns; else their cells are bytes."""
+        """`types` are those of the pages that come without metadata and have as many columns; else their cells are bytes. With `lenient` a
+        content that its type does not have is bytes, too."""
         placed = _compiled is not None
-        found = batches(source, limits, piece, progress, placed, types._give if types else None, skip)
+        found = batches(source, limits, piece, progress, placed, types._give if types else None, skip, lenient)
         self._found = _found(self, found, limits.types, types.columns if types else None)
         self._current: Optional[Page] = None
         self._rows: Iterator[Row] = iter(())
@@ -224,7 +221,7 @@ class _Metadata:
         self.flags = 0
         self.width = 0
         self.state: Optional[bytes] = None
-        self.words: dict = {}
+        self.words: Dict[Union[Field, int], str] = {}
         self.types = _Types()
         self.columns: List[Column] = []
 
@@ -232,7 +229,8 @@ class _Metadata:
         if self.types.open or event.tag == Tag.TYPE_NODE:
             whole = self.types.add(event)
             if whole:
-                self.columns.append(Column(*(self.words.get(field, "") for field in _SPEC), whole))
+                keyspace, table, name = (self.words.get(field, "") for field in _SPEC)
+                self.columns.append(Column(keyspace, table, name, whole))
         elif event.tag == Tag.TEXT:
             self.words[event.field] = event.value
         elif event.field == Field.RESULT_KIND:
@@ -324,8 +322,10 @@ class _CompiledCells:
         self._take = cells.take
         self.columns = cells.columns
 
-    def take(self, batch: Placed, at: int) -> Tuple[List[Row], int]:
-        return self._take(batch.address, at, batch.count)
+    def take(self, batch: Any, at: int) -> Tuple[List[Row], int]:
+        """Takes events of `Placed` from one on."""
+        rows, at = self._take(batch.address, at, batch.count)
+        return rows, at
 
 
 class _Cells:
@@ -402,8 +402,9 @@ def rows(
     progress: Optional[Progress] = None,
     types: Optional[Types] = None,
     skip: Optional[Skip] = None,
+    lenient: bool = False,
 ) -> Iterator[Row]:
     """The rows of all pages of a stream, as tuples. `types` are those of pages without metadata, and `skip` is told of each frame that is
-    passed over, as in `Pages`."""
-    found = Pages(source, limits, piece=piece, progress=progress, types=types, skip=skip)._found
+    passed over, as in `Pages`, and so is `lenient`."""
+    found = Pages(source, limits, piece=piece, progress=progress, types=types, skip=skip, lenient=lenient)._found
     return chain.from_iterable(rows for rows in found if isinstance(rows, list))

@@ -4,7 +4,7 @@ import io
 import os
 from typing import Any, BinaryIO, Callable, Iterator, Optional, Sequence, Tuple, Union
 
-from ._decoder import Cut, Decoder, Limits, Record, Refusal, Refused, Skip, event_of
+from ._decoder import Cut, Decoder, Limits, Placed, Record, Refusal, Refused, Skip, event_of
 from ._events import Event
 from .numbers import End
 
@@ -66,7 +66,7 @@ def _pieces_of_frames(pieces: Iterator[Tuple[bytes, Optional[int]]]) -> Iterator
             yield data[begin:], total
 
 
-Batch = Sequence[Tuple[Record, bytes]]
+Batch = Union[Placed, Sequence[Tuple[Record, bytes]]]
 """Events with their contents."""
 
 
@@ -78,14 +78,15 @@ def batches(
     placed: bool = False,
     give: Optional[Callable[[Decoder], None]] = None,
     skip: Optional[Skip] = None,
+    lenient: bool = False,
 ) -> Iterator[Batch]:
     """The events of a source with their contents, batch by batch; the one before a refusal too. With `placed` each batch is one
     of `Placed`, which is read before the next is asked for. `give` is called at the begin of each frame, and at other places; `skip` for each
     frame that is passed over, after the events of it that came before what is refused."""
     read = 0
     pieces = _pieces_of_frames(_pieces(source, piece)) if give else _pieces(source, piece)
-    with Decoder(limits, room=1024) as decoder:
-        take: Callable[[bytes, Optional[Skip]], Iterator[Tuple[Batch, Refusal]]] = decoder._placed if placed else decoder._batches
+    with Decoder(limits, room=1024, lenient=lenient) as decoder:
+        take: Callable[[bytes, Optional[Skip]], Iterator[Tuple[Any, Refusal]]] = decoder._placed if placed else decoder._batches
         for data, total in pieces:
             if give:
                 give(decoder)
@@ -108,10 +109,11 @@ def events(
     piece: int = 65536,
     progress: Optional[Progress] = None,
     skip: Optional[Skip] = None,
+    lenient: bool = False,
 ) -> Iterator[Event]:
     """The events of a stream, read in pieces of at most this many bytes. After the last event, Refused or Cut is raised where the
     stream is refused or cut. With `skip` a frame that is refused within its body is passed over, and it is told which: the events go on with
-    the next frame."""
-    for batch in batches(source, limits, piece, progress, skip=skip):
+    the next frame. `lenient` is that of `Decoder`."""
+    for batch in batches(source, limits, piece, progress, skip=skip, lenient=lenient):
         for one in batch:
             yield event_of(*one)

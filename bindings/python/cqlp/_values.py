@@ -6,7 +6,7 @@ import ipaddress
 import re
 import struct
 import uuid
-from typing import Any, Union
+from typing import Any, Callable, Dict, List, Union
 
 from .numbers import Kind
 
@@ -110,7 +110,7 @@ def text_of(number: int, content: bytes, extra: int, octets: bytes) -> str:
 
 
 # Of each kind its value, of an event's number, content, extra and octets. A kind that is not known has its content.
-LEAVES = [content_of] * 256
+LEAVES: List[Callable[[int, bytes, int, bytes], ValueOf]] = [content_of] * 256
 for kind in (Kind.BIGINT, Kind.COUNTER, Kind.INT, Kind.SMALLINT, Kind.TINYINT):
     LEAVES[kind] = number_of
 for kind in (Kind.ASCII, Kind.VARCHAR):
@@ -140,8 +140,12 @@ def quoted(content: bytes) -> str:
     return '"' + _ODD.sub(_escaped, content.decode("utf-8")) + '"'
 
 
+def _hex(content: bytes) -> str:
+    return "0x" + content.hex()
+
+
 def _varint_text(content: bytes) -> str:
-    return str(integer(content)) if len(content) <= 16 else "0x" + content.hex()
+    return str(integer(content)) if len(content) <= 16 else _hex(content)
 
 
 def _time_text(number: int) -> str:
@@ -158,7 +162,7 @@ def _date_text(number: int) -> str:
     return "day %d" % days if isinstance(day, Days) else day.isoformat()
 
 
-_TEXTS = {
+_TEXTS: Dict[int, Callable[[Any], str]] = {
     Kind.BOOLEAN: lambda e: "true" if e.number else "false",
     Kind.ASCII: lambda e: quoted(e.content),
     Kind.VARCHAR: lambda e: quoted(e.content),
@@ -169,8 +173,8 @@ _TEXTS = {
     Kind.UUID: lambda e: str(uuid_of(e.octets)),
     Kind.TIMEUUID: lambda e: str(uuid_of(e.octets)),
     Kind.INET: lambda e: address(e.octets).exploded,
-    Kind.FLOAT: lambda e: "0x" + e.octets.hex(),
-    Kind.DOUBLE: lambda e: "0x" + e.octets.hex(),
+    Kind.FLOAT: lambda e: _hex(e.octets),
+    Kind.DOUBLE: lambda e: _hex(e.octets),
 }
 
 _NUMBERS = {Kind.BIGINT, Kind.COUNTER, Kind.TIMESTAMP, Kind.INT, Kind.SMALLINT, Kind.TINYINT}
@@ -181,4 +185,4 @@ def leaf_text(event: Any) -> str:
     if event.kind in _NUMBERS:
         return str(event.number)
     text = _TEXTS.get(event.kind)
-    return text(event) if text else "0x" + event.content.hex()
+    return text(event) if text else _hex(event.content)

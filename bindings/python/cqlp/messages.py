@@ -499,7 +499,7 @@ def _error() -> Reading[Message]:
     number = (yield Field.ERROR_CODE).number
     message = yield from _one(Field.MESSAGE)
     make, fields = _ERRORS.get(number, (Error, ()))
-    parts = []
+    parts: List[Any] = []
     for field in fields:
         if field == Field.CONSISTENCY:
             parts.append((yield from _level(field)))
@@ -671,7 +671,8 @@ class _Frames:
             self.wanted = self.reading.send(event)
         except StopIteration as whole:
             self.reading = None
-            return whole.value
+            frame: Frame = whole.value
+            return frame
         return None
 
     def frame(self, head: _Event) -> Reading[Frame]:
@@ -696,13 +697,14 @@ def frames(
     piece: int = 65536,
     progress: Optional[Progress] = None,
     skip: Optional[Skip] = None,
+    lenient: bool = False,
 ) -> Iterator[Frame]:
     """The frames of a stream, each once it is whole: a page is held with all of its rows.
 
     Where the stream is refused or cut, Refused or Cut is raised after the last frame that ends before that place. With `skip` a frame that is
     refused within its body is passed over, and it is told which. A frame whose body has more than `longest` bytes raises FrameTooLong before
-    its body is held.
+    its body is held. With `lenient` a content that its type does not have is bytes.
     """
     found = _Frames(longest, limits.types)
-    for batch in batches(source, limits, piece, progress, _pages._compiled is not None, skip=skip):
+    for batch in batches(source, limits, piece, progress, _pages._compiled is not None, skip=skip, lenient=lenient):
         yield from found.take(batch)

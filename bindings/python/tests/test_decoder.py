@@ -1,5 +1,6 @@
 """Handles, limits, refusals, and what a decoder holds."""
 
+import io
 import re
 import resource
 import threading
@@ -17,6 +18,10 @@ TOO_LONG = bytes.fromhex("840000000810000001")
 TOO_MANY = bytes.fromhex(
     "8400000008000000310000000200000001000000010001" "6b00017400016300200009" "0000000100000010" "7fffffff0000000400000001ffffffff"
 )
+
+
+# a page of two cells of the type int, the second of which has three bytes
+ODD = bytes.fromhex("840000010800000028" "000000020000000100000001" "000000000001" "6e0009" "00000002" "00000004" "00000007" "00000003" "000102")
 
 
 class Numbers(unittest.TestCase):
@@ -55,6 +60,23 @@ class Decoder(unittest.TestCase):
             self.assertEqual((end.tag, end.at), (cqlp.Tag.END, 9))
             self.assertEqual(str(decoder.finish()), "whole 9")
             self.assertEqual(decoder.decode(b""), [])
+
+    def test_a_content_that_no_type_has(self) -> None:
+        self.assertEqual(str(cqlp.check(ODD)), "refused 42 BadSize")
+        with cqlp.Decoder(lenient=True) as decoder:
+            first, second = (event for event in decoder.decode(ODD) if event.tag == cqlp.Tag.LEAF)
+            self.assertEqual((first.kind, first.number), (cqlp.Kind.INT, 7))
+            self.assertEqual((second.kind, second.content, second.row), (cqlp.Kind.RAW, bytes(range(3)), 1))
+            self.assertEqual(str(decoder.finish()), "whole 49")
+        rows = [(7,), (bytes(range(3)),)]
+        self.assertEqual(list(cqlp.rows(io.BytesIO(ODD), lenient=True)), rows)
+        self.assertEqual([row for page in cqlp.Pages(io.BytesIO(ODD), lenient=True) for row in page], rows)
+        (frame,) = cqlp.frames(io.BytesIO(ODD), lenient=True)
+        self.assertEqual(list(frame.message.rows), rows)
+        self.assertEqual(list(cqlp.events(io.BytesIO(ODD), lenient=True))[-2], second)
+        for read in (cqlp.rows, cqlp.frames, cqlp.events):
+            with self.assertRaises(cqlp.Refused):
+                list(read(io.BytesIO(ODD)))
 
     def test_a_refusal_stays(self) -> None:
         with cqlp.Decoder() as decoder:

@@ -19,13 +19,14 @@ use Rattle.cqlp_build.specs.Closing.{ClosesAt, IsOfSome, TellsOf, of_length}
 use Rattle.cqlp_build.specs.Held.{Builds, IsRefused, IsSound, left}
 use Rattle.cqlp_build.specs.Told.{told}
 use Rattle.cqlp_build.proofs.Finishing.{built_of, directed_by, header_by, none_left, none_of_header, none_refused, measured, only_this, refused}
+use Rattle.cqlp_build.proofs.FrameViews.{left_none}
 use Rattle.cqlp_build.proofs.Steps.{AreNone}
 
 begins_of : (h : Header) (n : ℕ) (f : FrameValue) → BeginsWith h f → BeginsWith (of_length h n) f
-begins_of h n f b = record { flags = b.flags; stream = b.stream; opcode = b.opcode; agrees = b.agrees; built = b.built }
+begins_of h n f b = record { flags = b.flags; stream = b.stream; opcode = b.opcode; agrees = b.agrees; built = b.built; cells = b.cells }
 
 begins_back : (h : Header) (n : ℕ) (f : FrameValue) → BeginsWith (of_length h n) f → BeginsWith h f
-begins_back h n f b = record { flags = b.flags; stream = b.stream; opcode = b.opcode; agrees = b.agrees; built = b.built }
+begins_back h n f b = record { flags = b.flags; stream = b.stream; opcode = b.opcode; agrees = b.agrees; built = b.built; cells = b.cells }
 
 module _ (h : Header) (n : ℕ) (f : FrameValue) (old new : Held) (b : Builds (λ g. told (frame_parts g)) (BeginsWith h) f old new) where
   none_by : IsRefused old ⊎ AreNone (λ g. told (frame_parts g)) (BeginsWith h) old
@@ -61,6 +62,7 @@ module _ (h : Header) (f : OwnedFrame) (old new : Held) (s : IsSound old) (b : B
         size = n;
         are = r.0;
         can = r.1;
+        whole = left_none old;
         only = λ k g d a. (only_this (of_length h k) 0 (frame_of f) old new (builds_of h k (frame_of f) old new b) g 0 t.0 d a).0;
       }
 

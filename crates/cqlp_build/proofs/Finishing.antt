@@ -3,22 +3,27 @@ use Rattle.std.proofs.Common.{◌≡◌, ℕ, ◌+◌, ◌++◌, ◌⊎◌, List
 use Rattle.cqlp_note.specs.declared.header.Header.{Header}
 use Rattle.cqlp_note.specs.Limits.{Rules}
 use Rattle.cqlp_grammar.specs.Events.{Event, Frame, End}
-use Rattle.cqlp_message.specs.FrameValues.{FrameValue}
-use Rattle.cqlp_message.specs.Frames.{frame_parts, frame_size, header_of, if_none, measure_of, unfit_of}
+use Rattle.cqlp_note.specs.declared.field.Field.TheVariants as field
+use Rattle.std.specs.List.{list_all}
+use Rattle.std.proofs.lemmas.List.Folds.{list_all-append}
+use Rattle.cqlp_message.specs.FrameValues.{FrameValue, Message, Rows}
+use Rattle.cqlp_message.specs.Bodies.{cell_types, count, message_parts, metadata_parts, rows_parts}
+use Rattle.cqlp_message.specs.Frames.{announced_parts, frame_parts, frame_size, header_of, if_none, measure_of, unfit_of}
 use Rattle.cqlp_message.specs.declared.unfit.Unfit.{Unfit}
-use Rattle.cqlp_message.specs.Parts.{parts_size}
-use Rattle.cqlp_message.proofs.FramesWritten.{is_fit}
+use Rattle.cqlp_message.specs.Parts.{Part, cell_fits, parts_size}
+use Rattle.cqlp_message.proofs.FramesWritten.{IsFit, is_fit}
 use Rattle.cqlp_build.specs.declared.held.Held.{Held}
 use Rattle.cqlp_note.specs.Heading.{answers, same}
-use Rattle.cqlp_message.specs.Agreement.{opcode_of}
+use Rattle.cqlp_message.specs.Agreement.{has_its_cells, opcode_of}
 use Rattle.std.specs.Prelude.{IsTrue, false}
 use Rattle.std.proofs.Common.{◌↔◌}
-use Rattle.cqlp_build.specs.Building.{BuilderState, TakesEvent, empty, is_due, AreEventsOf, AreOfNone, BeginsWith, CanBeBuilt, Finishes, IsOfHeader, Tells}
+use Rattle.cqlp_build.specs.Building.{BuilderState, TakesEvent, empty, is_due, AreEventsOf, AreOfNone, BeginsWith, CanBeBuilt, Finishes, HaveNoParts, IsOfHeader, Tells, has_fit_cells}
 use Rattle.cqlp_build.specs.declared.error.BuildError.{BuildError}
 use Rattle.cqlp_build.specs.declared.error.BuildError.TheVariants as error
 use Rattle.cqlp_build.specs.Held.{Builds, IsRefused, IsSound, left}
 use Rattle.cqlp_build.specs.Told.{told}
-use Rattle.cqlp_build.proofs.FrameViews.{frame_said}
+use Rattle.cqlp_build.proofs.Several.{both, join}
+use Rattle.cqlp_build.proofs.FrameViews.{body_of, body_told, frame_said, left_none}
 use Rattle.cqlp_build.proofs.Steps.{AreNone}
 
 -- ---- ends of lists
@@ -53,10 +58,23 @@ frame_from h k es fs x y e =
     let same : y ≡ x = cc in
     (head, r.0, same)
 
-pub is_frame_of : (h : Header) (es : List Event) (x : ℕ) (g : FrameValue) (y : ℕ) → CanBeBuilt g → AreEventsOf (Frame h ∷ es ++ End x ∷ []) g y → IsFrameOf h es x g y
-is_frame_of h es x g y c a =
-    let r = frame_from h (header_of g (parts_size (frame_parts g) + y)) es (told (frame_parts g)) x y (sym (frame_said a.rules a.at g y c) ∙ a.are) in
-    record { header = r.0; parts = r.1; extra = r.2 }
+pub is_frame_of : (h : Header) (es : List Event) (x : ℕ) (g : FrameValue) (y : ℕ) → HaveNoParts es → AreEventsOf (Frame h ∷ es ++ End x ∷ []) g y → IsFrameOf h es x g y
+is_frame_of h es x g y n a =
+    let r = frame_from h (header_of g (parts_size (frame_parts g) + y)) es (body_of a.rules a.at g) x y (sym (frame_said a.rules a.at g y) ∙ a.are) in
+    record { header = r.0; parts = sym (body_told a.rules a.at g (inr (subst HaveNoParts (sym r.1) n))) ∙ r.1; extra = r.2 }
+
+-- of a frame that some bytes spell all cells are there, each of its type
+fit_cells : (g : FrameValue) → IsFit g → has_fit_cells g.message ≡ true
+fit_cells g i = of_message g.message i.shape (none_front (announced_parts g) (message_parts g.message) i.cells)
+  where
+    none_front : (ps qs : List Part) → list_all cell_fits (ps ++ qs) ≡ true → list_all cell_fits qs ≡ true
+    none_front ps qs e = (both (list_all cell_fits ps) (list_all cell_fits qs) (sym (list_all-append cell_fits ps qs) ∙ e)).1
+
+    of_message : (m : Message) → has_its_cells m ≡ true → list_all cell_fits (message_parts m) ≡ true → has_fit_cells m ≡ true
+    of_message (Rows p) s e = join (has_its_cells (Rows p)) (list_all cell_fits (rows_parts 0 (cell_types p.meta) p.rows p.cells)) s
+        (none_front (count field.Rows p.rows ∷ []) (rows_parts 0 (cell_types p.meta) p.rows p.cells)
+        (none_front (metadata_parts p.meta) (count field.Rows p.rows ∷ rows_parts 0 (cell_types p.meta) p.rows p.cells) e))
+    of_message m s e = refl
 
 begins_with : (h : Header) (g : FrameValue) (n : ℕ) → CanBeBuilt g → header_of g n ≡ h → BeginsWith h g
 begins_with h g n c e = record {
@@ -65,22 +83,23 @@ begins_with h g n c e = record {
   opcode = ap (λ (k : Header). k.opcode) e;
   agrees = (is_fit g c.0).agrees;
   built = c.1;
+  cells = fit_cells g (is_fit g c.0);
 }
 
-no_rules : Rules
-no_rules = record { text = 0; cell = 0; entries = 0; depth = 0; part = 0; types = true; parts = true }
+abbrev no_rules : Rules
+no_rules = record { text = 0; cell = 0; entries = 0; depth = 0; part = 0; types = true; parts = false; lenient = false }
 
 pub are_events : (h : Header) (es : List Event) (x : ℕ) (f : FrameValue) → CanBeBuilt f → IsFrameOf h es x f x → AreEventsOf (Frame h ∷ es ++ End x ∷ []) f x
 are_events h es x f c i = record {
   rules = no_rules;
   at = 0;
-  are = frame_said no_rules 0 f x c ∙ ap (λ k. Frame k ∷ told (frame_parts f) ++ End x ∷ []) i.header ∙ ap (λ r. Frame h ∷ r ++ End x ∷ []) i.parts;
+  are = frame_said no_rules 0 f x ∙ ap (λ k. Frame k ∷ body_of no_rules 0 f ++ End x ∷ []) i.header ∙ ap (λ r. Frame h ∷ r ++ End x ∷ []) (body_told no_rules 0 f (inl refl) ∙ i.parts);
 }
 
 module _ (h : Header) (x : ℕ) (f : FrameValue) (old new : Held) (b : Builds (λ g. told (frame_parts g)) (BeginsWith h) f old new) where
   pub only_this : (g : FrameValue) (y : ℕ) → IsSound new → CanBeBuilt g → AreEventsOf (Frame h ∷ left old ++ End x ∷ []) g y → (g ≡ f) × ([] ≡ left new) × (y ≡ x)
   only_this g y s c a =
-      let i = is_frame_of h (left old) x g y c a in
+      let i = is_frame_of h (left old) x g y (left_none old) a in
       let o = b.only s g [] (begins_with h g _ c i.header) (sym i.parts ∙ sym (append-nil (told (frame_parts g)))) in
       (o.0, o.1, i.extra)
 
@@ -91,7 +110,7 @@ module _ (h : Header) (x : ℕ) (f : FrameValue) (old new : Held) (b : Builds (�
       never : IsSound old → IsRefused old ⊎ AreNone (λ g. told (frame_parts g)) (BeginsWith h) old → AreOfNone (Frame h ∷ left old ++ End x ∷ [])
       never s (inl k) g y c a = absurd cc
       never s (inr k) g y c a =
-          let i = is_frame_of h (left old) x g y c a in
+          let i = is_frame_of h (left old) x g y (left_none old) a in
           k.1 g [] (begins_with h g _ c i.header) (sym i.parts ∙ sym (append-nil (told (frame_parts g))))
 
   -- something is left
@@ -102,7 +121,7 @@ module _ (h : Header) (x : ℕ) (f : FrameValue) (old new : Held) (b : Builds (�
   pub none_of_header : IsSound new → (IsOfHeader f h x → ⊥) → AreOfNone (Frame h ∷ left old ++ End x ∷ [])
   none_of_header s n g y c a =
       let o = only_this g y s c a in
-      let i = is_frame_of h (left old) x g y c a in
+      let i = is_frame_of h (left old) x g y (left_none old) a in
       n (subst (λ (k : FrameValue). unfit_of k ≡ None) o.0 c.0, subst (λ (k : FrameValue). header_of k (parts_size (frame_parts k) + x) ≡ h) o.0 (subst (λ (z : ℕ). header_of g (parts_size (frame_parts g) + z) ≡ h) o.2 i.header))
 
   -- all was taken

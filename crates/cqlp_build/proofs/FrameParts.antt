@@ -71,6 +71,7 @@ from_parts h p q =
       opcode = m.opcode;
       agrees = subst (λ (o : Opcode). Agree h.flags o p ≡ true) (sym m.opcode) all;
       built = m.built;
+      cells = m.cells;
     }
 
 abbrev parts_in : FrameValue → AllParts
@@ -85,7 +86,7 @@ to_parts h f b =
     let here : Agree h.flags (opcode_of f.message) (parts_in f) ≡ true = subst (λ (n : ℕ). Agree n (opcode_of f.message) (parts_in f) ≡ true) b.flags own in
     let all : Agree h.flags h.opcode (parts_in f) ≡ true = subst (λ (o : Opcode). Agree h.flags o (parts_in f) ≡ true) b.opcode here in
     let p = all_of (not (has h.flags 0x01)) (there_if (answers h.opcode && has h.flags 0x02) f.tracing) (there_if (answers h.opcode && has h.flags 0x08) f.warnings) (there_if (has h.flags 0x04) f.payload) (message_agrees f.message) all in
-    (p.0, record { opcode = b.opcode; agrees = p.1; built = b.built })
+    (p.0, record { opcode = b.opcode; agrees = p.1; built = b.built; cells = b.cells })
 
 pub frame_builds : (h : Header) {tracing : Option Octets} {warnings : Option (List Octets)} {payload : Option (List (Octets × Option Octets))} {message : Message} {a b c d e f : Held}
     → Builds {A = Unit {0}} (λ _. []) (λ _. not (has h.flags 0x01) ≡ true) tt a b

@@ -10,6 +10,10 @@ pub mod ResultParts
 pub mod MessageParts
 pub mod FrameParts
 pub mod FrameViews
+pub mod Cells
+pub mod Rows
+pub mod Columns
+pub mod PageParts
 pub mod Finishing
 pub mod Closing
 pub mod Taking

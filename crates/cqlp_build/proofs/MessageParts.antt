@@ -130,6 +130,7 @@ batch_builds one two three four five six seven =
       opcode = refl;
       agrees = join (not (has p.1.0 0x4F) && there_if (has p.1.0 0x10) p.1.1.0.1) (there_if (has p.1.0 0x20) p.1.1.1) (join (not (has p.1.0 0x4F)) (there_if (has p.1.0 0x10) p.1.1.0.1) q.1.1.0.0 q.1.1.0.1) q.1.1.1;
       built = refl;
+      cells = refl;
     })
     batch_view
     (one then two then three then pair_builds AreBatchEnd four (five then six then seven))

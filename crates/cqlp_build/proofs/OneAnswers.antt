@@ -70,17 +70,17 @@ no_end : (e : Event) → is_field e ≡ true → is_end e ≡ false
 no_end (Holds f v) d = refl
 no_end (Frame h) d = absurd cc
 no_end (Node_of k) d = refl
-no_end (Cell_at r c v) d = absurd cc
-no_end (Leave l n) d = absurd cc
+no_end (Cell_at r c v) d = refl
+no_end (Leave l n) d = refl
 no_end (End x) d = absurd cc
 
 taken_class : (s : BuilderState) (e : Event) (new : BuilderState) → TakesEvent s e (Ok None) new → test_of s e ≡ 5
 unfolding test_of of_due of_field
-taken_class s (Holds f v) new t = rw (t.0, t.1, le-ltb _ _ t.2.0.0, le-ltb _ _ t.2.0.1, le-ltb _ _ t.2.0.2) refl
+taken_class s (Holds f v) new t = rw (t.0, le-ltb _ _ t.2.0.0, le-ltb _ _ t.2.0.1, le-ltb _ _ t.2.0.2) refl
 taken_class s (Frame h) new t = rw t.0 refl
 taken_class s (Node_of k) new t = rw (t.0, le-ltb _ _ t.2.0.0, le-ltb _ _ t.2.0.1, le-ltb _ _ t.2.0.2) refl
-taken_class s (Cell_at r c v) new t = absurd t.2.0
-taken_class s (Leave l n) new t = absurd t.2.0
+taken_class s (Cell_at r c v) new t = rw (t.0, t.1, le-ltb _ _ t.2.0.0, le-ltb _ _ t.2.0.1, le-ltb _ _ t.2.0.2) refl
+taken_class s (Leave l n) new t = rw (t.0, le-ltb _ _ t.2.0.0, le-ltb _ _ t.2.0.1, le-ltb _ _ t.2.0.2) refl
 taken_class s (End x) new t = absurd t.2.0
 
 classed : (s : BuilderState) (e : Event) (r : Answer) (new : BuilderState) → TakesEvent s e r new → (WantsMemory r → ⊥) → test_of s e ≡ class r

@@ -5,12 +5,15 @@ use Rattle.cqlp_note.specs.declared.opcode.Opcode.TheVariants as opcode
 use Rattle.cqlp_note.specs.Field as note
 use Rattle.cqlp_grammar.specs.Codes as code
 use Rattle.cqlp_grammar.specs.Events.{Event, Holds}
-use Rattle.cqlp_message.specs.Agreement.{bits, is_no_result, prepared_agrees}
+use Rattle.std.specs.List.{list_all}
+use Rattle.std.proofs.lemmas.Bool.{eq-eqb, eqb-true}
+use Rattle.cqlp_message.specs.Agreement.{bits, has_its_cells, is_no_result, prepared_agrees}
+use Rattle.cqlp_message.specs.Parts.{cell_fits}
 use Rattle.cqlp_message.specs.Bodies as body
-use Rattle.cqlp_message.specs.FrameValues.{Message, Void, SetKeyspace, Rows, Prepared, Change, UnknownResult, PreparedStatement}
+use Rattle.cqlp_message.specs.FrameValues.{Message, Void, SetKeyspace, Rows, Prepared, Change, UnknownResult, Page, PreparedStatement}
 use Rattle.cqlp_build.specs.declared.held.Held.{Held}
 use Rattle.cqlp_build.specs.Held.{Builds, IsRefused, IsSound, any, left}
-use Rattle.cqlp_build.specs.Productions.{BuildsMessage, IsOf}
+use Rattle.cqlp_build.specs.Productions.{BuildsMessage, IsOf, IsPage, cells_parts}
 use Rattle.cqlp_build.specs.Told.{told}
 use Rattle.cqlp_build.specs.Types.{is_built_statement}
 use Rattle.cqlp_build.proofs.MetadataParts.{IsStatement}
@@ -37,7 +40,7 @@ by_kind (Prepared p) es rest i e = (p, join (prepared_agrees p) (is_built_statem
 by_kind Void es rest i e = absurd cc
 by_kind (SetKeyspace k) es rest i e = absurd cc
 by_kind (Change c) es rest i e = absurd cc
-by_kind (Rows p) es rest i e = let b = i.built in absurd cc
+by_kind (Rows p) es rest i e = absurd cc
 by_kind (UnknownResult k) es rest i e =
     let same : k ≡ pos code.prepared = cc in
     let off : true ≡ false = sym i.agrees ∙ ap (λ z. is_no_result (bits z)) same in
@@ -68,7 +71,62 @@ module _ {z : ℤ} {p : PreparedStatement} {a b c : Held} (is : z ≡ pos code.p
     made = λ s.
         let m = two.made s in
         let q = both (prepared_agrees p) (is_built_statement p) m.2 in
-        ((one.made m.0).0, first m.0 ∙ ap (λ es. kind_event (pos code.prepared) ∷ es) m.1, record { opcode = refl; agrees = q.0; built = q.1 });
+        ((one.made m.0).0, first m.0 ∙ ap (λ es. kind_event (pos code.prepared) ∷ es) m.1, record { opcode = refl; agrees = q.0; built = q.1; cells = refl });
     only = only_one;
     none = λ s. none_one (two.none s);
+  }
+
+-- ---- pages
+
+-- a result of this kind is a page
+page_by_kind : (m : Message) (es rest : List Event) → IsOf opcode.Result m → kind_event (pos code.rows) ∷ es ≡ told (body.message_parts m) ++ rest
+    → (p : Page) × (IsPage p) × (m ≡ Rows p) × (es ≡ told (body.page_parts p) ++ rest)
+page_by_kind (Rows p) es rest i e =
+    let c = both (has_its_cells (Rows p)) (list_all cell_fits (cells_parts p.meta p.rows p.cells)) i.cells in
+    (p, (i.agrees, i.built, (eqb-true _ _ c.0, c.1)), refl, cc)
+page_by_kind Void es rest i e = absurd cc
+page_by_kind (SetKeyspace k) es rest i e = absurd cc
+page_by_kind (Change c) es rest i e = absurd cc
+page_by_kind (Prepared p) es rest i e = absurd cc
+page_by_kind (UnknownResult k) es rest i e =
+    let same : k ≡ pos code.rows = cc in
+    let off : true ≡ false = sym i.agrees ∙ ap (λ z. is_no_result (bits z)) same in
+    absurd cc
+page_by_kind m es rest i e = let o = i.opcode in absurd cc
+
+module _ {z : ℤ} {p : Page} {a b c : Held} (is : z ≡ pos code.rows) (one : Builds (λ y. kind_event y ∷ []) any z a b) (two : Builds (λ s. told (body.page_parts s)) IsPage p b c) where
+  page_first : IsSound b → left a ≡ kind_event (pos code.rows) ∷ left b
+  page_first s = (one.made s).1 ∙ ap (λ y. kind_event y ∷ left b) is
+
+  only_page : IsSound c → (m : Message) (rest : List Event) → IsOf opcode.Result m → left a ≡ told (body.message_parts m) ++ rest → (m ≡ Rows p) × (rest ≡ left c)
+  only_page s m rest i e =
+      let k = page_by_kind m (left b) rest i (sym (page_first (two.made s).0) ∙ e) in
+      let o = two.only s k.0 rest k.1 k.3 in
+      (k.2 ∙ ap Rows o.0, o.1)
+
+  no_page : IsRefused b ⊎ AreNone (λ s. told (body.page_parts s)) IsPage b → IsRefused a ⊎ AreNone (λ m. told (body.message_parts m)) (IsOf opcode.Result) a
+  no_page (inl r) =
+      elim (one.none r) [
+        | inl h ↦ inl h
+        | inr h ↦ inr (h.0, λ m rest i e. let g = begins m i in h.1 g.0 (g.1 ++ rest) refl (e ∙ ap (λ es. es ++ rest) g.2))
+      ]
+  no_page (inr n) =
+      inr ((one.made n.0).0, λ m rest i e. let k = page_by_kind m (left b) rest i (sym (page_first n.0) ∙ e) in n.1 k.0 rest k.1 k.3)
+
+  pub page_builds : BuildsMessage opcode.Result (Rows p) a c
+  page_builds = record {
+    made = λ s.
+        let m = two.made s in
+        let cells = m.2.2 in (
+          (one.made m.0).0,
+          page_first m.0 ∙ ap (λ es. kind_event (pos code.rows) ∷ es) m.1,
+          record {
+            opcode = refl;
+            agrees = m.2.0;
+            built = m.2.1;
+            cells = join (has_its_cells (Rows p)) (list_all cell_fits (cells_parts p.meta p.rows p.cells)) (eq-eqb _ _ cells.0) cells.1;
+          },
+        );
+    only = only_page;
+    none = λ s. no_page (two.none s);
   }

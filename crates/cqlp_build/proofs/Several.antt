@@ -90,3 +90,7 @@ module _ {A : Type 0} (told : A → List Event) (t : A → Bool) where
 pub some_of : {F : Type 0} (o : Option F) → is_some o ≡ true → (f : F) × (o ≡ Some f)
 some_of (Some f) e = (f, refl)
 some_of None e = absurd cc
+
+pub none_of : {F : Type 0} (o : Option F) → is_some o ≡ false → o ≡ None
+none_of None e = refl
+none_of (Some f) e = absurd cc

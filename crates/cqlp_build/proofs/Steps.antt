@@ -31,38 +31,47 @@ AreNone {A} h P old = IsSound old × ((b : A) (rest : List Event) → P b → le
 pair_is : {A B : Type 0} (p q : A × B) → p.0 ≡ q.0 → p.1 ≡ q.1 → p ≡ q
 pair_is p q e d = λ i. (e i, d i)
 
-module _ {A B : Type 0} (h : A → List Event) (g : B → List Event) (P : A → Type 0) (Q : A → B → Type 0) where
-  pair_none : (a : A) (old mid : Held) → Builds h P a old mid → IsRefused mid ⊎ AreNone g (Q a) mid
-      → IsRefused old ⊎ AreNone {A = A × B} (λ p. h p.0 ++ g p.1) (λ p. P p.0 × Q p.0 p.1) old
+module _ {A B : Type 0} (h : A → List Event) (g : A → B → List Event) (P : A → Type 0) (Q : A → B → Type 0) where
+  moved : (a x : A) (b : B) (rest : List Event) (mid : Held) → x ≡ a → g x b ++ rest ≡ left mid → left mid ≡ g a b ++ rest
+  moved a x b rest mid e d = sym d ∙ ap (λ y. g y b ++ rest) e
+
+  pair_none : (a : A) (old mid : Held) → Builds h P a old mid → IsRefused mid ⊎ AreNone (g a) (Q a) mid
+      → IsRefused old ⊎ AreNone {A = A × B} (λ p. h p.0 ++ g p.0 p.1) (λ p. P p.0 × Q p.0 p.1) old
   pair_none a old mid one (inl e) =
       elim (one.none e) [
         | inl k ↦ inl k
-        | inr k ↦ inr (k.0, λ b rest p e. k.1 b.0 (g b.1 ++ rest) p.0 (e ∙ append_assoc (h b.0) (g b.1) rest))
+        | inr k ↦ inr (k.0, λ b rest p e. k.1 b.0 (g b.0 b.1 ++ rest) p.0 (e ∙ append_assoc (h b.0) (g b.0 b.1) rest))
       ]
   pair_none a old mid one (inr n) =
       inr (
         (one.made n.0).0,
         λ b rest p e.
-            let o = one.only n.0 b.0 (g b.1 ++ rest) p.0 (e ∙ append_assoc (h b.0) (g b.1) rest) in
-            n.1 b.1 rest (subst (λ (x : A). Q x b.1) o.0 p.1) (sym o.1),
+            let o = one.only n.0 b.0 (g b.0 b.1 ++ rest) p.0 (e ∙ append_assoc (h b.0) (g b.0 b.1) rest) in
+            n.1 b.1 rest (subst (λ (x : A). Q x b.1) o.0 p.1) (moved a b.0 b.1 rest mid o.0 o.1),
       )
+
+module _ {A B : Type 0} {h : A → List Event} {P : A → Type 0} (g : A → B → List Event) (Q : A → B → Type 0) where
+  -- one value and another, of which the first says what its events are, and what may be asked of it
+  pub after_builds : {a : A} {b : B} {old mid new : Held} → Builds h P a old mid → Builds (g a) (Q a) b mid new
+      → Builds {A = A × B} (λ p. h p.0 ++ g p.0 p.1) (λ p. P p.0 × Q p.0 p.1) (a, b) old new
+  after_builds {a} {b} {old} {mid} {new} one two = record {
+    made = λ s.
+        let t = two.made s in
+        let o = one.made t.0 in
+        (o.0, o.1 ∙ ap (λ r. h a ++ r) t.1 ∙ sym (append_assoc (h a) (g a b) (left new)), (o.2, t.2));
+    only = λ s c rest p e.
+        let t = two.made s in
+        let o = one.only t.0 c.0 (g c.0 c.1 ++ rest) p.0 (e ∙ append_assoc (h c.0) (g c.0 c.1) rest) in
+        let u = two.only s c.1 rest (subst (λ (x : A). Q x c.1) o.0 p.1) (moved h g P Q a c.0 c.1 rest mid o.0 o.1) in
+        (pair_is c (a, b) o.0 u.0, u.1);
+    none = λ s. pair_none h g P Q a old mid one (two.none s);
+  }
 
 module _ {A B : Type 0} {h : A → List Event} {g : B → List Event} {P : A → Type 0} (Q : A → B → Type 0) where
   -- one value and another, of which may be asked what the first is
   pub pair_builds : {a : A} {b : B} {old mid new : Held} → Builds h P a old mid → Builds g (Q a) b mid new
       → Builds {A = A × B} (λ p. h p.0 ++ g p.1) (λ p. P p.0 × Q p.0 p.1) (a, b) old new
-  pair_builds {a} {b} {old} {mid} {new} one two = record {
-    made = λ s.
-        let t = two.made s in
-        let o = one.made t.0 in
-        (o.0, o.1 ∙ ap (λ r. h a ++ r) t.1 ∙ sym (append_assoc (h a) (g b) (left new)), (o.2, t.2));
-    only = λ s c rest p e.
-        let t = two.made s in
-        let o = one.only t.0 c.0 (g c.1 ++ rest) p.0 (e ∙ append_assoc (h c.0) (g c.1) rest) in
-        let u = two.only s c.1 rest (subst (λ (x : A). Q x c.1) o.0 p.1) (sym o.1) in
-        (pair_is c (a, b) o.0 u.0, u.1);
-    none = λ s. pair_none h g P Q a old mid one (two.none s);
-  }
+  pair_builds one two = after_builds (λ x. g) Q one two
 
 module _ {A B : Type 0} {h : A → List Event} {g : B → List Event} {P : A → Type 0} {Q : B → Type 0} where
   infixl 40 ◌then◌

@@ -12,8 +12,7 @@ use Rattle.cqlp_message.specs.Parts.{parts_size}
 use Rattle.cqlp_build.specs.declared.builder.BuildLimits.{BuildLimits}
 use Rattle.cqlp_build.specs.Building.{BuilderState, CanBeBuilt, TakesEvent, empty, is_end, is_inner, with_event}
 use Rattle.cqlp_build.specs.Laws.{Answer, AreFirstOf, AreTaken, IsCut, NoneRefused, StreamIsBuilt, frames_given, told_all}
-use Rattle.cqlp_build.specs.Told.{told}
-use Rattle.cqlp_build.proofs.FrameViews.{IsPlain, frame_plain, frame_said}
+use Rattle.cqlp_build.proofs.FrameViews.{body_inner, body_of, frame_said}
 use Rattle.cqlp_build.proofs.Several.{both}
 
 -- ---- one event
@@ -74,10 +73,10 @@ module _ (l : Rules) (at : ℕ) (f : FrameValue) (x : ℕ) (c : CanBeBuilt f) wh
   abbrev pub head : Header
   head = header_of f (parts_size (frame_parts f) + x)
 
-  all_said : told_all (Flat l at f x) ≡ Frame head ∷ told (frame_parts f) ++ End x ∷ []
-  all_said = frame_said l at f x c
+  all_said : told_all (Flat l at f x) ≡ Frame head ∷ body_of l at f ++ End x ∷ []
+  all_said = frame_said l at f x
 
-  pub end_step : (s : BuilderState) (r : Answer) (mid : BuilderState) → s.events ≡ Frame head ∷ told (frame_parts f) → TakesEvent s (End x) r mid → is_ok r ≡ true → (frames_given (r ∷ []) ≡ (f, x) ∷ []) × (mid ≡ empty s.limits)
+  pub end_step : (s : BuilderState) (r : Answer) (mid : BuilderState) → s.events ≡ Frame head ∷ body_of l at f → TakesEvent s (End x) r mid → is_ok r ≡ true → (frames_given (r ∷ []) ≡ (f, x) ∷ []) × (mid ≡ empty s.limits)
   end_step s (Ok None) mid e t o = absurd (t.2.0)
   end_step s (Ok (Some b)) mid e t o =
       let w = t.2.1.only f x c (record { rules = l; at = at; are = all_said ∙ ap (λ es. es ++ End x ∷ []) (sym e) }) in
@@ -90,19 +89,15 @@ module _ (l : Rules) (at : ℕ) (f : FrameValue) (x : ℕ) (c : CanBeBuilt f) wh
     pub sound : NoneRefused later
     pub frames : frames_given rs ≡ (f, x) ∷ frames_given later
 
-  inner_all : AllByRecursion (λ e. is_inner e ≡ true) (told (frame_parts f))
-  inner_all = of_plain (told (frame_parts f)) (frame_plain f c)
-    where
-      of_plain : (es : List Event) → AllByRecursion IsPlain es → AllByRecursion (λ e. is_inner e ≡ true) es
-      of_plain [] p = p
-      of_plain (e ∷ es) p = (p.0.inner, of_plain es p.1)
+  inner_all : AllByRecursion (λ e. is_inner e ≡ true) (body_of l at f)
+  inner_all = body_inner l at f
 
   frames_first : (r : Answer) (rs : List Answer) (xs : List (FrameValue × ℕ)) → frames_given (r ∷ []) ≡ xs → frames_given (r ∷ rs) ≡ xs ++ frames_given rs
   frames_first (Ok None) rs xs e = ap (λ ys. ys ++ frames_given rs) e
   frames_first (Ok (Some b)) rs xs e = ap (λ ys. ys ++ frames_given rs) e
   frames_first (Err w) rs xs e = ap (λ ys. ys ++ frames_given rs) e
 
-  at_end : (s : BuilderState) (limits : BuildLimits) (rest : List Event) (rs : List Answer) (new : BuilderState) → s.events ≡ Frame head ∷ told (frame_parts f) → s.limits ≡ limits
+  at_end : (s : BuilderState) (limits : BuildLimits) (rest : List Event) (rs : List Answer) (new : BuilderState) → s.events ≡ Frame head ∷ body_of l at f → s.limits ≡ limits
       → AreTaken s (End x ∷ rest) rs new → NoneRefused rs → (later : List Answer) × AreTaken (empty limits) rest later new × NoneRefused later × (frames_given rs ≡ (f, x) ∷ frames_given later)
   at_end s limits rest [] new e m a n = absurd a
   at_end s limits rest (r ∷ rs) new e m a n =
@@ -110,20 +105,20 @@ module _ (l : Rules) (at : ℕ) (f : FrameValue) (x : ℕ) (c : CanBeBuilt f) wh
       let t = end_step s r a.0 e a.1 o.0 in
       (rs, subst (λ (b : BuilderState). AreTaken b rest rs new) (t.1 ∙ ap empty m) a.2, o.1, frames_first r rs ((f, x) ∷ []) t.0)
 
-  with_head : (s : BuilderState) (rest : List Event) (rs : List Answer) (new : BuilderState) → s.events ≡ [] → AreTaken s (Frame head ∷ told (frame_parts f) ++ End x ∷ rest) rs new → NoneRefused rs → Done s rest rs new
+  with_head : (s : BuilderState) (rest : List Event) (rs : List Answer) (new : BuilderState) → s.events ≡ [] → AreTaken s (Frame head ∷ body_of l at f ++ End x ∷ rest) rs new → NoneRefused rs → Done s rest rs new
   with_head s rest [] new z a n = absurd a
   with_head s rest (r ∷ rs) new z a n =
       let o = both (is_ok r) (list_all is_ok rs) n in
       let t = header_step s head r a.0 a.1 o.0 in
-      let g = goes (told (frame_parts f)) inner_all a.0 (End x ∷ rest) rs new a.2 o.1 in
-      let events : g.mid.events ≡ Frame head ∷ told (frame_parts f) = g.events ∙ ap (λ (m : BuilderState). m.events ++ told (frame_parts f)) t.1 ∙ ap (λ es. (es ++ Frame head ∷ []) ++ told (frame_parts f)) z in
+      let g = goes (body_of l at f) inner_all a.0 (End x ∷ rest) rs new a.2 o.1 in
+      let events : g.mid.events ≡ Frame head ∷ body_of l at f = g.events ∙ ap (λ (m : BuilderState). m.events ++ body_of l at f) t.1 ∙ ap (λ es. (es ++ Frame head ∷ []) ++ body_of l at f) z in
       let limits : g.mid.limits ≡ s.limits = g.limits ∙ ap (λ (m : BuilderState). m.limits) t.1 in
       let d = at_end g.mid s.limits rest g.later new events limits g.run g.sound in
       record { later = d.0; run = d.1; sound = d.2; frames = frames_first r rs [] t.0 ∙ (g.frames ∙ d.3) }
 
   pub frame_done : (s : BuilderState) (rest : List Event) (rs : List Answer) (new : BuilderState) → s.events ≡ [] → AreTaken s (told_all (Flat l at f x) ++ rest) rs new → NoneRefused rs → Done s rest rs new
   frame_done s rest rs new z a n =
-      let all : told_all (Flat l at f x) ++ rest ≡ Frame head ∷ told (frame_parts f) ++ End x ∷ rest = ap (λ es. es ++ rest) all_said ∙ append_assoc (Frame head ∷ told (frame_parts f)) (End x ∷ []) rest in
+      let all : told_all (Flat l at f x) ++ rest ≡ Frame head ∷ body_of l at f ++ End x ∷ rest = ap (λ es. es ++ rest) all_said ∙ append_assoc (Frame head ∷ body_of l at f) (End x ∷ []) rest in
       with_head s rest rs new z (subst (λ (es : List Event). AreTaken s es rs new) all a) n
 
   -- ---- a frame that is cut
@@ -143,13 +138,13 @@ module _ (l : Rules) (at : ℕ) (f : FrameValue) (x : ℕ) (c : CanBeBuilt f) wh
   cut_taken s e es [] new z w a n = absurd a
   cut_taken s e es (r ∷ rs) new z w a n =
       let o = both (is_ok r) (list_all is_ok rs) n in
-      let said : told_all (Flat w.rules w.at f x) ≡ Frame head ∷ told (frame_parts f) ++ End x ∷ [] = frame_said w.rules w.at f x c in
-      let all : e ∷ (es ++ w.next ∷ w.rest) ≡ Frame head ∷ (told (frame_parts f) ++ End x ∷ []) = w.are ∙ said in
+      let said : told_all (Flat w.rules w.at f x) ≡ Frame head ∷ body_of w.rules w.at f ++ End x ∷ [] = frame_said w.rules w.at f x in
+      let all : e ∷ (es ++ w.next ∷ w.rest) ≡ Frame head ∷ (body_of w.rules w.at f ++ End x ∷ []) = w.are ∙ said in
       let first : e ≡ Frame head = cc in
-      let later : es ++ w.next ∷ w.rest ≡ told (frame_parts f) ++ End x ∷ [] = cc in
+      let later : es ++ w.next ∷ w.rest ≡ body_of w.rules w.at f ++ End x ∷ [] = cc in
       let step : TakesEvent s (Frame head) r a.0 = subst (λ (k : Event). TakesEvent s k r a.0) first a.1 in
       let t = header_step s head r a.0 step o.0 in
-      let g = goes es (front_inner es (told (frame_parts f)) w.rest (End x) w.next inner_all later) a.0 [] rs new (subst (λ (k : List Event). AreTaken a.0 k rs new) (sym (append-nil es)) a.2) o.1 in
+      let g = goes es (front_inner es (body_of w.rules w.at f) w.rest (End x) w.next (body_inner w.rules w.at f) later) a.0 [] rs new (subst (λ (k : List Event). AreTaken a.0 k rs new) (sym (append-nil es)) a.2) o.1 in
       let end = nothing_more g.mid g.later new g.run in (
         frames_first r rs [] t.0 ∙ (g.frames ∙ end.0),
         ap (λ (m : BuilderState). m.events) end.1 ∙ (g.events ∙ (ap (λ (m : BuilderState). m.events ++ es) t.1 ∙ (ap (λ k. (k ++ Frame head ∷ []) ++ es) z ∙ ap (λ k. k ∷ es) (sym first)))),

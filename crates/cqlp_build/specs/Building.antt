@@ -1,18 +1,18 @@
 -- What becomes of the events of frames, one after the other.
-use Rattle.std.specs.Prelude.{◌≡◌, ⊤, ℕ, ◌+◌, ◌-◌, ◌<◌, ◌≤◌, ◌++◌, Bool, true, false}
+use Rattle.std.specs.Prelude.{◌≡◌, ⊤, ℕ, ◌+◌, ◌-◌, ◌<◌, ◌≤◌, ◌++◌, Bool, true, false, not}
 use Rattle.std.specs.Prelude.{List, [], ◌∷◌, length, map, Option, Some, None, Result, Ok, Err}
-use Rattle.std.specs.Prelude.{ℤ, ◌==◌, ◌⊎◌}
+use Rattle.std.specs.Prelude.{◌&&◌, ◌⊎◌}
+use Rattle.std.specs.List.{list_all}
 use Rattle.cqlp_note.specs.declared.header.Header.{Header}
-use Rattle.cqlp_note.specs.declared.field.Field.{Field}
-use Rattle.cqlp_note.specs.declared.field.Field.TheVariants as field
-use Rattle.cqlp_note.specs.Field.{Int, content_length}
+use Rattle.cqlp_note.specs.Field.{content_length}
 use Rattle.cqlp_note.specs.Limits.{Rules}
 use Rattle.cqlp_grammar.specs.Events.{Event, Frame, Holds, Node_of, Cell_at, Leave, End}
-use Rattle.cqlp_grammar.specs.Codes as code
-use Rattle.cqlp_message.specs.Agreement.{bits, frame_agrees, opcode_of}
+use Rattle.cqlp_kind.specs.CellStep as cell
+use Rattle.cqlp_message.specs.Agreement.{frame_agrees, has_its_cells, opcode_of}
+use Rattle.cqlp_message.specs.Bodies.{cell_types, rows_parts}
 use Rattle.cqlp_message.specs.FrameValues.{FrameValue, Message, Rows, Prepared}
 use Rattle.cqlp_message.specs.Frames.{Flat, frame_parts, header_of, unfit_of}
-use Rattle.cqlp_message.specs.Parts.{parts_size}
+use Rattle.cqlp_message.specs.Parts.{cell_fits, parts_size}
 use Rattle.cqlp_message.specs.Owned.{frame_of}
 use Rattle.cqlp_build.specs.declared.builder.BuildLimits.{BuildLimits}
 use Rattle.cqlp_build.specs.declared.builder.BuiltFrame.{BuiltFrame}
@@ -22,7 +22,8 @@ use Rattle.cqlp_build.specs.declared.error.BuildError.TheVariants as error
 use Rattle.cqlp_build.specs.declared.held.Held.{Held}
 use Rattle.cqlp_build.specs.Held.{IsRefused, IsSound, left}
 use Rattle.cqlp_build.specs.Nesting.{after_event, depth_at}
-use Rattle.cqlp_build.specs.Types.{is_built_statement}
+use Rattle.cqlp_build.specs.Types.{is_built_metadata, is_built_statement}
+use Rattle.cqlp_build_cells.specs.Building.{is_part, scalar_size}
 
 -- ---- the events of a frame
 
@@ -32,9 +33,9 @@ pub record AreEventsOf (es : List Event) (f : FrameValue) (x : ℕ) : Type 0 whe
   pub at : ℕ
   pub are : map (λ e. e.1) (Flat rules at f x) ≡ es
 
--- all but pages, whose frames have cells; and of prepared statements those whose types have names where names count
+-- all messages; of pages and of prepared statements those whose types have names where names count
 abbrev pub is_built : Message → Bool
-is_built (Rows p) = false
+is_built (Rows p) = is_built_metadata p.meta
 is_built (Prepared p) = is_built_statement p
 is_built m = true
 
@@ -76,6 +77,7 @@ empty l = record { events = []; around = []; room = l.bytes; limits = l }
 -- the bytes of an event that the limit counts
 abbrev pub content_size : Event → ℕ
 content_size (Holds f v) = content_length v
+content_size (Cell_at row column (cell.Leaf level v)) = scalar_size v
 content_size e = 0
 
 abbrev pub with_event : BuilderState → Event → BuilderState
@@ -95,23 +97,21 @@ is_due [] e = false
 is_due (e ∷ es) (Frame h) = false
 is_due (e ∷ es) f = true
 
--- a field, or the kind of a type option
+-- a field, the kind of a type option, or what is told of a cell
 abbrev pub is_field : Event → Bool
 is_field (Holds f v) = true
 is_field (Node_of k) = true
+is_field (Cell_at row column e) = true
+is_field (Leave level items) = true
 is_field e = false
 
--- the kind of a page
-abbrev pub is_unbuilt_kind : Field → ℤ → Bool
-is_unbuilt_kind field.ResultKind z = bits z == code.rows
-is_unbuilt_kind f z = false
-
--- What is of a page alone: the kind of such a result, and what a cell has.
+-- a part of a scalar of a cell
 abbrev pub is_unbuilt : Event → Bool
-is_unbuilt (Holds f (Int z)) = is_unbuilt_kind f z
-is_unbuilt (Cell_at row column c) = true
-is_unbuilt (Leave level items) = true
-is_unbuilt e = false
+is_unbuilt e = is_part e
+
+-- no scalar of a cell comes in parts
+abbrev pub HaveNoParts : List Event → Type 0
+HaveNoParts es = list_all (λ e. not (is_unbuilt e)) es ≡ true
 
 abbrev pub is_end : Event → Bool
 is_end (End x) = true
@@ -131,17 +131,21 @@ HasPlace s = length s.events ≤ s.limits.fields
 abbrev pub IsWithin : BuilderState → Event → Type 0
 IsWithin s e = HasPlace s × (depth_at e s.around ≤ s.limits.depth) × (content_size e ≤ s.room)
 
--- a header, or a field or the kind of a type option within the limits
+-- a header, or a field, the kind of a type option or what is told of a cell within the limits
 abbrev pub IsTaken : BuilderState → Event → Type 0
 IsTaken s (Frame h) = ⊤
 IsTaken s (Holds f v) = IsWithin s (Holds f v)
 IsTaken s (Node_of k) = IsWithin s (Node_of k)
+IsTaken s (Cell_at row column e) = IsWithin s (Cell_at row column e)
+IsTaken s (Leave level items) = IsWithin s (Leave level items)
 IsTaken s e = ⊥
 
--- what asks for memory: a field or the kind of a type option within the limits, and the end of a frame
+-- what asks for memory: what is held within the limits, and the end of a frame
 abbrev pub AsksForMemory : BuilderState → Event → Type 0
 AsksForMemory s (Holds f v) = IsWithin s (Holds f v)
 AsksForMemory s (Node_of k) = IsWithin s (Node_of k)
+AsksForMemory s (Cell_at row column e) = IsWithin s (Cell_at row column e)
+AsksForMemory s (Leave level items) = IsWithin s (Leave level items)
 AsksForMemory s (End x) = ⊤
 AsksForMemory s e = ⊥
 
@@ -183,13 +187,19 @@ Finishes h x es (Err e) = ⊥
 abbrev pub IsOfHeader : FrameValue → Header → (x : ℕ) → Type 0
 IsOfHeader f h x = (unfit_of f ≡ None) × (header_of f (parts_size (frame_parts f) + x) ≡ h)
 
--- A frame whose header is this one but for its length, and whose parts are those that are announced.
+-- A page has all its cells, each a value of its column's type.
+abbrev pub has_fit_cells : Message → Bool
+has_fit_cells (Rows p) = has_its_cells (Rows p) && list_all cell_fits (rows_parts 0 (cell_types p.meta) p.rows p.cells)
+has_fit_cells m = true
+
+-- A frame whose header is this one but for its length, and whose parts are those that are announced, all cells among them.
 pub record BeginsWith (h : Header) (f : FrameValue) : Type 0 where
   pub flags : f.flags ≡ h.flags
   pub stream : f.stream ≡ h.stream
   pub opcode : opcode_of f.message ≡ h.opcode
   pub agrees : frame_agrees f ≡ true
   pub built : is_built f.message ≡ true
+  pub cells : has_fit_cells f.message ≡ true
 
 -- What is told of a frame whose parts were taken: nothing where nothing was refused, nothing is left, and it is of the header
 -- with x bytes more, if it begins with it.

@@ -10,7 +10,7 @@ use Rattle.cqlp_message.specs.declared.frame.Frame.{Frame as OwnedFrame}
 use Rattle.cqlp_build.specs.declared.error.BuildError.{BuildError}
 use Rattle.cqlp_build.specs.declared.error.BuildError.TheVariants as error
 use Rattle.cqlp_build.specs.declared.held.Held.{Held}
-use Rattle.cqlp_build.specs.Building.{AreEventsOf, AreOfNone, BeginsWith, BuilderState, CanBeBuilt, empty}
+use Rattle.cqlp_build.specs.Building.{AreEventsOf, AreOfNone, BeginsWith, BuilderState, CanBeBuilt, HaveNoParts, empty}
 use Rattle.cqlp_build.specs.Held.{IsRefused, IsSound, left}
 
 -- this header, of a body of n bytes
@@ -21,11 +21,12 @@ of_length h n = record h { length = n }
 abbrev pub closed : Header → (n : ℕ) → List Event → List Event
 closed h n es = Frame (of_length h n) ∷ es ++ End 0 ∷ []
 
--- With some length in the header, the events are those of this frame; and of no other, with any length.
+-- With some length in the header, the events are those of this frame, no scalar of its cells in parts; and of no other, with any length.
 pub record IsClosedOf (h : Header) (es : List Event) (f : FrameValue) : Type 0 where
   pub size : ℕ
   pub are : AreEventsOf (closed h size es) f 0
   pub can : CanBeBuilt f
+  pub whole : HaveNoParts es
   pub only : (n : ℕ) (g : FrameValue) → CanBeBuilt g → AreEventsOf (closed h n es) g 0 → g ≡ f
 
 -- The events are those of this frame alone; or, with whatever length, of none.

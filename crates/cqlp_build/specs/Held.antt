@@ -5,7 +5,11 @@ use Rattle.cqlp_note.specs.declared.field.Field.{Field}
 use Rattle.cqlp_note.specs.Field as note
 use Rattle.cqlp_note.specs.Field.{FieldValue}
 use Rattle.cqlp_kind.specs.declared.kind.Kind.{Kind}
-use Rattle.cqlp_grammar.specs.Events.{Event, Holds, Node_of}
+use Rattle.cqlp_kind.specs.CellStep.{CellEvent}
+use Rattle.cqlp_grammar.specs.Events.{Event, Holds, Node_of, Cell_at, Leave, cell_event}
+use Rattle.cqlp_build_cells.specs.Building.{is_whole}
+use Rattle.cqlp_build_cells.specs.Held as cell
+use Rattle.cqlp_build_cells.specs.declared.step.Step.{Step}
 use Rattle.cqlp_message.specs.Owned.{bound_of, bytes_of}
 use Rattle.cqlp_build.specs.declared.held.Fault.{Fault}
 use Rattle.cqlp_build.specs.declared.held.Fault.TheVariants as fault
@@ -32,11 +36,14 @@ held_in (content.Inet a z) = note.Inet a z
 abbrev pub told_by : Item → Event
 told_by (item.Holds f c) = Holds f (held_in c)
 told_by (item.Kind k) = Node_of k
+told_by (item.Cell row column level s) = cell_event row column (cell.told_at level s)
 
--- a field, or the kind of a type option
+-- a field, the kind of a type option, or what is told of a cell but parts of scalars
 abbrev pub IsHeld : Event → Type 0
 IsHeld (Holds f v) = ⊤
 IsHeld (Node_of k) = ⊤
+IsHeld (Cell_at row column c) = is_whole (Cell_at row column c) ≡ true
+IsHeld (Leave level items) = ⊤
 IsHeld e = ⊥
 
 -- the events that are left
@@ -66,6 +73,13 @@ abbrev pub TakesKind : Option Kind → (old new : Held) → Type 0
 TakesKind (Some k) old new = IsSound old × (left old ≡ Node_of k ∷ left new) × IsSound new
 TakesKind None old new =
     (new.fault ≡ old.fault) × (IsSound old → (k : Kind) (rest : List Event) → left old ≡ Node_of k ∷ rest → ⊥)
+
+-- What is told next of the cell of this row and column, which is taken; where nothing is, nothing is told, and it is taken or not.
+abbrev pub TakesStep : (row column : ℕ) → Option (ℕ × Step) → (old new : Held) → Type 0
+TakesStep row column (Some s) old new =
+    IsSound old × (left old ≡ cell_event row column (cell.told_by s) ∷ left new) × IsSound new
+TakesStep row column None old new =
+    (new.fault ≡ old.fault) × (IsSound old → (e : CellEvent) (rest : List Event) → left old ≡ cell_event row column e ∷ rest → ⊥)
 
 -- It is what a field holds, as such a value, and None where no such value is that.
 pub record Finds {A : Type 0} (make : A → FieldValue) (v : FieldValue) (o : Option A) : Type 0 where

@@ -10,7 +10,7 @@ use Rattle.cqlp_build.specs.declared.builder.BuildLimits.{BuildLimits}
 use Rattle.cqlp_build.specs.declared.builder.BuiltFrame.{BuiltFrame}
 use Rattle.cqlp_build.specs.declared.error.BuildError.{BuildError}
 use Rattle.cqlp_build.specs.declared.error.BuildError.TheVariants as error
-use Rattle.cqlp_build.specs.Building.{BuilderState, CanBeBuilt, TakesEvent, empty}
+use Rattle.cqlp_build.specs.Building.{BuilderState, CanBeBuilt, HaveNoParts, TakesEvent, empty}
 
 abbrev pub Answer : Type 0
 Answer = Result (Option BuiltFrame) BuildError
@@ -69,13 +69,13 @@ is_of_bounds error.TooManyBytes = true
 is_of_bounds error.NoMemory = true
 is_of_bounds e = false
 
--- Of such a stream nothing is refused first but as a limit says, or for want of memory.
+-- Of such a stream without parts of scalars nothing is refused first but as a limit says, or for want of memory.
 abbrev pub OnlyBoundsRefuse : Type 0
 OnlyBoundsRefuse =
     (limits : BuildLimits) (l : Rules) (at : ℕ) (fs : List (FrameValue × ℕ)) (before after : List Event) (rs : List Answer)
     (e : BuildError) (new : BuilderState)
     → AllByRecursion (λ f. CanBeBuilt f.0) fs → before ++ after ≡ told_all (FlatAll l at fs)
-    → AreTaken (empty limits) before (rs ++ Err e ∷ []) new → NoneRefused rs
+    → HaveNoParts before → AreTaken (empty limits) before (rs ++ Err e ∷ []) new → NoneRefused rs
     → is_of_bounds e ≡ true
 
 -- the same answer, wherever a frame lies in memory

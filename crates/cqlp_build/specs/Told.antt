@@ -2,19 +2,21 @@
 use Rattle.std.specs.Prelude.{false, List, [], ◌∷◌, Option, map}
 use Rattle.std.specs.List.{flat_map}
 use Rattle.cqlp_type.specs.Trees.{trees_items}
-use Rattle.cqlp_grammar.specs.Events.{Event, Holds, type_event}
+use Rattle.cqlp_kind.specs.Types.{NoMore, Type_and}
+use Rattle.cqlp_grammar.specs.Events.{Event, Holds, cell_event, type_event}
+use Rattle.cqlp_build_cells.specs.Said.{values_said}
 use Rattle.cqlp_note.specs.declared.field.Field.TheVariants as field
 use Rattle.cqlp_message.specs.Bodies.{bytes, text}
 use Rattle.cqlp_message.specs.FrameValues.{Octets}
 use Rattle.cqlp_message.specs.Parts.{Part, Field_is, Type_is, Cell_is}
 
--- the events of a part that is no cell, without their offsets
+-- The events of a part, without their offsets, where each scalar of a cell comes whole.
 abbrev pub part_told : Part → List Event
 part_told (Field_is f n v) = Holds f v ∷ []
 part_told (Type_is t) = map type_event (trees_items false t)
-part_told (Cell_is row column k inner v) = []
+part_told (Cell_is row column k inner v) = map (cell_event row column) (values_said 0 (Type_and k inner NoMore) v)
 
--- the events of these parts, none of which is a cell, without their offsets
+-- the events of these parts, without their offsets
 abbrev pub told : List Part → List Event
 told parts = flat_map part_told parts
 

@@ -16,20 +16,21 @@ use crate::error::BuildError;
 use crate::held::{Fault, Held};
 use crate::item::own;
 use crate::nesting::Nesting;
-use cqlp_grammar::{Event, result_kind};
+use cqlp_build_cells::{Held as CellEvents, scalar_size};
+use cqlp_grammar::Event;
 use cqlp_message::Frame;
-use cqlp_note::{BoundValue, Field, Header};
+use cqlp_note::{BoundValue, Header};
 use std::alloc::{AllocError, Global};
 use std::collections::VecDeque;
 
 /// What a builder may hold of one frame.
 #[derive(Clone, Copy, Debug, PartialEq, Eq)]
 pub struct BuildLimits {
-    /// How many fields and type options.
+    /// How many fields, type options, and events of cells.
     pub fields: u32,
     /// The nesting of one type, a column's own option having depth 1.
     pub depth: u32,
-    /// How many bytes of texts and contents.
+    /// How many bytes of texts and contents, and of the scalars of cells that have no length of their own.
     pub bytes: u32,
 }
 
@@ -57,8 +58,8 @@ pub struct BuiltFrame {
 /// }
 /// ```
 ///
-/// What it does not build are pages, whose frames have cells: the kind of such a result is refused, and [`FrameBuilder::clear`] gives
-/// the frame up.
+/// What it does not build are scalars of cells in parts, which come where the limits of the decoder ask for parts: a part is refused, and
+/// [`FrameBuilder::clear`] gives the frame up.
 ///
 /// [`Decoder::next`]: https://docs.rs/cqlp_decode
 /// [`Sink`]: cqlp_grammar::Sink
@@ -82,6 +83,7 @@ impl FrameBuilder {
             held: Held {
                 alloc,
                 items: VecDeque::new(alloc),
+                cell: CellEvents::new(alloc),
                 fault: None,
             },
             header: None,
@@ -95,9 +97,9 @@ impl FrameBuilder {
     ///
     /// # Errors
     ///
-    /// [`BuildError::Misplaced`] at a header within a frame, and at all else between frames. [`BuildError::Unbuilt`] at the kind of a
-    /// page, and at what a cell has. At a field and at the kind of a type option [`BuildError::TooManyFields`] where as many as the
-    /// limits allow are held; else [`BuildError::TooDeep`] where the option is nested deeper than the limit; and else
+    /// [`BuildError::Misplaced`] at a header within a frame, and at all else between frames. [`BuildError::Unbuilt`] at a part of
+    /// a scalar of a cell. At a field, the kind of a type option and what else is told of a cell [`BuildError::TooManyFields`] where as many
+    /// as the limits allow are held; else [`BuildError::TooDeep`] where the option is nested deeper than the limit; and else
     /// [`BuildError::TooManyBytes`] where the field has more bytes than are left of the limit. After these the builder is as it was.
     /// [`BuildError::NoFrame`] at the end of a frame, where the events are those of no frame that is built, after which the builder is
     /// between frames. [`BuildError::NoMemory`] where memory was refused, after which it is as it was, or between frames where the
@@ -175,7 +177,7 @@ impl FrameBuilder {
         }
     }
 
-    /// A field or the kind of a type option comes, or what is neither.
+    /// What comes between a header and an end.
     fn hold(&mut self, event: &Event<'_>) -> Result<Option<BuiltFrame>, BuildError>
         requires { is_inner (event_of event.now) ≡ true }
         ensures { TakesEvent (state self.old) (event_of event.now) result (state self.new) }
@@ -196,12 +198,12 @@ impl FrameBuilder {
         if self.lacks_room(size) {
             return Err(BuildError::TooManyBytes);
         }
-        let Ok(item) = own(self.held.alloc, event) else {
-            return Err(BuildError::NoMemory);
-        };
         if self.make_room().is_err() {
             return Err(BuildError::NoMemory);
         }
+        let Ok(item) = own(self.held.alloc, event) else {
+            return Err(BuildError::NoMemory);
+        };
         self.held.items.push_back_reserved(item);
         self.nesting.go_on(event);
         self.room -= size;
@@ -240,23 +242,11 @@ impl FrameBuilder {
     }
 }
 
-/// Whether it is of a page alone.
+/// Whether it is a part of a scalar of a cell.
 fn is_unbuilt(event: &Event<'_>) -> bool
     ensures { result ≡ told_of.is_unbuilt (event_of event.now) }
 {
-    match event {
-        Event::Int {
-            field: Field::ResultKind,
-            value,
-        } => value.cast_unsigned() == result_kind::ROWS,
-        Event::Leaf { .. }
-        | Event::Null { .. }
-        | Event::Empty { .. }
-        | Event::Enter { .. }
-        | Event::Leave { .. }
-        | Event::Part { .. } => true,
-        _ => false,
-    }
+    matches!(event, Event::Part { .. })
 }
 
 /// How many bytes of a field the limit counts.
@@ -273,6 +263,7 @@ fn content_size(event: &Event<'_>) -> usize
             value: BoundValue::Bytes(bytes),
             ..
         } => bytes.len(),
+        Event::Leaf { scalar, .. } => scalar_size(scalar),
         _ => 0,
     }
 }

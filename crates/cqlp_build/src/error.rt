@@ -8,17 +8,17 @@ pub enum BuildError {
     /// A header came before the end of the frame before it, or something else where a header is due.
     #[error("an event of another place")]
     Misplaced,
-    /// The frame has more fields and type options than the limits allow.
+    /// The frame has more fields, type options and events of cells than the limits allow.
     #[error("too many fields")]
     TooManyFields,
     /// A type option is nested deeper than the limits allow.
     #[error("types nested too deep")]
     TooDeep,
-    /// The texts and contents of the frame have more bytes than the limits allow.
+    /// The texts and contents of the frame, those of its cells among them, have more bytes than the limits allow.
     #[error("too many bytes")]
     TooManyBytes,
-    /// The kind of a page, or what a cell has: these are not built.
-    #[error("pages are not built")]
+    /// A part of a scalar of a cell: without [`Limits::parts`](cqlp_note::Limits) each scalar comes whole.
+    #[error("a value in parts")]
     Unbuilt,
     /// The events are those of no frame: one is of another place than is due, or does not agree with what comes before it, or the
     /// end came too early.

@@ -5,10 +5,11 @@ ghost use Rattle.cqlp_note.specs.Field as note;
 ghost use Rattle.cqlp_note.specs.Heading.{has};
 ghost use Rattle.cqlp_grammar.specs.Events.{Holds};
 ghost use Rattle.cqlp_message.specs.Owned.{bound_of, bytes_of};
-ghost use Rattle.cqlp_build.specs.Held.{Builds, HoldsFewer, HoldsNoMore, TakesField, TakesKind, TakesValue, any, first_fault};
+ghost use Rattle.cqlp_build.specs.Held.{Builds, HoldsFewer, HoldsNoMore, TakesField, TakesKind, TakesStep, TakesValue, any, first_fault};
 
 use crate::content::FromContent;
 use crate::item::{Content, Item};
+use cqlp_build_cells::{Held as CellEvents, Step};
 use cqlp_kind::Kind;
 use cqlp_message::OwnedBound;
 use cqlp_note::{Address, Field};
@@ -37,6 +38,8 @@ pub(crate) enum Fault {
 pub(crate) struct Held {
     pub alloc: Global,
     pub items: VecDeque<Item>,
+    /// What is told of the cell that is under way.
+    pub cell: CellEvents,
     pub fault: Option<Fault>,
 }
 
@@ -69,6 +72,34 @@ impl Held {
         match self.items.pop_front() {
             Some(Item::Kind(kind)) => Some(kind),
             _ => None,
+        }
+    }
+
+    /// Takes the next event, if nothing was refused, and gives it with its level if it is told of the cell of this row and column.
+    pub fn next_step(&mut self, row: u32, column: u32) -> Option<(u32, Step)>
+        ensures is { TakesStep row column result self.old self.new }
+        ensures cell { self.new.cell ≡ self.old.cell }
+        ensures fewer { HoldsFewer result self.old self.new }
+    {
+        if self.fault.is_some() {
+            return None;
+        }
+        let Some(item) = self.items.pop_front() else {
+            return None;
+        };
+        let Item::Cell {
+            row: found_row,
+            column: found_column,
+            level,
+            step,
+        } = item
+        else {
+            return None;
+        };
+        if matches!(step, Step::Leave(_)) || (found_row == row && found_column == column) {
+            Some((level, step))
+        } else {
+            None
         }
     }
 

@@ -1,10 +1,12 @@
 //! Events that are held.
 
-ghost use Rattle.std.specs.Prelude.{◌≡◌, IfOk, Some, option_map};
-ghost use Rattle.cqlp_grammar.specs.Events.{bound_of as told_bound, event_of};
+ghost use Rattle.std.specs.Prelude.{◌≡◌, IfOk, Some, option_map, true};
+ghost use Rattle.cqlp_build_cells.specs.Building.{cell_of, is_whole};
+ghost use Rattle.cqlp_grammar.specs.Events.{bound_of as told_bound, cell_event, event_of};
 ghost use Rattle.cqlp_message.specs.Owned.{bound_of, bytes_of};
 ghost use Rattle.cqlp_build.specs.Held.{IsHeld, told_by};
 
+use cqlp_build_cells::{Step, own as own_step};
 use cqlp_grammar::Event;
 use cqlp_kind::Kind;
 use cqlp_message::OwnedBound;
@@ -18,6 +20,13 @@ pub(crate) enum Item {
     Holds(Field, Content),
     /// The kind of a type option.
     Kind(Kind),
+    /// What is told of the cell of a row and a column, at a level. The end of a value names no cell, and what it has here counts for nothing.
+    Cell {
+        row: u32,
+        column: u32,
+        level: u32,
+        step: Step,
+    },
 }
 
 /// What a field holds, with bytes of its own.
@@ -56,9 +65,28 @@ pub(crate) fn own(alloc: Global, event: &Event<'_>) -> Result<Item, AllocError>
             port,
         } => (field, Content::Inet(address, port)),
         Event::TypeNode(kind) => return Ok(Item::Kind(kind)),
+        Event::Leaf { row, column, .. }
+        | Event::Null { row, column, .. }
+        | Event::Empty { row, column, .. }
+        | Event::Enter { row, column, .. } => return own_cell(alloc, row, column, event),
+        Event::Leave { .. } => return own_cell(alloc, 0, 0, event),
         _ => unreachable!(),
     };
     Ok(Item::Holds(field, content))
+}
+
+/// The same of the cell of this row and column, with bytes of its own.
+fn own_cell(alloc: Global, row: u32, column: u32, event: &Event<'_>) -> Result<Item, AllocError>
+    requires { is_whole (event_of event.now) ≡ true }
+    ensures { IfOk result (λ item. option_map (cell_event row column) (cell_of (event_of event.now)) ≡ Some (told_by item)) }
+{
+    let (level, step) = own_step(alloc, event)?;
+    Ok(Item::Cell {
+        row,
+        column,
+        level,
+        step,
+    })
 }
 
 /// The same \[bytes\], with memory of their own.

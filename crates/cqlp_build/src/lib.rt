@@ -12,6 +12,7 @@ mod lists;
 mod messages;
 mod metadata;
 mod nesting;
+mod pages;
 mod requests;
 mod responses;
 mod types;

@@ -3,7 +3,7 @@
 ghost use Rattle.cqlp_message.specs.Owned.{message_of};
 ghost use Rattle.cqlp_build.specs.Productions.{BuildsMessage};
 
-use crate::held::{Fault, Held, has_flag};
+use crate::held::{Held, has_flag};
 use crate::lists::Wanted;
 use cqlp_grammar::result_kind;
 use cqlp_message::Message;
@@ -129,7 +129,7 @@ impl Held {
         Message::Supported(self.counted(Field::Options, Wanted::PLAIN))
     }
 
-    /// Takes a result that is no page.
+    /// Takes a result.
     fn result(&mut self) -> Message
         ensures { BuildsMessage Opcode.Result (message_of result) self.old self.new }
     {
@@ -139,10 +139,7 @@ impl Held {
             result_kind::SET_KEYSPACE => Message::SetKeyspace(self.text(Field::Keyspace)),
             result_kind::SCHEMA_CHANGE => Message::Change(self.change()),
             result_kind::PREPARED => Message::Prepared(self.prepared()),
-            result_kind::ROWS => {
-                self.refuse(Fault::NoFrame);
-                Message::Void
-            }
+            result_kind::ROWS => Message::Rows(self.page()),
             _ => Message::UnknownResult(kind),
         }
     }

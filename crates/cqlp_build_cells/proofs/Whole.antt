@@ -19,11 +19,11 @@ use Rattle.cqlp_build_cells.proofs.Steps.{both, join}
 
 -- ---- without parts
 
-abbrev is_no_part : CellEvent → Bool
+abbrev pub is_no_part : CellEvent → Bool
 is_no_part (Part level offset c last) = false
 is_no_part e = true
 
-abbrev have_none : List CellEvent → Bool
+abbrev pub have_none : List CellEvent → Bool
 have_none [] = true
 have_none (e ∷ es) = is_no_part e && have_none es
 
@@ -33,6 +33,12 @@ both_none (x ∷ xs) ys e =
     let p = both (is_no_part x) (have_none (xs ++ ys)) e in
     let r = both_none xs ys p.1 in
     (join (is_no_part x) (have_none xs) p.0 r.0, r.1)
+
+all_none : (xs ys : List CellEvent) → have_none xs ≡ true → have_none ys ≡ true → have_none (xs ++ ys) ≡ true
+all_none [] ys p q = q
+all_none (x ∷ xs) ys p q =
+    let r = both (is_no_part x) (have_none xs) p in
+    join (is_no_part x) (have_none (xs ++ ys)) r.0 (all_none xs ys r.1 q)
 
 step_none : (s : ℕ × Step) → is_no_part (told_by s) ≡ true
 step_none (level, step.Leaf a) = refl
@@ -44,6 +50,18 @@ step_none (level, step.Leave n) = refl
 steps_none : (ss : List (ℕ × Step)) → have_none (map told_by ss) ≡ true
 steps_none [] = refl
 steps_none (s ∷ ss) = join (is_no_part (told_by s)) (have_none (map told_by ss)) (step_none s) (steps_none ss)
+
+-- nor have the values that are said
+pub said_none : (level : ℕ) (ts : Types) (vs : Values) → have_none (values_said level ts vs) ≡ true
+said_none level NoMore vs = refl
+said_none level (Type_and k inner ts) NoValue = refl
+said_none level (Type_and k inner ts) (Null_and vs) = said_none level ts vs
+said_none level (Type_and k inner ts) (Empty_and vs) = said_none level ts vs
+said_none level (Type_and k inner ts) (Scalar_and v vs) = said_none level ts vs
+said_none level (Type_and k inner ts) (Counted_and j n items vs) =
+    all_none (values_said (level + 1) (type_copies n inner) items) (Leave level n ∷ values_said level ts vs) (said_none (level + 1) (type_copies n inner) items) (said_none level ts vs)
+said_none level (Type_and k inner ts) (Fields_and j items vs) =
+    all_none (values_said (level + 1) (first_types (values_in items) inner) items) (Leave level (values_in items) ∷ values_said level ts vs) (said_none (level + 1) (first_types (values_in items) inner) items) (said_none level ts vs)
 
 module _ (l : Rules) where
   abbrev told : List (ℕ × CellEvent) → List CellEvent
@@ -57,7 +75,7 @@ module _ (l : Rules) where
   ] refl
 
   -- nothing comes in parts, as no limit asks for it, or none came
-  abbrev NoParts : List (ℕ × CellEvent) → Type 0
+  abbrev pub NoParts : List (ℕ × CellEvent) → Type 0
   NoParts es = (l.parts ≡ false) ⊎ (have_none (told es) ≡ true)
 
   front : (xs ys : List (ℕ × CellEvent)) → NoParts (xs ++ ys) → NoParts xs
@@ -117,7 +135,7 @@ module _ (l : Rules) where
 
 -- limits without parts
 abbrev whole_limits : Rules
-whole_limits = record { text = 0; cell = 0; entries = 0; depth = 0; part = 0; types = true; parts = false }
+whole_limits = record { text = 0; cell = 0; entries = 0; depth = 0; part = 0; types = true; parts = false; lenient = false }
 
 -- ---- the whole cell
 

@@ -13,13 +13,12 @@ ghost use Rattle.cqlp_build_cells.specs.Said.{IsReadable};
 
 use crate::error::CellError;
 use crate::held::{Fault, Held};
-use crate::step::own;
+use crate::step::{own, scalar_size};
 use cqlp_grammar::Event;
 use cqlp_kind::Kind;
 use cqlp_type::{TypeTree, check_type};
-use cqlp_value::{Scalar, Value};
-use std::alloc::{AllocError, Global};
-use std::collections::VecDeque;
+use cqlp_value::Value;
+use std::alloc::Global;
 
 /// What a builder may hold of one cell.
 #[derive(Clone, Copy, Debug, PartialEq, Eq)]
@@ -61,11 +60,7 @@ impl CellBuilder {
         ensures { state result ≡ empty limits }
     {
         CellBuilder {
-            held: Held {
-                alloc,
-                items: VecDeque::new(alloc),
-                fault: None,
-            },
+            held: Held::new(alloc),
             place: None,
             limits,
             room: limits.bytes as usize,
@@ -182,8 +177,12 @@ impl CellBuilder {
 }
 
 impl Held {
-    /// The value of this type whose events are those that are held.
-    fn whole(&mut self, tree: &TypeTree) -> Result<Value, CellError>
+    /// The value of this type whose events are those that are held, or of a cell without a type where that is a plain `Raw`.
+    ///
+    /// # Errors
+    ///
+    /// [`CellError::NoValue`] where the events are those of no value of the type, and [`CellError::NoMemory`] where memory was refused.
+    pub fn whole(&mut self, tree: &TypeTree) -> Result<Value, CellError>
         requires { IsReadable tree.now }
         ensures { FinishesAs (left self.old) (types_in (tree_of tree.now)) result }
     {
@@ -250,19 +249,6 @@ fn content_size(event: &Event<'_>) -> usize
 {
     match event {
         Event::Leaf { scalar, .. } => scalar_size(scalar),
-        _ => 0,
-    }
-}
-
-/// How many bytes a scalar has that has no length of its own.
-fn scalar_size(scalar: &Scalar<'_>) -> usize
-    ensures { result ≡ told.scalar_size (value_of scalar.now) }
-{
-    match scalar {
-        Scalar::Custom(bytes) | Scalar::Blob(bytes) | Scalar::Varint(bytes) | Scalar::Raw(bytes) =>
-            { bytes.len() }
-        Scalar::Ascii(text) | Scalar::Varchar(text) => text.len(),
-        Scalar::Decimal { unscaled, .. } => unscaled.len(),
         _ => 0,
     }
 }

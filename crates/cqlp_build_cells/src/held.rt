@@ -1,17 +1,17 @@
 //! The events that are held of a cell, and what is taken of them.
 
-ghost use Rattle.std.specs.Prelude.{◌≡◌, ◌↔◌, ◌∷◌, IsTrue, [], true};
+ghost use Rattle.std.specs.Prelude.{◌≡◌, ◌↔◌, ◌∷◌, ◌++◌, IsTrue, OnOk, [], true};
 ghost use Rattle.cqlp_build_cells.specs.Held as told;
-ghost use Rattle.cqlp_build_cells.specs.Held.{Builds, HoldsFewer, HoldsNoMore, TakesStep, any, begins_with_leave, first_fault, left};
+ghost use Rattle.cqlp_build_cells.specs.Held.{Builds, HoldsFewer, HoldsNoMore, TakesStep, any, begins_with_leave, first_fault, left, told_at};
 ghost use Rattle.cqlp_kind.specs.CellStep.{Leave};
 
 use crate::step::Step;
-use std::alloc::Global;
+use std::alloc::{AllocError, Global};
 use std::collections::VecDeque;
 
 /// Why nothing more is taken.
 #[derive(Clone, Copy, Debug, PartialEq, Eq)]
-pub(crate) enum Fault {
+pub enum Fault {
     /// Another event was due, or none.
     NoValue,
     /// Memory was refused.
@@ -21,14 +21,45 @@ pub(crate) enum Fault {
 /// The events of a cell, each of which is taken once. What takes one gives a value, and where another event was due some value, and
 /// keeps the fault: nothing is taken after it.
 #[derive(Drop)]
-pub(crate) struct Held {
-    pub alloc: Global,
+pub struct Held {
+    pub(crate) alloc: Global,
     /// Each at its level.
-    pub items: VecDeque<(u32, Step)>,
-    pub fault: Option<Fault>,
+    pub(crate) items: VecDeque<(u32, Step)>,
+    pub(crate) fault: Option<Fault>,
 }
 
 impl Held {
+    /// No events, for which it asks for no memory.
+    pub fn new(alloc: Global) -> Held
+        ensures { left result ≡ [] }
+    {
+        Held {
+            alloc,
+            items: VecDeque::new(alloc),
+            fault: None,
+        }
+    }
+
+    /// Forgets all events. The room that it has asked for is kept.
+    pub fn clear(&mut self)
+        ensures { left self.new ≡ [] }
+    {
+        self.items.clear();
+    }
+
+    /// Holds one more event, at its level.
+    ///
+    /// # Errors
+    ///
+    /// [`AllocError`] where memory was refused, after which it is as it was.
+    pub fn push(&mut self, level: u32, step: Step) -> Result<(), AllocError>
+        ensures is { OnOk result (left self.new ≡ left self.old ++ told_at level step ∷ []) }
+    {
+        self.items.reserve(1)?;
+        self.items.push_back_reserved((level, step));
+        Ok(())
+    }
+
     /// Takes the next event, if nothing was refused, and gives it if it is at this level.
     pub fn next(&mut self, level: usize) -> Option<Step>
         ensures is { TakesStep level result self.old self.new }

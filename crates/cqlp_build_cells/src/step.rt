@@ -4,8 +4,9 @@ ghost use Rattle.std.specs.Prelude.{◌≡◌, IfOk, Some, true};
 ghost use Rattle.cqlp_grammar.specs.Events.{event_of};
 ghost use Rattle.cqlp_kind.specs.Contents.{value_of};
 ghost use Rattle.cqlp_value.specs.Owned.{atom_of};
+ghost use Rattle.cqlp_build_cells.specs.Building as told;
 ghost use Rattle.cqlp_build_cells.specs.Building.{cell_of, is_whole};
-ghost use Rattle.cqlp_build_cells.specs.Held.{told_by};
+ghost use Rattle.cqlp_build_cells.specs.Held.{told_at, told_by};
 
 use cqlp_grammar::Event;
 use cqlp_kind::{Kind, Scalar};
@@ -14,7 +15,7 @@ use std::alloc::{AllocError, Global};
 
 /// What is told of a value at its level, with bytes of its own.
 #[derive(Drop)]
-pub(crate) enum Step {
+pub enum Step {
     Leaf(Atom),
     Null,
     Empty,
@@ -25,7 +26,7 @@ pub(crate) enum Step {
 }
 
 /// The same, with bytes of its own, at its level.
-pub(crate) fn own(alloc: Global, event: &Event<'_>) -> Result<(u32, Step), AllocError>
+pub fn own(alloc: Global, event: &Event<'_>) -> Result<(u32, Step), AllocError>
     requires { is_whole (event_of event.now) ≡ true }
     ensures { IfOk result (λ s. cell_of (event_of event.now) ≡ Some (told_by s)) }
 {
@@ -75,4 +76,29 @@ fn own_scalar(alloc: Global, scalar: Scalar<'_>) -> Result<Atom, AllocError>
         Scalar::Raw(bytes) => Atom::Raw(Vec::from_slice(alloc, bytes)?),
     };
     Ok(atom)
+}
+
+/// How many bytes a scalar has that has no length of its own.
+pub fn scalar_size(scalar: &Scalar<'_>) -> usize
+    ensures { result ≡ told.scalar_size (value_of scalar.now) }
+{
+    match scalar {
+        Scalar::Custom(bytes) | Scalar::Blob(bytes) | Scalar::Varint(bytes) | Scalar::Raw(bytes) =>
+            { bytes.len() }
+        Scalar::Ascii(text) | Scalar::Varchar(text) => text.len(),
+        Scalar::Decimal { unscaled, .. } => unscaled.len(),
+        _ => 0,
+    }
+}
+
+/// Whether nothing of its cell comes after what is told at this level: a value at level 0, or the end of one; not the beginning of one
+/// with items.
+#[must_use]
+pub fn ends(level: u32, step: &Step) -> bool
+    ensures { result ≡ told.ends (told_at level step.now) }
+{
+    match step {
+        Step::Enter(_, _) => false,
+        _ => level == 0,
+    }
 }

@@ -1,15 +1,21 @@
 -- Of events there is one frame, and what is written of it is read as them.
-use Rattle.std.proofs.Common.{◌≡◌, ℕ, ◌⊎◌, inl, inr, Bool, true, false, nat_lt, List, [], ◌∷◌, length, refl, sym, ap, ◌∙◌, subst, Ok, Err}
+use Rattle.std.proofs.Common.{◌≡◌, ℕ, ◌+◌, ◌++◌, ◌⊎◌, inl, inr, Bool, true, false, nat_lt, List, [], ◌∷◌, length, refl, sym, ap, ◌∙◌, subst, Ok, Err}
 use Rattle.std.specs.Prelude.{Result}
 use Rattle.cqlp_note.specs.declared.header.Header.{Header}
 use Rattle.cqlp_grammar.specs.Events.{Event, Frame, Holds, Node_of, Cell_at, Leave, End}
-use Rattle.cqlp_message.specs.Frames.{Flat, frame_bytes}
+use Rattle.cqlp_note.specs.Limits.{Rules}
+use Rattle.cqlp_message.specs.FrameValues.{FrameValue}
+use Rattle.cqlp_message.specs.Parts.{parts_size}
+use Rattle.cqlp_message.specs.Frames.{Flat, frame_bytes, frame_parts, header_of}
+use Rattle.cqlp_build.specs.Laws.{told_all}
 use Rattle.cqlp_message.specs.Owned.{frame_of}
 use Rattle.cqlp_message.specs.declared.frame.Frame.{Frame as OwnedFrame}
 use Rattle.cqlp_build.specs.declared.error.BuildError.{BuildError}
 use Rattle.cqlp_build.specs.declared.error.BuildError.TheVariants as error
-use Rattle.cqlp_build.specs.Closing.{Ends}
-use Rattle.cqlp_build.proofs.FrameViews.{frame_said}
+use Rattle.cqlp_build.specs.Building.{HaveNoParts}
+use Rattle.cqlp_build.specs.Closing.{Ends, of_length}
+use Rattle.cqlp_build.proofs.FrameViews.{body_of, body_told, frame_said, none_both}
+use Rattle.cqlp_build.proofs.Finishing.{is_frame_of}
 use Rattle.cqlp_compose.specs.Composing.{ComposerState, IsWrittenOf}
 use Rattle.cqlp_decode.specs.Reading.{Says, Waits, start}
 use Rattle.cqlp_laws.proofs.WrittenFrames.{written_is_read}
@@ -19,7 +25,7 @@ use Rattle.cqlp_c.specs.declared.encode.Unencoded.{Unencoded}
 use Rattle.cqlp_c.specs.declared.encode.Unencoded.TheVariants as unencoded
 use Rattle.cqlp_c.specs.declared.event.CqlpEvent.{CqlpEvent}
 use Rattle.cqlp_c.specs.declared.numbers.TheConstants as numbers
-use Rattle.cqlp_c.specs.EncodeLaws.{IsReadAs}
+use Rattle.cqlp_c.specs.EncodeLaws.{AreWhole, IsReadAs}
 use Rattle.cqlp_c.specs.Encoding.{Encodes, HasNone, IsEncoded, IsUnencodedAt, PutsFrame, PutsNone, StopsFor, Taken, after_all, at_first, code_of_unencoded}
 use Rattle.cqlp_c.specs.Rooms.{PutsBytes, PutsWhere}
 
@@ -220,10 +226,18 @@ module _ (cs : List CqlpEvent) (contents before : List ℕ) (a b : ℕ) (one oth
 
 -- ---- what is written is read
 
+-- between a header and an end nothing comes in parts either
+body_whole : (l : Rules) (f : FrameValue) → AreWhole l (told_all (Flat l 0 f 0)) → AreWhole l (body_of l 0 f)
+body_whole l f (inl e) = inl e
+body_whole l f (inr n) =
+    let head = Frame (header_of f (parts_size (frame_parts f) + 0)) in
+    inr (none_both (head ∷ body_of l 0 f) (End 0 ∷ []) (subst HaveNoParts (frame_said l 0 f 0) n)).0
+
 pub written_is_told : (h : Header) (fields : List Event) (bytes : List ℕ) → IsWrittenOf (Frame h ∷ fields) bytes → IsReadAs h fields bytes
 written_is_told h fields bytes w =
     let f = frame_of w.frame in
     let e = w.ends in
+    let i = is_frame_of (of_length h e.size) fields 0 f 0 e.whole e.are in
     record {
       size = e.size;
       frame = f;
@@ -231,7 +245,9 @@ written_is_told h fields bytes w =
       said = λ l within. (
         Flat l 0 f 0,
         subst (λ (b : List ℕ). Says l start b (Flat l 0 f 0) Waits) (sym w.are) (written_is_read f w.range l e.can.0 within),
-        frame_said l 0 f 0 e.can ∙ sym (frame_said e.are.rules e.are.at f 0 e.can) ∙ e.are.are,
+        λ whole. frame_said l 0 f 0
+            ∙ ap (λ k. Frame k ∷ body_of l 0 f ++ End 0 ∷ []) i.header
+            ∙ ap (λ r. Frame (of_length h e.size) ∷ r ++ End 0 ∷ []) (body_told l 0 f (body_whole l f whole) ∙ i.parts),
       );
     }
 

@@ -7,7 +7,7 @@ use Rattle.cqlp_grammar.specs.Events.{Event, Frame, End}
 use Rattle.cqlp_message.specs.FrameValues.{FrameValue}
 use Rattle.cqlp_message.specs.Frames.{IsWithin, frame_bytes}
 use Rattle.cqlp_decode.specs.Reading.{Waits, Says, start}
-use Rattle.cqlp_build.specs.Building.{is_inner}
+use Rattle.cqlp_build.specs.Building.{HaveNoParts, is_inner}
 use Rattle.cqlp_build.specs.Closing.{closed}
 use Rattle.cqlp_build.specs.Laws.{told_all}
 use Rattle.cqlp_compose.specs.Composing.{ComposerState, IsWrittenOf, refusal_of, with_next}
@@ -53,13 +53,18 @@ AllAreToldBack =
 
 -- ---- what is written
 
--- The bytes are those of a frame, and a decoder within whose limits it is reads of them its header with these fields and an end.
+-- No scalar of a cell comes in parts, as no limit asks for it, or none does.
+abbrev pub AreWhole : Rules → List Event → Type 0
+AreWhole l es = (l.parts ≡ false) ⊎ HaveNoParts es
+
+-- The bytes are those of a frame, and a decoder within whose limits it is reads of them its header with these fields and an end, where no
+-- scalar of a cell comes in parts.
 pub record IsReadAs (h : Header) (fields : List Event) (bytes : List ℕ) : Type 0 where
   pub size : ℕ
   pub frame : FrameValue
   pub are : bytes ≡ frame_bytes frame
   pub said : (l : Rules) → IsWithin l frame
-      → (told : List (ℕ × Event)) × Says l start bytes told Waits × (told_all told ≡ closed h size fields)
+      → (told : List (ℕ × Event)) × Says l start bytes told Waits × (AreWhole l (told_all told) → told_all told ≡ closed h size fields)
 
 -- What is written of a header and fields is read as these.
 abbrev pub WrittenIsTold : Type 0

@@ -69,8 +69,8 @@ TakesAll t cs (Err r) new = StopsAt t cs r.event r.why
 
 -- ---- the frame
 
--- No frame has more fields and type options, nor more bytes of texts and contents, than its body has bytes; and no decoder reads types
--- that are nested deeper.
+-- No frame has more fields, type options and events of cells, nor more bytes of texts and contents, than its body has bytes; and no
+-- decoder reads types that are nested deeper.
 abbrev pub longest : BuildLimits
 longest = record { fields = LONGEST_BODY; depth = DEPTH.greatest; bytes = LONGEST_BODY }
 

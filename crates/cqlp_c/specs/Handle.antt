@@ -1,5 +1,5 @@
 -- What a handle owns, and what calls on one answer.
-use Rattle.std.specs.Prelude.{◌≡◌, ℕ, ◌-◌, ◌≤◌, ◌++◌, min, List, [], length, take, drop, Option, None, Some, Result, Ok, Err, ◌⊎◌}
+use Rattle.std.specs.Prelude.{◌≡◌, ℕ, Bool, ◌-◌, ◌≤◌, ◌++◌, min, List, [], length, take, drop, Option, None, Some, Result, Ok, Err, ◌⊎◌}
 use Rattle.std.specs.Borrow.{Bor}
 use Rattle.std.specs.Ptr.{Ptr}
 use denote.RawPtr.{◌+ₚ◌}
@@ -7,13 +7,13 @@ use base.Fml.{Fml, ftrue}
 use Rattle.cqlp_note.specs.declared.limits.BadLimits.{BadLimits}
 use Rattle.cqlp_note.specs.declared.limits.Limits.{Limits}
 use Rattle.cqlp_note.specs.declared.refusal.Refusal.{Refusal}
-use Rattle.cqlp_note.specs.Limits.{first_bad}
+use Rattle.cqlp_note.specs.Limits.{first_bad, rules_of, with_lenient}
 use Rattle.cqlp_grammar.specs.declared.event.Finish.{Finish}
 use Rattle.cqlp_grammar.specs.declared.event.Finish.TheVariants as finish
 use Rattle.cqlp_decode.specs.declared.step.Held.{Held}
 use Rattle.cqlp_decode.specs.Progress.{StreamState}
 use Rattle.cqlp_decode.specs.Streams.{After, Decoding, EndsAs, HoldsNothing, IsWithin, buffer_of, state}
-use Rattle.cqlp_laws.specs.OneAnswer.{IsHeld, IsNew}
+use Rattle.cqlp_laws.specs.OneAnswer.{IsAtStart, IsHeld}
 use Rattle.cqlp_c.specs.declared.batch.Batch.{Batch}
 use Rattle.cqlp_c.specs.declared.course.CqlpCourse.{CqlpCourse}
 use Rattle.cqlp_c.specs.declared.course.CqlpSkipped.{CqlpSkipped}
@@ -40,18 +40,18 @@ flag_of (Some x) = 1
 
 -- ---- new
 
--- A decoder is made where memory is there and no limit is out of its range; else the code says what is not so, and the
--- handle stays empty.
-abbrev pub MakesAnew : Limits → Result Unit BadLimits → (code : ℕ) → (new : Option Decoding) → Type 0
-MakesAnew l (Err limit) code new = (code ≡ code_of_limit limit) × (new ≡ None)
-MakesAnew l (Ok u) code new =
+-- A decoder, which is lenient or not, is made where memory is there and no limit is out of its range; else the code says what is
+-- not so, and the handle stays empty.
+abbrev pub MakesAnew : (lenient : Bool) → Limits → Result Unit BadLimits → (code : ℕ) → (new : Option Decoding) → Type 0
+MakesAnew lenient l (Err limit) code new = (code ≡ code_of_limit limit) × (new ≡ None)
+MakesAnew lenient l (Ok u) code new =
     ((code ≡ numbers.NO_MEMORY) × (new ≡ None))
-    ⊎ ((code ≡ numbers.DONE) × (d : Decoding) × (new ≡ Some d) × IsNew l d)
+    ⊎ ((code ≡ numbers.DONE) × (d : Decoding) × (new ≡ Some d) × IsAtStart (with_lenient lenient (rules_of l)) d)
 
--- What `cqlp_new` makes of a handle: one in use is refused, and stays as it is.
-abbrev pub Makes : Limits → (old : Option Decoding) → (code : ℕ) → (new : Option Decoding) → Type 0
-Makes l None code new = MakesAnew l (first_bad l) code new
-Makes l (Some d) code new = (code ≡ numbers.IN_USE) × (new ≡ Some d)
+-- What `cqlp_new` and `cqlp_new_lenient` make of a handle: one in use is refused, and stays as it is.
+abbrev pub Makes : (lenient : Bool) → Limits → (old : Option Decoding) → (code : ℕ) → (new : Option Decoding) → Type 0
+Makes lenient l None code new = MakesAnew lenient l (first_bad l) code new
+Makes lenient l (Some d) code new = (code ≡ numbers.IN_USE) × (new ≡ Some d)
 
 -- ---- next
 

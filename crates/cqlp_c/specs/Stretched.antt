@@ -1,12 +1,13 @@
 -- What calls over skips leave, in the words of cqlp_skip: a stream that is read in stretches.
-use Rattle.std.specs.Prelude.{◌≡◌, ℕ, zero, suc, ◌+◌, ◌++◌, List, [], ◌∷◌, length, take, drop, Option, Some, None, Result, Ok, Err, ◌⊎◌, ⊤}
+use Rattle.std.specs.Prelude.{◌≡◌, ℕ, Bool, zero, suc, ◌+◌, ◌++◌, List, [], ◌∷◌, length, take, drop, Option, Some, None, Result, Ok, Err, ◌⊎◌, ⊤}
 use Rattle.std.specs.Ptr.{Ptr}
 use Rattle.cqlp_note.specs.declared.limits.Limits.{Limits}
 use Rattle.cqlp_note.specs.declared.refusal.Refusal.{Refusal}
+use Rattle.cqlp_note.specs.Limits.{rules_of, with_lenient}
 use Rattle.cqlp_grammar.specs.declared.event.Finish.{Finish}
 use Rattle.cqlp_decode.specs.Reading.{Event, Gifts, Says, Waits, start_with}
 use Rattle.cqlp_decode.specs.Streams.{AfterGifts, Decoding, state}
-use Rattle.cqlp_laws.specs.OneAnswer.{IsAtStart, IsNew}
+use Rattle.cqlp_laws.specs.OneAnswer.{IsAtStart}
 use Rattle.cqlp_skip.specs.declared.fed.Skipped.{Skipped}
 use Rattle.cqlp_skip.specs.declared.fed.NotSkippable.{NotSkippable}
 use Rattle.cqlp_skip.specs.declared.fed.NotSkippable.TheVariants as why
@@ -107,9 +108,11 @@ SkipsBy (Ok x) xs old new from to s stretches gifts events code was told =
 
 -- ---- the laws
 
--- a decoder that was made is at the start of any stream
+-- a decoder that was made, lenient or not, is at the start of any stream
 abbrev pub NewBegins : Type 0
-NewBegins = (limits : Limits) (xs : List ℕ) (d : Decoding) → IsNew limits d → AfterCalls xs d at_start [] [] [] []
+NewBegins =
+    (limits : Limits) (lenient : Bool) (xs : List ℕ) (d : Decoding)
+    → IsAtStart (with_lenient lenient (rules_of limits)) d → AfterCalls xs d at_start [] [] [] []
 
 -- a call over the next piece of a stream reads on in its present stretch
 abbrev pub NextReadsOn : Type 0

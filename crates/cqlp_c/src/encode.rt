@@ -86,8 +86,8 @@ fn take_all<'a>(
 fn frame_bytes(alloc: Global, events: &[CqlpEvent], contents: &[u8]) -> Result<Vec<u8>, Stopped>
     ensures { MatchResult result (λ v. IsEncoded events.now contents.now v.items) (λ r. IsUnencoded events.now contents.now r) }
 {
-    // No frame has more fields and type options, nor more bytes of texts and contents, than its body has bytes. No decoder reads types that
-    // are nested deeper than this.
+    // No frame has more fields, type options and events of cells, nor more bytes of texts and contents, than its body has bytes. No decoder
+    // reads types that are nested deeper than this.
     let limits = BuildLimits {
         fields: Header::LONGEST_BODY,
         depth: Limits::DEPTH.greatest,

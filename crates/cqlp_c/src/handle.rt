@@ -1,15 +1,15 @@
 //! A decoder that C holds.
 
-ghost use Rattle.std.specs.Prelude.{◌≡◌, ◌<◌, ◌↔◌, Option, Err, None, Some, IfNone, IfOk, IfSome, IsErrOf};
+ghost use Rattle.std.specs.Prelude.{◌≡◌, ◌<◌, ◌↔◌, Option, Err, None, Some, true, false, IfNone, IfOk, IfSome, IsErrOf};
 ghost use Rattle.std.specs.Box.Ownership.{box_owns};
 ghost use Rattle.std.specs.Ptr.{as_ptr};
 ghost use Rattle.std.specs.contracts.alloc.Global as heap;
 ghost use Rattle.std.specs.contracts.impls.GlobalAllocator.TheImpl.{ghosts};
 ghost use Rattle.cqlp_note.specs.declared.limits.BadLimits.{BadLimits as Bad};
-ghost use Rattle.cqlp_note.specs.Limits.{first_bad};
+ghost use Rattle.cqlp_note.specs.Limits.{first_bad, rules_of, with_lenient};
 ghost use Rattle.cqlp_decode.specs.Streams.{Decoding, state};
 ghost use Rattle.cqlp_decode.specs.contracts.decoder.Decoder as decoder;
-ghost use Rattle.cqlp_laws.specs.OneAnswer.{IsNew};
+ghost use Rattle.cqlp_laws.specs.OneAnswer.{IsAtStart};
 ghost use Rattle.cqlp_c.specs.Course.{course_of_new};
 ghost use Rattle.cqlp_c.specs.Handle.{Finishes, Holds, Makes, Nexts, PassesOver, PutsOn, Skips, code_of_free, flag_of, owned_in};
 ghost use Rattle.cqlp_c.specs.Shown as shown;
@@ -118,12 +118,24 @@ pub(crate) fn taken(held: CqlpHeldDecoder, alloc: Global) -> Option<Box<Decoder<
     }
 }
 
-/// A decoder with these limits, on the heap.
-fn make(alloc: Global, limits: Limits) -> Result<Box<Decoder<Global>>, NewError>
+/// A decoder with these limits, which is lenient or not.
+fn new_decoder(alloc: Global, limits: Limits, lenient: bool) -> Result<Decoder<Global>, NewError>
     ensures bad { (b : Bad) → IsErrOf result (NewError.BadLimits b) ↔ (first_bad limits ≡ Err b) }
-    ensures fresh { IfOk result (λ b. IsNew limits b.value) }
+    ensures fresh { IfOk result (λ d. IsAtStart (with_lenient lenient (rules_of limits)) d) }
 {
-    match Decoder::new(alloc, limits) {
+    if lenient {
+        Decoder::lenient(alloc, limits)
+    } else {
+        Decoder::new(alloc, limits)
+    }
+}
+
+/// The same, on the heap.
+fn make(alloc: Global, limits: Limits, lenient: bool) -> Result<Box<Decoder<Global>>, NewError>
+    ensures bad { (b : Bad) → IsErrOf result (NewError.BadLimits b) ↔ (first_bad limits ≡ Err b) }
+    ensures fresh { IfOk result (λ b. IsAtStart (with_lenient lenient (rules_of limits)) b.value) }
+{
+    match new_decoder(alloc, limits, lenient) {
         Ok(decoder) => match Box::new(alloc, decoder) {
             Ok(boxed) => Ok(boxed),
             Err(_) => Err(NewError::NoMemory),
@@ -135,13 +147,34 @@ fn make(alloc: Global, limits: Limits) -> Result<Box<Decoder<Global>>, NewError>
 /// Makes a decoder in a handle that has none, at the start of a stream.
 #[unsafe(no_mangle)]
 pub extern "C" fn cqlp_new(alloc: Global, limits: &CqlpLimits, decoder: &mut CqlpDecoder) -> u32
-    ensures makes { Makes (shown.limits_of limits.now) decoder.old.held.place.value result decoder.new.held.place.value }
+    ensures makes { Makes false (shown.limits_of limits.now) decoder.old.held.place.value result decoder.new.held.place.value }
+    ensures course { decoder.new.course ≡ course_of_new result decoder.old.course }
+{
+    fill_handle(alloc, limits, false, decoder)
+}
+
+/// The same, for a lenient reading.
+#[unsafe(no_mangle)]
+pub extern "C" fn cqlp_new_lenient(
+    alloc: Global,
+    limits: &CqlpLimits,
+    decoder: &mut CqlpDecoder,
+) -> u32
+    ensures makes { Makes true (shown.limits_of limits.now) decoder.old.held.place.value result decoder.new.held.place.value }
+    ensures course { decoder.new.course ≡ course_of_new result decoder.old.course }
+{
+    fill_handle(alloc, limits, true, decoder)
+}
+
+/// Puts a decoder, which is lenient or not, into a handle that has none.
+fn fill_handle(alloc: Global, limits: &CqlpLimits, lenient: bool, decoder: &mut CqlpDecoder) -> u32
+    ensures makes { Makes lenient (shown.limits_of limits.now) decoder.old.held.place.value result decoder.new.held.place.value }
     ensures course { decoder.new.course ≡ course_of_new result decoder.old.course }
 {
     if decoder.held.live != 0 {
         return IN_USE;
     }
-    match make(alloc, limits_of(limits)) {
+    match make(alloc, limits_of(limits), lenient) {
         Ok(boxed) => {
             decoder.held = holding(boxed);
             decoder.course = CqlpCourse::start();

@@ -32,7 +32,7 @@ pub use encode::{CqlpEncoded, cqlp_encode};
 pub use event::CqlpEvent;
 pub use handle::{
     CqlpDecoder, CqlpHeldDecoder, CqlpPlace, cqlp_finish, cqlp_free, cqlp_held, cqlp_new,
-    cqlp_next, cqlp_skip,
+    cqlp_new_lenient, cqlp_next, cqlp_skip,
 };
 pub use header::{CqlpHeader, cqlp_write_header};
 pub use laws::{

@@ -15,7 +15,7 @@ use cqlp_note::{BoundValue, Field, Header, Opcode};
 pub enum NotTold {
     /// No such tag, field, kind, opcode or mark, a number out of its range, a text that is not UTF-8, or fewer bytes than its length.
     NoEvent,
-    /// A part of a content, of which no frame is made.
+    /// A part of a scalar of a cell, of which no frame is made.
     Unbuilt,
 }
 

@@ -93,8 +93,13 @@ fn put_gap<P: Pen>(
 }
 
 impl<A: Allocator> Transcript<A> for Lines {
+    ghost use Rattle.std.specs.Prelude.{false};
     ghost use Rattle.cqlp_capture_events.specs.declared.lines.Lines.{Lines};
     ghost use Rattle.cqlp_capture_events.specs.Lines.{line_manner};
+
+    type Fault = SinkFault;
+
+    ghost refuses = { λ _. false };
 
     ghost State = { Lines };
 
@@ -111,6 +116,7 @@ impl<A: Allocator> Transcript<A> for Lines {
         Ok(None)
     }
 
+    #[tactic(auto, using(cqlp_capture_frames::proofs::Faults::writes_takes))]
     fn event<P: Pen>(
         &mut self,
         at: u64,
@@ -120,6 +126,7 @@ impl<A: Allocator> Transcript<A> for Lines {
         put_event(writer, *self, at, event)
     }
 
+    #[tactic(auto, using(cqlp_capture_frames::proofs::Faults::writes_takes))]
     fn refusal<P: Pen>(
         &mut self,
         at: u64,
@@ -129,6 +136,7 @@ impl<A: Allocator> Transcript<A> for Lines {
         put_refused(writer, *self, at, why)
     }
 
+    #[tactic(auto, using(cqlp_capture_frames::proofs::Faults::writes_takes))]
     fn compressed<P: Pen>(
         &mut self,
         at: u64,
@@ -138,6 +146,7 @@ impl<A: Allocator> Transcript<A> for Lines {
         put_compressed(writer, *self, at)
     }
 
+    #[tactic(auto, using(cqlp_capture_frames::proofs::Faults::writes_takes))]
     fn gap<P: Pen>(
         &mut self,
         at: u64,

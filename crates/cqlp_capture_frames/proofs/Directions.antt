@@ -1,5 +1,5 @@
 -- What bytes tell, step by step.
-use Rattle.std.proofs.Common.{◌≡◌, ◌∙◌, ◌-◌, ◌<◌, ◌≤◌, ◌&&◌, ◌==◌, length, ℕ, zero, suc, Bool, true, false, List, [], ◌∷◌, ◌++◌, take, drop, if◌then◌else◌, Option, None, Some, Result, Ok, Err, IsErr, OnOk, refl, sym, ap, subst, append-nil, arith}
+use Rattle.std.proofs.Common.{◌≡◌, ◌∙◌, ◌-◌, ◌<◌, ◌≤◌, ◌&&◌, ◌==◌, length, ℕ, zero, suc, Bool, true, false, List, [], ◌∷◌, ◌++◌, take, drop, if◌then◌else◌, Option, None, Some, Result, Ok, Err, IsErr, IsErrAnd, OnOk, refl, sym, ap, subst, append-nil, arith}
 use Rattle.std.proofs.lemmas.Grind.{common_steps}
 use Rattle.cqlp_note.specs.declared.refusal.Refusal.{Refusal}
 use Rattle.cqlp_note.specs.Limits.{Rules}
@@ -9,16 +9,17 @@ use Rattle.cqlp_watch.specs.declared.heads.Heard.{Heard}
 use Rattle.cqlp_watch.specs.declared.heads.HeardStep.{HeardStep}
 use Rattle.cqlp_watch.specs.Directions as watch
 use Rattle.cqlp_watch.specs.Directions.{Steps, stepping}
-use Rattle.cqlp_grammar.specs.declared.sink.SinkFault.{SinkFault}
-use Rattle.cqlp_text.specs.Written.{BreaksOff, Receives, Writes, Written}
-use Rattle.cqlp_text.proofs.Writing.{Progress, breaks_in_more, progress_breaks, progress_ends, progress_goes_on, progress_starts, takes_then_breaks, takes_then_takes}
+use Rattle.cqlp_text.specs.Written.{Receives, Written}
+use Rattle.cqlp_text.proofs.Writing.{Progress, progress_ends, progress_goes_on, progress_starts, takes_then_takes}
 use Rattle.cqlp_decode.specs.Reading.{Verdict, Waits}
 use Rattle.cqlp_decode.specs.Progress.{StreamState}
+use Rattle.cqlp_capture_frames.specs.Faults.{Stops, Takes}
 use Rattle.cqlp_capture_frames.specs.Happenings.{Happening, Manner, after_all, texts}
 use Rattle.cqlp_capture_frames.specs.Happenings as happening
 use Rattle.cqlp_capture_frames.specs.Frames.{Open, behind, fails, more_events, more_of, nodes_of, open_by, opened, read, says}
 use Rattle.cqlp_capture_frames.specs.Reading.{Drains}
 use Rattle.cqlp_capture_frames.specs.Directions.{Direction, IsTold, Telling, all_told, before, direction, gap_told, goes_on, is_done, telling, tells, with_heads}
+use Rattle.cqlp_capture_frames.proofs.Faults.{progress_stops_by, stops_in_more, takes_then_stops}
 use Rattle.cqlp_capture_frames.proofs.Reading.{after_more, texts_and_one, texts_more}
 
 -- what a step tells, and those after it
@@ -70,12 +71,15 @@ module _ {S : Type 0} where
   pub goes_first : (whole : Telling S) (w : Written) → Goes whole whole w w
   goes_first whole w = record { here = progress_starts w whole.text; after = refl; known = refl }
 
+module _ {S F : Type 0} (refuses : F → Bool) where
   module _ (w u new : Written) (whole rest k t : Telling S) (h : Heard) (here : Goes whole rest w u) (is : rest ≡ next h t k) (d : Direction) (s : S) where
-    pub step_stops : (r : Result (Unit {0}) SinkFault) → IsErr r → BreaksOff u t.text new → IsTold whole r w new d s
-    step_stops (Ok x) stops breaks = cc
-    step_stops (Err e) stops breaks = let b = next_begins h t k in progress_breaks b.0 here.here (ap (λ (z : Telling S). z.text) is ∙ b.1) breaks
+    pub step_stops : (r : Result (Unit {0}) F) (e : F) → IsErr r × IsErrAnd r (λ f. f ≡ e) → Stops (refuses e) u t.text new → IsTold refuses whole r w new d s
+    step_stops (Ok x) e stops breaks = cc
+    step_stops (Err f) e stops breaks =
+        let b = next_begins h t k in
+        progress_stops_by (refuses f) w u new whole.text rest.text t.text b.0 here.here (ap (λ (z : Telling S). z.text) is ∙ b.1) (subst (λ (z : F). Stops (refuses z) u t.text new) (sym stops.1) breaks)
 
-    pub step_ends : (x : Unit {0}) → is_done h ≡ true → IsTold t (Ok x) u new d s → IsTold whole (Ok x) w new d s
+    pub step_ends : (x : Unit {0}) → is_done h ≡ true → IsTold refuses t (Ok x) u new d s → IsTold refuses whole (Ok x) w new d s
     step_ends x done told =
         let e = is ∙ next_done (is_done h) t k done in (
           progress_ends (progress_goes_on [] here.here (ap (λ (z : Telling S). z.text) e ∙ sym (append-nil t.text)) told.0) refl,
@@ -92,7 +96,7 @@ module _ {S : Type 0} where
           known = sym (ap (λ (z : Telling S). z.known) e) ∙ here.known;
         }
 
-  pub none_left : (x : Unit {0}) (w u : Written) (whole rest : Telling S) (d : Direction) (s : S) → Goes whole rest w u → rest ≡ telling [] d s → IsTold whole (Ok x) w u d s
+  pub none_left : (x : Unit {0}) (w u : Written) (whole rest : Telling S) (d : Direction) (s : S) → Goes whole rest w u → rest ≡ telling [] d s → IsTold refuses whole (Ok x) w u d s
   none_left x w u whole rest d s here is = (
     progress_ends here.here (ap (λ (z : Telling S). z.text) is),
     sym (ap (λ (z : Telling S). z.after) is) ∙ here.after,
@@ -102,40 +106,40 @@ module _ {S : Type 0} where
   -- ---- one thing, and then another
 
   module _ (w u new : Written) (first : List ℕ) (t : Telling S) (d : Direction) (s : S) where
-    pub first_stops : (r : Result (Unit {0}) SinkFault) → IsErr r → BreaksOff w first new → IsTold (before first t) r w new d s
-    first_stops (Ok x) stops breaks = cc
-    first_stops (Err e) stops breaks = breaks_in_more w new first t.text breaks
+    pub first_stops : (r : Result (Unit {0}) F) (e : F) → IsErr r × IsErrAnd r (λ f. f ≡ e) → Stops (refuses e) w first new → IsTold refuses (before first t) r w new d s
+    first_stops (Ok x) e stops breaks = cc
+    first_stops (Err f) e stops breaks = stops_in_more (refuses f) w new first t.text (subst (λ (z : F). Stops (refuses z) w first new) (sym stops.1) breaks)
 
-    pub then_told : (r : Result (Unit {0}) SinkFault) → Receives w first u → IsTold t r u new d s → IsTold (before first t) r w new d s
+    pub then_told : (r : Result (Unit {0}) F) → Receives w first u → IsTold refuses t r u new d s → IsTold refuses (before first t) r w new d s
     then_told (Ok x) takes told = (takes_then_takes w u new first t.text takes told.0, told.1, told.2)
-    then_told (Err e) takes told = takes_then_breaks w u new first t.text takes told
+    then_told (Err e) takes told = takes_then_stops (refuses e) w u new first t.text takes told
 
   -- one thing that is written
-  pub one_told : (r : Result (Unit {0}) SinkFault) (old new : Written) (t : Telling S) (d : Direction) (s : S) → Writes old t.text r new → OnOk r (d ≡ t.after) → OnOk r (s ≡ t.known) → IsTold t r old new d s
+  pub one_told : (r : Result (Unit {0}) F) (old new : Written) (t : Telling S) (d : Direction) (s : S) → Takes refuses old t.text r new → OnOk r (d ≡ t.after) → OnOk r (s ≡ t.known) → IsTold refuses t r old new d s
   one_told (Ok x) old new t d s writes after known = (writes, after, known)
   one_told (Err e) old new t d s writes after known = writes
 
   -- and that leaves this direction
-  pub one_leaves : (r : Result (Unit {0}) SinkFault) (old new : Written) (text : List ℕ) (d : Direction) (k s : S) → Writes old text r new → OnOk r (s ≡ k) → IsTold (telling text d k) r old new d s
+  pub one_leaves : (r : Result (Unit {0}) F) (old new : Written) (text : List ℕ) (d : Direction) (k s : S) → Takes refuses old text r new → OnOk r (s ≡ k) → IsTold refuses (telling text d k) r old new d s
   one_leaves (Ok x) old new text d k s writes known = (writes, refl, known)
   one_leaves (Err e) old new text d k s writes known = writes
 
   -- what a caller learns
-  pub told_writes : (r : Result (Unit {0}) SinkFault) (old new : Written) (t : Telling S) (d : Direction) (s : S) → IsTold t r old new d s → Writes old t.text r new
-  told_writes (Ok x) old new t d s told = told.0
-  told_writes (Err e) old new t d s told = told
+  pub told_takes : (r : Result (Unit {0}) F) (old new : Written) (t : Telling S) (d : Direction) (s : S) → IsTold refuses t r old new d s → Takes refuses old t.text r new
+  told_takes (Ok x) old new t d s told = told.0
+  told_takes (Err e) old new t d s told = told
 
-  pub told_leaves : (r : Result (Unit {0}) SinkFault) (old new : Written) (t : Telling S) (d : Direction) (s : S) → IsTold t r old new d s → OnOk r (d ≡ t.after)
+  pub told_leaves : (r : Result (Unit {0}) F) (old new : Written) (t : Telling S) (d : Direction) (s : S) → IsTold refuses t r old new d s → OnOk r (d ≡ t.after)
   told_leaves (Ok x) old new t d s told = told.1
   told_leaves (Err e) old new t d s told = tt
 
-  pub told_knows : (r : Result (Unit {0}) SinkFault) (old new : Written) (t : Telling S) (d : Direction) (s : S) → IsTold t r old new d s → OnOk r (s ≡ t.known)
+  pub told_knows : (r : Result (Unit {0}) F) (old new : Written) (t : Telling S) (d : Direction) (s : S) → IsTold refuses t r old new d s → OnOk r (s ≡ t.known)
   told_knows (Ok x) old new t d s told = told.2
   told_knows (Err e) old new t d s told = tt
 
 -- ---- more bytes of a frame: their events, and its refusal
 
-module _ {S : Type 0} (m : Manner S) (first : StreamState) (at : ℕ) (bytes input : List ℕ) (s : S) where
+module _ {S F : Type 0} (refuses : F → Bool) (m : Manner S) (first : StreamState) (at : ℕ) (bytes input : List ℕ) (s : S) where
   abbrev events : List Happening
   events = says at (more_events first.rules (nodes_of first.given) bytes input)
 
@@ -152,13 +156,14 @@ module _ {S : Type 0} (m : Manner S) (first : StreamState) (at : ℕ) (bytes inp
     abbrev pub whole : Telling S
     whole = goes_on m input (opened at (nodes_of first.given) bytes) s (direction first.rules responses heads frame)
 
-    pub body_stops : (r : Result (Unit {0}) SinkFault) (old new : Written) (d : Direction) (t : S) → IsErr r → BreaksOff old (texts m s events) new → IsTold whole r old new d t
-    body_stops (Ok x) old new d t stops breaks = cc
-    body_stops (Err e) old new d t stops breaks = rw (texts_more m s events (fails at verdict)) (breaks_in_more old new (texts m s events) (texts m (after_all m s events) (fails at verdict)) breaks)
+    pub body_stops : (r : Result (Unit {0}) F) (e : F) (old new : Written) (d : Direction) (t : S) → IsErr r × IsErrAnd r (λ f. f ≡ e) → Stops (refuses e) old (texts m s events) new → IsTold refuses whole r old new d t
+    body_stops (Ok x) e old new d t stops breaks = cc
+    body_stops (Err f) e old new d t stops breaks =
+        rw (texts_more m s events (fails at verdict)) (stops_in_more (refuses f) old new (texts m s events) (texts m (after_all m s events) (fails at verdict)) (subst (λ (z : F). Stops (refuses z) old (texts m s events) new) (sym stops.1) breaks))
 
     -- it goes on
-    pub body_waits : (x : Unit {0}) (new : StreamState) (t : S) (old now : Written) → new.rules ≡ first.rules → nodes_of new.given ≡ nodes_of first.given → Drains m at bytes input first s (Ok None) new t old now
-        → IsTold whole (Ok x) old now (direction new.rules responses heads (Some (opened at (nodes_of new.given) (bytes ++ input)))) t
+    pub body_waits : (x : Unit {0}) (new : StreamState) (t : S) (old now : Written) → new.rules ≡ first.rules → nodes_of new.given ≡ nodes_of first.given → Drains refuses m at bytes input first s (Ok None) new t old now
+        → IsTold refuses whole (Ok x) old now (direction new.rules responses heads (Some (opened at (nodes_of new.given) (bytes ++ input)))) t
     body_waits x new t old now are held (reads, known, takes) =
         let here : (read first.rules (nodes_of new.given) (bytes ++ input)).1 ≡ Waits = subst (λ (l : Rules). (read l (nodes_of new.given) (bytes ++ input)).1 ≡ Waits) are reads.waits in
         let is : verdict ≡ Waits = subst (λ (g : Option (List Node)). (read first.rules g (bytes ++ input)).1 ≡ Waits) held here in (
@@ -169,7 +174,7 @@ module _ {S : Type 0} (m : Manner S) (first : StreamState) (at : ℕ) (bytes inp
         )
 
     -- it is refused
-    module _ (new : StreamState) (why : Refusal) (t u : S) (old mid now : Written) (are : new.rules ≡ first.rules) (drains : Drains m at bytes input first s (Ok (Some why)) new t old mid) where
+    module _ (new : StreamState) (why : Refusal) (t u : S) (old mid now : Written) (are : new.rules ≡ first.rules) (drains : Drains refuses m at bytes input first s (Ok (Some why)) new t old mid) where
       abbrev said : Happening
       said = happening.Fails (behind at why.at) why.why
 
@@ -184,25 +189,25 @@ module _ {S : Type 0} (m : Manner S) (first : StreamState) (at : ℕ) (bytes inp
           ap (λ (l : Rules). direction l responses heads None) are
           ∙ ap (λ (v : Verdict). direction first.rules responses heads (open_by v (opened at (nodes_of first.given) (bytes ++ input)))) (sym drains.0)
 
-      pub body_refused : (r : Result (Unit {0}) SinkFault) → Writes mid (m.text t said) r now → OnOk r (u ≡ m.after t said) → IsTold whole r old now (direction new.rules responses heads None) u
+      pub body_refused : (r : Result (Unit {0}) F) → Takes refuses mid (m.text t said) r now → OnOk r (u ≡ m.after t said) → IsTold refuses whole r old now (direction new.rules responses heads None) u
       body_refused (Ok x) writes known = (
         rw text_is (takes_then_takes old mid now (texts m s events) (m.text t said) drains.2 writes),
         closed,
         known ∙ ap (λ (z : S). m.after z said) drains.1 ∙ sym (after_more m s events (said ∷ [])) ∙ ap (after_all m s) (sym fails_is),
       )
-      body_refused (Err e) writes known = rw text_is (takes_then_breaks old mid now (texts m s events) (m.text t said) drains.2 writes)
+      body_refused (Err e) writes known = rw text_is (takes_then_stops (refuses e) old mid now (texts m s events) (m.text t said) drains.2 writes)
 
 -- ---- a gap, after the end of the frame that is read
 
-module _ {S : Type 0} (m : Manner S) (at n : ℕ) (closed : Telling S) (d : Direction) (w u new : Written) where
-  pub gap_stops : (s : S) (r : Result (Unit {0}) SinkFault) → IsErr r → BreaksOff w closed.text new → IsTold (gap_told m at n closed) r w new d s
-  gap_stops s (Ok x) stops breaks = cc
-  gap_stops s (Err e) stops breaks = breaks_in_more w new closed.text (m.text closed.known (happening.Gap at n)) breaks
+module _ {S F : Type 0} (refuses : F → Bool) (m : Manner S) (at n : ℕ) (closed : Telling S) (d : Direction) (w u new : Written) where
+  pub gap_stops : (s : S) (r : Result (Unit {0}) F) (e : F) → IsErr r × IsErrAnd r (λ f. f ≡ e) → Stops (refuses e) w closed.text new → IsTold refuses (gap_told m at n closed) r w new d s
+  gap_stops s (Ok x) e stops breaks = cc
+  gap_stops s (Err f) e stops breaks = stops_in_more (refuses f) w new closed.text (m.text closed.known (happening.Gap at n)) (subst (λ (z : F). Stops (refuses z) w closed.text new) (sym stops.1) breaks)
 
-  pub gap_writes : (s t : S) (r : Result (Unit {0}) SinkFault) → IsTold closed (Ok tt) w u d s → Writes u (m.text s (happening.Gap at n)) r new → OnOk r (t ≡ m.after s (happening.Gap at n)) → IsTold (gap_told m at n closed) r w new d t
+  pub gap_writes : (s t : S) (r : Result (Unit {0}) F) → IsTold refuses closed (Ok tt) w u d s → Takes refuses u (m.text s (happening.Gap at n)) r new → OnOk r (t ≡ m.after s (happening.Gap at n)) → IsTold refuses (gap_told m at n closed) r w new d t
   gap_writes s t (Ok x) told writes after = (
     takes_then_takes w u new closed.text (m.text closed.known (happening.Gap at n)) told.0 (subst (λ (z : S). Receives u (m.text z (happening.Gap at n)) new) told.2 writes),
     told.1,
     after ∙ ap (λ (z : S). m.after z (happening.Gap at n)) told.2,
   )
-  gap_writes s t (Err e) told writes after = takes_then_breaks w u new closed.text (m.text closed.known (happening.Gap at n)) told.0 (subst (λ (z : S). BreaksOff u (m.text z (happening.Gap at n)) new) told.2 writes)
+  gap_writes s t (Err e) told writes after = takes_then_stops (refuses e) w u new closed.text (m.text closed.known (happening.Gap at n)) told.0 (subst (λ (z : S). Stops (refuses e) u (m.text z (happening.Gap at n)) new) told.2 writes)

@@ -1,5 +1,5 @@
 -- What the first bytes of a frame say is the front of what more of them say.
-use Rattle.std.proofs.Common.{◌≡◌, ℕ, zero, suc, ◌+◌, ◌<◌, ◌≤◌, List, [], ◌∷◌, ◌++◌, length, take, drop, Option, Some, None, Result, Ok, Err, IsErr, refl, sym, ap, subst, ◌∙◌, append_assoc, append-nil, arith}
+use Rattle.std.proofs.Common.{◌≡◌, ℕ, zero, suc, ◌+◌, ◌<◌, ◌≤◌, List, [], ◌∷◌, ◌++◌, length, take, drop, Option, Some, None, Result, Ok, Bool, Err, IsErr, IsErrAnd, refl, sym, ap, subst, ◌∙◌, append_assoc, append-nil, arith}
 use Rattle.std.proofs.lemmas.List.{take-append-drop}
 use lib.Seq.{take-add}
 use Rattle.cqlp_note.specs.declared.refusal.Reason.{Reason}
@@ -13,15 +13,16 @@ use Rattle.cqlp_type.specs.Table.{Table}
 use Rattle.cqlp_decode.specs.Reading.{Event, Place, Read, Reads, Verdict, Waits, Refused, Ends, Says, reading, start_with, step, then_read}
 use Rattle.cqlp_decode.specs.Progress.{StreamState}
 use Rattle.cqlp_decode.specs.Streams.{AfterBy, AfterGifts, Stands}
-use Rattle.cqlp_grammar.specs.declared.sink.SinkFault.{SinkFault}
 use Rattle.cqlp_laws.proofs.EventCounts.{no_more_events, no_more_handed_out}
 use Rattle.cqlp_laws.proofs.OneRun.{after_reads}
-use Rattle.cqlp_text.specs.Written.{BreaksOff, Receives, Written}
-use Rattle.cqlp_text.proofs.Writing.{breaks_in_more, takes_then_breaks, takes_then_takes}
+use Rattle.cqlp_text.specs.Written.{Receives, Written}
+use Rattle.cqlp_text.proofs.Writing.{takes_then_takes}
+use Rattle.cqlp_capture_frames.specs.Faults.{Stops}
 use Rattle.cqlp_capture_frames.specs.Happenings.{Happening, Manner, after_all, texts}
 use Rattle.cqlp_capture_frames.specs.Happenings as happening
 use Rattle.cqlp_capture_frames.specs.Frames.{behind, gifts_of, more_events, nodes_of, place_behind, place_on, read, says, types_read}
 use Rattle.cqlp_capture_frames.specs.Reading.{Drains, IsReading}
+use Rattle.cqlp_capture_frames.proofs.Faults.{stops_in_more, takes_then_stops}
 
 module _ (l : Rules) where
   -- some events, and then the others
@@ -160,7 +161,7 @@ is_reading l given d bytes are held free after waits = record {
   waits = subst (λ (z : Option (List Node)). (read d.rules z bytes).1 ≡ Waits) (sym held) (subst (λ (z : Rules). (read z given bytes).1 ≡ Waits) (sym are) waits);
 }
 
-module _ {S : Type 0} (m : Manner S) (first : StreamState) (some : 1 ≤ first.rules.part) (at : ℕ) (bytes input : List ℕ) (known : S) where
+module _ {S F : Type 0} (refuses : F → Bool) (m : Manner S) (first : StreamState) (some : 1 ≤ first.rules.part) (at : ℕ) (bytes input : List ℕ) (known : S) where
   abbrev l : Rules
   l = first.rules
 
@@ -192,7 +193,7 @@ module _ {S : Type 0} (m : Manner S) (first : StreamState) (some : 1 ≤ first.r
     takes_all : more_events l given bytes input ≡ h.more → Receives old (texts m known all_more) now
     takes_all e = subst (λ (z : List (ℕ × Event)). Receives old (texts m known (says at z)) now) (sym e) h.takes
 
-    pub drained_waits : (new : StreamState) → new.rules ≡ l → nodes_of new.given ≡ given → new.refusal ≡ None → AfterGifts (gifts_of given) new ((bytes ++ take used input) ++ drop used input) (before ++ h.more) → Says new.rules start ((bytes ++ take used input) ++ drop used input) (before ++ h.more) Waits → Drains m at bytes input first known (Ok None) new s old now
+    pub drained_waits : (new : StreamState) → new.rules ≡ l → nodes_of new.given ≡ given → new.refusal ≡ None → AfterGifts (gifts_of given) new ((bytes ++ take used input) ++ drop used input) (before ++ h.more) → Says new.rules start ((bytes ++ take used input) ++ drop used input) (before ++ h.more) Waits → Drains refuses m at bytes input first known (Ok None) new s old now
     drained_waits new are held free after said =
         let e = events_are Waits (subst (λ (z : Rules). Says z start ((bytes ++ take used input) ++ drop used input) (before ++ h.more) Waits) are said) in (
           is_reading l given new (bytes ++ input) are held free
@@ -202,7 +203,7 @@ module _ {S : Type 0} (m : Manner S) (first : StreamState) (some : 1 ≤ first.r
           takes_all e.1,
         )
 
-    pub drained_refused : (new : StreamState) (r : Refusal) → Says l start ((bytes ++ take used input) ++ drop used input) (before ++ h.more) (Refused r.at r.why) → Drains m at bytes input first known (Ok (Some r)) new s old now
+    pub drained_refused : (new : StreamState) (r : Refusal) → Says l start ((bytes ++ take used input) ++ drop used input) (before ++ h.more) (Refused r.at r.why) → Drains refuses m at bytes input first known (Ok (Some r)) new s old now
     drained_refused new r said =
         let e = events_are (Refused r.at r.why) said in
         (ap (λ (x : Read). x.1) e.0, state_is e.1, takes_all e.1)
@@ -239,18 +240,18 @@ module _ {S : Type 0} (m : Manner S) (first : StreamState) (some : 1 ≤ first.r
         free = free;
       }
 
-      pub drained_breaks : (w : Written) → BreaksOff now (m.text s said) w → BreaksOff old (texts m known all_more) w
-      drained_breaks w breaks =
+      pub drained_stops : (w : Written) (refused : Bool) → Stops refused now (m.text s said) w → Stops refused old (texts m known all_more) w
+      drained_stops w refused breaks =
           let whole : (bytes ++ take (used + taken) input) ++ drop (used + taken) input ≡ bytes ++ input = append_assoc bytes (take (used + taken) input) (drop (used + taken) input) ∙ ap (λ (z : List ℕ). bytes ++ z) (take-append-drop (used + taken) input) in
           let r = front_of_read l some given new (bytes ++ take (used + taken) input) (drop (used + taken) input) (before ++ seen) are handed in
           let is : (read l given (bytes ++ input)).0 ≡ before ++ (seen ++ r.0) = ap (λ (z : List ℕ). (read l given z).0) (sym whole) ∙ r.1 ∙ append_assoc before seen r.0 in
           let more : more_events l given bytes input ≡ seen ++ r.0 = ap (drop (length before)) is ∙ drop_front before (seen ++ r.0) in
           let later : List ℕ = texts m (after_all m known (says at seen)) (says at r.0) in
-          let within = breaks_in_more old w (texts m known (says at h.more) ++ m.text s said) later (takes_then_breaks old now w (texts m known (says at h.more)) (m.text s said) h.takes breaks) in
+          let within = stops_in_more refused old w (texts m known (says at h.more) ++ m.text s said) later (takes_then_stops refused old now w (texts m known (says at h.more)) (m.text s said) h.takes breaks) in
           let lines : texts m known all_more ≡ (texts m known (says at h.more) ++ m.text s said) ++ later = ap (λ (z : List (ℕ × Event)). texts m known (says at z)) more ∙ text_of_says m known at seen r.0 ∙ ap (λ (z : List ℕ). z ++ later) text in
           rw lines within
 
   -- a `?` that ends the function
-  pub drains_err : (r : Result (Option Refusal) SinkFault) (d : StreamState) (s : S) (old new : Written) → IsErr r → BreaksOff old (texts m known all_more) new → Drains m at bytes input first known r d s old new
-  drains_err (Ok x) d s old new stops breaks = cc
-  drains_err (Err e) d s old new stops breaks = breaks
+  pub drains_err : (r : Result (Option Refusal) F) (e : F) (d : StreamState) (s : S) (old new : Written) → IsErr r × IsErrAnd r (λ f. f ≡ e) → Stops (refuses e) old (texts m known all_more) new → Drains refuses m at bytes input first known r d s old new
+  drains_err (Ok x) e d s old new stops breaks = cc
+  drains_err (Err f) e d s old new stops breaks = subst (λ (z : F). Stops (refuses z) old (texts m known all_more) new) (sym stops.1) breaks

@@ -5,8 +5,7 @@ use Rattle.cqlp_note.specs.declared.header.Header.{Header}
 use Rattle.cqlp_note.specs.declared.header.TheConstants.Header.{LONGEST_BODY}
 use Rattle.cqlp_note.specs.Heading.{answers, has, header_bytes, same}
 use Rattle.cqlp_note.specs.Limits.{Rules}
-use Rattle.cqlp_grammar.specs.declared.sink.SinkFault.{SinkFault}
-use Rattle.cqlp_text.specs.Written.{BreaksOff, Receives, Written}
+use Rattle.cqlp_text.specs.Written.{Receives, Written}
 use Rattle.cqlp_reassembly.specs.declared.stream.StreamStep.{StreamStep}
 use Rattle.cqlp_reassembly.specs.declared.stream.StreamStep.TheVariants as step
 use Rattle.cqlp_watch.specs.declared.heads.Heads.{Heads}
@@ -14,6 +13,7 @@ use Rattle.cqlp_watch.specs.declared.heads.Heard.{Heard}
 use Rattle.cqlp_watch.specs.declared.heads.Heard.TheVariants as heard_as
 use Rattle.cqlp_watch.specs.Directions as watch
 use Rattle.cqlp_watch.specs.Directions.{Steps, anew}
+use Rattle.cqlp_capture_frames.specs.Faults.{Stops}
 use Rattle.cqlp_capture_frames.specs.Happenings.{Happening, Manner, Begins, Compressed, Closes, Ends, Gap, after_all, texts}
 use Rattle.cqlp_capture_frames.specs.Frames.{Open, behind, more_of, open_after, opened, taken, types_read}
 
@@ -54,10 +54,10 @@ telling text after known = record { text = text; after = after; known = known }
 abbrev pub before : {S : Type 0} → List ℕ → Telling S → Telling S
 before text t = telling (text ++ t.text) t.after t.known
 
--- The text was taken, and this is left; or the output failed within the text.
-abbrev pub IsTold : {S : Type 0} → Telling S → Result (Unit {0}) SinkFault → (old new : Written) → Direction → S → Type 0
-IsTold t (Ok u) old new d s = Receives old t.text new × (d ≡ t.after) × (s ≡ t.known)
-IsTold t (Err e) old new d s = BreaksOff old t.text new
+-- The text was taken, and this is left; or a fault came within the text.
+abbrev pub IsTold : {S F : Type 0} → (refuses : F → Bool) → Telling S → Result (Unit {0}) F → (old new : Written) → Direction → S → Type 0
+IsTold refuses t (Ok u) old new d s = Receives old t.text new × (d ≡ t.after) × (s ≡ t.known)
+IsTold refuses t (Err e) old new d s = Stops (refuses e) old t.text new
 
 -- It is not compressed, goes in its opcode's direction, and is not too long (section 2).
 abbrev pub is_plain : Header → Bool

@@ -4,7 +4,6 @@ use Rattle.cqlp_note.specs.declared.header.Header.{Header}
 use Rattle.cqlp_note.specs.declared.refusal.Reason.{Reason}
 use Rattle.cqlp_kind.specs.declared.node.Node.{Node}
 use Rattle.cqlp_grammar.specs.Events.{Event}
-use Rattle.cqlp_grammar.specs.declared.sink.SinkFault.{SinkFault}
 
 -- At an offset of the direction: a frame with this header begins, of which the bytes are read; it says an event; it is refused; a frame with this
 -- header begins that is compressed; so many bytes are missing. Or the frame came whole, and these are the types of the metadata that it
@@ -36,6 +35,6 @@ module _ {S : Type 0} (m : Manner S) where
   after_all s (h ∷ hs) = after_all (m.after s h) hs
 
 -- whether it was written, whatever was answered
-abbrev pub outcome : {X : Type 0} → Result X SinkFault → Result (Unit {0}) SinkFault
+abbrev pub outcome : {X F : Type 0} → Result X F → Result (Unit {0}) F
 outcome (Ok x) = Ok tt
 outcome (Err e) = Err e

@@ -1,3 +1,4 @@
+pub mod Faults
 pub mod Happenings
 pub mod Frames
 pub mod Reading

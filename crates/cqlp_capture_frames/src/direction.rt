@@ -8,7 +8,6 @@ use crate::drain::{begin_frame, behind, drain};
 use crate::noted::Noted;
 use crate::transcript::Transcript;
 use cqlp_decode::{Decoder, NewError};
-use cqlp_grammar::SinkFault;
 use cqlp_note::{Header, Limits};
 use cqlp_reassembly::StreamStep;
 use cqlp_text::{Pen, TextWriter};
@@ -67,7 +66,8 @@ impl<A: Allocator + Clone> Direction<A> {
 
 impl<A: Allocator> Direction<A> {
     ghost use Rattle.std.specs.Prelude.{None};
-    ghost use Rattle.cqlp_capture_frames.specs.Directions.{IsSame, IsTold, begins, begins_plain, begun, body, bytes_told, closes, ends, step_told, tells, with_frame};
+    ghost use Rattle.cqlp_capture_frames.specs.Directions.{IsSame, IsTold, begins, begins_plain, begun, body};
+    ghost use Rattle.cqlp_capture_frames.specs.Directions.{bytes_told, closes, ends, step_told, tells, with_frame};
 
     /// Nothing came. Its first byte begins a frame, where `from_start`; else the first header that a segment begins with does.
     pub fn restart(&mut self, from_start: bool)
@@ -85,8 +85,8 @@ impl<A: Allocator> Direction<A> {
         bytes: &[u8],
         transcript: &mut T,
         writer: &mut TextWriter<P>,
-    ) -> Result<(), SinkFault>
-        ensures told { IsTold (step_told T.Transcript.manner step at bytes.now (T.Transcript.state transcript.old) self.old)
+    ) -> Result<(), T::Fault>
+        ensures told { IsTold T.Transcript.refuses (step_told T.Transcript.manner step at bytes.now (T.Transcript.state transcript.old) self.old)
             result writer.old writer.new self.new (T.Transcript.state transcript.new) }
         ensures same { IsSame self.old self.new }
     {
@@ -119,9 +119,9 @@ impl<A: Allocator> Direction<A> {
         &mut self,
         transcript: &mut T,
         writer: &mut TextWriter<P>,
-    ) -> Result<(), SinkFault>
+    ) -> Result<(), T::Fault>
         ensures direction { self.new ≡ with_frame None self.old }
-        ensures told { IsTold (closes T.Transcript.manner self.old.frame (T.Transcript.state transcript.old) self.old)
+        ensures told { IsTold T.Transcript.refuses (closes T.Transcript.manner self.old.frame (T.Transcript.state transcript.old) self.old)
             result writer.old writer.new self.new (T.Transcript.state transcript.new) }
     {
         if !self.is_open {
@@ -136,9 +136,9 @@ impl<A: Allocator> Direction<A> {
         &mut self,
         transcript: &mut T,
         writer: &mut TextWriter<P>,
-    ) -> Result<(), SinkFault>
+    ) -> Result<(), T::Fault>
         ensures direction { self.new ≡ with_frame None self.old }
-        ensures told { IsTold (ends T.Transcript.manner self.old.frame (T.Transcript.state transcript.old) self.old)
+        ensures told { IsTold T.Transcript.refuses (ends T.Transcript.manner self.old.frame (T.Transcript.state transcript.old) self.old)
             result writer.old writer.new self.new (T.Transcript.state transcript.new) }
     {
         if !self.is_open {
@@ -156,8 +156,8 @@ impl<A: Allocator> Direction<A> {
         bytes: &[u8],
         transcript: &mut T,
         writer: &mut TextWriter<P>,
-    ) -> Result<(), SinkFault>
-        ensures told { IsTold (bytes_told T.Transcript.manner at begins bytes.now (T.Transcript.state transcript.old) self.old)
+    ) -> Result<(), T::Fault>
+        ensures told { IsTold T.Transcript.refuses (bytes_told T.Transcript.manner at begins bytes.now (T.Transcript.state transcript.old) self.old)
             result writer.old writer.new self.new (T.Transcript.state transcript.new) }
         ensures same { IsSame self.old self.new }
     {
@@ -187,8 +187,8 @@ impl<A: Allocator> Direction<A> {
         bytes: &[u8],
         transcript: &mut T,
         writer: &mut TextWriter<P>,
-    ) -> Result<(), SinkFault>
-        ensures told { IsTold (tells T.Transcript.manner end bytes.now heard (T.Transcript.state transcript.old) self.old)
+    ) -> Result<(), T::Fault>
+        ensures told { IsTold T.Transcript.refuses (tells T.Transcript.manner end bytes.now heard (T.Transcript.state transcript.old) self.old)
             result writer.old writer.new self.new (T.Transcript.state transcript.new) }
         ensures same { IsSame self.old self.new }
     {
@@ -210,8 +210,8 @@ impl<A: Allocator> Direction<A> {
         header: &Header,
         transcript: &mut T,
         writer: &mut TextWriter<P>,
-    ) -> Result<(), SinkFault>
-        ensures told { IsTold (begins T.Transcript.manner at header.now (T.Transcript.state transcript.old) self.old)
+    ) -> Result<(), T::Fault>
+        ensures told { IsTold T.Transcript.refuses (begins T.Transcript.manner at header.now (T.Transcript.state transcript.old) self.old)
             result writer.old writer.new self.new (T.Transcript.state transcript.new) }
         ensures same { IsSame self.old self.new }
     {
@@ -230,9 +230,9 @@ impl<A: Allocator> Direction<A> {
         header: &Header,
         transcript: &mut T,
         writer: &mut TextWriter<P>,
-    ) -> Result<(), SinkFault>
+    ) -> Result<(), T::Fault>
         requires plain { is_plain header.now ≡ true }
-        ensures told { IsTold (begins_plain T.Transcript.manner at header.now (T.Transcript.state transcript.old) self.old)
+        ensures told { IsTold T.Transcript.refuses (begins_plain T.Transcript.manner at header.now (T.Transcript.state transcript.old) self.old)
             result writer.old writer.new self.new (T.Transcript.state transcript.new) }
         ensures same { IsSame self.old self.new }
     {
@@ -250,8 +250,8 @@ impl<A: Allocator> Direction<A> {
         bytes: &[u8],
         transcript: &mut T,
         writer: &mut TextWriter<P>,
-    ) -> Result<(), SinkFault>
-        ensures told { IsTold (body T.Transcript.manner bytes.now self.old.frame (T.Transcript.state transcript.old) self.old)
+    ) -> Result<(), T::Fault>
+        ensures told { IsTold T.Transcript.refuses (body T.Transcript.manner bytes.now self.old.frame (T.Transcript.state transcript.old) self.old)
             result writer.old writer.new self.new (T.Transcript.state transcript.new) }
         ensures same { IsSame self.old self.new }
     {

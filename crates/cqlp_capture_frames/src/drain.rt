@@ -7,7 +7,6 @@ ghost use Rattle.cqlp_capture_frames.specs.Reading.{Drains, IsNew, IsReading};
 
 use crate::transcript::Transcript;
 use cqlp_decode::{Decoder, Step};
-use cqlp_grammar::SinkFault;
 use cqlp_note::Refusal;
 use cqlp_text::{Pen, TextWriter};
 use cqlp_type::TypeTable;
@@ -38,10 +37,10 @@ pub(crate) fn drain<T: Transcript<A>, P: Pen, A: Allocator>(
     at: u64,
     transcript: &mut T,
     writer: &mut TextWriter<P>,
-) -> Result<Option<Refusal>, SinkFault>
+) -> Result<Option<Refusal>, T::Fault>
     requires some { 1 ≤ (state decoder.old).rules.part }
     ensures drains { (bytes : List ℕ) → IsReading (state decoder.old) bytes →
-        Drains T.Transcript.manner at bytes input.now (state decoder.old) (T.Transcript.state transcript.old)
+        Drains T.Transcript.refuses T.Transcript.manner at bytes input.now (state decoder.old) (T.Transcript.state transcript.old)
         result (state decoder.new) (T.Transcript.state transcript.new) writer.old writer.new }
     ensures rules { (state decoder.new).rules ≡ (state decoder.old).rules }
     ensures given { (state decoder.new).given ≡ (state decoder.old).given }

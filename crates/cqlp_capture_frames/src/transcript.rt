@@ -1,20 +1,26 @@
 //! How what happens in a direction is written.
 
-ghost use Rattle.std.specs.Prelude.{◌≡◌, IfOk, OnOk, option_map};
-ghost use Rattle.cqlp_text.specs.Written.{Writes};
+ghost use Rattle.std.specs.Prelude.{◌≡◌, IfOk, OnOk, option_map, Bool};
+ghost use Rattle.cqlp_capture_frames.specs.Faults.{Takes};
 
-use cqlp_grammar::{Event, SinkFault};
+use cqlp_grammar::Event;
 use cqlp_note::{Header, Reason};
 use cqlp_text::{Pen, TextWriter};
 use cqlp_type::TypeTable;
 use std::alloc::Allocator;
 
 /// What writes down what happens in one direction of a connection, one thing after the other. Each call takes the text of what it is told, and
-/// offsets count from the start of the direction. After a fault of the output nothing more is told.
+/// offsets count from the start of the direction. After a fault nothing more is told.
 pub trait Transcript<A: Allocator> {
     ghost use Rattle.cqlp_grammar.specs.Events.{event_of};
     ghost use Rattle.cqlp_capture_frames.specs.Happenings.{Manner, Begins, Says, Fails, Compressed, Ends, Closes, outcome};
     ghost use Rattle.cqlp_capture_frames.specs.Happenings as happening;
+
+    /// What ends the text early: a fault of the output, or that memory is refused.
+    type Fault;
+
+    /// Whether memory was refused, and the output did not fail.
+    ghost refuses: { Self.Fault → Bool };
 
     /// What it knows of what happened.
     ghost State: { Type 0 };
@@ -31,8 +37,8 @@ pub trait Transcript<A: Allocator> {
         at: u64,
         header: &Header,
         writer: &mut TextWriter<P>,
-    ) -> Result<Option<TypeTable<A>>, SinkFault>
-        ensures text { Writes writer.old (manner.text (state self.old) (Begins at header.now)) (outcome result) writer.new }
+    ) -> Result<Option<TypeTable<A>>, Self::Fault>
+        ensures text { Takes refuses writer.old (manner.text (state self.old) (Begins at header.now)) (outcome result) writer.new }
         ensures types { IfOk result (λ types. option_map (λ table. table.nodes) types ≡ manner.types (state self.old) at header.now) }
         ensures after { OnOk result (state self.new ≡ manner.after (state self.old) (Begins at header.now)) };
 
@@ -42,8 +48,8 @@ pub trait Transcript<A: Allocator> {
         at: u64,
         event: &Event<'_>,
         writer: &mut TextWriter<P>,
-    ) -> Result<(), SinkFault>
-        ensures text { Writes writer.old (manner.text (state self.old) (Says at (event_of event.now))) result writer.new }
+    ) -> Result<(), Self::Fault>
+        ensures text { Takes refuses writer.old (manner.text (state self.old) (Says at (event_of event.now))) result writer.new }
         ensures after { OnOk result (state self.new ≡ manner.after (state self.old) (Says at (event_of event.now))) };
 
     /// The frame that began last is refused at an offset, and no more of it is read.
@@ -52,8 +58,8 @@ pub trait Transcript<A: Allocator> {
         at: u64,
         why: Reason,
         writer: &mut TextWriter<P>,
-    ) -> Result<(), SinkFault>
-        ensures text { Writes writer.old (manner.text (state self.old) (Fails at why)) result writer.new }
+    ) -> Result<(), Self::Fault>
+        ensures text { Takes refuses writer.old (manner.text (state self.old) (Fails at why)) result writer.new }
         ensures after { OnOk result (state self.new ≡ manner.after (state self.old) (Fails at why)) };
 
     /// A frame with this header begins at an offset that is compressed, so that its bytes are passed over.
@@ -62,8 +68,8 @@ pub trait Transcript<A: Allocator> {
         at: u64,
         header: &Header,
         writer: &mut TextWriter<P>,
-    ) -> Result<(), SinkFault>
-        ensures text { Writes writer.old (manner.text (state self.old) (Compressed at header.now)) result writer.new }
+    ) -> Result<(), Self::Fault>
+        ensures text { Takes refuses writer.old (manner.text (state self.old) (Compressed at header.now)) result writer.new }
         ensures after { OnOk result (state self.new ≡ manner.after (state self.old) (Compressed at header.now)) };
 
     /// So many bytes are missing at an offset.
@@ -72,8 +78,8 @@ pub trait Transcript<A: Allocator> {
         at: u64,
         length: u64,
         writer: &mut TextWriter<P>,
-    ) -> Result<(), SinkFault>
-        ensures text { Writes writer.old (manner.text (state self.old) (happening.Gap at length)) result writer.new }
+    ) -> Result<(), Self::Fault>
+        ensures text { Takes refuses writer.old (manner.text (state self.old) (happening.Gap at length)) result writer.new }
         ensures after { OnOk result (state self.new ≡ manner.after (state self.old) (happening.Gap at length)) };
 
     /// The frame that began last came whole. These are the types of the metadata that it described last: of a PREPARED those of its statement's
@@ -82,12 +88,12 @@ pub trait Transcript<A: Allocator> {
         &mut self,
         types: &TypeTable<A>,
         writer: &mut TextWriter<P>,
-    ) -> Result<(), SinkFault>
-        ensures text { Writes writer.old (manner.text (state self.old) (Ends types.now.nodes)) result writer.new }
+    ) -> Result<(), Self::Fault>
+        ensures text { Takes refuses writer.old (manner.text (state self.old) (Ends types.now.nodes)) result writer.new }
         ensures after { OnOk result (state self.new ≡ manner.after (state self.old) (Ends types.now.nodes)) };
 
     /// No more is read of the frame that began last: its other bytes are missing or passed over.
-    fn close<P: Pen>(&mut self, writer: &mut TextWriter<P>) -> Result<(), SinkFault>
-        ensures text { Writes writer.old (manner.text (state self.old) Closes) result writer.new }
+    fn close<P: Pen>(&mut self, writer: &mut TextWriter<P>) -> Result<(), Self::Fault>
+        ensures text { Takes refuses writer.old (manner.text (state self.old) Closes) result writer.new }
         ensures after { OnOk result (state self.new ≡ manner.after (state self.old) Closes) };
 }

@@ -8,8 +8,10 @@ use Rattle.cqlp_streams.specs.declared.fault.StreamsFault.{StreamsFault}
 use Rattle.cqlp_streams.specs.Sayings.{Saying}
 use Rattle.cqlp_capture_rows.specs.declared.fault.TellFault.{TellFault}
 use Rattle.cqlp_capture_rows.specs.declared.fault.TellFault.TheVariants as fault
-use Rattle.cqlp_capture_rows.specs.Faults.{Takes}
-use Rattle.cqlp_capture_rows.specs.Sides.{Side}
+use Rattle.cqlp_capture_frames.specs.Directions.{Direction}
+use Rattle.cqlp_capture_frames.specs.Faults.{Takes}
+use Rattle.cqlp_capture_rows.specs.Faults.{is_memory}
+use Rattle.cqlp_capture_rows.specs.Responses.{Responses}
 use Rattle.cqlp_capture_rows.specs.Listening.{Change, Hears, Listening, Tells, change_of, listening, with_saying}
 
 -- it is still known what the output was given
@@ -39,10 +41,10 @@ passed_on w v text none none' known takes =
     let given : v.given ≡ append_known w.given text = p.1 ∙ ap (λ (z : List ℕ). Some (t.0 ++ z)) all ∙ sym (ap (λ (g : Option (List ℕ)). append_known g text) t.1) in
     λ i. output (given i) (takes.failures i)
 
-pub tells_told : (asked : ℕ) (requests requests' : Requests) (old new : Side) (w v : Written) (x : Change) (r : Result (Unit {0}) TellFault) → w.waiting ≡ [] → v.waiting ≡ [] → IsSome w.given → Takes w x.text r v → OnOk r (requests' ≡ x.requests) → OnOk r (new ≡ x.responses)
-    → Tells (listening asked requests old (output w.given w.failures)) x r (listening asked requests' new (output v.given v.failures))
-tells_told asked requests requests' old new w v x (Ok u) none none' known takes same after = λ i. listening asked (same i) (after i) (passed_on w v x.text none none' known takes i)
-tells_told asked requests requests' old new w v x (Err fault.Write) none none' known breaks same after =
+pub tells_told : (asked : ℕ) (requests requests' : Requests) (direction direction' : Direction) (old new : Responses) (w v : Written) (x : Change) (r : Result (Unit {0}) TellFault) → w.waiting ≡ [] → v.waiting ≡ [] → IsSome w.given → Takes is_memory w x.text r v → OnOk r (requests' ≡ x.requests) → OnOk r (direction' ≡ x.direction) → OnOk r (new ≡ x.responses)
+    → Tells (listening asked requests direction old (output w.given w.failures)) x r (listening asked requests' direction' new (output v.given v.failures))
+tells_told asked requests requests' direction direction' old new w v x (Ok u) none none' known takes same there after = λ i. listening asked (same i) (there i) (after i) (passed_on w v x.text none none' known takes i)
+tells_told asked requests requests' direction direction' old new w v x (Err fault.Write) none none' known breaks same there after =
     let text = x.text in
     let t = known_at w.given known in
     let p = breaks.passed t.0 t.1 in
@@ -54,7 +56,7 @@ tells_told asked requests requests' old new w v x (Err fault.Write) none none' k
       given = p.1 ∙ sym (ap (λ (g : Option (List ℕ)). append_known g p.0) t.1);
       failures = breaks.failures;
     }
-tells_told asked requests requests' old new w v x (Err fault.NoMemory) none none' known (front, later, split, takes) same after = (front, later, split, passed_on w v front none none' known takes)
+tells_told asked requests requests' direction direction' old new w v x (Err fault.NoMemory) none none' known (front, later, split, takes) same there after = (front, later, split, passed_on w v front none none' known takes)
 
 pub on_ok : (r : Result (Unit {0}) TellFault) (x : Requests) → OnOk r (x ≡ x)
 on_ok (Ok u) x = refl

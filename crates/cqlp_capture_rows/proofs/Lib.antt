@@ -1,10 +1,5 @@
 pub mod Parts
-pub mod Walks
 pub mod Pages
-pub mod Reading
-pub mod Given
 pub mod Faults
-pub mod Learned
-pub mod Sides
 pub mod Heard
 pub mod WrittenOnce

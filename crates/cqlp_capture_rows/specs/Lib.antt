@@ -1,9 +1,7 @@
 pub mod Spots
 pub mod Pages
-pub mod Frames
-pub mod Reading
 pub mod Faults
-pub mod Sides
+pub mod Responses
 pub mod Listening
 pub mod Capturing
 pub mod Laws

@@ -1,5 +1,5 @@
 -- What listens to what is told of the connections of a capture, and writes the pages of one of them.
-use Rattle.std.specs.Prelude.{◌≡◌, ℕ, ◌==◌, false, List, [], Result, Ok, Err, if◌then◌else◌}
+use Rattle.std.specs.Prelude.{◌≡◌, ℕ, ◌==◌, true, false, List, [], Result, Ok, Err, if◌then◌else◌}
 use Rattle.cqlp_connections.specs.declared.ends.Way.{Way}
 use Rattle.cqlp_connections.specs.declared.ends.Way.TheVariants.{Requests as ByClient, Responses as ByNode}
 use Rattle.cqlp_connections.specs.declared.told.Told.{Told}
@@ -13,52 +13,55 @@ use Rattle.cqlp_prepared.specs.Requests.{Asked, asked, silent, step_asked}
 use Rattle.cqlp_capture_rows.specs.declared.fault.TellFault.{TellFault}
 use Rattle.cqlp_capture_rows.specs.declared.limits.TheConstants.{EXECUTES, STATEMENTS}
 use Rattle.cqlp_capture_rows.specs.Faults.{Faults, WritesFront}
-use Rattle.cqlp_capture_rows.specs.Sides.{Side, Telling, begun, closes, side, step_told}
+use Rattle.cqlp_capture_frames.specs.Directions.{Direction, Telling, begun, closes, step_told}
+use Rattle.cqlp_capture_rows.specs.Responses.{Responses, new_responses, page_manner, rules, with_known}
 
--- the number of the connection that is asked for, its requests, its responses with what is known of its statements, and the output
+-- the number of the connection that is asked for, its requests, where its responses stand, what is known of them, and the output
 pub record Listening : Type 0 where
   pub asked : ℕ
   pub requests : Requests
-  pub responses : Side
+  pub direction : Direction
+  pub responses : Responses
   pub output : Output
 
-abbrev pub listening : ℕ → Requests → Side → Output → Listening
-listening asked requests responses output =
-    record { asked = asked; requests = requests; responses = responses; output = output }
+abbrev pub listening : ℕ → Requests → Direction → Responses → Output → Listening
+listening asked requests direction responses output =
+    record { asked = asked; requests = requests; direction = direction; responses = responses; output = output }
 
 abbrev pub new_listening : (asked : ℕ) → Output → Listening
-new_listening asked out = listening asked (silent false) (begun false (new_keeping STATEMENTS EXECUTES)) out
+new_listening asked out = listening asked (silent false) (begun rules true false) (new_responses asked (new_keeping STATEMENTS EXECUTES)) out
 
 -- ---- what a saying does: the text, and the requests and the responses after it
 
 pub record Change : Type 0 where
   pub text : List ℕ
   pub requests : Requests
-  pub responses : Side
+  pub direction : Direction
+  pub responses : Responses
 
-abbrev pub change : List ℕ → Requests → Side → Change
-change text requests responses = record { text = text; requests = requests; responses = responses }
+abbrev pub change : List ℕ → Requests → Direction → Responses → Change
+change text requests direction responses = record { text = text; requests = requests; direction = direction; responses = responses }
 
 -- Of requests nothing is written.
-abbrev pub hears_requests : Asked → Side → Change
-hears_requests a s = change [] a.requests (side s.heads a.known s.frame)
+abbrev pub hears_requests : Asked → Direction → Responses → Change
+hears_requests a d r = change [] a.requests d (with_known a.known r)
 
-abbrev pub hears_responses : Requests → Telling → Change
-hears_responses requests x = change x.text requests x.after
+abbrev pub hears_responses : Requests → Telling Responses → Change
+hears_responses requests x = change x.text requests x.after x.known
 
-abbrev pub heard_of : Way → Told → List ℕ → Requests → Side → Change
-heard_of ByClient t b requests s = hears_requests (step_asked t.step b (asked requests s.known)) s
-heard_of ByNode t b requests s = hears_responses requests (step_told t.step t.number t.at b s)
+abbrev pub heard_of : Way → Told → List ℕ → Requests → Direction → Responses → Change
+heard_of ByClient t b requests d r = hears_requests (step_asked t.step b (asked requests r.known)) d r
+heard_of ByNode t b requests d r = hears_responses requests (step_told page_manner t.step t.at b r d)
 
-abbrev pub heard : Told → List ℕ → Requests → Side → Change
-heard t b requests s = heard_of t.way t b requests s
+abbrev pub heard : Told → List ℕ → Requests → Direction → Responses → Change
+heard t b requests d r = heard_of t.way t b requests d r
 
 -- No more comes.
-abbrev pub leaves : Requests → Side → Change
-leaves requests s = hears_responses requests (closes s.heads s.known s.frame)
+abbrev pub leaves : Requests → Direction → Responses → Change
+leaves requests d r = hears_responses requests (closes page_manner d.frame r d)
 
 abbrev pub nothing_told : Listening → Change
-nothing_told w = change [] w.requests w.responses
+nothing_told w = change [] w.requests w.direction w.responses
 
 abbrev pub if_asked : (number : ℕ) → Change → Listening → Change
 if_asked number x w = if number == w.asked then x else nothing_told w
@@ -66,11 +69,11 @@ if_asked number x w = if number == w.asked then x else nothing_told w
 abbrev pub change_of : Saying → Listening → Change
 change_of (Packet time) w = nothing_told w
 change_of (New n) w = nothing_told w
-change_of (Of told bytes) w = if_asked told.number (heard told bytes w.requests w.responses) w
-change_of (Left totals) w = if_asked totals.number (leaves w.requests w.responses) w
+change_of (Of told bytes) w = if_asked told.number (heard told bytes w.requests w.direction w.responses) w
+change_of (Left totals) w = if_asked totals.number (leaves w.requests w.direction w.responses) w
 
 abbrev pub after_change : Change → Listening → Listening
-after_change x w = listening w.asked x.requests x.responses (with_text w.output x.text)
+after_change x w = listening w.asked x.requests x.direction x.responses (with_text w.output x.text)
 
 abbrev pub with_saying : Listening → Saying → Listening
 with_saying w s = after_change (change_of s w) w

@@ -1,5 +1,5 @@
 -- Lines of responses, which begin with the number of their connection.
-use Rattle.std.specs.Prelude.{ℕ, ◌+◌, ◌-◌, ◌^◌, min, List, [], ◌∷◌, ◌++◌, codes, decimal}
+use Rattle.std.specs.Prelude.{ℕ, List, [], ◌∷◌, ◌++◌, codes, decimal}
 use Rattle.std.specs.Fmt.{signed_decimal}
 use Rattle.cqlp_note.specs.declared.header.Header.{Header}
 use Rattle.cqlp_note.specs.declared.refusal.Reason.{Reason}
@@ -17,10 +17,6 @@ spot number at = record { number = number; at = at }
 abbrev pub frame_spot : Spot → Header → FrameSpot
 frame_spot s header = record { spot = s; header = header }
 
--- the offset in the responses of what lies this far behind a spot; the greatest number, if more
-abbrev pub told_at : Spot → ℕ → ℕ
-told_at s k = min (s.at + k) (2 ^ 64 - 1)
-
 abbrev pub place_text : Spot → List ℕ
 place_text s = joined (decimal s.number ∷ codes " < " ∷ [])
 
@@ -29,10 +25,10 @@ abbrev pub page_line : FrameSpot → List ℕ
 page_line s =
     joined (decimal s.spot.number ∷ codes ":" ∷ signed_decimal s.header.stream ∷ codes " " ∷ decimal s.spot.at ∷ codes "\n" ∷ [])
 
--- the frame that begins at a spot is refused this far behind it
-abbrev pub refused_line : Spot → ℕ → Reason → List ℕ
-refused_line s k why =
-    joined (place_text s ∷ decimal (told_at s k) ∷ codes " refused " ∷ reason_name why ∷ codes "\n" ∷ [])
+-- a frame is refused at a spot
+abbrev pub refused_line : Spot → Reason → List ℕ
+refused_line s why =
+    joined (place_text s ∷ decimal s.at ∷ codes " refused " ∷ reason_name why ∷ codes "\n" ∷ [])
 
 -- the frame that begins at a spot is compressed
 abbrev pub compressed_line : Spot → List ℕ

@@ -2,14 +2,12 @@
 #![tactic(auto)]
 
 mod capturing;
-mod drain;
 mod fault;
-mod history;
 pub mod laws;
 mod limits;
 mod page;
+mod responses;
 mod rows;
-mod side;
 mod spot;
 
 pub use capturing::write_rows;

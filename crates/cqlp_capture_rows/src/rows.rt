@@ -1,18 +1,20 @@
 //! What listens to one connection of a capture.
 
-ghost use Rattle.std.specs.Prelude.{◌≡◌, ◌≤◌, false, [], IfErr, IfOk, IsSome, OnOk, vec_len};
+ghost use Rattle.std.specs.Prelude.{◌≡◌, ◌≤◌, true, false, [], IfErr, IfOk, IsSome, OnOk, vec_len};
 ghost use Rattle.cqlp_text.specs.Outputs.{written};
 ghost use Rattle.cqlp_prepared.specs.Keeping.{new_keeping};
-ghost use Rattle.cqlp_capture_rows.specs.Spots.{spot};
-ghost use Rattle.cqlp_capture_rows.specs.Faults.{Takes};
-ghost use Rattle.cqlp_capture_rows.specs.Sides.{begun, closes};
+ghost use Rattle.cqlp_capture_frames.specs.Directions.{begun, closes};
+ghost use Rattle.cqlp_capture_frames.specs.Faults.{Takes};
+ghost use Rattle.cqlp_capture_rows.specs.Faults.{is_memory};
+ghost use Rattle.cqlp_capture_rows.specs.Responses.{new_responses, page_manner, rules};
 ghost use Rattle.cqlp_capture_rows.specs.Listening.{heard, leaves};
 
 use crate::fault::TellFault;
-use crate::limits::{EXECUTES, STATEMENTS};
-use crate::side::Side;
-use crate::spot::Spot;
+use crate::limits::{EXECUTES, LIMITS, STATEMENTS};
+use crate::responses::Responses;
+use cqlp_capture_frames::Direction;
 use cqlp_connections::{Told, Way};
+use cqlp_decode::NewError;
 use cqlp_note::Target;
 use cqlp_prepared::Requests;
 use cqlp_streams::{Listener, Saying, StreamsFault};
@@ -33,7 +35,8 @@ pub struct Rows<O: Target, A: Allocator = Global> {
     /// The number of the connection.
     asked: u64,
     requests: Requests,
-    responses: Side<A>,
+    direction: Direction<A>,
+    responses: Responses<A>,
     writer: TextWriter<Buffered<O, A>>,
 }
 
@@ -44,7 +47,7 @@ impl<O: Target, A: Allocator> Model for Rows<O, A> {
 
     ghost Value = { Listening };
 
-    ghost view = { λ r. listening r.asked r.requests r.responses (output r.writer.given r.writer.failures) };
+    ghost view = { λ r. listening r.asked r.requests r.direction r.responses (output r.writer.given r.writer.failures) };
 
     ghost invariant = { λ r. r.writer.waiting ≡ [] };
 }
@@ -57,6 +60,7 @@ impl<O: Target, A: Allocator> Rows<O, A> {
         let Rows {
             asked: _,
             requests: _,
+            direction: _,
             responses: _,
             writer,
         } = self;
@@ -74,10 +78,11 @@ impl<O: Target, A: Allocator + Clone> Rows<O, A> {
         ensures ok { IfOk result (λ r. r ≡ new_listening asked (written O.Target out)) }
         ensures err { IfErr result (λ o. written O.Target o ≡ written O.Target out) }
     {
-        match take_memory(alloc) {
-            Ok((responses, buffer)) => Ok(Rows {
+        match take_memory(alloc, asked) {
+            Ok((direction, responses, buffer)) => Ok(Rows {
                 asked,
                 requests: Requests::new(false),
+                direction,
                 responses,
                 writer: TextWriter::new(Buffered::new(out, buffer)),
             }),
@@ -111,7 +116,7 @@ impl<O: Target, A: Allocator + Clone> Rows<O, A> {
 
     fn hear_left(&mut self, number: u64) -> Result<(), StreamsFault>
         ensures { IsSome self.old.output.given
-            → Changes self.old (if_asked number (leaves self.old.requests self.old.responses) self.old) result self.new }
+            → Changes self.old (if_asked number (leaves self.old.requests self.old.direction self.old.responses) self.old) result self.new }
     {
         if number != self.asked {
             return Ok(());
@@ -126,10 +131,11 @@ impl<O: Target, A: Allocator + Clone> Rows<O, A> {
     /// Writes the text of what is told of the connection.
     fn tell(&mut self, told: &Told, bytes: &[u8]) -> Result<(), TellFault>
         ensures { IsSome self.old.output.given
-            → Tells self.old (heard told.now bytes.now self.old.requests self.old.responses) result self.new }
+            → Tells self.old (heard told.now bytes.now self.old.requests self.old.direction self.old.responses) result self.new }
     {
         put_told(
             &mut self.requests,
+            &mut self.direction,
             &mut self.responses,
             told,
             bytes,
@@ -139,9 +145,9 @@ impl<O: Target, A: Allocator + Clone> Rows<O, A> {
 
     /// Writes the text of its end.
     fn leave(&mut self) -> Result<(), TellFault>
-        ensures { IsSome self.old.output.given → Tells self.old (leaves self.old.requests self.old.responses) result self.new }
+        ensures { IsSome self.old.output.given → Tells self.old (leaves self.old.requests self.old.direction self.old.responses) result self.new }
     {
-        put_left(&mut self.responses, &mut self.writer)
+        put_left(&mut self.direction, &mut self.responses, &mut self.writer)
     }
 }
 
@@ -149,17 +155,19 @@ impl<O: Target, A: Allocator + Clone> Rows<O, A> {
 #[tactic(auto, using(crate::proofs::Faults::passing_fails, crate::proofs::Faults::passing_front_fails))]
 fn put_told<W: Target, A: Allocator + Clone, B: Allocator>(
     requests: &mut Requests,
-    responses: &mut Side<A>,
+    direction: &mut Direction<A>,
+    responses: &mut Responses<A>,
     told: &Told,
     bytes: &[u8],
     writer: &mut TextWriter<Buffered<W, B>>,
 ) -> Result<(), TellFault>
-    ensures text { Takes writer.old (heard told.now bytes.now requests.old responses.old).text result writer.new }
+    ensures text { Takes is_memory writer.old (heard told.now bytes.now requests.old direction.old responses.old).text result writer.new }
     ensures passed { writer.new.waiting ≡ [] }
-    ensures requests { OnOk result (requests.new ≡ (heard told.now bytes.now requests.old responses.old).requests) }
-    ensures responses { OnOk result (responses.new ≡ (heard told.now bytes.now requests.old responses.old).responses) }
+    ensures requests { OnOk result (requests.new ≡ (heard told.now bytes.now requests.old direction.old responses.old).requests) }
+    ensures direction { OnOk result (direction.new ≡ (heard told.now bytes.now requests.old direction.old responses.old).direction) }
+    ensures responses { OnOk result (responses.new ≡ (heard told.now bytes.now requests.old direction.old responses.old).responses) }
 {
-    match put_heard(requests, responses, told, bytes, writer) {
+    match put_heard(requests, direction, responses, told, bytes, writer) {
         Ok(()) => Ok(writer.pass_on()?),
         Err(TellFault::Write) => Err(TellFault::Write),
         Err(TellFault::NoMemory) => {
@@ -172,56 +180,71 @@ fn put_told<W: Target, A: Allocator + Clone, B: Allocator>(
 /// Takes the text of what is told.
 fn put_heard<P: Pen, A: Allocator + Clone>(
     requests: &mut Requests,
-    responses: &mut Side<A>,
+    direction: &mut Direction<A>,
+    responses: &mut Responses<A>,
     told: &Told,
     bytes: &[u8],
     writer: &mut TextWriter<P>,
 ) -> Result<(), TellFault>
-    ensures text { Takes writer.old (heard told.now bytes.now requests.old responses.old).text result writer.new }
-    ensures requests { OnOk result (requests.new ≡ (heard told.now bytes.now requests.old responses.old).requests) }
-    ensures responses { OnOk result (responses.new ≡ (heard told.now bytes.now requests.old responses.old).responses) }
+    ensures text { Takes is_memory writer.old (heard told.now bytes.now requests.old direction.old responses.old).text result writer.new }
+    ensures requests { OnOk result (requests.new ≡ (heard told.now bytes.now requests.old direction.old responses.old).requests) }
+    ensures direction { OnOk result (direction.new ≡ (heard told.now bytes.now requests.old direction.old responses.old).direction) }
+    ensures responses { OnOk result (responses.new ≡ (heard told.now bytes.now requests.old direction.old responses.old).responses) }
 {
     match told.way {
         Way::Requests => {
             responses.hear_requests(told.step, bytes, requests);
             Ok(())
         }
-        Way::Responses => responses.hear(told.step, spot_of(told), bytes, writer),
+        Way::Responses => { direction.hear(told.step, told.at, bytes, responses, writer) }
     }
 }
 
 /// Takes the text of the end of a connection, and passes it on.
-#[tactic(auto, using(crate::proofs::Faults::breaks_here, crate::proofs::Faults::passing_fails))]
-fn put_left<W: Target, A: Allocator, B: Allocator>(
-    responses: &mut Side<A>,
+#[tactic(auto, using(crate::proofs::Faults::passing_fails, crate::proofs::Faults::passing_front_fails))]
+fn put_left<W: Target, A: Allocator + Clone, B: Allocator>(
+    direction: &mut Direction<A>,
+    responses: &mut Responses<A>,
     writer: &mut TextWriter<Buffered<W, B>>,
 ) -> Result<(), TellFault>
-    ensures text { Takes writer.old (closes responses.old.heads responses.old.known responses.old.frame).text result writer.new }
+    ensures text { Takes is_memory writer.old (closes page_manner direction.old.frame responses.old direction.old).text result writer.new }
     ensures passed { writer.new.waiting ≡ [] }
-    ensures after { OnOk result (responses.new ≡ (closes responses.old.heads responses.old.known responses.old.frame).after) }
+    ensures direction { OnOk result (direction.new ≡ (closes page_manner direction.old.frame responses.old direction.old).after) }
+    ensures responses { OnOk result (responses.new ≡ (closes page_manner direction.old.frame responses.old direction.old).known) }
 {
-    responses.close(writer)?;
-    Ok(writer.pass_on()?)
-}
-
-/// Where something is told.
-fn spot_of(told: &Told) -> Spot
-    ensures { result ≡ spot told.now.number told.now.at }
-{
-    Spot {
-        number: told.number,
-        at: told.at,
+    match direction.close(responses, writer) {
+        Ok(()) => Ok(writer.pass_on()?),
+        Err(TellFault::Write) => Err(TellFault::Write),
+        Err(TellFault::NoMemory) => {
+            writer.pass_on()?;
+            Err(TellFault::NoMemory)
+        }
     }
 }
 
 /// Responses of which nothing came, and a buffer.
-fn take_memory<A: Allocator + Clone>(alloc: A) -> Result<(Side<A>, Vec<u8, A>), AllocError>
-    ensures responses { IfOk result (λ p. p.0 ≡ begun false (new_keeping STATEMENTS EXECUTES)) }
-    ensures buffer { IfOk result (λ p. 128 ≤ vec_len p.1) }
+fn take_memory<A: Allocator + Clone>(
+    alloc: A,
+    asked: u64,
+) -> Result<(Direction<A>, Responses<A>, Vec<u8, A>), AllocError>
+    ensures direction { IfOk result (λ p. p.0 ≡ begun rules true false) }
+    ensures responses { IfOk result (λ p. p.1 ≡ new_responses asked (new_keeping STATEMENTS EXECUTES)) }
+    ensures buffer { IfOk result (λ p. 128 ≤ vec_len p.2) }
 {
-    let responses = Side::new(alloc.clone()?)?;
+    let responses = Responses::new(alloc.clone()?, asked)?;
+    let direction = new_direction(alloc.clone()?)?;
     let buffer = vec![in alloc; 0; ROOM]?;
-    Ok((responses, buffer))
+    Ok((direction, responses, buffer))
+}
+
+/// Responses of which nothing came. All memory is taken here.
+fn new_direction<A: Allocator + Clone>(alloc: A) -> Result<Direction<A>, AllocError>
+    ensures { IfOk result (λ d. d ≡ begun rules true false) }
+{
+    match Direction::new(alloc, LIMITS, true) {
+        Ok(direction) => Ok(direction),
+        Err(NewError::NoMemory | NewError::BadLimits(_)) => Err(AllocError),
+    }
 }
 
 impl<O: Target, A: Allocator + Clone> Listener for Rows<O, A> {

@@ -3,10 +3,10 @@
 ghost use Rattle.std.specs.Prelude.{◌≡◌};
 ghost use Rattle.std.specs.Fmt.{signed_decimal};
 ghost use Rattle.cqlp_text.specs.Written.{Writes};
-ghost use Rattle.cqlp_capture_rows.specs.Spots.{compressed_line, gap_line, page_line, place_text, refused_line, told_at};
+ghost use Rattle.cqlp_capture_rows.specs.Spots.{compressed_line, gap_line, page_line, place_text, refused_line};
 
 use cqlp_grammar::SinkFault;
-use cqlp_note::{Header, Refusal};
+use cqlp_note::{Header, Reason};
 use cqlp_text::{Pen, TextWriter, reason_name};
 
 /// A place in the responses of a connection.
@@ -23,13 +23,6 @@ pub(crate) struct Spot {
 pub(crate) struct FrameSpot {
     pub(crate) spot: Spot,
     pub(crate) header: Header,
-}
-
-/// The offset in the responses of what lies this far behind a spot.
-fn told_at(spot: Spot, more: u64) -> u64
-    ensures { result ≡ told_at spot more }
-{
-    spot.at.saturating_add(more)
 }
 
 /// Takes the number of the connection, and that it is a response.
@@ -61,18 +54,18 @@ fn put_stream<P: Pen>(writer: &mut TextWriter<P>, begun: FrameSpot) -> Result<()
     writer.put_signed(i64::from(begun.header.stream))
 }
 
-/// Takes the line of a refusal of the frame that begins there.
+/// Takes the line of a frame that is refused there.
 pub(crate) fn put_refused<P: Pen>(
     writer: &mut TextWriter<P>,
     spot: Spot,
-    refusal: Refusal,
+    why: Reason,
 ) -> Result<(), SinkFault>
-    ensures { Writes writer.old (refused_line spot refusal.at refusal.why) result writer.new }
+    ensures { Writes writer.old (refused_line spot why) result writer.new }
 {
     put_place(writer, spot)?;
-    writer.put_number(told_at(spot, refusal.at))?;
+    writer.put_number(spot.at)?;
     writer.put(b" refused ")?;
-    writer.put_str(reason_name(refusal.why))?;
+    writer.put_str(reason_name(why))?;
     writer.put(b"\n")
 }
 

@@ -10,7 +10,6 @@ use Rattle.cqlp_cell.specs.declared.advance.CellAdvance.{CellAdvance}
 use Rattle.cqlp_cell.specs.declared.advance.CellAdvance.TheVariants as advance
 use Rattle.cqlp_cell.specs.declared.advance.CellOutline.TheVariants as outline
 use Rattle.cqlp_cell.specs.declared.open_values.OpenValue.{OpenValue}
-use Rattle.cqlp_cell.specs.declared.progress.NextInCell.{NextInCell}
 use Rattle.cqlp_cell.specs.declared.progress.NextInCell.TheVariants as next
 use Rattle.cqlp_cell.specs.declared.progress.Arrived.{Arrived}
 use Rattle.cqlp_cell.specs.declared.progress.Arrived.TheVariants as arrived
@@ -18,21 +17,16 @@ use Rattle.cqlp_cell.specs.declared.progress.CellDue.{CellDue}
 use Rattle.cqlp_cell.specs.declared.progress.CellDue.TheVariants as due
 use Rattle.cqlp_kind.specs.CellStep.{Leave, place_after}
 use Rattle.cqlp_cell.specs.OpenValues.{but_last}
-use Rattle.cqlp_cell.specs.Progress.{CellState, ended, is_some_next, all_open_symbols, place, is_over, due_of, AreOpen, last_stop, Stands}
+use Rattle.cqlp_cell.specs.Progress.{CellState, ended, is_some_next, all_open_symbols, place, is_over, due_of, has_further, AreOpen, last_stop, Stands}
 use Rattle.cqlp_cell.specs.Coming.{room_of}
 use Rattle.cqlp_cell.specs.Reading.{Saying, step_says, sized_of, Hands, Fails, Settles, Moves, Answers, LengthCame, AreBytes, HaveCome}
 use Rattle.cqlp_cell.proofs.Nesting.{but_last_is}
 use Rattle.cqlp_cell.proofs.Opened.{Inmost, close_next}
-use Rattle.cqlp_cell.proofs.Coming.{value_due, close_is}
+use Rattle.cqlp_cell.proofs.Coming.{value_due, close_items, close_is}
+use Rattle.cqlp_cell.proofs.Further.{past_further}
 use Rattle.cqlp_cell.proofs.Lengths.{length_whole, come_behind, settles_as}
 
 -- ---- the end of the innermost value
-
-close_items_by : (d : CellState) (o : OpenValue) (n : NextInCell) → d.next ≡ n → due_of d ≡ due.Close o → d.next ≡ next.Items
-close_items_by d o next.Nothing e v = let no : ◌≡◌ {A = CellDue} due.Nothing (due.Close o) = rw e at v in absurd cc
-close_items_by d o (next.Cell _) e v = let no : ◌≡◌ {A = CellDue} due.Value (due.Close o) = rw e at v in absurd cc
-close_items_by d o next.Items e v = e
-close_items_by d o (next.Part offset total) e v = let no : ◌≡◌ {A = CellDue} (due.Part offset total) (due.Close o) = rw e at v in absurd cc
 
 -- with fewer values open
 module _ (nodes : List Node) (d : CellState) (front : List OpenValue) (items : d.next ≡ next.Items) where
@@ -43,16 +37,16 @@ module _ (nodes : List Node) (d : CellState) (front : List OpenValue) (items : d
   fewer_place = let zero : d.offset + 0 ≡ d.offset = omega arith in rw (items, zero) refl
 
 module _ (nodes : List Node) (d : CellState) (o : OpenValue) (p : FieldState) (input : List ℕ) (stands : Stands nodes d) (v : due_of d ≡ due.Close o) (idle : p.under_way ≡ false) where
-  close_items : d.next ≡ next.Items
-  close_items = close_items_by d o d.next refl v
+  its_items : d.next ≡ next.Items
+  its_items = close_items d o v
 
   closing : Inmost nodes d o × (is_over o d.offset ≡ true)
-  closing = close_next nodes d stands close_items o v
+  closing = close_next nodes d stands its_items o v
 
-  pub close_fails : (new : CellState) → d.offset < o.stop → new ≡ ended d → Fails nodes d p (step_says nodes d input) (record { at = d.offset; why = ExtraInValue }) new p
+  pub close_fails : (new : CellState) → has_further d.rules o d.offset ≡ false → d.offset < o.stop → new ≡ ended d → Fails nodes d p (step_says nodes d input) (record { at = d.offset; why = ExtraInValue }) new p
   unfolding step_says
-  close_fails new lt goes = record {
-    is = rw (close_is nodes d close_items o closing.0 closing.1, lt-ltb d.offset o.stop lt) refl;
+  close_fails new shut lt goes = record {
+    is = rw (close_is nodes d its_items o closing.0 closing.1 shut, lt-ltb d.offset o.stop lt) refl;
     ends = goes;
     idle = idle;
     longest = refl;
@@ -69,10 +63,10 @@ module _ (nodes : List Node) (d : CellState) (o : OpenValue) (p : FieldState) (i
         within = omega arith;
         emits = record {
           x = record { at = d.offset; event = Leave (length m.front) o.items; after = place_after (place nodes d) (all_open_symbols nodes 0 m.front) [] };
-          is = rw (close_is nodes d close_items o m closing.1, le-ltb d.offset o.stop le) refl;
+          is = rw (close_is nodes d its_items o m closing.1 (past_further d.rules o d.offset le), le-ltb d.offset o.stop le) refl;
           offset = refl;
           event = refl;
-          after = fewer_place nodes d m.front close_items;
+          after = fewer_place nodes d m.front its_items;
         };
         can_lend = tt;
         lent = tt;
@@ -81,10 +75,10 @@ module _ (nodes : List Node) (d : CellState) (o : OpenValue) (p : FieldState) (i
         rules = refl;
         stop = refl;
         onward = omega arith;
-        goes_after = rw close_items tt;
+        goes_after = rw its_items tt;
         pays = omega (arith, long);
-        stands = fewer_stand nodes d m.front close_items m.innermost.around (omega (arith, m.inside, m.innermost.within)) stands.bounded;
-        goes_on = ap is_some_next close_items;
+        stands = fewer_stand nodes d m.front its_items m.innermost.around (omega (arith, m.inside, m.innermost.within)) stands.bounded;
+        goes_on = ap is_some_next its_items;
         fresh = fresh;
         idle = idle;
         longest = refl;

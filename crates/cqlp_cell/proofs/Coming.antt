@@ -14,15 +14,15 @@ use Rattle.cqlp_cell.specs.declared.progress.NextInCell.TheVariants as next
 use Rattle.cqlp_cell.specs.declared.progress.CellDue.{CellDue}
 use Rattle.cqlp_cell.specs.declared.progress.CellDue.TheVariants as due
 use Rattle.cqlp_cell.specs.declared.progress.DueValue.{DueValue}
-use Rattle.cqlp_kind.specs.CellStep.{CellSymbol, Value_of, Items_of, Close_of, CellPlace, cell_copies, cell_step, cell_step_at, value_step, close_step, part_step}
+use Rattle.cqlp_kind.specs.CellStep.{CellSymbol, Value_of, Items_of, Close_of, CellPlace, cell_copies, cell_step, cell_step_at, value_step, close_step, part_step, reads_further}
 use Rattle.cqlp_type.specs.Forests.{types_at, node_at, Stand}
-use Rattle.cqlp_cell.specs.Progress.{CellState, value_symbols, left_of, open_symbols, all_open_symbols, symbols_for, place, value_at, due_value, open_after, rest_of, after_item_by, after_item, is_over, over_by, due_of, TypesStand, Stands, HasNext}
+use Rattle.cqlp_cell.specs.Progress.{CellState, value_symbols, left_of, open_symbols, all_open_symbols, symbols_for, place, value_at, due_value, open_after, rest_of, after_item_by, after_item, is_over, over_by, due_of, further_by, has_further, TypesStand, Stands, HasNext}
 use Rattle.cqlp_cell.specs.Coming.{ValueDue}
 use Rattle.cqlp_cell.proofs.Nesting.{last_is, with_last_is}
 use Rattle.cqlp_type.proofs.Inside.{first_stands}
 use Rattle.cqlp_cell.proofs.Opened.{last_stop_is, last_stop_le, levels_symbols_is, open_join, Inmost, value_next, has_next}
 
-no_types : (nodes : List Node) (i : ℕ) → types_at nodes i 0 ≡ NoMore
+pub no_types : (nodes : List Node) (i : ℕ) → types_at nodes i 0 ≡ NoMore
 unfolding types_at
 no_types nodes i = refl
 
@@ -98,12 +98,12 @@ module _ (l : Rules) (p : CellPlace) (rest : List CellSymbol) where
       → cell_step l p ≡ value_step l p (Items_of others level stop (taken + 1) ∷ rest) k inner (level + 1) (stop - p.offset)
   field_first k inner others level stop taken before e = ap (cell_step_at l p) e ∙ rw before refl
 
-  none_first : (level stop taken : ℕ) → p.symbols ≡ Items_of NoMore level stop taken ∷ rest → cell_step l p ≡ close_step p rest level stop taken
-  none_first level stop taken e = ap (cell_step_at l p) e
+  none_first : (level stop taken : ℕ) → reads_further l (stop - p.offset) ≡ false → p.symbols ≡ Items_of NoMore level stop taken ∷ rest → cell_step l p ≡ close_step p rest level stop taken
+  none_first level stop taken shut e = ap (cell_step_at l p) e ∙ rw shut refl
 
-  over_first : (ts : Types) (level stop taken : ℕ) → leb stop p.offset ≡ true → p.symbols ≡ Items_of ts level stop taken ∷ rest → cell_step l p ≡ close_step p rest level stop taken
-  over_first NoMore level stop taken past e = ap (cell_step_at l p) e
-  over_first (Type_and k inner others) level stop taken past e = ap (cell_step_at l p) e ∙ rw past refl
+  over_first : (ts : Types) (level stop taken : ℕ) → leb stop p.offset ≡ true → reads_further l (stop - p.offset) ≡ false → p.symbols ≡ Items_of ts level stop taken ∷ rest → cell_step l p ≡ close_step p rest level stop taken
+  over_first NoMore level stop taken past shut e = none_first level stop taken shut e
+  over_first (Type_and k inner others) level stop taken past shut e = ap (cell_step_at l p) e ∙ rw past refl
 
 -- the kind of the value that these symbols begin with, if they do
 abbrev pub first_kind : List CellSymbol → Option Kind
@@ -305,21 +305,30 @@ module _ (nodes : List Node) (d : CellState) (stands : Stands nodes d) where
 
 -- ---- the end of the innermost value
 
-module _ (nodes : List Node) (d : CellState) (items : d.next ≡ next.Items) (o : OpenValue) (m : Inmost nodes d o) (over : is_over o d.offset ≡ true) where
-  close_by : (k : Order) → o.order ≡ k → over_by o d.offset k ≡ true → (place nodes d).symbols ≡ left_of nodes (length m.front) o k ++ all_open_symbols nodes 0 m.front
+close_items_by : (d : CellState) (o : OpenValue) (n : NextInCell) → d.next ≡ n → due_of d ≡ due.Close o → d.next ≡ next.Items
+close_items_by d o next.Nothing e v = let no : ◌≡◌ {A = CellDue} due.Nothing (due.Close o) = rw e at v in absurd cc
+close_items_by d o (next.Cell _) e v = let no : ◌≡◌ {A = CellDue} due.Value (due.Close o) = rw e at v in absurd cc
+close_items_by d o next.Items e v = e
+close_items_by d o (next.Part offset total) e v = let no : ◌≡◌ {A = CellDue} (due.Part offset total) (due.Close o) = rw e at v in absurd cc
+
+pub close_items : (d : CellState) (o : OpenValue) → due_of d ≡ due.Close o → d.next ≡ next.Items
+close_items d o v = close_items_by d o d.next refl v
+
+module _ (nodes : List Node) (d : CellState) (items : d.next ≡ next.Items) (o : OpenValue) (m : Inmost nodes d o) (over : is_over o d.offset ≡ true) (shut : has_further d.rules o d.offset ≡ false) where
+  close_by : (k : Order) → o.order ≡ k → over_by o d.offset k ≡ true → further_by d.rules (o.stop - d.offset) k ≡ false → (place nodes d).symbols ≡ left_of nodes (length m.front) o k ++ all_open_symbols nodes 0 m.front
       → cell_step d.rules (place nodes d) ≡ close_step (place nodes d) (all_open_symbols nodes 0 m.front) (length m.front) o.stop o.items
-  close_by order.Elements e t now = close_first d.rules (place nodes d) _ _ o.stop o.items (now ∙ rw (eqb-true o.left 0 t) refl)
-  close_by order.Keys e t now = close_first d.rules (place nodes d) _ _ o.stop o.items (now ∙ rw (eqb-true o.left 0 t) refl)
-  close_by order.Values e t now = absurd cc
-  close_by order.Fields e t now = elim (or_cases (eqb o.left 0) (leb o.stop d.offset) t) [
-    | inl none ↦ none_first d.rules (place nodes d) _ _ o.stop o.items (now ∙ rw (eqb-true o.left 0 none, no_types nodes o.node) refl)
-    | inr past ↦ over_first d.rules (place nodes d) _ (types_at nodes o.node o.left) _ o.stop o.items past now
+  close_by order.Elements e t f now = close_first d.rules (place nodes d) _ _ o.stop o.items (now ∙ rw (eqb-true o.left 0 t) refl)
+  close_by order.Keys e t f now = close_first d.rules (place nodes d) _ _ o.stop o.items (now ∙ rw (eqb-true o.left 0 t) refl)
+  close_by order.Values e t f now = absurd cc
+  close_by order.Fields e t f now = elim (or_cases (eqb o.left 0) (leb o.stop d.offset) t) [
+    | inl none ↦ none_first d.rules (place nodes d) _ _ o.stop o.items f (now ∙ rw (eqb-true o.left 0 none, no_types nodes o.node) refl)
+    | inr past ↦ over_first d.rules (place nodes d) _ (types_at nodes o.node o.left) _ o.stop o.items past f now
   ]
 
   pub close_is : cell_step d.rules (place nodes d) ≡ close_step (place nodes d) (all_open_symbols nodes 0 m.front) (length m.front) o.stop o.items
   close_is =
       let e : 0 + length m.front ≡ length m.front = omega arith in
-      close_by o.order refl over (rw (items, m.is, levels_symbols_is nodes 0 m.front o, e) refl)
+      close_by o.order refl over shut (rw (items, m.is, levels_symbols_is nodes 0 m.front o, e) refl)
 
 pub part_is : (nodes : List Node) (d : CellState) (offset total : ℕ) → d.next ≡ next.Part offset total → cell_step d.rules (place nodes d) ≡ part_step d.rules (place nodes d) (all_open_symbols nodes 0 d.open_values) (length d.open_values) 0 offset total
 part_is nodes d offset total e = ap (λ (n : NextInCell). cell_step_at d.rules (place nodes d) (symbols_for nodes d.stop d.open_values n)) e

@@ -17,7 +17,7 @@ use Rattle.cqlp_cell.specs.Progress.{CellState, open_symbols, place, due_value, 
 use Rattle.cqlp_cell.specs.Coming.{InnerDue, ValueDue}
 use Rattle.cqlp_cell.specs.Reading.{order_by, counted_open, fields_open, entered, Decided, InnerStands}
 use Rattle.cqlp_cell.proofs.Opened.{last_stop_is, levels_symbols_is, open_join, first_there}
-use Rattle.cqlp_cell.proofs.Coming.{FirstType, first_type, one_value, value_due}
+use Rattle.cqlp_cell.proofs.Coming.{first_type, one_value, value_due}
 
 -- ---- the second type of a map
 

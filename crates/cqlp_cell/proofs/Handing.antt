@@ -1,5 +1,5 @@
 -- What a step says, where the length of a value has come.
-use Rattle.std.proofs.Common.{◌≡◌, ℕ, ◌+◌, ◌-◌, ◌<◌, ◌≤◌, true, List, ◌++◌, length, take, drop, is_some, Option, Some, None, refl, sym, ◌∙◌, arith, lt-ltb, le-ltb}
+use Rattle.std.proofs.Common.{◌≡◌, ℕ, ◌+◌, ◌-◌, ◌<◌, ◌≤◌, true, List, ◌++◌, length, take, drop, is_some, Option, Some, None, refl, sym, ap, ◌∙◌, arith, lt-ltb, le-ltb}
 use Rattle.std.proofs.lemmas.List.{length-take-le}
 use Rattle.cqlp_note.specs.Reader.{More, Got, says}
 use Rattle.cqlp_note.specs.Step.{Emitted}
@@ -13,13 +13,14 @@ use Rattle.cqlp_cell.specs.declared.size.Sized.TheVariants as size
 use Rattle.cqlp_cell.specs.declared.progress.Arrived.{Arrived}
 use Rattle.cqlp_cell.specs.declared.progress.Arrived.TheVariants as arrived
 use Rattle.cqlp_cell.specs.declared.progress.CellDue.TheVariants as due
-use Rattle.cqlp_kind.specs.Scalars.{ScalarValue, scalar_of}
+use Rattle.cqlp_kind.specs.Scalars.{ScalarValue, scalar_of, scalar_taken, fault_of}
 use Rattle.cqlp_kind.specs.CellStep.{CellSymbol, CellEvent, CellPlace, leaf_step}
+use Rattle.cqlp_cell.specs.Contents.{IsReadAs}
 use Rattle.cqlp_cell.specs.Items.{content_at, leaf_event}
 use Rattle.cqlp_cell.specs.Gathering.{Wants, Finds}
-use Rattle.cqlp_cell.specs.Progress.{CellState, place, due_value, state_after, rest_of, due_of, Stands}
+use Rattle.cqlp_cell.specs.Progress.{CellState, ended, place, due_value, state_after, rest_of, due_of, Stands}
 use Rattle.cqlp_cell.specs.Coming.{ValueDue}
-use Rattle.cqlp_cell.specs.Reading.{sized_of, Decided, Emits, Hands, Waits, LengthCame}
+use Rattle.cqlp_cell.specs.Reading.{sized_of, Decided, Emits, Hands, Waits, Fails, LengthCame}
 use Rattle.cqlp_cell.proofs.Coming.{value_due}
 
 -- after the value that comes next, as far as the one around it goes
@@ -49,9 +50,12 @@ module _ (nodes : List Node) (d : CellState) (n : ℕ) (decided : Decided nodes 
   pub scalar_short : length x < n → says (sized_of nodes d n) 4 x ≡ More
   scalar_short lt = rw (decided.is, lt-ltb (length x) n lt) refl
 
-  pub scalar_got : n ≤ length x → is_some (scalar_of its_kind (take n x)) ≡ true → Emits nodes (says (sized_of nodes d n) 4 x) d.offset (4 + n) (leaf_event (length d.open_values) (scalar_of its_kind (take n x))) (state_after nodes d (4 + n))
+  abbrev read : Option ScalarValue
+  read = scalar_taken d.rules.lenient its_kind (take n x)
+
+  pub scalar_got : n ≤ length x → is_some read ≡ true → Emits nodes (says (sized_of nodes d n) 4 x) d.offset (4 + n) (leaf_event (length d.open_values) read) (state_after nodes d (4 + n))
   scalar_got le t =
-      let k = leaf_known (place nodes d) (rest_of nodes d) (length d.open_values) its_kind (scalar_of its_kind (take n x)) (4 + n) (drop n x) t in
+      let k = leaf_known (place nodes d) (rest_of nodes d) (length d.open_values) its_kind read (4 + n) (drop n x) t in
       record {
         x = k.0;
         is = rw (decided.is, le-ltb (length x) n le) k.1;
@@ -72,17 +76,18 @@ module _ (nodes : List Node) (old new : CellState) (n start : ℕ) (p q : FieldS
   content_is : content_at f.content input q.content ≡ take n bytes
   content_is = rw found.is refl
 
-  pub leaf_hands : (k : Kind) (level : ℕ) → k ≡ kind → level ≡ length old.open_values → is_some (scalar_of k (content_at f.content input q.content)) ≡ true → new ≡ state_after nodes old (4 + n)
+  pub leaf_hands : (k : Kind) (level : ℕ) → level ≡ length old.open_values → IsReadAs old.rules.lenient kind (content_at f.content input q.content) (Some k) → new ≡ state_after nodes old (4 + n)
       → Hands nodes old p input (says (sized_of nodes old n) 4 bytes) ((4 - start) + length seen) old.offset f.used (outline.Leaf level k f.content) new q
-  leaf_hands k level is at known goes =
-      let got = scalar_got nodes old n decided bytes found.enough (rw (is, content_is) at known) in
+  leaf_hands k level at known goes =
+      let is : scalar_of k (content_at f.content input q.content) ≡ scalar_taken old.rules.lenient kind (take n bytes) = known.2 ∙ ap (scalar_taken old.rules.lenient kind) content_is in
+      let got = scalar_got nodes old n decided bytes found.enough (rw is at known.1) in
       let count : ((4 - start) + length seen) + f.used ≡ 4 + n = omega (arith, found.count, found.after) in
       let size : length (take n bytes) ≡ n = length-take-le n bytes found.enough in
       let due = value_due nodes old stands v in
-      rw (goes, is, at) (record {
+      rw (goes, at) (record {
         within = found.within;
-        emits = rw (count, content_is) got;
-        can_lend = ((found.can_lend, rw found.is refl), rw (content_is, size) decided.can.3, rw is at known);
+        emits = rw (count, is) got;
+        can_lend = ((found.can_lend, rw found.is refl), known.0, known.1);
         lent = λ le. found.lent (rw (content_is, size) at le);
         kept = λ lt. kept (rw (content_is, size) at lt);
         held = λ lt. found.kept (rw (content_is, size) at lt) ∙ sym content_is;
@@ -97,6 +102,12 @@ module _ (nodes : List Node) (old new : CellState) (n start : ℕ) (p q : FieldS
         idle = found.idle;
         longest = found.room;
       })
+
+  -- one that the type refuses
+  pub leaf_fails : IsReadAs old.rules.lenient kind (content_at f.content input q.content) None → new ≡ ended old → Fails nodes old p (says (sized_of nodes old n) 4 bytes) (record { at = old.offset; why = fault_of kind }) new q
+  leaf_fails refused goes =
+      let none : scalar_taken old.rules.lenient kind (take n bytes) ≡ None = rw content_is at refused in
+      record { is = rw (decided.is, le-ltb (length bytes) n found.enough, none) refl; ends = goes; idle = found.idle; longest = found.room }
 
 -- a scalar that goes on
 pub scalar_waits : (nodes : List Node) (old : CellState) (n : ℕ) (p q : FieldState) (input bytes : List ℕ) → due_of old ≡ due.Value → Decided nodes old n (size.Scalar n) → old.rules.cell ≤ p.room → Wants n (old.offset + 4) bytes p q

@@ -1,5 +1,5 @@
 -- How far a cell was read, and what is left of it.
-use Rattle.std.proofs.Common.{◌≡◌, ℕ, ◌+◌, ◌^◌, ◌<◌, ◌≤◌, true, false, List, [], ◌∷◌, ◌++◌, length, Some, refl, arith}
+use Rattle.std.proofs.Common.{◌≡◌, ℕ, ◌+◌, ◌^◌, ◌<◌, ◌≤◌, true, false, List, [], ◌∷◌, ◌++◌, length, Option, Some, None, refl, arith}
 use Rattle.std.proofs.lemmas.List.{length-append}
 use Rattle.cqlp_note.specs.Partial.{FieldState}
 use Rattle.cqlp_kind.specs.declared.kind.Kind.{Kind}
@@ -15,10 +15,11 @@ use Rattle.cqlp_cell.specs.declared.progress.Arrived.TheVariants as arrived
 use Rattle.cqlp_kind.specs.CellStep.{CellSymbol, Value_of}
 use Rattle.cqlp_type.specs.Forests.{types_at}
 use Rattle.cqlp_cell.specs.Progress.{CellState, left_of, open_symbols, all_open_symbols, symbols_for, place, Stands}
-use Rattle.cqlp_cell.specs.Reading.{IsAfterItem, UnderBy, PartUnder, Joined, HaveCome}
+use Rattle.cqlp_cell.specs.OpenValues.{last_open}
+use Rattle.cqlp_cell.specs.Reading.{IsAfterItem, UnderBy, FurtherUnder, PartUnder, Joined, HaveCome}
 use Rattle.cqlp_cell.specs.Pushing.{is_done, done_by}
-use Rattle.cqlp_cell.proofs.Opened.{last_stop_le}
-use Rattle.cqlp_cell.proofs.Coming.{value_due}
+use Rattle.cqlp_cell.proofs.Opened.{last_stop_le, close_next}
+use Rattle.cqlp_cell.proofs.Coming.{value_due, close_items}
 
 -- ---- how much has come
 
@@ -43,10 +44,16 @@ pub stop_is : (nodes : List Node) (d : CellState) → Stands nodes d → d.offse
 stop_is nodes d s = omega (arith, s.within, last_stop_le nodes d.rules 0 d.stop d.open_values s.open_stand)
 
 module _ (nodes : List Node) (d : CellState) (p : FieldState) (s : Stands nodes d) where
+  further_below : (o : Option OpenValue) → FurtherUnder nodes d p o → d.offset + length p.seen < 2 ^ 64
+  further_below None h = absurd h
+  further_below (Some o) h =
+      let m = (close_next nodes d s (close_items d o h.0) o h.0).0 in
+      omega (arith, h.2.3, m.inside, m.innermost.within, last_stop_le nodes d.rules 0 d.stop m.front m.innermost.around, s.bounded)
+
   part_below : (n : NextInCell) → d.next ≡ n → PartUnder nodes d p n → d.offset + length p.seen < 2 ^ 64
   part_below next.Nothing e h = absurd h
   part_below (next.Cell _) e h = absurd h
-  part_below next.Items e h = absurd h
+  part_below next.Items e h = further_below (last_open d.open_values) h
   part_below (next.Part offset total) e h = omega (arith, h.3, rw e at s.within, last_stop_le nodes d.rules 0 d.stop d.open_values s.open_stand, s.bounded)
 
   come_below : (u : Arrived) → UnderBy nodes d p u → d.offset + how_much u (length p.seen) < 2 ^ 64

@@ -1,10 +1,12 @@
 pub mod Gathered
+pub mod Contents
 pub mod Numbered
 pub mod Sizing
 pub mod Nesting
 pub mod Opened
 pub mod Coming
 pub mod Handing
+pub mod Further
 pub mod Entering
 pub mod Counting
 pub mod ScalarSizes
@@ -18,3 +20,4 @@ pub mod Leavings
 pub mod Fronts
 pub mod WholeItems
 pub mod Levels
+pub mod Lenient

@@ -7,6 +7,7 @@ use Rattle.cqlp_note.specs.declared.advance.ContentPlace.TheVariants as lies
 use Rattle.cqlp_note.specs.declared.advance.FieldOutline.TheVariants as item
 use Rattle.cqlp_note.specs.Reader.{says}
 use Rattle.cqlp_note.specs.Step.{Step}
+use Rattle.cqlp_note.specs.Limits.{with_lenient}
 use Rattle.cqlp_note.specs.Partial.{FieldState}
 use Rattle.cqlp_kind.specs.declared.node.Node.{Node}
 use Rattle.cqlp_kind.specs.Scalars.{ScalarValue}
@@ -59,7 +60,7 @@ none_over [] some = absurd (omega (arith, some))
 none_over (o ∷ os) some = refl
 
 module _ (nodes : List Node) (d : CellState) (input : List ℕ) (used : ℕ) (v : ScalarValue) (stands : Stands nodes d) (fresh : d.arrived ≡ arrived.Nothing) (items : d.next ≡ next.Items) (now : due_of d ≡ due.Value) (same : d.rules.part ≡ d.rules.cell)
-    (front : SaysScalar d.rules (due_value nodes d).kind (room_of nodes d) input used v) where
+    (front : SaysScalar d.rules (due_value nodes d).kind (room_of nodes d) input used v) (typed : SaysScalar (with_lenient false d.rules) (due_value nodes d).kind (room_of nodes d) input used v) where
   abbrev long : ℕ
   long = front_number input
 
@@ -69,13 +70,13 @@ module _ (nodes : List Node) (d : CellState) (input : List ℕ) (used : ℕ) (v 
   pub scalar_is : (buffer : List ℕ) → event_at scalar_outline input buffer ≡ Leaf (length d.open_values) v
   unfolding scalar_outline
   scalar_is buffer =
-      let f = front_is d.rules (due_value nodes d).kind (room_of nodes d) used input v same front in
+      let f = front_is (with_lenient false d.rules) (due_value nodes d).kind (room_of nodes d) used input v same typed in
       rw f.2 refl
 
   scalar_hands : (p : FieldState) → p.under_way ≡ false → p.content ≡ [] → Hands nodes d p input (step_says nodes d input) 0 d.offset used scalar_outline (state_after nodes d used) p
   unfolding scalar_outline step_says
   scalar_hands p idle empty =
-      let f = front_is d.rules (due_value nodes d).kind (room_of nodes d) used input v same front in
+      let f = front_is (with_lenient false d.rules) (due_value nodes d).kind (room_of nodes d) used input v same typed in
       let v' = value_due nodes d stands now in
       let count : 0 + used ≡ used = omega arith in
       let left : long ≤ length (drop 4 input) = omega (arith, f.0.there, length-drop 4 input) in

@@ -1,7 +1,7 @@
 -- A scalar that lies whole at the front of the input.
-use Rattle.std.specs.Prelude.{◌≡◌, ℕ, ◌<◌, ◌≤◌, List, [], length, Option, Some, None}
+use Rattle.std.specs.Prelude.{◌≡◌, ℕ, ◌<◌, ◌≤◌, false, List, [], length, Option, Some, None}
 use Rattle.cqlp_note.specs.Reader.{Got, says}
-use Rattle.cqlp_note.specs.Limits.{Rules}
+use Rattle.cqlp_note.specs.Limits.{Rules, with_lenient}
 use Rattle.cqlp_kind.specs.declared.kind.Kind.{Kind}
 use Rattle.cqlp_kind.specs.Types.{Types}
 use Rattle.cqlp_cell.specs.declared.front.FrontScalar.{FrontScalar}
@@ -18,7 +18,10 @@ pub record SaysScalar (l : Rules) (k : Kind) (room : ℕ) (input : List ℕ) (us
   pub inside : used ≤ room
   pub some : 0 < used
 
--- A scalar at the front of the input, and just where these bytes say one.
+-- A scalar at the front of the input, just where these bytes say one to a caller who is not lenient; they say it to one who
+-- is, too.
 abbrev pub IsFront : Rules → Kind → (room : ℕ) → (input : List ℕ) → Option FrontScalar → Type 0
-IsFront l k room input None = (used : ℕ) (v : ScalarValue) → ¬ (SaysScalar l k room input used v)
-IsFront l k room input (Some f) = SaysScalar l k room input f.used (value_of f.scalar)
+IsFront l k room input None = (used : ℕ) (v : ScalarValue) → ¬ (SaysScalar (with_lenient false l) k room input used v)
+IsFront l k room input (Some f) =
+    SaysScalar l k room input f.used (value_of f.scalar)
+    × SaysScalar (with_lenient false l) k room input f.used (value_of f.scalar)

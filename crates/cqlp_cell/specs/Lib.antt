@@ -1,4 +1,5 @@
 pub mod Items
+pub mod Contents
 pub mod Gathering
 pub mod Numbers
 pub mod Sizes
@@ -10,3 +11,4 @@ pub mod OpenValues
 pub mod Fronts
 pub mod Whole
 pub mod Levels
+pub mod Lenient

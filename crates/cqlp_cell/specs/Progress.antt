@@ -2,7 +2,7 @@
 -- symbols of cqlp_kind/specs/CellStep. What a call makes of it is in Reading.
 use Rattle.std.specs.Prelude.{◌≡◌, ℕ, ◌+◌, ◌-◌, ◌^◌, ◌<◌, ◌≤◌, ◌++◌, Bool, true, false, ◌||◌, List, [], ◌∷◌, length, Option, Some}
 use Rattle.std.specs.Prelude.{None, IsSome, slice_get, nat_le, ◌==◌}
-use Rattle.cqlp_note.specs.Limits.{Rules, rules_of}
+use Rattle.cqlp_note.specs.Limits.{Rules, rules_asked}
 use Rattle.cqlp_kind.specs.declared.kind.Kind.TheVariants as kind
 use Rattle.cqlp_kind.specs.declared.node.Node.{Node}
 use Rattle.cqlp_kind.specs.Types.{NoMore}
@@ -18,6 +18,7 @@ use Rattle.cqlp_cell.specs.declared.progress.CellDue.TheVariants as due
 use Rattle.cqlp_cell.specs.declared.progress.DueValue.{DueValue}
 use Rattle.cqlp_cell.specs.declared.progress.CellProgress.{CellProgress}
 use Rattle.cqlp_kind.specs.CellStep.{CellSymbol, Value_of, Items_of, Close_of, Content_from, CellPlace, cell_copies, values_of}
+use Rattle.cqlp_kind.specs.CellStep.{reads_further}
 use Rattle.cqlp_cell.specs.OpenValues.{last_open, with_last}
 use Rattle.cqlp_type.specs.Forests.{types_at, node_at, Stand}
 
@@ -34,7 +35,7 @@ pub record CellState : Type 0 where
 abbrev pub state_of : {A : Type 0} → CellProgress A → CellState
 state_of s =
     record {
-      rules = rules_of s.limits;
+      rules = rules_asked s.limits;
       offset = s.offset;
       stop = s.stop;
       next = s.next;
@@ -184,6 +185,14 @@ due_for offset os next.Items = due_in offset (last_open os)
 
 abbrev pub due_of : CellState → CellDue
 due_of d = due_for d.offset d.open_values d.next
+
+-- A lenient caller reads on behind the last field of an open value.
+abbrev pub further_by : Rules → (left : ℕ) → Order → Bool
+further_by l left order.Fields = reads_further l left
+further_by l left _ = false
+
+abbrev pub has_further : Rules → OpenValue → (offset : ℕ) → Bool
+has_further l o offset = further_by l (o.stop - offset) o.order
 
 -- ---- what stands in the table
 

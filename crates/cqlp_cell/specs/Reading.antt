@@ -35,7 +35,8 @@ use Rattle.cqlp_cell.specs.Gathering.{IsGathering, seen_before}
 use Rattle.cqlp_cell.specs.Numbers.{IsCounting}
 use Rattle.cqlp_cell.specs.Sizes.{sized_as, CanBe, HasRoom}
 use Rattle.cqlp_cell.specs.Progress.{CellState, state_of, ended, is_under_way, place, due_value, state_after, rest_of, due_of}
-use Rattle.cqlp_cell.specs.Progress.{Stands}
+use Rattle.cqlp_cell.specs.Progress.{has_further, Stands}
+use Rattle.cqlp_cell.specs.OpenValues.{last_open}
 use Rattle.cqlp_cell.specs.Coming.{inner_of, room_of}
 
 -- what a step says
@@ -93,8 +94,17 @@ module _ (nodes : List Node) where
 
   -- ---- what has come of it
 
+  -- the bytes behind the last field of the innermost value
+  abbrev pub FurtherUnder : CellState → FieldState → Option OpenValue → Type 0
+  FurtherUnder d p None = ⊥
+  FurtherUnder d p (Some o) =
+      (due_of d ≡ due.Close o)
+      × (has_further d.rules o d.offset ≡ true)
+      × IsGathering true (part_size d 0 (o.stop - d.offset)) d.offset 0 p
+
   abbrev pub PartUnder : CellState → FieldState → NextInCell → Type 0
   PartUnder d p (next.Part offset total) = IsGathering true (part_size d offset total) d.offset 0 p
+  PartUnder d p next.Items = FurtherUnder d p (last_open d.open_values)
   PartUnder d p n = ⊥
 
   abbrev pub UnderBy : CellState → FieldState → Arrived → Type 0
@@ -263,7 +273,7 @@ seen_under _ seen = seen
 abbrev pub HaveCome : (bytes : List ℕ) → Arrived → (seen : List ℕ) → Type 0
 HaveCome bytes u seen = AreBytes (length_under u) (seen_under u seen) bytes
 
--- What the end of the innermost value does, whatever table and `Partial` there are.
+-- What the end of the innermost value does, whatever table and `Partial` there are, where nothing behind it is read on.
 abbrev pub Closes : CellState → CellAdvance → CellState → Type 0
 Closes old a new = (nodes : List Node) (p : FieldState) (input : List ℕ) → Stands nodes old → p.under_way ≡ false
     → Settles nodes old p input (step_says nodes old input) 0 (HaveCome input) a new p
@@ -284,6 +294,10 @@ IsLengthUnder nodes begun d p = IsCounting begun d.offset (room_of nodes d) 0 p
 -- so is a later part, from this offset in a scalar of `total` bytes
 abbrev pub IsPartUnder : (begun : Bool) → (offset total : ℕ) → CellState → FieldState → Type 0
 IsPartUnder begun offset total d p = IsGathering begun (part_size d offset total) d.offset 0 p
+
+-- so are the bytes behind the last field of this value
+abbrev pub IsFurtherUnder : (begun : Bool) → OpenValue → CellState → FieldState → Type 0
+IsFurtherUnder begun o d p = IsPartUnder begun 0 (o.stop - d.offset) d p
 
 -- A call does what the step says of the bytes that have come and the input.
 abbrev pub Reads : {A : Type 0} → Table → (begun : Bool) → CellProgress A → FieldState → List ℕ

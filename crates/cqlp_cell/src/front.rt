@@ -1,11 +1,11 @@
 //! Scalars that lie whole at the front of the input.
 
-ghost use Rattle.cqlp_note.specs.Limits.{rules_of};
+ghost use Rattle.cqlp_note.specs.Limits.{rules_asked};
 ghost use Rattle.cqlp_cell.specs.Fronts.{IsFront};
 
 use cqlp_kind::content::{read_array, scalar};
 use cqlp_kind::{Kind, Scalar};
-use cqlp_note::Limits;
+use cqlp_note::Asked;
 
 /// A scalar, and how many bytes it takes with its length.
 #[derive(Clone, Copy, Debug, PartialEq, Eq)]
@@ -15,15 +15,16 @@ pub struct FrontScalar<'a> {
 }
 
 /// The value of this kind at the front of the input, in a container with room for this many bytes, where it is a scalar
-/// that a `CellReader` would hand out whole and all its bytes are there. Section 6 of `native_protocol_v4.spec`.
+/// of its type that a `CellReader` would hand out whole, lenient or not, and all its bytes are there. Section 6 of
+/// `native_protocol_v4.spec`.
 #[inline(always)]
 pub fn front_scalar<'a>(
-    limits: &Limits,
+    limits: &Asked,
     kind: Kind,
     room: u64,
     input: &'a [u8],
 ) -> Option<FrontScalar<'a>>
-    ensures { IsFront (rules_of limits.now) kind room input.now result }
+    ensures { IsFront (rules_asked limits.now) kind room input.now result }
 {
     if input.len() < 4 {
         return None;

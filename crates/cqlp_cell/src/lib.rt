@@ -2,9 +2,11 @@
 #![tactic(auto)]
 
 mod advance;
+mod content;
 mod front;
 mod gather;
 mod item;
+pub mod laws;
 mod level;
 mod number;
 mod open_values;

@@ -3,13 +3,15 @@
 ghost use Rattle.std.specs.Prelude.{◌≡◌, ◌+◌, ◌-◌, ◌<◌, ◌≤◌, ◌^◌, ◌++◌, ◌∷◌, [], length, true, false, None, Some};
 ghost use Rattle.std.specs.Prelude.{IsSome, slice_get};
 ghost use Rattle.cqlp_cell.specs.Progress.{CellThere, cell_value as cell_value_of, value_at as value_of_node};
+ghost use Rattle.cqlp_note.specs.Limits.{rules_asked};
+ghost use Rattle.cqlp_kind.specs.CellStep.{reads_further as reads_further_is};
 ghost use Rattle.cqlp_cell.specs.declared.progress.NextInCell.TheVariants as next;
 ghost use Rattle.cqlp_cell.specs.declared.progress.Arrived.TheVariants as arrived;
 ghost use Rattle.cqlp_cell.specs.declared.progress.CellDue.TheVariants as due;
 
 use crate::open_values::{OpenValue, OpenValues, Order};
 use cqlp_kind::Kind;
-use cqlp_note::{Limits, Reason, Refusal};
+use cqlp_note::{Asked, Reason, Refusal};
 use cqlp_type::TypeTable;
 use std::alloc::Allocator;
 
@@ -22,7 +24,8 @@ pub(crate) enum NextInCell {
     Cell(Option<u32>),
     /// What the open values say.
     Items,
-    /// The bytes of a long scalar from this offset on, of this many in all.
+    /// The bytes of a long scalar, or those behind the last field of the innermost value, from this offset on, of this many
+    /// in all.
     Part { offset: u32, total: u32 },
 }
 
@@ -39,7 +42,7 @@ pub(crate) enum Arrived {
     Counted(u32),
     /// The length of a long scalar, and some of its first part.
     First(u32),
-    /// Some of a later part.
+    /// Some of a later part, or of the first one behind the last field of the innermost value.
     Later,
 }
 
@@ -65,7 +68,7 @@ pub(crate) struct DueValue {
 /// Where the reading of a cell stands.
 #[derive(Drop)]
 pub(crate) struct CellProgress<A: Allocator> {
-    pub limits: Limits,
+    pub limits: Asked,
     /// The offset of what is read next.
     pub offset: u64,
     /// Where the cell's container ends.
@@ -76,7 +79,6 @@ pub(crate) struct CellProgress<A: Allocator> {
 }
 
 impl<A: Allocator> CellProgress<A> {
-    ghost use Rattle.cqlp_note.specs.Limits.{rules_of};
     ghost use Rattle.cqlp_cell.specs.Progress.{state_of, due_of, due_value, state_after, ended, Stands};
 
     /// What comes next, where nothing of it has come.
@@ -182,8 +184,16 @@ fn value_at<A: Allocator>(table: &TypeTable<A>, node: u32, stop: u64) -> DueValu
     }
 }
 
+/// Whether so many bytes behind the last field of a value are read on, since the caller is lenient.
+#[inline]
+fn reads_further(limits: &Asked, left: u64) -> bool
+    ensures { result ≡ reads_further_is (rules_asked limits.now) left }
+{
+    limits.lenient && 0 < limits.cell && 0 < left && left < 1 << 32
+}
+
 impl OpenValue {
-    ghost use Rattle.cqlp_cell.specs.Progress.{HasNext, is_over, after_item};
+    ghost use Rattle.cqlp_cell.specs.Progress.{HasNext, has_further, is_over, after_item};
 
     /// Whether no further item begins at this offset.
     #[inline]
@@ -194,6 +204,18 @@ impl OpenValue {
             Order::Elements | Order::Keys => self.left == 0,
             Order::Values => false,
             Order::Fields => self.left == 0 || self.stop <= offset,
+        }
+    }
+
+    /// Whether bytes behind its last field are read on from this offset, since the caller is lenient.
+    #[inline]
+    pub(crate) fn has_further(self, limits: &Asked, offset: u64) -> bool
+        requires { offset ≤ self.stop }
+        ensures { result ≡ has_further (rules_asked limits.now) self offset }
+    {
+        match self.order {
+            Order::Fields => reads_further(limits, self.stop - offset),
+            Order::Elements | Order::Keys | Order::Values => false,
         }
     }
 

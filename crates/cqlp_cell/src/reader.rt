@@ -2,7 +2,7 @@
 
 ghost use Rattle.std.specs.Prelude.{◌≡◌, ℕ, ◌+◌, ◌^◌, ◌<◌, ◌≤◌, List, true, false, length, IfOk};
 ghost use Rattle.std.specs.Borrow.{sem};
-ghost use Rattle.cqlp_note.specs.Limits.{rules_of};
+ghost use Rattle.cqlp_note.specs.Limits.{rules_of, rules_asked};
 
 use crate::advance::CellAdvance;
 use crate::item::CellPush;
@@ -10,7 +10,7 @@ use crate::level::Level;
 use crate::open_values::OpenValues;
 use crate::progress::{Arrived, CellProgress, NextInCell};
 use crate::whole::BareItem;
-use cqlp_note::{Limits, NoMemory, Partial};
+use cqlp_note::{Asked, Limits, NoMemory, Partial};
 use cqlp_type::TypeTable;
 use std::alloc::{Allocator, Global};
 use std::marker::Model;
@@ -45,6 +45,14 @@ impl<A: Allocator> CellReader<A> {
     pub fn new(alloc: A, limits: &Limits) -> Result<Self, NoMemory>
         requires { limits.now.parts ≡ true → 1 ≤ limits.now.cell }
         ensures { IfOk result (λ reader. reader ≡ new_reader (rules_of limits.now)) }
+    {
+        Self::asked(alloc, &Asked::new(limits, false))
+    }
+
+    /// The same, where the caller may ask for a lenient reading.
+    pub fn asked(alloc: A, limits: &Asked) -> Result<Self, NoMemory>
+        requires { limits.now.parts ≡ true → 1 ≤ limits.now.cell }
+        ensures { IfOk result (λ reader. reader ≡ new_reader (rules_asked limits.now)) }
     {
         Ok(CellReader {
             progress: CellProgress {

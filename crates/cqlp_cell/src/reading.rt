@@ -1,7 +1,6 @@
 //! The steps of reading a cell.
 
 ghost use Rattle.std.specs.Prelude.{◌≡◌, ◌≢◌, ◌+◌, ◌-◌, ◌<◌, ◌≤◌, ◌^◌, ◌++◌, List, [], length, drop, true, false};
-ghost use Rattle.cqlp_note.specs.Limits.{rules_of};
 ghost use Rattle.cqlp_cell.specs.declared.size.Sized.TheVariants as size;
 ghost use Rattle.cqlp_cell.specs.declared.progress.CellDue.TheVariants as due;
 ghost use Rattle.cqlp_cell.specs.declared.progress.NextInCell.TheVariants as next;
@@ -9,20 +8,21 @@ ghost use Rattle.cqlp_cell.specs.declared.progress.Arrived.TheVariants as arrive
 ghost use Rattle.cqlp_cell.specs.Gathering.{IsGathering, seen_before};
 ghost use Rattle.cqlp_cell.specs.Numbers.{IsCounting};
 ghost use Rattle.cqlp_cell.specs.Sizes.{is_counted};
-ghost use Rattle.cqlp_cell.specs.Progress.{Stands, due_of, due_value, ended, state_after, state_of};
+ghost use Rattle.cqlp_cell.specs.Progress.{Stands, due_of, due_value, ended, has_further, state_after, state_of};
 ghost use Rattle.cqlp_cell.specs.Coming.{room_of};
 ghost use Rattle.cqlp_cell.specs.Reading.{Answers, Closes, Decided, Empties, EntersCounted, EntersFields, InnerStands};
-ghost use Rattle.cqlp_cell.specs.Reading.{IsLengthUnder, IsPartUnder, Joined, Reads, Sizes, Steps};
+ghost use Rattle.cqlp_cell.specs.Reading.{IsFurtherUnder, IsLengthUnder, IsPartUnder, Joined, Reads, Sizes, Steps};
 ghost use Rattle.cqlp_cell.specs.Reading.{inner_order as order_inside, next_after};
 
 use crate::advance::{CellAdvance, CellOutline};
+use crate::content::kind_read;
 use crate::gather::{empty, gather, lend_bytes};
 use crate::number::{Number, take_number};
 use crate::open_values::{OpenValue, Order};
 use crate::progress::{Arrived, CellDue, CellProgress, DueValue, NextInCell};
 use crate::size::{Sized, size_up};
 use cqlp_kind::Kind;
-use cqlp_kind::content::{accepts, fault};
+use cqlp_kind::content::fault;
 use cqlp_note::{Partial, Reason, Refusal};
 use cqlp_type::TypeTable;
 use std::alloc::Allocator;
@@ -70,7 +70,7 @@ impl<A: Allocator> CellProgress<A> {
                     self.end();
                     CellAdvance::Done
                 }
-                CellDue::Close(value) => self.close(value),
+                CellDue::Close(value) => self.leave(value, partial, table, input),
                 CellDue::Value => self.advance_length(false, partial, table, input),
                 CellDue::Part { offset, total } => {
                     self.advance_part(false, offset, total, partial, table, input)
@@ -90,9 +90,12 @@ impl<A: Allocator> CellProgress<A> {
                 NextInCell::Part { offset, total } => {
                     self.advance_part(true, offset, total, partial, table, input)
                 }
+                NextInCell::Items => {
+                    let value = self.open_values.last().unwrap();
+                    self.advance_further(true, value, partial, table, input)
+                }
                 NextInCell::Nothing => unreachable!(),
                 NextInCell::Cell(_) => unreachable!(),
-                NextInCell::Items => unreachable!(),
             },
         }
     }
@@ -125,9 +128,10 @@ impl<A: Allocator> CellProgress<A> {
             self.arrived = Arrived::Scalar(len);
             return CellAdvance::More { used: input.len() };
         };
-        if !accepts(value.kind, lend_bytes(partial, input, found.content)) {
+        let bytes = lend_bytes(partial, input, found.content);
+        let Some(kind) = kind_read(self.limits.lenient, value.kind, bytes) else {
             return self.refuse(self.offset, fault(value.kind));
-        }
+        };
         let at = self.offset;
         let level = self.open_values.len();
         self.pass(4 + u64::from(len), table);
@@ -136,7 +140,7 @@ impl<A: Allocator> CellProgress<A> {
             used: found.used,
             item: CellOutline::Leaf {
                 level,
-                kind: value.kind,
+                kind,
                 content: found.content,
             },
         }
@@ -443,9 +447,61 @@ impl<A: Allocator> CellProgress<A> {
         }
     }
 
+    /// Ends the innermost value, or goes on behind its last field, where the caller is lenient.
+    fn leave(
+        &mut self,
+        value: OpenValue,
+        partial: &mut Partial<A>,
+        table: &TypeTable<A>,
+        input: &[u8],
+    ) -> CellAdvance
+        requires stands { Stands table.now.nodes (state_of self.old) }
+        requires due { due_of (state_of self.old) ≡ due.Close value }
+        requires fresh { self.old.arrived ≡ arrived.Nothing }
+        requires idle { partial.old.under_way ≡ false }
+        requires longest { self.old.limits.cell ≤ partial.old.room }
+        ensures settles { Reads table.now false self.old partial.old input.now result self.new partial.new }
+        ensures room { self.new.open_values.room ≡ self.old.open_values.room }
+        ensures limits { self.new.limits ≡ self.old.limits }
+    {
+        if value.has_further(&self.limits, self.offset) {
+            self.advance_further(false, value, partial, table, input)
+        } else {
+            self.close(value)
+        }
+    }
+
+    /// Takes the next bytes behind the last field of the innermost value, which come as the parts of a long scalar do.
+    fn advance_further(
+        &mut self,
+        begun: bool,
+        value: OpenValue,
+        partial: &mut Partial<A>,
+        table: &TypeTable<A>,
+        input: &[u8],
+    ) -> CellAdvance
+        requires stands { Stands table.now.nodes (state_of self.old) }
+        requires due { due_of (state_of self.old) ≡ due.Close value }
+        requires further { has_further (state_of self.old).rules value self.old.offset ≡ true }
+        requires under_way { IsFurtherUnder begun value (state_of self.old) partial.old }
+        requires longest { self.old.limits.cell ≤ partial.old.room }
+        ensures settles { Reads table.now begun self.old partial.old input.now result self.new partial.new }
+        ensures room { self.new.open_values.room ≡ self.old.open_values.room }
+        ensures limits { self.new.limits ≡ self.old.limits }
+    {
+        let total = (value.stop - self.offset) as u32;
+        self.next = NextInCell::Part { offset: 0, total };
+        let answer = self.advance_part(begun, 0, total, partial, table, input);
+        if let CellAdvance::More { .. } = answer {
+            self.next = NextInCell::Items;
+        }
+        answer
+    }
+
     /// Ends the innermost value.
     fn close(&mut self, value: OpenValue) -> CellAdvance
         requires due { due_of (state_of self.old) ≡ due.Close value }
+        requires over { has_further (state_of self.old).rules value self.old.offset ≡ false }
         requires fresh { self.old.arrived ≡ arrived.Nothing }
         ensures closes { Closes (state_of self.old) result (state_of self.new) }
         ensures room { self.new.open_values.room ≡ self.old.open_values.room }

@@ -1,14 +1,15 @@
 //! What the length of a value says.
 
 ghost use Rattle.std.specs.Prelude.{◌≡◌, true};
-ghost use Rattle.cqlp_note.specs.Limits.{rules_of};
+ghost use Rattle.cqlp_note.specs.Limits.{rules_asked};
 ghost use Rattle.cqlp_kind.specs.Types.{has_no_items};
+ghost use Rattle.cqlp_kind.specs.Scalars.{takes_size};
 ghost use Rattle.cqlp_kind.specs.CellStep.{is_opaque as has_parts};
 ghost use Rattle.cqlp_cell.specs.Sizes.{IsContent, IsSized};
 
 use cqlp_kind::Kind;
 use cqlp_kind::content::allows;
-use cqlp_note::{Limits, Reason};
+use cqlp_note::{Asked, Reason};
 
 /// What a value is by its length.
 #[derive(Clone, Copy)]
@@ -30,8 +31,8 @@ pub(crate) enum Sized {
 /// there on.
 #[tactic(auto, using(crate::proofs::Sizing::null_is, crate::proofs::Sizing::empty_is, crate::proofs::Sizing::overrun_is, crate::proofs::Sizing::fitting_is))]
 #[inline]
-pub(crate) fn size_up(limits: &Limits, kind: Kind, room: u64, len: u32) -> Sized
-    ensures { IsSized (rules_of limits.now) kind room len result }
+pub(crate) fn size_up(limits: &Asked, kind: Kind, room: u64, len: u32) -> Sized
+    ensures { IsSized (rules_asked limits.now) kind room len result }
 {
     if len > i32::MAX as u32 {
         Sized::Null
@@ -47,8 +48,8 @@ pub(crate) fn size_up(limits: &Limits, kind: Kind, room: u64, len: u32) -> Sized
 /// The same of a value that has bytes, and room for them.
 #[tactic(auto, using(crate::proofs::Sizing::counted_content, crate::proofs::Sizing::udt_content, crate::proofs::Sizing::tuple_content))]
 #[inline]
-fn size_content(limits: &Limits, kind: Kind, len: u32) -> Sized
-    ensures { IsContent (rules_of limits.now) kind len result }
+fn size_content(limits: &Asked, kind: Kind, len: u32) -> Sized
+    ensures { IsContent (rules_asked limits.now) kind len result }
 {
     match kind {
         Kind::List | Kind::Set | Kind::Map => Sized::Counted(len),
@@ -60,11 +61,11 @@ fn size_content(limits: &Limits, kind: Kind, len: u32) -> Sized
 /// The same of a scalar.
 #[tactic(auto, using(crate::proofs::Sizing::bad_size, crate::proofs::Sizing::short_is, crate::proofs::Sizing::long_is, crate::proofs::Sizing::too_long))]
 #[inline]
-fn size_scalar(limits: &Limits, kind: Kind, len: u32) -> Sized
+fn size_scalar(limits: &Asked, kind: Kind, len: u32) -> Sized
     requires { has_no_items kind ≡ true }
-    ensures { IsContent (rules_of limits.now) kind len result }
+    ensures { IsContent (rules_asked limits.now) kind len result }
 {
-    if !allows(kind, len as usize) {
+    if !takes(limits.lenient, kind, len) {
         Sized::Refused(Reason::BadSize)
     } else if len <= limits.cell {
         Sized::Scalar(len)
@@ -73,6 +74,14 @@ fn size_scalar(limits: &Limits, kind: Kind, len: u32) -> Sized
     } else {
         Sized::Refused(Reason::TooLong)
     }
+}
+
+/// Whether a content of this many bytes, which are not none, is read on: the type allows so many, or the caller is lenient.
+#[inline]
+fn takes(lenient: bool, kind: Kind, len: u32) -> bool
+    ensures { result ≡ takes_size lenient kind len }
+{
+    lenient || allows(kind, len as usize)
 }
 
 /// Whether a scalar of this kind comes in parts where it is long.

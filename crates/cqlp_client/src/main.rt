@@ -52,22 +52,22 @@ fn read_words(rt: &HostRuntime) -> Result<Option<(u16, u32)>, Fault> {
     }
 }
 
-/// Has the whole conversation.
+/// Connects, and has the whole conversation.
 fn talk(rt: &HostRuntime, port: u16, queries: u32) -> Result<(), Fault> {
     let mut line = Line::connect(rt, port)?;
-    script::set_up(rt, &mut line)?;
-    script::ask(
-        rt,
-        &mut line,
-        "SELECT * FROM system.local WHERE key='local'",
-    )?;
-    script::ask(rt, &mut line, "SELECT * FROM system.peers")?;
-    script::ask_for_pages(rt, &mut line, "SELECT * FROM ks.t WHERE k = 3")?;
-    script::ask_prepared(rt, &mut line, "SELECT * FROM ks.t WHERE k = ?", 7)?;
-    script::batch_and_unprepared(rt, &mut line)?;
-    script::ask(rt, &mut line, "SELECT * FROM ks.nothing")?;
-    script::ask(rt, &mut line, "BAD")?;
-    measure(rt, &mut line, queries)
+    converse(rt, &mut line, queries)
+}
+
+fn converse(rt: &HostRuntime, line: &mut Line, queries: u32) -> Result<(), Fault> {
+    script::set_up(rt, line)?;
+    script::ask(rt, line, "SELECT * FROM system.local WHERE key='local'")?;
+    script::ask(rt, line, "SELECT * FROM system.peers")?;
+    script::ask_for_pages(rt, line, "SELECT * FROM ks.t WHERE k = 3")?;
+    script::ask_prepared(rt, line, "SELECT * FROM ks.t WHERE k = ?", 7)?;
+    script::batch_and_unprepared(rt, line)?;
+    script::ask(rt, line, "SELECT * FROM ks.nothing")?;
+    script::ask(rt, line, "BAD")?;
+    measure(rt, line, queries)
 }
 
 /// Sends the queries, and prints what came of them, and on standard error how fast.

@@ -7,6 +7,7 @@ use crate::requests::{batch, bound, execute, paged, plain, prepare, query, regis
 use cqlp_message::Message;
 use cqlp_session::RequestKind;
 use cqlp_text::opcode_name;
+use cqlp_type::TypeTable;
 use std::alloc::{AllocError, Global};
 
 /// How many rows a page has.
@@ -31,23 +32,32 @@ fn print_reply(rt: &impl Print, reply: &Reply) -> Result<(), Fault> {
     Ok(())
 }
 
+/// Makes a request, and prints its reply.
+fn say(rt: &impl Print, line: &mut Line, kind: RequestKind, message: Message) -> Result<(), Fault> {
+    print_reply(rt, &line.exchange(kind, message)?)
+}
+
 /// Opens the connection.
 pub fn set_up(rt: &(impl Print + AllocGlobal), line: &mut Line) -> Result<(), Fault> {
-    let options = line.exchange(RequestKind::Options, Message::Options)?;
-    print_reply(rt, &options)?;
-    let ready = line.exchange(RequestKind::Startup, startup(rt.alloc())?)?;
-    print_reply(rt, &ready)?;
-    let ready = line.exchange(
+    let alloc = rt.alloc();
+    say(rt, line, RequestKind::Options, Message::Options)?;
+    say(rt, line, RequestKind::Startup, startup(alloc)?)?;
+    say(
+        rt,
+        line,
         RequestKind::Register,
-        register(rt.alloc(), "STATUS_CHANGE")?,
-    )?;
-    print_reply(rt, &ready)
+        register(alloc, "STATUS_CHANGE")?,
+    )
 }
 
 /// Asks for the result of a statement, all of it in one page.
 pub fn ask(rt: &(impl Print + AllocGlobal), line: &mut Line, text: &str) -> Result<(), Fault> {
-    let message = query(rt.alloc(), text, plain())?;
-    print_reply(rt, &line.exchange(RequestKind::Query, message)?)
+    say(
+        rt,
+        line,
+        RequestKind::Query,
+        query(rt.alloc(), text, plain())?,
+    )
 }
 
 /// Asks for the rows of a statement, page after page.
@@ -93,12 +103,31 @@ pub fn ask_prepared(
     text: &str,
     key: i32,
 ) -> Result<(), Fault> {
-    let id = prepare_statement(rt, line, text)?;
-    let types = line.types()?;
+    let statement = Statement {
+        id: prepare_statement(rt, line, text)?,
+        types: line.types()?,
+    };
+    execute_all(rt, line, &statement, key)
+}
+
+/// A statement that is prepared: its id, and the types of its pages' columns.
+#[derive(Drop)]
+struct Statement {
+    id: Vec<u8>,
+    types: TypeTable,
+}
+
+/// Asks for the rows of a statement with this key, page after page.
+fn execute_all(
+    rt: &(impl Print + AllocGlobal),
+    line: &mut Line,
+    statement: &Statement,
+    key: i32,
+) -> Result<(), Fault> {
     let mut paging = Vec::new(rt.alloc());
     for _ in 0..PAGES {
-        line.read_by(&types)?;
-        let message = page_execution(rt.alloc(), id.as_slice(), key, paging.as_slice())?;
+        line.read_by(&statement.types)?;
+        let message = page_execution(rt.alloc(), &statement.id, key, paging.as_slice())?;
         paging = show_page(rt, line, RequestKind::Execute, message)?;
         if paging.is_empty() {
             break;
@@ -132,10 +161,15 @@ fn page_execution(
 
 /// Sends a batch, and executes a statement that was never prepared.
 pub fn batch_and_unprepared(rt: &(impl Print + AllocGlobal), line: &mut Line) -> Result<(), Fault> {
-    let message = batch(rt.alloc(), "INSERT INTO ks.t (k, c) VALUES (1, 1)")?;
-    print_reply(rt, &line.exchange(RequestKind::Batch, message)?)?;
-    let message = execute(rt.alloc(), b"none", plain())?;
-    print_reply(rt, &line.exchange(RequestKind::Execute, message)?)
+    let alloc = rt.alloc();
+    let message = batch(alloc, "INSERT INTO ks.t (k, c) VALUES (1, 1)")?;
+    say(rt, line, RequestKind::Batch, message)?;
+    say(
+        rt,
+        line,
+        RequestKind::Execute,
+        execute(alloc, b"none", plain())?,
+    )
 }
 
 /// What came of many queries.

@@ -77,8 +77,9 @@ module _ (s : BuilderState) (b : Bool) (on : b ≡ false) (new : BuilderState) w
   takes_ok (Frame h) None k t = (in_bounds (Frame h) t.0 t.1, ap (λ (k : BuilderState). with_end k b) t.2.1)
   takes_ok (Holds f v) None k t = (in_bounds (Holds f v) t.0 t.1 ∙ within (Holds f v) t.2.0, ap (λ (k : BuilderState). with_end k b) t.2.1)
   takes_ok (Node_of o) None k t = (in_bounds (Node_of o) t.0 t.1 ∙ within (Node_of o) t.2.0, ap (λ (k : BuilderState). with_end k b) t.2.1)
-  takes_ok (Cell_at row column c) None k t = absurd t.2.0
-  takes_ok (Leave level items) None k t = absurd t.2.0
+  takes_ok (Cell_at row column c) None k t =
+      (in_bounds (Cell_at row column c) t.0 t.1 ∙ within (Cell_at row column c) t.2.0, ap (λ (k : BuilderState). with_end k b) t.2.1)
+  takes_ok (Leave level items) None k t = (in_bounds (Leave level items) t.0 t.1 ∙ within (Leave level items) t.2.0, ap (λ (k : BuilderState). with_end k b) t.2.1)
   takes_ok (End x) None k t = absurd cc
   takes_ok e (Some f) k t = let d : true ≡ false = sym t.2.0 ∙ k in absurd cc
 
@@ -111,8 +112,8 @@ module _ (s : BuilderState) (b : Bool) (on : b ≡ false) (new : BuilderState) w
   no_memory (Holds f v) k t = (in_bounds (Holds f v) t.0 t.1 ∙ within (Holds f v) t.2.0, same t.2.1)
   no_memory (Node_of o) k t = (in_bounds (Node_of o) t.0 t.1 ∙ within (Node_of o) t.2.0, same t.2.1)
   no_memory (Frame h) k t = absurd t.2.0
-  no_memory (Cell_at row column c) k t = absurd t.2.0
-  no_memory (Leave level items) k t = absurd t.2.0
+  no_memory (Cell_at row column c) k t = (in_bounds (Cell_at row column c) t.0 t.1 ∙ within (Cell_at row column c) t.2.0, same t.2.1)
+  no_memory (Leave level items) k t = (in_bounds (Leave level items) t.0 t.1 ∙ within (Leave level items) t.2.0, same t.2.1)
   no_memory (End x) k t = absurd cc
 
   pub takes_err : (e : Event) (why : BuildError) → is_end e ≡ false → TakesEvent s e (Err why) new → Takes (with_end s b) e (Err why) (with_end new b)

@@ -25,7 +25,7 @@ composed c = record { frame = state c.builder; ended = c.ended }
 abbrev pub start : BuildLimits → ComposerState
 start limits = record { frame = empty limits; ended = false }
 
--- which limit has no place for a field or the kind of a type option
+-- which limit has no place for a field, the kind of a type option or what is told of a cell
 abbrev pub limit_of : BuilderState → Event → Option BuildError
 limit_of s e =
     if nat_lt s.limits.fields (length s.events) then Some error.TooManyFields
@@ -37,7 +37,7 @@ limit_of s e =
 abbrev pub bound_of : BuilderState → Event → Option BuildError
 bound_of s e = if is_field e then limit_of s e else None
 
--- What keeps an event from being the next of the frame, if something does: it is of another place, or of what is not built, or a
+-- What keeps an event from being the next of the frame, if something does: it is of another place, or a part of a scalar of a cell, or a
 -- limit has no place for it.
 abbrev pub refusal_of : ComposerState → Event → Option BuildError
 refusal_of s e =

@@ -4,7 +4,7 @@ use Rattle.std.specs.Prelude.{Option, Some, None}
 use Rattle.cqlp_note.specs.declared.refusal.Refusal.{Refusal}
 use Rattle.cqlp_note.specs.Reader.{Bad, says}
 use Rattle.cqlp_note.specs.Step.{Emitted, map_step}
-use Rattle.cqlp_note.specs.Limits.{Rules, rules_of}
+use Rattle.cqlp_note.specs.Limits.{Rules, rules_asked}
 use Rattle.cqlp_note.specs.Partial.{FieldState}
 use Rattle.cqlp_note.proofs.Yields.{map_said, says_map}
 use Rattle.cqlp_kind.specs.declared.kind.Kind.{Kind}
@@ -116,7 +116,7 @@ under_way_still : (nodes : List Node) (depth : ℕ) (d : CellState) (p : CellCur
     → page_symbols nodes d p ++ rest ≡ cells_left p.row p.column (place nodes d).symbols ++ (cells_after nodes p ++ rest)
 under_way_still nodes depth d p f behind some rest = rw f.is (still_by d.next p.row p.column f.first f.inner (place nodes d).symbols _ behind some)
 
-module _ (s : StreamProgress) (q : PartsState) (p : CellCursor) (here : s.stage ≡ stage.InCell p) (c : IsCell s q p) (rules : q.cells.rules ≡ rules_of s.limits) where
+module _ (s : StreamProgress) (q : PartsState) (p : CellCursor) (here : s.stage ≡ stage.InCell p) (c : IsCell s q p) (rules : q.cells.rules ≡ rules_asked s.limits) where
   abbrev typed : List Node
   typed = nodes_of q p.columns
 
@@ -140,9 +140,9 @@ module _ (s : StreamProgress) (q : PartsState) (p : CellCursor) (here : s.stage 
 
   told_is : (bytes : List ℕ) → said (state_of s q) bytes ≡ map_said (cell_event p.row p.column) (place_of_cells p.row p.column stands rest) (taking.step_says typed q.cells bytes)
   told_is bytes =
-      ap (λ (z : Place). says (step (rules_of s.limits) z) 0 bytes) place_is
-      ∙ ap (λ z. says z 0 bytes) (alike (rules_of s.limits) typed q.cells q.cells.next p.row p.column s.stop column.first column.inner rest q.table.nodes held due_now)
-      ∙ says_map (cell_event p.row p.column) (place_of_cells p.row p.column stands rest) (cell_step (rules_of s.limits) (place typed q.cells)) 0 bytes
+      ap (λ (z : Place). says (step (rules_asked s.limits) z) 0 bytes) place_is
+      ∙ ap (λ z. says z 0 bytes) (alike (rules_asked s.limits) typed q.cells q.cells.next p.row p.column s.stop column.first column.inner rest q.table.nodes held due_now)
+      ∙ says_map (cell_event p.row p.column) (place_of_cells p.row p.column stands rest) (cell_step (rules_asked s.limits) (place typed q.cells)) 0 bytes
       ∙ ap (λ z. map_said (cell_event p.row p.column) (place_of_cells p.row p.column stands rest) z) (rw (← rules) (sym (cell_told_is typed q.cells bytes)))
 
   come_is : (b : List ℕ) → IsPending (state_of s q).pending b → HaveCome b q.cells.arrived q.partial.seen
@@ -384,7 +384,7 @@ pub says_leaf : (l : Rules) (k : Kind) (room : ℕ) (input : List ℕ) (used : �
 says_leaf l k room input used v h = record { is = λ p rest inner. h.is p rest inner 0; within = h.within; inside = h.inside; some = h.some }
 
 module _ (s : StreamProgress) (q : PartsState) (p : CellCursor) (here : s.stage ≡ stage.BeforeCell p) (law : IsConsistent s q) (unrefused : s.refusal ≡ None) (input : List ℕ) (used : ℕ) (k : Kind) (inner others : Types) (ev : CellEvent) (is : types_left (nodes_of q p.columns) p ≡ Type_and k inner others)
-    (front : SaysCell (rules_of s.limits) k (s.stop - s.offset) input used ev) (empty : q.partial.content ≡ []) (e : StreamProgress) (symbols : symbols_at e.stage q e.upcoming ≡ cells_after (nodes_of q p.columns) p ++ rest_of s.upcoming)
+    (front : SaysCell (rules_asked s.limits) k (s.stop - s.offset) input used ev) (empty : q.partial.content ≡ []) (e : StreamProgress) (symbols : symbols_at e.stage q e.upcoming ≡ cells_after (nodes_of q p.columns) p ++ rest_of s.upcoming)
     (starts : Starts e q e.stage) (same_use : e.given_use ≡ s.given_use) (offset : e.offset ≡ s.offset + used) (stop : e.stop ≡ s.stop) (frame : e.frame ≡ s.frame) (came : e.came ≡ s.came) where
   abbrev there : List Symbol
   there = cells_after (nodes_of q p.columns) p ++ rest_of s.upcoming
@@ -398,10 +398,10 @@ module _ (s : StreamProgress) (q : PartsState) (p : CellCursor) (here : s.stage 
   stage_due : StageHolds s q (stage.BeforeCell p)
   stage_due = rw here at law.stage
 
-  one_said : (b : List ℕ) → said (state_of s q) b ≡ map_said (cell_event p.row p.column) (place_of_cells p.row p.column due_place there) (says (cell_step (rules_of s.limits) (record { offset = s.offset; symbols = Value_of k inner 0 s.stop ∷ [] })) 0 b)
+  one_said : (b : List ℕ) → said (state_of s q) b ≡ map_said (cell_event p.row p.column) (place_of_cells p.row p.column due_place there) (says (cell_step (rules_asked s.limits) (record { offset = s.offset; symbols = Value_of k inner 0 s.stop ∷ [] })) 0 b)
   one_said b =
-      ap (λ (z : Place). says (step (rules_of s.limits) z) 0 b) place_due
-      ∙ says_map (cell_event p.row p.column) (place_of_cells p.row p.column due_place there) (cell_step (rules_of s.limits) (record { offset = s.offset; symbols = Value_of k inner 0 s.stop ∷ [] })) 0 b
+      ap (λ (z : Place). says (step (rules_asked s.limits) z) 0 b) place_due
+      ∙ says_map (cell_event p.row p.column) (place_of_cells p.row p.column due_place there) (cell_step (rules_asked s.limits) (record { offset = s.offset; symbols = Value_of k inner 0 s.stop ∷ [] })) 0 b
 
   offset_after : offset_at e.stage e.offset q ≡ s.offset + used
   offset_after = offset_is e e.stage q starts ∙ offset
@@ -439,7 +439,7 @@ module _ (s : StreamProgress) (q : PartsState) (p : CellCursor) (here : s.stage 
 
 -- the page goes on with another cell
 module _ (s : StreamProgress) (q : PartsState) (p p' : CellCursor) (here : s.stage ≡ stage.BeforeCell p) (law : IsConsistent s q) (unrefused : s.refusal ≡ None) (input : List ℕ) (used : ℕ) (k : Kind) (kind : IsKind (nodes_of q p.columns) p k) (ev : CellEvent)
-    (front : SaysCell (rules_of s.limits) k (s.stop - s.offset) input used ev) (empty : q.partial.content ≡ []) (turns : Turns (nodes_of q p.columns) s.limits.depth p (Some p')) where
+    (front : SaysCell (rules_asked s.limits) k (s.stop - s.offset) input used ev) (empty : q.partial.content ≡ []) (turns : Turns (nodes_of q p.columns) s.limits.depth p (Some p')) where
   abbrev onward : StreamProgress
   onward = record s { stage = stage.BeforeCell p'; offset = s.offset + used }
 

@@ -3,7 +3,7 @@ use Rattle.std.proofs.Common.{◌≡◌, ℕ, zero, suc, ◌+◌, ◌-◌, ◌<�
 use Rattle.std.specs.Prelude.{◌↔◌, IsTrue, Option, Some, None, Bool}
 use Rattle.std.proofs.lemmas.Bool.{cases_Bool, eq-eqb, ne_eqb}
 use Rattle.cqlp_note.specs.Limits.{Rules}
-use Rattle.cqlp_note.specs.declared.limits.Limits.{Limits}
+use Rattle.cqlp_note.specs.declared.limits.Asked.{Asked}
 use Rattle.cqlp_note.specs.Heading.{has}
 use Rattle.cqlp_note.specs.Field.{FieldValue}
 use Rattle.cqlp_kind.specs.declared.kind.Kind.{Kind}
@@ -245,7 +245,7 @@ use_given true uses.InUse (Some t) r is = absurd (let no = is ∙ in_use_serves 
 use_given true uses.Used (Some t) r is = absurd (let no = is ∙ used_serves r (types_of t.nodes) in cc)
 
 -- the given table is whole types
-pub given_forest : (l : Limits) (g : Option Table) → HoldsGiven l g → HoldsForest l.depth g
+pub given_forest : (l : Asked) (g : Option Table) → HoldsGiven l g → HoldsForest l.depth g
 given_forest l None h = tt
 given_forest l (Some t) h = h.0
 

@@ -4,7 +4,7 @@ use Rattle.std.specs.Prelude.{Bool, None, Ok, false}
 use Rattle.cqlp_note.specs.declared.header.Header.{Header}
 use Rattle.cqlp_note.specs.Heading.{heading}
 use Rattle.cqlp_note.specs.Field.{FieldValue}
-use Rattle.cqlp_note.specs.Limits.{limit_of, rules_of}
+use Rattle.cqlp_note.specs.Limits.{limit_of, rules_asked}
 use Rattle.cqlp_note.specs.Whole.{SaysField}
 use Rattle.cqlp_note.proofs.Yields.{got_inside}
 use Rattle.cqlp_grammar.specs.declared.grammar.Role.TheVariants as role
@@ -54,12 +54,12 @@ fault_alone r alone v = rw alone refl
 
 -- a field that lies whole in the input, from whose value nothing follows
 module _ (s : StreamProgress) (q : PartsState) (w : Want) (here : s.stage ≡ stage.Field w) (alone : w.role ≡ role.Alone) (law : IsConsistent s q) (unrefused : s.refusal ≡ None) (idle : q.partial.under_way ≡ false) (empty : q.partial.content ≡ []) (input : List ℕ) (used : ℕ) (v : FieldValue)
-    (says : SaysField w.notation (limit_of (rules_of s.limits) w.notation) (s.stop - s.offset) input used v) where
+    (says : SaysField w.notation (limit_of (rules_asked s.limits) w.notation) (s.stop - s.offset) input used v) where
   stage_is : StageHolds s q (stage.Field w)
   stage_is = subst (λ (t : StreamStage). StageHolds s q t) here law.stage
 
   pub alone_inside : s.offset + used ≤ s.stop
-  alone_inside = let r = got_inside w.notation (limit_of (rules_of s.limits) w.notation) (s.stop - s.offset) input v used says.is says.within in omega (arith, r, law.bounded.inside)
+  alone_inside = let r = got_inside w.notation (limit_of (rules_asked s.limits) w.notation) (s.stop - s.offset) input v used says.is says.within in omega (arith, r, law.bounded.inside)
 
   module _ (e : StreamProgress) (is : e ≡ record s { offset = s.offset + used; stage = e.stage; upcoming = e.upcoming }) (symbols : symbols_at e.stage q e.upcoming ≡ rest_of s.upcoming) (room : HasRoom e.stage e.upcoming) where
     came : e.came ≡ 0
@@ -87,7 +87,7 @@ module _ (s : StreamProgress) (q : PartsState) (w : Want) (here : s.stage ≡ st
         let none : (b : List ℕ) → IsPending (state_of s q).pending b → b ≡ [] = λ b pending. rw here at pending ∙ nothing in
         let x = field_gives s q w here input v used says.is (fault_alone w.role alone v) in
         let place : place_at (s.offset + used) s.stop (rest_of s.upcoming) q.table.nodes held ≡ (state_of e q).place = λ j. place_at (sym there j) (sym (ap (λ (z : StreamProgress). z.stop) is) j) (sym symbols j) q.table.nodes (given_of (sym (ap (λ (z : StreamProgress). z.given_use) is) j) q.given) in
-        let fixed = fixed_got w.notation (limit_of (rules_of s.limits) w.notation) (s.stop - s.offset) input v used says.is in
+        let fixed = fixed_got w.notation (limit_of (rules_asked s.limits) w.notation) (s.stop - s.offset) input v used says.is in
         let g : Gives (state_of s q) input s.offset (reading.Holds w.field v) used (state_of e q).place = (x.0, x.1, x.2, x.3, x.4 ∙ place_alone w.role alone (s.offset + used) s.stop s.limits.types q.table.nodes held v (rest_of s.upcoming) ∙ place) in
         record {
           within = says.within;
@@ -104,11 +104,11 @@ module _ (s : StreamProgress) (q : PartsState) (w : Want) (here : s.stage ≡ st
 
     module _ (Holds : ℕ → Event → Type 0) (told : Holds s.offset (reading.Holds w.field v)) where
       pub alone_takes : TakesOne (state_of s q) input used Holds (state_of e q)
-      alone_takes = takes_one (state_of s q) (state_of e q) input s.offset used (reading.Holds w.field v) (reading.Holds w.field v) alone_hands refl (ap (λ (z : StreamProgress). z.refusal) is) (ap (λ (z : StreamProgress). rules_of z.limits) is) refl Holds told
+      alone_takes = takes_one (state_of s q) (state_of e q) input s.offset used (reading.Holds w.field v) (reading.Holds w.field v) alone_hands refl (ap (λ (z : StreamProgress). z.refusal) is) (ap (λ (z : StreamProgress). rules_asked z.limits) is) refl Holds told
 
 -- a field that lies whole in the input
 module _ (s : StreamProgress) (q : PartsState) (w : Want) (here : s.stage ≡ stage.Field w) (law : IsConsistent s q) (unrefused : s.refusal ≡ None) (idle : q.partial.under_way ≡ false) (empty : q.partial.content ≡ []) (input : List ℕ) (used : ℕ) (v : FieldValue)
-    (says : SaysField w.notation (limit_of (rules_of s.limits) w.notation) (s.stop - s.offset) input used v) where
+    (says : SaysField w.notation (limit_of (rules_asked s.limits) w.notation) (s.stop - s.offset) input used v) where
   field_is : StageHolds s q (stage.Field w)
   field_is = subst (λ (t : StreamStage). StageHolds s q t) here law.stage
 
@@ -119,7 +119,7 @@ module _ (s : StreamProgress) (q : PartsState) (w : Want) (here : s.stage ≡ st
   whole_forest = rw here at (law.table unrefused)
 
   pub whole_inside : s.offset + used ≤ s.stop
-  whole_inside = let r = got_inside w.notation (limit_of (rules_of s.limits) w.notation) (s.stop - s.offset) input v used says.is says.within in omega (arith, r, law.bounded.inside)
+  whole_inside = let r = got_inside w.notation (limit_of (rules_asked s.limits) w.notation) (s.stop - s.offset) input v used says.is says.within in omega (arith, r, law.bounded.inside)
 
   module _ (t : Table) (e : StreamProgress) (table : t ≡ record { nodes = nodes_after w.role q.table.nodes; room = q.table.room }) (is : e ≡ record s { offset = s.offset + used; stage = e.stage; upcoming = e.upcoming; given_use = e.given_use })
       (goes : GoesOnAfter (record s { offset = s.offset + used }) e t.nodes q.given w.role v) (given : given_of e.given_use q.given ≡ given_after w.role (given_of s.given_use q.given)) where
@@ -156,7 +156,7 @@ module _ (s : StreamProgress) (q : PartsState) (w : Want) (here : s.stage ≡ st
         let nothing : came_of q.partial ≡ [] = rw idle refl in
         let none : (b : List ℕ) → IsPending (state_of s q).pending b → b ≡ [] = λ b pending. rw here at pending ∙ nothing in
         let x = field_gives s q w here input v used says.is fine in
-        let fixed = fixed_got w.notation (limit_of (rules_of s.limits) w.notation) (s.stop - s.offset) input v used says.is in
+        let fixed = fixed_got w.notation (limit_of (rules_asked s.limits) w.notation) (s.stop - s.offset) input v used says.is in
         let g : Gives (state_of s q) input s.offset (reading.Holds w.field v) used (state_of e beside).place = (x.0, x.1, x.2, x.3, x.4 ∙ (λ j. place_at (sym reached_there j) (sym (ap (λ (z : StreamProgress). z.stop) is) j) (sym symbols_there j) (sym nodes j) (sym given j))) in
         record {
           within = says.within;
@@ -172,4 +172,4 @@ module _ (s : StreamProgress) (q : PartsState) (w : Want) (here : s.stage ≡ st
         }
 
     pub whole_takes : fault_in w.role v ≡ None → (Holds : ℕ → Event → Type 0) → Holds s.offset (reading.Holds w.field v) → TakesOne (state_of s q) input used Holds (state_of e beside)
-    whole_takes fine Holds told = takes_one (state_of s q) (state_of e beside) input s.offset used (reading.Holds w.field v) (reading.Holds w.field v) (whole_hands fine) refl (ap (λ (z : StreamProgress). z.refusal) is) (ap (λ (z : StreamProgress). rules_of z.limits) is) refl Holds told
+    whole_takes fine Holds told = takes_one (state_of s q) (state_of e beside) input s.offset used (reading.Holds w.field v) (reading.Holds w.field v) (whole_hands fine) refl (ap (λ (z : StreamProgress). z.refusal) is) (ap (λ (z : StreamProgress). rules_asked z.limits) is) refl Holds told

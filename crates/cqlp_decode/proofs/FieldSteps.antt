@@ -10,7 +10,7 @@ use Rattle.cqlp_note.specs.Reader.{Said, Reader, More, Bad, Got, Gives as GivesN
 use Rattle.cqlp_note.specs.Field.{FieldValue, field_of}
 use Rattle.cqlp_note.specs.Step.{Emitted, after_field}
 use Rattle.cqlp_note.specs.Head.{reader_of, fixed_of, after_fixed}
-use Rattle.cqlp_note.specs.Limits.{rules_of, limit_of}
+use Rattle.cqlp_note.specs.Limits.{rules_asked, limit_of}
 use Rattle.cqlp_note.specs.Partial.{FieldState, item_value, CanLend, Ends}
 use Rattle.cqlp_note.specs.Partial as partial
 use Rattle.cqlp_note.proofs.Yields.{after_more, after_bad, after_got, got_inside, says_exact}
@@ -166,7 +166,7 @@ module _ (s : StreamProgress) (old p : FieldState) (r : type.TypeState) (d : val
         some = elim (cases_lt 0 (length (came_of old))) [
           | inl lt ↦ used_some (reader_of (asked s w)) p.seen input v used (rw a.seen (law.waits lt)) (rw a.field at m.is)
           | inr le ↦
-              let fixed = fixed_got w.notation (limit_of (rules_of s.limits) w.notation) (s.stop - s.offset) (p.seen ++ input) v (length p.seen + used) (rw a.field at m.is) in
+              let fixed = fixed_got w.notation (limit_of (rules_asked s.limits) w.notation) (s.stop - s.offset) (p.seen ++ input) v (length p.seen + used) (rw a.field at m.is) in
               let none : length p.seen ≡ 0 = rw a.seen (omega arith) in
               omega (arith, fixed, law.read)
         ]
@@ -175,7 +175,7 @@ module _ (s : StreamProgress) (old p : FieldState) (r : type.TypeState) (d : val
 module _ (s : StreamProgress) (old p : FieldState) (w : Want) (input : List ℕ) (a : IsAsked s old p w) (new : FieldState) where
   pub piece_inside : (used : ℕ) (v : FieldValue) → Ends p input used v new → s.offset ≤ s.stop → s.offset + (length p.seen + used) ≤ s.stop
   piece_inside used v m inside =
-      let r = got_inside w.notation (limit_of (rules_of s.limits) w.notation) (s.stop - s.offset) (p.seen ++ input) v (length p.seen + used) (rw a.field at m.is) (omega (arith, m.within, length-append p.seen input)) in
+      let r = got_inside w.notation (limit_of (rules_asked s.limits) w.notation) (s.stop - s.offset) (p.seen ++ input) v (length p.seen + used) (rw a.field at m.is) (omega (arith, m.within, length-append p.seen input)) in
       omega (arith, r)
 
 -- ---- where a message goes on after a field

@@ -109,6 +109,13 @@ module _ {V : Type 0} (f : V → ℕ → reading.Event → V) where
       → Fails f faulted gifts new (s ++ take used input) (es ++ d.more) (take taken (drop used input)) w x → Fails f faulted gifts new s es (take (used + taken) input) v x
   fails_rest faulted gifts mid new s input used taken es v w x d e = rw (take_two used taken input) (fails_then faulted gifts mid new s (take used input) (take taken (drop used input)) es v w x d e)
 
+  -- a piece of which more is wanted has no event
+  pub drains_waits : (gifts : Gifts) (old new : StreamState) (s piece : List ℕ) (es : List (ℕ × reading.Event)) (v : V) (used : ℕ) → LeadsAfter gifts old s es piece (steps.More used) new → DrainsAll f gifts old new s es piece piece v v
+  drains_waits gifts old new s piece es v used leads = record {
+    drains = record { more = []; stands = rw (append-nil es) leads.2; got = refl };
+    says = λ none. rw (leads.1, append-nil es) leads.3;
+  }
+
   abbrev pub feeds_none : (d : StreamState) (xs : List ℕ) (v : V) → Feeds f d d xs v v
   feeds_none d xs v = record { bytes = []; rest = xs; parts = refl; drained = λ gifts s es a. drains_none gifts d s es v a }
 

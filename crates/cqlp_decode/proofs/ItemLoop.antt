@@ -4,7 +4,7 @@ use Rattle.std.proofs.lemmas.Bool.{eqb-true}
 use Rattle.std.specs.Prelude.{Some, None, ◌==◌}
 use Rattle.cqlp_kind.specs.declared.kind.Kind.{Kind}
 use Rattle.cqlp_kind.specs.declared.node.Node.{Node}
-use Rattle.cqlp_note.specs.Limits.{Rules, rules_of}
+use Rattle.cqlp_note.specs.Limits.{Rules, rules_asked, with_lenient}
 use Rattle.cqlp_kind.specs.CellStep.{CellEvent, Leaf}
 use Rattle.cqlp_cell.specs.declared.whole.BareItem.{BareItem}
 use Rattle.cqlp_cell.specs.declared.whole.BarePart.{BarePart}
@@ -53,27 +53,30 @@ module _ (s : StreamProgress) (q : PartsState) (p : CellCursor) (here : s.stage 
 
   -- ---- a scalar
 
-  module _ (t : DueItem) (t_is : IsDue typed q.cells t) (used : ℕ) (Holds : Event → Type 0) (says : SaysLeaf (rules_of s.limits) t.kind t.room t.level input p.row p.column used Holds) where
+  module _ (t : DueItem) (t_is : IsDue typed q.cells t) (used : ℕ) (Holds : Event → Type 0) (says : SaysLeaf (rules_asked s.limits) t.kind t.room t.level input p.row p.column used Holds) where
     same : q.cells.rules.part ≡ q.cells.rules.cell
     same = ap (λ (l : Rules). l.part) law.parts.cells ∙ sym (ap (λ (l : Rules). l.cell) law.parts.cells)
 
     front : SaysScalar q.cells.rules (due_value typed q.cells).kind (room_of typed q.cells) input used says.value
     front = rw law.parts.cells (rw (t_is.kind, t_is.room) at says.says)
 
+    strict : SaysScalar (with_lenient false q.cells.rules) (due_value typed q.cells).kind (room_of typed q.cells) input used says.value
+    strict = rw law.parts.cells (rw (t_is.kind, t_is.room) at says.strictly)
+
     pub leaf_place : q.cells.offset + used < 2 ^ 64
-    leaf_place = scalar_place typed q.cells input used says.value cell_is.stands t_is.fresh t_is.items t_is.due same front
+    leaf_place = scalar_place typed q.cells input used says.value cell_is.stands t_is.fresh t_is.items t_is.due same front strict
 
     module _ (goes : d ≡ state_after typed q.cells used) where
-      whole : IsWhole typed q.cells input q.cells.offset used (scalar_outline typed q.cells input used says.value cell_is.stands t_is.fresh t_is.items t_is.due same front) d × (is_done d ≡ false)
-      whole = scalar_whole typed q.cells input used says.value cell_is.stands t_is.fresh t_is.items t_is.due same front d goes
+      whole : IsWhole typed q.cells input q.cells.offset used (scalar_outline typed q.cells input used says.value cell_is.stands t_is.fresh t_is.items t_is.due same front strict) d × (is_done d ≡ false)
+      whole = scalar_whole typed q.cells input used says.value cell_is.stands t_is.fresh t_is.items t_is.due same front strict d goes
 
       pub leaf_lawful : IsConsistent s beside
-      leaf_lawful = cell_going_lawful s q p here cell_is law.parts.cells input q.cells.offset used (scalar_outline typed q.cells input used says.value cell_is.stands t_is.fresh t_is.items t_is.due same front) d q.partial (whole.0.moves q.partial cell_is.joined empty) law whole.1
+      leaf_lawful = cell_going_lawful s q p here cell_is law.parts.cells input q.cells.offset used (scalar_outline typed q.cells input used says.value cell_is.stands t_is.fresh t_is.items t_is.due same front strict) d q.partial (whole.0.moves q.partial cell_is.joined empty) law whole.1
 
       pub leaf_takes : TakesItem (state_of s q) input t.at used (cell_event p.row p.column (Leaf t.level says.value)) (state_of s beside)
       leaf_takes =
-          let going = going_hands s q p here cell_is law.parts.cells input q.cells.offset used (scalar_outline typed q.cells input used says.value cell_is.stands t_is.fresh t_is.items t_is.due same front) d q.partial (whole.0.moves q.partial cell_is.joined empty) whole.1 in
-          let is = scalar_is typed q.cells input used says.value cell_is.stands t_is.fresh t_is.items t_is.due same front q.partial.content in
+          let going = going_hands s q p here cell_is law.parts.cells input q.cells.offset used (scalar_outline typed q.cells input used says.value cell_is.stands t_is.fresh t_is.items t_is.due same front strict) d q.partial (whole.0.moves q.partial cell_is.joined empty) whole.1 in
+          let is = scalar_is typed q.cells input used says.value cell_is.stands t_is.fresh t_is.items t_is.due same front strict q.partial.content in
           rw (t_is.at, t_is.level) (refl, refl, refl, subst (λ (e : CellEvent). Hands (state_of s q) input q.cells.offset used (cell_event p.row p.column e) (state_of s beside)) is going.1)
 
   -- ---- a part without a content
@@ -125,7 +128,7 @@ module _ (s : StreamProgress) (q : PartsState) (p : CellCursor) (here : s.stage 
     pub item_next : HasNext (nodes_of q p.columns) l.value l.value.order
     item_next = (level_fits item_due.1).next
 
-    module _ (used : ℕ) (Holds : Event → Type 0) (says : SaysLeaf (rules_of s.limits) t.kind t.room t.level input p.row p.column used Holds) where
+    module _ (used : ℕ) (Holds : Event → Type 0) (says : SaysLeaf (rules_asked s.limits) t.kind t.room t.level input p.row p.column used Holds) where
       abbrev pub behind : Level
       behind = passed (nodes_of q p.columns) l used
 

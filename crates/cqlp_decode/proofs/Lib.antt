@@ -15,3 +15,4 @@ pub mod Taken
 pub mod PageLoop
 pub mod ItemLoop
 pub mod FieldLoop
+pub mod Gathering

@@ -10,7 +10,7 @@ use Rattle.cqlp_note.specs.Field.{FieldValue, FieldReader, field_of}
 use Rattle.cqlp_note.specs.declared.field.Notation.TheVariants as notation
 use Rattle.cqlp_note.specs.declared.field.Field.TheVariants as field
 use Rattle.cqlp_note.specs.Step.{Emitted, Step, Emit, after_field}
-use Rattle.cqlp_note.specs.Limits.{Rules, rules_of}
+use Rattle.cqlp_note.specs.Limits.{Rules, rules_asked}
 use Rattle.cqlp_note.specs.Heading.{beside_number}
 use Rattle.cqlp_note.specs.Partial.{FieldState}
 use Rattle.cqlp_note.proofs.Readers.{Always, says_always}
@@ -20,7 +20,7 @@ use Rattle.cqlp_kind.specs.declared.kind.Kind.{Kind}
 use Rattle.cqlp_type.specs.declared.advance.TypeOutline.{TypeOutline}
 use Rattle.cqlp_kind.specs.Types.{kinds}
 use Rattle.cqlp_type.specs.Pushing.{ReadsInto}
-use Rattle.cqlp_kind.specs.TypeStep.{TypeSymbol, TypeEvent, IsNode, IsField, TypePlace, Option_at, Text_of, Fields_of, Whole, option_step, type_step_at, type_step, type_place, settled, symbol_copies, inner_symbols, with_arity, count_in}
+use Rattle.cqlp_kind.specs.TypeStep.{TypeSymbol, TypeEvent, IsNode, IsField, TypePlace, Option_at, Text_of, Fields_of, Whole, option_kind, option_step, type_step_at, type_step, type_place, settled, symbol_copies, inner_symbols, with_arity, count_in}
 use Rattle.cqlp_type.specs.Table.{Table}
 use Rattle.cqlp_type.specs.Progress as type
 use Rattle.cqlp_type.specs.Progress.{place_of, pending}
@@ -74,8 +74,8 @@ step_forward : (l : Rules) (p : TypePlace) (ss : List TypeSymbol) → Always (Is
 unfolding number_of
 step_forward l p [] = tt
 step_forward l p (Option_at depth ∷ rest) =
-    let next : List ℕ → Step TypeEvent TypePlace = λ b. option_step l depth rest p (beside_number (from_be_bytes w16 b) kinds) in
-    either_always (IsForward p.offset) [] (ltb (p.stop - p.offset) 2) (Refuses (p.offset, Overrun)) (Takes 2 next) (λ _. tt) (λ _ c long. option_forward l depth rest p (beside_number (from_be_bytes w16 c) kinds) c)
+    let next : List ℕ → Step TypeEvent TypePlace = λ b. option_step l depth rest p (option_kind (beside_number (from_be_bytes w16 b) kinds) l.lenient) in
+    either_always (IsForward p.offset) [] (ltb (p.stop - p.offset) 2) (Refuses (p.offset, Overrun)) (Takes 2 next) (λ _. tt) (λ _ c long. option_forward l depth rest p (option_kind (beside_number (from_be_bytes w16 c) kinds) l.lenient) c)
 step_forward l p (Text_of f ∷ rest) =
     let next : FieldValue → Step TypeEvent TypePlace = λ v. Emit p.offset (IsField f v) (type_place p (settled rest p.nodes)) in
     field_forward p.offset p.offset (field_of notation.Text16 l.text (p.stop - p.offset)) next [] (λ v b u. refl)
@@ -111,7 +111,7 @@ is_kept : (e : TypeEvent) (used : ℕ) (content : List ℕ) → (used < type.tex
 is_kept (IsNode k) used content h = λ _. tt
 is_kept (IsField f v) used content h = h
 
-module _ (s : StreamProgress) (q : PartsState) (here : s.stage ≡ stage.InType) (o : IsOption s q.partial q.types) (rules : q.types.rules ≡ rules_of s.limits) where
+module _ (s : StreamProgress) (q : PartsState) (here : s.stage ≡ stage.InType) (o : IsOption s q.partial q.types) (rules : q.types.rules ≡ rules_asked s.limits) where
   abbrev rest : List Symbol
   rest = rest_of s.upcoming
 
@@ -212,11 +212,11 @@ module _ (s : StreamProgress) (q : PartsState) (here : s.stage ≡ stage.InType)
   stage_there : (z : PartsState) → StageHolds s z stage.InType → StageHolds s z s.stage
   stage_there z h = subst (λ (t : StreamStage). StageHolds s z t) (sym here) h
 
-  table_there : (z : PartsState) → OptionRuns (rules_of s.limits) z → TableHolds (rules_of s.limits) z s.stage
-  table_there z h = subst (λ (t : StreamStage). TableHolds (rules_of s.limits) z t) (sym here) h
+  table_there : (z : PartsState) → OptionRuns (rules_asked s.limits) z → TableHolds (rules_asked s.limits) z s.stage
+  table_there z h = subst (λ (t : StreamStage). TableHolds (rules_asked s.limits) z t) (sym here) h
 
   module _ (law : IsConsistent s q) (unrefused : s.refusal ≡ None) where
-    run : OptionRuns (rules_of s.limits) q
+    run : OptionRuns (rules_asked s.limits) q
     run = rw here at (law.table unrefused)
 
     idle_cells : is_under_way q.cells ≡ false
@@ -280,10 +280,10 @@ module _ (s : StreamProgress) (q : PartsState) (here : s.stage ≡ stage.InType)
       pub option_ended_lawful : r'.symbols ≡ [] → (e : StreamProgress) (r'' : type.TypeState) → r'' ≡ type.stopped r' → e.offset ≡ r'.offset → e.stop ≡ s.stop → e.limits ≡ s.limits → e.header ≡ s.header → e.came ≡ s.came → HasRoom e.stage e.upcoming → IsConsistent e (parts p' r'' q.cells t' q.given)
       option_ended_lawful whole e r'' over offset stop limits header came room =
           let same = m.reader in
-          let rules : r'.rules ≡ rules_of s.limits = ap (λ (y : type.TypeState). y.rules) same ∙ law.parts.rules in
+          let rules : r'.rules ≡ rules_asked s.limits = ap (λ (y : type.TypeState). y.rules) same ∙ law.parts.rules in
           let begun : r'.begun ≡ false = ap (λ (y : type.TypeState). y.begun) same in
           let is = option_over run.begun 1 r' p' t' (run.bytes ++ take used input) (run.items ++ (at, part.event_at x input p'.content) ∷ []) run.first (option_handed q.types q.partial q.table input r' p' t' at used x m run.begun run.bytes run.items run.runs) whole begun in
-          let forest : Forest t'.nodes 0 s.limits.depth = forest_more (rules_of s.limits) run.begun.offset run.begun.nodes (run.bytes ++ take used input) (run.items ++ (at, part.event_at x input p'.content) ∷ []) t'.nodes run.before (rw rules at is) in
+          let forest : Forest t'.nodes 0 s.limits.depth = forest_more (rules_asked s.limits) run.begun.offset run.begun.nodes (run.bytes ++ take used input) (run.items ++ (at, part.event_at x input p'.content) ∷ []) t'.nodes run.before (rw rules at is) in
           goes_on_lawful s e q p' r'' q.cells t' (r'.offset - s.offset) law (omega (arith, offset, o.after, m.forward)) (omega (arith, inside, o.after, m.forward)) stop limits header (came ∙ o.came)
           m.room (m.shared.same ∙ begun) (rw over (ap (λ (y : type.TypeState). y.rules) same)) (rw over refl) refl idle_cells m.table forest (starts_bare e (parts p' r'' q.cells t' q.given) e.stage room) (record { types = λ idle. rw over refl; cells = law.quiet.cells })
 

@@ -4,7 +4,7 @@ use Rattle.std.specs.Prelude.{Some, None}
 use Rattle.std.specs.Int.{w32, from_be_bytes}
 use Rattle.std.proofs.lemmas.Bool.{le-ltb}
 use Rattle.cqlp_note.specs.Reader.{number_of}
-use Rattle.cqlp_note.specs.Limits.{Rules, rules_of}
+use Rattle.cqlp_note.specs.Limits.{Rules, rules_asked}
 use Rattle.cqlp_kind.specs.declared.kind.Kind.{Kind}
 use Rattle.cqlp_kind.specs.CellStep.{CellEvent, Leaf, Null, Empty}
 use Rattle.cqlp_cell.proofs.Sizing.{null_is, empty_is}
@@ -65,7 +65,7 @@ pub at_first : (s : StreamProgress) (p : CellCursor) → s.stage ≡ stage.Befor
 at_first s p here = λ j. record s { stage = sym here j; offset = s.offset }
 
 module _ (s : StreamProgress) (q : PartsState) (p p' : CellCursor) (offset : ℕ) (law : IsConsistent (at_cell s p offset) q) (unrefused : s.refusal ≡ None) (empty : q.partial.content ≡ []) (k : Kind) (kind : IsKind (nodes_of q p.columns) p k)
-    (turns : Turns (nodes_of q p.columns) s.limits.depth p (Some p')) (input : List ℕ) (used taken : ℕ) (Holds : Event → Type 0) (h : HandsCell (rules_of s.limits) k (s.stop - offset) (drop used input) p.row p.column taken Holds) where
+    (turns : Turns (nodes_of q p.columns) s.limits.depth p (Some p')) (input : List ℕ) (used taken : ℕ) (Holds : Event → Type 0) (h : HandsCell (rules_asked s.limits) k (s.stop - offset) (drop used input) p.row p.column taken Holds) where
   abbrev old : StreamState
   old = state_of (at_cell s p offset) q
 

@@ -10,7 +10,7 @@ use Rattle.cqlp_note.specs.declared.header.Header.{Header}
 use Rattle.cqlp_note.specs.Reader.{Bad, Got}
 use Rattle.cqlp_note.specs.Step.{Emitted}
 use Rattle.cqlp_note.specs.Heading.{heading}
-use Rattle.cqlp_note.specs.Limits.{rules_of}
+use Rattle.cqlp_note.specs.Limits.{rules_asked}
 use Rattle.cqlp_type.specs.Forests.{Forest}
 use Rattle.cqlp_grammar.specs.Productions.{Stream, message}
 use Rattle.cqlp_grammar.specs.declared.productions.Expected.{Expected}
@@ -160,7 +160,7 @@ fresh_stage e q (stage.InCell p) start idle none = absurd start
 fresh_stage e q stage.Extra start idle none = (omega arith, idle)
 
 -- the table then holds whole types alone
-pub fresh_table : (e : StreamProgress) (q : PartsState) (t : StreamStage) → Starts e q t → Forest q.table.nodes 0 e.limits.depth → TableHolds (rules_of e.limits) q t
+pub fresh_table : (e : StreamProgress) (q : PartsState) (t : StreamStage) → Starts e q t → Forest q.table.nodes 0 e.limits.depth → TableHolds (rules_asked e.limits) q t
 fresh_table e q stage.Header start f = f
 fresh_table e q (stage.Field w) start f = f
 fresh_table e q stage.BeforeType start f = f

@@ -3,7 +3,7 @@ use Rattle.std.proofs.Common.{◌≡◌, ◌<◌, ◌≤◌, Bool, true, false, 
 use Rattle.std.specs.Prelude.{◌↔◌, ◌≢◌, IsTrue, Option, Some, None, not, is_some, nat_lt}
 use Rattle.std.proofs.lemmas.Bool.{cases_Bool, and_from, and_parts, lt-ltb, le-ltb, ltb-true}
 use Rattle.std.proofs.lemmas.List.Elements.{All-nil, All-cons, All-head, All-tail}
-use Rattle.cqlp_note.specs.Limits.{Rules, rules_of}
+use Rattle.cqlp_note.specs.Limits.{Rules, rules_asked}
 use Rattle.cqlp_kind.specs.declared.node.Node.{Node}
 use Rattle.cqlp_kind.specs.Types.{types_of}
 use Rattle.cqlp_type.specs.Table.{Table, AreWhole}
@@ -142,7 +142,7 @@ module _ (s : StreamProgress) (q : PartsState) (u : GivenUse) (g : Option Table)
           parts = record { room = law.parts.room; rules = law.parts.rules; cells = law.parts.cells; table = law.parts.table; few = law.parts.few };
           stage = stage_there s.stage a law.stage;
           quiet = record { types = law.quiet.types; cells = law.quiet.cells };
-          table = λ none. table_there (rules_of s.limits) s.stage (law.table none);
+          table = λ none. table_there (rules_asked s.limits) s.stage (law.table none);
           given = holds;
           uses = uses_there (given_of u g) s.stage a;
         }
@@ -151,7 +151,7 @@ module _ (s : StreamProgress) (q : PartsState) (u : GivenUse) (g : Option Table)
     given_state =
         let a = apart (given_of s.given_use q.given) s.stage free law.uses in
         λ i. record {
-          rules = rules_of s.limits;
+          rules = rules_asked s.limits;
           place = place_at (same_offset s.stage i) s.stop (same_symbols s.stage a i) q.table.nodes (given_of u g);
           pending = same_pending s.stage i;
           frame = s.frame;

@@ -1,6 +1,6 @@
 -- The items of cells, handed straight to a sink.
 use Rattle.std.specs.Prelude.{◌≡◌, ℕ, false, List, Option, Some, None, ⊤}
-use Rattle.cqlp_note.specs.Limits.{Rules}
+use Rattle.cqlp_note.specs.Limits.{Rules, with_lenient}
 use Rattle.cqlp_kind.specs.declared.kind.Kind.{Kind}
 use Rattle.cqlp_kind.specs.Scalars.{ScalarValue}
 use Rattle.cqlp_kind.specs.CellStep.{CellEvent}
@@ -40,6 +40,8 @@ pub record SaysLeaf (l : Rules) (k : Kind) (room level : ℕ) (input : List ℕ)
     (Holds : Event → Type 0) : Type 0 where
   pub value : ScalarValue
   pub says : SaysScalar l k room input used value
+  -- to a caller who is not lenient, too
+  pub strictly : SaysScalar (with_lenient false l) k room input used value
   pub holds : Holds (cell_event row column (cell.Leaf level value))
 
 -- What became of an item: it was handed out as a scalar, and the sink has got it, or it failed there.

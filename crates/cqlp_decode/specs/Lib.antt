@@ -9,3 +9,4 @@ pub mod Items
 pub mod Cells
 pub mod Sinks
 pub mod Fields
+pub mod Gathering

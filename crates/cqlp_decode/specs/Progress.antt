@@ -9,8 +9,8 @@ use Rattle.cqlp_note.specs.declared.head.Wanted.{Wanted}
 use Rattle.cqlp_note.specs.Head.{reader_of}
 use Rattle.cqlp_note.specs.Reader.{Said, More, Bad, Got, says}
 use Rattle.cqlp_note.specs.Step.{Emitted}
-use Rattle.cqlp_note.specs.Limits.{Rules, rules_of, limit_of}
-use Rattle.cqlp_note.specs.declared.limits.Limits.{Limits}
+use Rattle.cqlp_note.specs.Limits.{Rules, rules_asked, limit_of}
+use Rattle.cqlp_note.specs.declared.limits.Asked.{Asked}
 use Rattle.cqlp_note.specs.Field.{FieldValue}
 use Rattle.cqlp_note.specs.Partial.{FieldState, item_value, CanLend, content_bytes}
 use Rattle.cqlp_note.specs.Field.{content_length}
@@ -290,7 +290,7 @@ pending_at stage.Extra header came q = Skipped came
 
 abbrev pub state_of : StreamProgress → PartsState → StreamState
 state_of s q = record {
-  rules = rules_of s.limits;
+  rules = rules_asked s.limits;
   place = place_at (offset_at s.stage s.offset q) s.stop (symbols_at s.stage q s.upcoming) q.table.nodes
       (given_of s.given_use q.given);
   pending = pending_at s.stage s.header s.came q;
@@ -320,7 +320,7 @@ MovesIdle old input a new = (q : PartsState) → IsIdle q → Moves (state_of ol
 abbrev pub asked : StreamProgress → Want → Wanted
 asked s w = record {
   notation = w.notation;
-  limit = limit_of (rules_of s.limits) w.notation;
+  limit = limit_of (rules_asked s.limits) w.notation;
   at = s.offset;
   room = s.stop - s.offset;
 }
@@ -406,13 +406,13 @@ pub record IsBounded (s : StreamProgress) : Type 0 where
 -- invariant of each, so no byte of a stream changes how much memory a decoder has.
 pub record HasParts (s : StreamProgress) (q : PartsState) : Type 0 where
   pub room : q.partial.room ≡ max s.limits.text s.limits.cell
-  pub rules : q.types.rules ≡ rules_of s.limits
-  pub cells : q.cells.rules ≡ rules_of s.limits
+  pub rules : q.types.rules ≡ rules_asked s.limits
+  pub cells : q.cells.rules ≡ rules_asked s.limits
   pub table : q.table.room ≡ s.limits.entries
   pub few : s.limits.entries < 2 ^ 31
 
 -- The given table is whole types, no more and nested no deeper than the limits allow.
-abbrev pub HoldsGiven : Limits → Option Table → Type 0
+abbrev pub HoldsGiven : Asked → Option Table → Type 0
 HoldsGiven l None = ⊤
 HoldsGiven l (Some t) = Forest t.nodes 0 l.depth × (length t.nodes ≤ l.entries)
 
@@ -427,7 +427,7 @@ pub record IsConsistent (s : StreamProgress) (q : PartsState) : Type 0 where
   pub parts : HasParts s q
   pub stage : StageHolds s q s.stage
   pub quiet : IsQuiet q
-  pub table : s.refusal ≡ None → TableHolds (rules_of s.limits) q s.stage
+  pub table : s.refusal ≡ None → TableHolds (rules_asked s.limits) q s.stage
   pub given : HoldsGiven s.limits q.given
   pub uses : UsesGiven (given_of s.given_use q.given) s.stage
 
@@ -448,9 +448,9 @@ pub record IsFresh (q : PartsState) : Type 0 where
   pub types : q.table.nodes ≡ []
   pub given : q.given ≡ None
 
-abbrev pub first_state : Limits → PartsState → StreamState
+abbrev pub first_state : Asked → PartsState → StreamState
 first_state limits q = record {
-  rules = rules_of limits;
+  rules = rules_asked limits;
   place = start;
   pending = Kept [];
   frame = 0;

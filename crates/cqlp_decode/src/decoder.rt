@@ -1,11 +1,12 @@
 //! The decoder of a stream of frames.
 
 ghost use Rattle.std.specs.Prelude.{◌≡◌, ◌+◌, ◌<◌, ◌≤◌, ◌^◌, ◌*◌, ◌↔◌};
-ghost use Rattle.std.specs.Prelude.{[], length, IfOk, IsErrOf, Err, Ok, max, min, None, Some};
+ghost use Rattle.std.specs.Prelude.{[], length, is_err, IfOk, IsErrOf, IsTrue, Err, Ok, max, min, None, Some, true};
 ghost use denote.RawPtr.{◌+ₚ◌};
 ghost use Rattle.std.specs.Borrow.{sem};
-ghost use Rattle.cqlp_note.specs.Limits.{first_bad, rules_of};
+ghost use Rattle.cqlp_note.specs.Limits.{first_bad, rules_asked, rules_of, with_lenient};
 ghost use Rattle.cqlp_note.specs.Head.{value_of};
+ghost use Rattle.cqlp_note.specs.Streams.{ReadsPiece, counted};
 ghost use Rattle.cqlp_cell.specs.Items as cell;
 ghost use Rattle.cqlp_grammar.specs.Events.{event_of};
 ghost use Rattle.cqlp_decode.specs.Reading as reading;
@@ -20,11 +21,11 @@ use crate::given::{GiveError, GiveReason, GivenUse};
 use crate::item_loop::take_items;
 use crate::page_loop::take_cells;
 use crate::parts::Parts;
-use crate::progress::StreamProgress;
+use crate::progress::{StreamProgress, StreamStage};
 use crate::step::{Capacity, FaultAfter, Held, Step};
 use cqlp_cell::{CellItem, CellReader};
 use cqlp_grammar::{Event, Finish, Sink};
-use cqlp_note::{BadLimits, Field, Limits, NoMemory, Partial, Prim};
+use cqlp_note::{Asked, BadLimits, Field, IoFault, Limits, NoMemory, Partial, Prim, Source};
 use cqlp_type::{TypeItem, TypeReader, TypeTable};
 use std::alloc::{Allocator, Global};
 use std::marker::Model;
@@ -73,28 +74,59 @@ impl<A: Allocator + Clone> Decoder<A> {
         ensures nothing_held { IfOk result (λ d. HoldsNothing d) }
         ensures nothing_given { IfOk result (λ d. (state d).given ≡ None) }
     {
+        Self::asked(alloc, limits, false)
+    }
+
+    /// The same, for a lenient reading, which takes what nodes and drivers send against the standard, and goes on:
+    ///
+    /// - A content that its type does not have, by its length or by its bytes, is told as [`Event::Leaf`] with
+    ///   [`Scalar::Raw`](cqlp_kind::Scalar::Raw), all its bytes.
+    /// - The bytes that a tuple or a user-defined value has behind its last field are told as [`Event::Part`] before its
+    ///   `Leave`, at the level of its fields, in parts of at most `cell` bytes whose offsets begin at 0.
+    /// - A type option of an id that no kind has is told as [`Kind::Raw`](cqlp_kind::Kind::Raw), and has no parameters.
+    ///
+    /// All else is read as by a decoder that `new` makes.
+    pub fn lenient(alloc: A, limits: Limits) -> Result<Self, NewError>
+        ensures bad { (b : Bad) → IsErrOf result (NewError.BadLimits b) ↔ (first_bad limits ≡ Err b) }
+        ensures fresh { IfOk result (λ d. After (state d) [] []) }
+        ensures unrefused { IfOk result (λ d. (state d).refusal ≡ None) }
+        ensures rules { IfOk result (λ d. (state d).rules ≡ with_lenient true (rules_of limits)) }
+        ensures nothing_held { IfOk result (λ d. HoldsNothing d) }
+        ensures nothing_given { IfOk result (λ d. (state d).given ≡ None) }
+    {
+        Self::asked(alloc, limits, true)
+    }
+
+    fn asked(alloc: A, limits: Limits, lenient: bool) -> Result<Self, NewError>
+        ensures bad { (b : Bad) → IsErrOf result (NewError.BadLimits b) ↔ (first_bad limits ≡ Err b) }
+        ensures fresh { IfOk result (λ d. After (state d) [] []) }
+        ensures unrefused { IfOk result (λ d. (state d).refusal ≡ None) }
+        ensures rules { IfOk result (λ d. (state d).rules ≡ with_lenient lenient (rules_of limits)) }
+        ensures nothing_held { IfOk result (λ d. HoldsNothing d) }
+        ensures nothing_given { IfOk result (λ d. (state d).given ≡ None) }
+    {
         if let Err(bad) = limits.check() {
             return Err(NewError::BadLimits(bad));
         }
-        match Self::with_room(alloc, limits) {
+        match Self::with_room(alloc, Asked::new(&limits, lenient)) {
             Ok(decoder) => Ok(decoder),
             Err(NoMemory) => Err(NewError::NoMemory),
         }
     }
 
-    fn with_room(alloc: A, limits: Limits) -> Result<Self, NoMemory>
+    fn with_room(alloc: A, limits: Asked) -> Result<Self, NoMemory>
         requires cell { 1 ≤ limits.cell }
         requires entries { limits.entries < 2 ^ 31 }
         ensures fresh { IfOk result (λ d. After (state d) [] []) }
         ensures unrefused { IfOk result (λ d. (state d).refusal ≡ None) }
-        ensures rules { IfOk result (λ d. (state d).rules ≡ rules_of limits) }
+        ensures rules { IfOk result (λ d. (state d).rules ≡ rules_asked limits) }
         ensures nothing_held { IfOk result (λ d. HoldsNothing d) }
         ensures nothing_given { IfOk result (λ d. (state d).given ≡ None) }
     {
         let partial = Partial::new(alloc.clone()?, limits.text.max(limits.cell))?;
         let table = TypeTable::new(alloc.clone()?, limits.entries)?;
-        let types = TypeReader::new(alloc.clone()?, &limits)?;
-        let cells = CellReader::new(alloc, &limits)?;
+        let types = TypeReader::asked(alloc.clone()?, &limits)?;
+        let cells = CellReader::asked(alloc, &limits)?;
         let progress = StreamProgress::new(limits);
         let parts = Parts {
             partial,
@@ -114,7 +146,8 @@ impl<A: Allocator> Decoder<A> {
     ghost use Rattle.cqlp_decode.specs.Reading.{Gives, is_in_use};
     ghost use Rattle.cqlp_decode.specs.Sinks.{Gets, Fails};
     ghost use Rattle.cqlp_decode.specs.Progress.{Advances, HoldsGiven, LeavesTypes, Takes, WhatThere, event_at};
-    ghost use Rattle.cqlp_decode.specs.Streams.{After, EndsAs, HoldsNothing, IsUnrefused, IsWithin, Uses, buffer_of, capacity_within, given_nodes, state};
+    ghost use Rattle.cqlp_decode.specs.Gathering.{Gathers};
+    ghost use Rattle.cqlp_decode.specs.Streams.{After, Answers, EndsAs, HoldsNothing, IsUnrefused, IsWithin, Uses, buffer_of, capacity_within, given_nodes, state};
     ghost use Rattle.cqlp_decode.specs.declared.given.GiveReason.{GiveReason as Why};
     ghost use Rattle.cqlp_kind.specs.Types.{types_of};
 
@@ -149,8 +182,9 @@ impl<A: Allocator> Decoder<A> {
 
     /// Gives types for a page whose result has the flag No_metadata (0x04, section 4.2.5.2 of
     /// `native_protocol_v4.spec`): they wait for the first page that has it and as many columns as they are, type its
-    /// cells, and type no other page unless they are given again. The table that was held before comes back. A table
-    /// that is not taken comes back with the first reason against it, and nothing changes.
+    /// cells, and type no other page unless they are given again. Given once a frame's header came, and taken back at its
+    /// end, they type that frame's page or none. The table that was held before comes back. A table that is not taken
+    /// comes back with the first reason against it, and nothing changes.
     pub fn give(&mut self, table: TypeTable<A>) -> Result<Option<TypeTable<A>>, GiveError<A>>
         ensures refused { (w : Why) → reason_against (state self.old) table.nodes ≡ Some w
             → (result ≡ Err (record { why = w; table = table })) × (self.new ≡ self.old) }
@@ -244,6 +278,30 @@ impl<A: Allocator> Decoder<A> {
         ensures { result ≡ buffer_of self.now +ₚ min start (length (state self.now).held) }
     {
         self.parts.partial.address(start)
+    }
+
+    /// Whether a content of a field or of a cell is gathered, of which more bytes are missing than one read of a run gives.
+    pub(crate) fn gathers(&self) -> bool
+        ensures { IsTrue result → Gathers self.now }
+    {
+        self.progress.refusal.is_none()
+            && matches!(
+                self.progress.stage,
+                StreamStage::Field(_) | StreamStage::InCell(_)
+            )
+            && self.parts.partial.gathers_more(4096)
+    }
+
+    /// Reads the next bytes of the content that is gathered straight into the memory that holds it, by one call of the
+    /// reader for up to 4,096 bytes. It does what `next` does of these bytes, which is to want more.
+    pub(crate) fn read_content<R: Source>(&mut self, reader: &mut R) -> Result<usize, IoFault>
+        requires { Gathers self.old }
+        ensures bytes { ReadsPiece 4096 (R.left reader.old) (R.left reader.new) result (self.new ≡ self.old)
+            (λ piece. Answers (state self.old) piece (Step.More (length piece)) (state self.new)) }
+        ensures failures { R.failures reader.new ≡ counted (is_err result) (R.failures reader.old) }
+        ensures reads { R.reads reader.new ≡ counted true (R.reads reader.old) }
+    {
+        self.parts.partial.read_from(reader, 4096)
     }
 
     /// The types of the metadata begun last: those handed out since the field MetaFlags was.

@@ -6,7 +6,7 @@
 //! stands here alone. What follows a field, and where a message goes on, is found by the functions by which `next` does.
 
 ghost use Rattle.std.specs.Prelude.{◌≡◌, ◌-◌, ◌≤◌, Ok, None, Some};
-ghost use Rattle.cqlp_note.specs.Limits.{limit_of, rules_of};
+ghost use Rattle.cqlp_note.specs.Limits.{limit_of, rules_asked};
 ghost use Rattle.cqlp_note.specs.declared.refusal.Refusal.{Refusal};
 ghost use Rattle.cqlp_decode.specs.declared.progress.StreamStage.TheVariants as stage;
 ghost use Rattle.cqlp_decode.specs.Cells.{DrainsCells, StaysWithin};
@@ -23,7 +23,7 @@ use crate::progress::{StreamProgress, StreamStage, limit_on};
 use crate::step::FaultAfter;
 use cqlp_grammar::{Event, Role, Sink, SinkFault, Want, fault_in};
 use cqlp_kind::content::read_array;
-use cqlp_note::{Field, Header, Limits, Notation, front_field};
+use cqlp_note::{Asked, Field, Header, Notation, front_field};
 use std::alloc::Allocator;
 
 /// Hands what is due to the sink, as far as the loop takes it, and answers how many bytes of the input it takes.
@@ -62,7 +62,7 @@ pub fn take_fields<S: Sink, A: Allocator>(
 /// offset, and has room for this many bytes.
 #[inline(always)]
 fn hand_plain<S: Sink>(
-    limits: &Limits,
+    limits: &Asked,
     notation: Notation,
     field: Field,
     room: u64,
@@ -71,7 +71,7 @@ fn hand_plain<S: Sink>(
     sink: &mut S,
 ) -> Handed
     ensures left { result ≡ Handed.Left → sink.new ≡ sink.old }
-    ensures hands { HandsField notation (limit_of (rules_of limits.now) notation) room input.now field
+    ensures hands { HandsField notation (limit_of (rules_asked limits.now) notation) room input.now field
         (λ e. Gets S.Sink sink.old at e sink.new)
         (λ e. Fails S.Sink sink.old at e sink.new) result }
 {
@@ -96,7 +96,7 @@ fn hand_plain<S: Sink>(
 /// The same of a field of this notation.
 #[inline(always)]
 fn hand_front<S: Sink>(
-    limits: &Limits,
+    limits: &Asked,
     notation: Notation,
     field: Field,
     room: u64,
@@ -105,7 +105,7 @@ fn hand_front<S: Sink>(
     sink: &mut S,
 ) -> Handed
     ensures left { result ≡ Handed.Left → sink.new ≡ sink.old }
-    ensures hands { HandsField notation (limit_of (rules_of limits.now) notation) room input.now field
+    ensures hands { HandsField notation (limit_of (rules_asked limits.now) notation) room input.now field
         (λ e. Gets S.Sink sink.old at e sink.new)
         (λ e. Fails S.Sink sink.old at e sink.new) result }
 {

@@ -25,7 +25,7 @@ use crate::step::FaultAfter;
 use cqlp_cell::{BareItem, BarePart, Level};
 use cqlp_grammar::{Event, Sink, SinkFault};
 use cqlp_kind::Kind;
-use cqlp_note::Limits;
+use cqlp_note::Asked;
 use std::alloc::Allocator;
 
 /// A part of a cell that has no content, and whether the cell is over.

@@ -4,7 +4,7 @@
 //! has code of its own, in which the size and the content of that kind alone are looked at.
 
 ghost use Rattle.std.specs.Prelude.{◌≡◌};
-ghost use Rattle.cqlp_note.specs.Limits.{rules_of};
+ghost use Rattle.cqlp_note.specs.Limits.{rules_asked};
 ghost use Rattle.cqlp_decode.specs.Items.{HandsLeaf};
 ghost use Rattle.cqlp_decode.specs.Sinks.{Gets, Fails};
 
@@ -13,19 +13,19 @@ use crate::page_loop::Handed;
 use cqlp_cell::{DueItem, front_scalar};
 use cqlp_grammar::{Event, Sink, SinkFault};
 use cqlp_kind::Kind;
-use cqlp_note::Limits;
+use cqlp_note::Asked;
 
 /// Hands the item at the front of the input to the sink, if it is a scalar and all its bytes are there.
 #[inline(always)]
 pub fn hand_leaf<S: Sink>(
-    limits: &Limits,
+    limits: &Asked,
     due: DueItem,
     page: CellCursor,
     input: &[u8],
     sink: &mut S,
 ) -> Handed
     ensures left { result ≡ Handed.Left → sink.new ≡ sink.old }
-    ensures hands { HandsLeaf (rules_of limits.now) due.kind due.room due.level input.now page.row page.column
+    ensures hands { HandsLeaf (rules_asked limits.now) due.kind due.room due.level input.now page.row page.column
         (λ e. Gets S.Sink sink.old due.at e sink.new)
         (λ e. Fails S.Sink sink.old due.at e sink.new) result }
 {
@@ -58,7 +58,7 @@ pub fn hand_leaf<S: Sink>(
 /// The same of an item of this kind.
 #[inline(always)]
 pub fn hand_kind<S: Sink>(
-    limits: &Limits,
+    limits: &Asked,
     kind: Kind,
     due: DueItem,
     page: CellCursor,
@@ -66,7 +66,7 @@ pub fn hand_kind<S: Sink>(
     sink: &mut S,
 ) -> Handed
     ensures left { result ≡ Handed.Left → sink.new ≡ sink.old }
-    ensures hands { HandsLeaf (rules_of limits.now) kind due.room due.level input.now page.row page.column
+    ensures hands { HandsLeaf (rules_asked limits.now) kind due.room due.level input.now page.row page.column
         (λ e. Gets S.Sink sink.old due.at e sink.new)
         (λ e. Fails S.Sink sink.old due.at e sink.new) result }
 {

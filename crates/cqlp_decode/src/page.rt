@@ -14,7 +14,7 @@ ghost use Rattle.cqlp_decode.specs.declared.given.GivenUse.{GivenUse as Use};
 use crate::given::GivenUse;
 use cqlp_grammar::{Role, has, number};
 use cqlp_kind::Kind;
-use cqlp_note::{Limits, Prim};
+use cqlp_note::{Asked, Prim};
 use cqlp_type::TypeTable;
 use std::alloc::Allocator;
 
@@ -166,7 +166,7 @@ fn has_types<A: Allocator>(table: &TypeTable<A>, count: u32) -> bool
 /// The page that begins after a field of this role that has this value, if it has a cell. A given table types it where
 /// it was found to serve.
 pub fn find_page<A: Allocator>(
-    limits: &Limits,
+    limits: &Asked,
     role: Role,
     value: Prim<'_>,
     table: &TypeTable<A>,
@@ -184,7 +184,7 @@ pub fn find_page<A: Allocator>(
 }
 
 /// The types of this many columns, whose metadata has these flags.
-fn columns_of(limits: &Limits, flags: u32, columns: u32, served: bool) -> Columns
+fn columns_of(limits: &Asked, flags: u32, columns: u32, served: bool) -> Columns
     ensures { AreColumns limits.now.types flags columns served result }
 {
     match (limits.types, served, has(flags, 0x04)) {

@@ -6,7 +6,7 @@
 //! where that does; and it reads a scalar by the very function by which `next` does, so that no rule stands here alone.
 
 ghost use Rattle.std.specs.Prelude.{◌≡◌, ◌*◌, Ok, Some};
-ghost use Rattle.cqlp_note.specs.Limits.{rules_of};
+ghost use Rattle.cqlp_note.specs.Limits.{rules_asked};
 ghost use Rattle.cqlp_note.specs.declared.refusal.Refusal.{Refusal};
 ghost use Rattle.cqlp_decode.specs.Cells.{DrainsCells, HandsFront, HasHanded, IsBare, StaysWithin};
 ghost use Rattle.cqlp_grammar.specs.Events.{event_of};
@@ -22,7 +22,7 @@ use cqlp_cell::DueItem;
 use cqlp_grammar::{Event, Sink, SinkFault};
 use cqlp_kind::Kind;
 use cqlp_kind::content::read_array;
-use cqlp_note::Limits;
+use cqlp_note::Asked;
 use std::alloc::Allocator;
 
 /// What became of the cell that is due.
@@ -106,7 +106,7 @@ pub fn take_cells<S: Sink, A: Allocator>(
 /// this many bytes.
 #[inline(always)]
 fn hand_cell<S: Sink>(
-    limits: &Limits,
+    limits: &Asked,
     kind: Kind,
     room: u64,
     page: CellCursor,
@@ -115,7 +115,7 @@ fn hand_cell<S: Sink>(
     sink: &mut S,
 ) -> Handed
     ensures left { result ≡ Handed.Left → sink.new ≡ sink.old }
-    ensures hands { HandsFront (rules_of limits.now) kind room input.now page.row page.column
+    ensures hands { HandsFront (rules_asked limits.now) kind room input.now page.row page.column
         (λ e. Gets S.Sink sink.old at e sink.new)
         (λ e. Fails S.Sink sink.old at e sink.new) result }
 {

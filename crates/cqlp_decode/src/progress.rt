@@ -2,7 +2,7 @@
 
 ghost use Rattle.std.specs.Prelude.{◌≡◌, ◌↔◌, ◌+◌, ◌-◌, ◌<◌, ◌≤◌, ◌^◌, ◌++◌};
 ghost use Rattle.std.specs.Prelude.{[], IsFalse, IsTrue, None, Some, false, length, take, true};
-ghost use Rattle.cqlp_note.specs.Limits.{limit_of, rules_of};
+ghost use Rattle.cqlp_note.specs.Limits.{limit_of, rules_asked};
 ghost use Rattle.cqlp_note.specs.declared.refusal.Refusal.{Refusal as Refusing};
 ghost use Rattle.cqlp_decode.specs.Progress.{came_of};
 
@@ -15,7 +15,7 @@ use cqlp_cell::{CellAdvance, CellOutline, CellReader, front_scalar};
 use cqlp_grammar::{Expected, Finish, Role, Upcoming, Want, fault_in};
 use cqlp_kind::Scalar;
 use cqlp_note::{
-    self as note, Field, FieldOutline, Header, Limits, Notation, Partial, Prim, Reason, Refusal,
+    self as note, Asked, Field, FieldOutline, Header, Notation, Partial, Prim, Reason, Refusal,
 };
 use cqlp_type::{TypeAdvance, TypeOutline, TypeReader, TypeTable};
 use std::alloc::Allocator;
@@ -40,7 +40,7 @@ pub enum StreamStage {
 /// Where the reading of a stream stands, but for the field, type option or cell that is under way.
 #[derive(Drop)]
 pub struct StreamProgress {
-    pub limits: Limits,
+    pub limits: Asked,
     /// The start of the frame under way.
     pub frame: u64,
     /// The first byte of what is read now.
@@ -77,7 +77,7 @@ impl StreamProgress {
     ghost use Rattle.cqlp_cell.specs.Pushing.{begun};
 
     /// At the start of a stream.
-    pub fn new(limits: Limits) -> Self
+    pub fn new(limits: Asked) -> Self
         ensures limits { result.limits ≡ limits }
         ensures unrefused { result.refusal ≡ None }
         ensures lawful { (q : PartsState) → IsFresh q → HasParts result q → IsConsistent result q }
@@ -624,8 +624,8 @@ fn count_field_bytes<A: Allocator>(partial: &Partial<A>) -> u64
 
 /// The most bytes of a content in this notation.
 #[inline(always)]
-pub fn limit_on(limits: &Limits, notation: Notation) -> u32
-    ensures { result ≡ limit_of (rules_of limits.now) notation }
+pub fn limit_on(limits: &Asked, notation: Notation) -> u32
+    ensures { result ≡ limit_of (rules_asked limits.now) notation }
 {
     match notation {
         Notation::Text16 | Notation::Text32 => limits.text,

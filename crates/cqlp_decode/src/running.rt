@@ -65,6 +65,15 @@ pub fn run<R: Source, S: Sink, A: Allocator>(
         Drained::Fault => return Outcome::SinkFault,
     }
     for after_cell in 0..turns {
+        if decoder.gathers() {
+            let Ok(gathered) = decoder.read_content(reader) else {
+                return Outcome::ReadFault;
+            };
+            if gathered == 0 {
+                return Outcome::Finished(decoder.finish());
+            }
+            continue;
+        }
         let count = match reader.read(&mut buffer) {
             Ok(count) => count,
             Err(IoFault) => return Outcome::ReadFault,

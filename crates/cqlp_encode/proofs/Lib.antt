@@ -2,6 +2,7 @@ pub mod Continuing
 pub mod Taking
 pub mod Options
 pub mod Bindings
+pub mod Few
 pub mod Contents
 pub mod PartsTaken
 pub mod FramesTaken

@@ -147,7 +147,8 @@ impl<'a, W: Target> Staged<'a, W> {
 }
 
 /// Passes bytes on, but for the first of them, this many, until the target fails, and answers how many of them it took or had from before.
-fn offer_after<W: Target>(target: &mut W, skip: u64, bytes: &[u8]) -> usize
+#[inline(always)]
+pub fn offer_after<W: Target>(target: &mut W, skip: u64, bytes: &[u8]) -> usize
     ensures { Continued skip (written W.Target target.old) bytes.now result (written W.Target target.new) }
 {
     let from = (bytes.len() as u64).min(skip) as usize;

@@ -1,20 +1,24 @@
 //! A value, written.
 
-ghost use Rattle.std.specs.Prelude.{◌≤◌, option_map};
+ghost use Rattle.std.specs.Int.{w32, to_be_bytes};
+ghost use Rattle.std.specs.Prelude.{◌≤◌, ◌++◌, length, option_map};
 ghost use Rattle.cqlp_note.specs.declared.header.TheConstants.Header.{LONGEST_BODY};
 ghost use Rattle.cqlp_note.specs.Outputs.{Offered, written};
-ghost use Rattle.cqlp_value.specs.Owned.{value_of};
-ghost use Rattle.cqlp_value.specs.Values.{values_bytes, values_size};
+ghost use Rattle.cqlp_value.specs.Owned.{atom_of, value_of};
+ghost use Rattle.cqlp_value.specs.Values.{NoValue, Scalar_and, values_bytes, values_size};
 ghost use Rattle.cqlp_encode.specs.Binding.{content_written};
 ghost use Rattle.cqlp_encode.specs.Encoding.{Continued};
 ghost use Rattle.cqlp_encode.specs.ValueWriting.{WritesValue};
 
-use crate::staged::Staged;
-use crate::values::{put_inside, put_value};
+use crate::staged::{Staged, offer_after};
+use crate::values::{put_atom, put_inside, put_value};
 use cqlp_note::{Header, Target};
 use cqlp_type::TypeTree;
-use cqlp_value::{Value, fits, value_size};
+use cqlp_value::{Atom, Content, Value, fits, value_size};
 use thiserror::Error;
+
+/// How many bytes of a content, at most, are copied behind its length.
+const FEW: usize = 28;
 
 /// Why a value was not written, or not whole.
 #[derive(Clone, Copy, Debug, PartialEq, Eq, Error)]
@@ -65,7 +69,76 @@ pub fn write_value<W: Target>(
 
 /// Writes a value with its length, but for its first bytes, `before` many, and answers how many of its bytes the target took or
 /// had from before.
+#[inline(always)]
 pub fn offer_value<W: Target>(value: &Value, before: u32, target: &mut W) -> u32
+    requires { values_size (value_of value.now) ≤ LONGEST_BODY }
+    ensures { Continued before (written W.Target target.old) (values_bytes (value_of value.now)) result (written W.Target target.new) }
+{
+    match value {
+        Value::Leaf(atom) => {
+            if before == 0 {
+                offer_atom(atom, target)
+            } else {
+                offer_any(value, before, target)
+            }
+        }
+        _ => offer_any(value, before, target),
+    }
+}
+
+/// The same of a scalar.
+#[inline(always)]
+fn offer_atom<W: Target>(atom: &Atom, target: &mut W) -> u32
+    requires { values_size (Scalar_and (atom_of atom.now) NoValue) ≤ LONGEST_BODY }
+    ensures { Continued 0 (written W.Target target.old) (values_bytes (Scalar_and (atom_of atom.now) NoValue)) result
+        (written W.Target target.new) }
+{
+    match atom.content() {
+        Content::One(bytes) => offer_bytes(&bytes, target),
+        Content::Two(bytes) => offer_bytes(&bytes, target),
+        Content::Four(bytes) => offer_bytes(&bytes, target),
+        Content::Eight(bytes) => offer_bytes(&bytes, target),
+        Content::Lent(bytes) => {
+            if bytes.len() <= FEW {
+                offer_bytes(bytes, target)
+            } else {
+                offer_long(atom, target)
+            }
+        }
+        Content::Decimal(_, _) => offer_long(atom, target),
+    }
+}
+
+/// The same of a content of few bytes.
+#[inline(always)]
+fn offer_bytes<W: Target>(content: &[u8], target: &mut W) -> u32
+    requires { length content.now ≤ 28 }
+    ensures { Continued 0 (written W.Target target.old) (to_be_bytes w32 (length content.now) ++ content.now) result
+        (written W.Target target.new) }
+{
+    let mut bytes = [0; FEW + 4];
+    let end = content.len() + 4;
+    bytes[..4].copy_from_slice(&content.len().to_be_bytes()[4..]);
+    bytes[4..end].copy_from_slice(content);
+    offer_after(target, 0, &bytes[..end]) as u32
+}
+
+/// The same of a scalar of many bytes.
+fn offer_long<W: Target>(atom: &Atom, target: &mut W) -> u32
+    requires { values_size (Scalar_and (atom_of atom.now) NoValue) ≤ LONGEST_BODY }
+    ensures { Continued 0 (written W.Target target.old) (values_bytes (Scalar_and (atom_of atom.now) NoValue)) result
+        (written W.Target target.new) }
+{
+    let mut out = Staged::new(target, 0);
+    put_atom(&mut out, atom);
+    out.flush();
+    let taken = out.taken();
+    let _ = out.into_inner();
+    taken as u32
+}
+
+/// The same of any value, of which the target may have the first bytes.
+fn offer_any<W: Target>(value: &Value, before: u32, target: &mut W) -> u32
     requires { values_size (value_of value.now) ≤ LONGEST_BODY }
     ensures { Continued before (written W.Target target.old) (values_bytes (value_of value.now)) result (written W.Target target.new) }
 {

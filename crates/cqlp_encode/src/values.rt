@@ -87,7 +87,7 @@ fn put_pairs<W: Target>(out: &mut Staged<'_, W>, pairs: &[(Value, Value)])
 
 /// Takes a scalar with its length.
 #[inline(always)]
-fn put_atom<W: Target>(out: &mut Staged<'_, W>, atom: &Atom)
+pub fn put_atom<W: Target>(out: &mut Staged<'_, W>, atom: &Atom)
     ensures { let v = Scalar_and (atom_of atom.now) NoValue in PutsWithin (values_size v) out.old (values_bytes v) out.new }
 {
     match atom.content() {

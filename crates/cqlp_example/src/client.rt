@@ -62,7 +62,11 @@ fn response(stream: i16, opcode: Opcode) -> Header {
 /// A connection with two slots, from its first request on.
 pub fn show(rt: &(impl Print + AllocGlobal)) -> Result<(), ExampleError> {
     let mut client = Client::new(rt.alloc(), 2)?;
-    set_up(rt, &mut client)?;
-    pipeline(rt, &mut client)?;
-    give_up(rt, &mut client)
+    converse(rt, &mut client)
+}
+
+fn converse(rt: &impl Print, client: &mut Client) -> Result<(), ExampleError> {
+    set_up(rt, client)?;
+    pipeline(rt, client)?;
+    give_up(rt, client)
 }

@@ -10,6 +10,9 @@ use cqlp_type::{Kind, TypeTree};
 use cqlp_value::{Atom, Scalar, Value};
 use std::alloc::{AllocError, Global};
 
+/// The columns of the page, with their types.
+const COLUMNS: [(&str, Kind); 2] = [("id", Kind::Int), ("name", Kind::Varchar)];
+
 /// The rows: an id and a name.
 const ITEMS: [(i32, &str); 2] = [(1, "tea"), (2, "salt")];
 
@@ -33,18 +36,20 @@ fn varchar(alloc: Global, text: &str) -> Result<Value, AllocError> {
     Ok(Value::Leaf(Atom::Varchar(String::from_str(alloc, text)?)))
 }
 
-/// The columns `id` and `name`.
+/// The columns.
 fn columns(alloc: Global) -> Result<Vec<Spec>, AllocError> {
-    let id = column(alloc, "id", Kind::Int)?;
-    let name = column(alloc, "name", Kind::Varchar)?;
-    Ok(vec![in alloc; id, name]?)
+    let mut columns = Vec::new(alloc);
+    for (name, kind) in &COLUMNS {
+        columns.push(column(alloc, name, *kind)?)?;
+    }
+    Ok(columns)
 }
 
 /// What is told of the columns: they are all of the table `shop.item`.
 fn metadata(alloc: Global) -> Result<Metadata, AllocError> {
-    let specs = columns(alloc)?;
     let keyspace = String::from_str(alloc, "shop")?;
     let table = String::from_str(alloc, "item")?;
+    let specs = columns(alloc)?;
     Ok(Metadata {
         flags: 1,
         columns: 2,

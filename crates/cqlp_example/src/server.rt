@@ -58,6 +58,10 @@ fn request(stream: i16, opcode: Opcode) -> Header {
 /// A connection with two slots, from its first request on.
 pub fn show(rt: &(impl Print + AllocGlobal)) -> Result<(), ExampleError> {
     let mut server = Server::new(rt.alloc(), 2)?;
-    set_up(rt, &mut server)?;
-    serve(rt, &mut server)
+    converse(rt, &mut server)
+}
+
+fn converse(rt: &impl Print, server: &mut Server) -> Result<(), ExampleError> {
+    set_up(rt, server)?;
+    serve(rt, server)
 }

@@ -43,8 +43,16 @@ fn is_read(
 pub fn show(rt: &(impl Print + AllocGlobal)) -> Result<(), ExampleError> {
     let tree = list_of_int(rt.alloc())?;
     let value = numbers(rt.alloc())?;
-    let bytes = written(rt.alloc(), &value, &tree)?;
-    let same = is_read(rt.alloc(), &bytes, &tree, &value)?;
+    tell(rt, &tree, &value)
+}
+
+fn tell(
+    rt: &(impl Print + AllocGlobal),
+    tree: &TypeTree,
+    value: &Value,
+) -> Result<(), ExampleError> {
+    let bytes = written(rt.alloc(), value, tree)?;
+    let same = is_read(rt.alloc(), &bytes, tree, value)?;
     println!(rt; "{} bytes, and the same value again: {same}", bytes.len())?;
     Ok(())
 }

@@ -1,5 +1,5 @@
 -- How a cell is read (section 6 of native_protocol_v4.spec).
-use Rattle.std.specs.Prelude.{ℕ, zero, suc, ◌+◌, ◌-◌, ◌++◌, Bool, true, false, ◌&&◌, List, [], ◌∷◌, Option, Some, None, nat_lt}
+use Rattle.std.specs.Prelude.{ℕ, zero, suc, ◌+◌, ◌-◌, ◌^◌, ◌++◌, Bool, true, false, ◌&&◌, List, [], ◌∷◌, Option, Some, None, nat_lt}
 use Rattle.std.specs.Prelude.{nat_le, ◌==◌, if◌then◌else◌, min}
 use Rattle.std.specs.Int.{w32}
 use Rattle.cqlp_note.specs.declared.refusal.Reason.TheVariants.{Overrun, TooLong, BadCount, BadSize, ExtraInValue}
@@ -10,7 +10,7 @@ use Rattle.cqlp_note.specs.Limits.{Rules}
 use Rattle.cqlp_kind.specs.declared.kind.Kind.{Kind}
 use Rattle.cqlp_kind.specs.declared.kind.Kind.TheVariants as kind
 use Rattle.cqlp_kind.specs.Types.{Types, NoMore, Type_and, how_many}
-use Rattle.cqlp_kind.specs.Scalars.{ScalarValue, allows_size, scalar_of, fault_of}
+use Rattle.cqlp_kind.specs.Scalars.{ScalarValue, takes_size, scalar_taken, fault_of}
 
 -- What is still to be read of a cell. A level is the number of values around a value; stop is where the value
 -- around it ends.
@@ -21,7 +21,7 @@ pub data CellSymbol : Type 0 where
   Items_of : Types → (level stop taken : ℕ) → CellSymbol
   -- the end of a value, after this many items
   Close_of : (level stop taken : ℕ) → CellSymbol
-  -- the content of a long scalar from this offset in it, of this many bytes in all
+  -- the content of a long scalar, or the bytes behind the last field, from this offset in it, of this many bytes in all
   Content_from : (level offset total : ℕ) → CellSymbol
 
 pub data CellEvent : Type 0 where
@@ -44,6 +44,11 @@ cell_copies (suc n) symbols = symbols ++ cell_copies n symbols
 abbrev pub values_of : Types → (level stop : ℕ) → List CellSymbol
 values_of NoMore level stop = []
 values_of (Type_and k inner others) level stop = Value_of k inner level stop ∷ values_of others level stop
+
+-- A lenient caller reads on where a tuple or a udt has more bytes than fields: they come in parts, of some byte each, whose
+-- offsets have 32 bits.
+abbrev pub reads_further : Rules → (left : ℕ) → Bool
+reads_further l left = l.lenient && nat_lt 0 l.part && nat_lt 0 left && nat_lt left (2 ^ 32)
 
 -- a scalar that comes in parts where it is long, if the caller asks for parts
 abbrev pub is_opaque : Kind → Bool
@@ -91,10 +96,10 @@ module _ (l : Rules) (p : CellPlace) (rest : List CellSymbol) where
 
   abbrev pub scalar_step : (level : ℕ) → Kind → (n : ℕ) → Step CellEvent CellPlace
   scalar_step level k n =
-      if allows_size k n
+      if takes_size l.lenient k n
       then (if l.parts && is_opaque k && nat_lt l.part n then part_step level 4 0 n
       else if nat_lt l.cell n then Refuses (p.offset, TooLong)
-      else Takes n (λ c. leaf_step p rest level k (scalar_of k c)))
+      else Takes n (λ c. leaf_step p rest level k (scalar_taken l.lenient k c)))
       else Refuses (p.offset, BadSize)
 
   abbrev pub content_step : (level : ℕ) → Kind → Types → (n : ℕ) → Step CellEvent CellPlace
@@ -117,7 +122,10 @@ module _ (l : Rules) (p : CellPlace) (rest : List CellSymbol) where
 
 module _ (l : Rules) (p : CellPlace) where
   abbrev pub items_step : Types → (level stop taken : ℕ) → List CellSymbol → Step CellEvent CellPlace
-  items_step NoMore level stop taken rest = close_step p rest level stop taken
+  items_step NoMore level stop taken rest =
+      if reads_further l (stop - p.offset)
+      then part_step l p (Items_of NoMore level stop taken ∷ rest) (level + 1) 0 0 (stop - p.offset)
+      else close_step p rest level stop taken
   items_step (Type_and k inner others) level stop taken rest =
       if nat_le stop p.offset then close_step p rest level stop taken
       else value_step l p (Items_of others level stop (taken + 1) ∷ rest) k inner (level + 1) (stop - p.offset)

@@ -39,6 +39,6 @@ pub enum Scalar<'a> {
     Time(i64),
     Smallint(i16),
     Tinyint(i8),
-    /// A cell whose type is not known.
+    /// A content whose type is not known; in a lenient reading also one that its type does not have.
     Raw(&'a [u8]),
 }

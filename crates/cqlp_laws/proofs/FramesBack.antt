@@ -194,21 +194,21 @@ module _ (l : Rules) (s : List ℕ) (small : All (λ b. b < 256) s) (middle : Li
       frame_ended : Middle_then → Reads l m between ((q, End x) ∷ after) last over → IsReadFrame l s at g.header q x middle
       frame_ended k run = frame_made k (ended l ((at + 9) + length k.body) ((at + 9) + g.header.length) k.told' between (q, End x) after last over (subst (λ (y : Place). Reads l y between ((q, End x) ∷ after) last over) k.place run))
 
-    frame_read : l.types ≡ true → (g : Header_then) → IsReadFrame l s at g.header q x middle
-    frame_read on g =
+    frame_read : l.types ≡ true → l.lenient ≡ false → (g : Header_then) → IsReadFrame l s at g.header q x middle
+    frame_read on strict g =
         let end = (at + 9) + g.header.length in
         let c = runs_split (step l) (inside (at + 9) end (message g.header) told) last g.back over middle ((q, End x) ∷ after) g.onward in
-        let r = parts_back l (at + 9) end (message g.header) told g.back middle c.0 c.1 on (message_due g.header) (no_less (at + 9) g.header.length) (extra_end c.0.symbols (next_comes l c.0 last c.1 over (q, End x) after c.3)) c.2 in
+        let r = parts_back l (at + 9) end (message g.header) told g.back middle c.0 c.1 on strict (message_due g.header) (no_less (at + 9) g.header.length) (extra_end c.0.symbols (next_comes l c.0 last c.1 over (q, End x) after c.3)) c.2 in
         frame_ended g c.0 c.1 (middle_by l (at + 9) end (message g.header) told g.back middle c.0 c.1 r inner r.later refl) c.3
 
-module _ (l : Rules) (on : l.types ≡ true) (s : List ℕ) (small : All (λ b. b < 256) s) (middle after : List (ℕ × Event)) (inner : All EndsNone middle) (p q x : ℕ) (h : Header) (last : Place) (over : List ℕ) where
+module _ (l : Rules) (on : l.types ≡ true) (strict : l.lenient ≡ false) (s : List ℕ) (small : All (λ b. b < 256) s) (middle after : List (ℕ × Event)) (inner : All EndsNone middle) (p q x : ℕ) (h : Header) (last : Place) (over : List ℕ) where
   abbrev later : List (ℕ × Event)
   later = middle ++ (q, End x) ∷ after
 
   module _ (m : Place) (left : List ℕ) (t : Between 0 s m left) where
     frame_named : (g : Begun l (0 + length t.front) t.told left (p, Frame h) later last over) → (p ≡ 0 + length t.front) × (h ≡ g.header) → IsReadFrame l s p h q x middle
     frame_named g is =
-        let r = frame_read l s small middle x (0 + length t.front) t.stop t.told t.front left (p, Frame h) q after last over t.whole (zero_more (length t.front)) inner on g in
+        let r = frame_read l s small middle x (0 + length t.front) t.stop t.told t.front left (p, Frame h) q after last over t.whole (zero_more (length t.front)) inner on strict g in
         subst (λ (k : ℕ). IsReadFrame l s k h q x middle) (sym is.0) (subst (λ (y : Header). IsReadFrame l s (0 + length t.front) y q x middle) (sym is.1) r)
 
     pub frame_from : Reads l m left ((p, Frame h) ∷ later) last over → IsReadFrame l s p h q x middle
@@ -218,9 +218,9 @@ module _ (l : Rules) (on : l.types ≡ true) (s : List ℕ) (small : All (λ b. 
 
 -- What is read between a header and the end of its frame is spelled by the bytes there, where no given types are in use
 -- in the frame.
-pub frame_back : (l : Rules) (gifts : Gifts) (s : List ℕ) (before middle after : List (ℕ × Event)) (p q x : ℕ) (h : Header) (v : Verdict) → l.types ≡ true → All (λ b. b < 256) s
+pub frame_back : (l : Rules) (gifts : Gifts) (s : List ℕ) (before middle after : List (ℕ × Event)) (p q x : ℕ) (h : Header) (v : Verdict) → l.types ≡ true → l.lenient ≡ false → All (λ b. b < 256) s
     → Says l (start_with gifts) s (before ++ ((p, Frame h) ∷ middle) ++ (q, End x) ∷ after) v → NoneInUse l gifts s before ((p, Frame h) ∷ middle ++ (q, End x) ∷ []) → All EndsNone middle → IsReadFrame l s p h q x middle
-frame_back l gifts s before middle after p q x h v on small said none inner =
+frame_back l gifts s before middle after p q x h v on strict small said none inner =
     let frame = (p, Frame h) ∷ (middle ++ (q, End x) ∷ []) in
     let whole : (before ++ ((p, Frame h) ∷ middle)) ++ (q, End x) ∷ after ≡ before ++ (frame ++ after) = simp append_assoc in
     let run : Reads l (start_with gifts) s (before ++ (frame ++ after)) said.0 said.1 = subst (λ (es : List (ℕ × Event)). Reads l (start_with gifts) s es said.0 said.1) whole said.2 in
@@ -232,4 +232,4 @@ frame_back l gifts s before middle after p q x h v on small said none inner =
     let plain = frame_forth l a.0 a.1 due (p, Frame h) (middle ++ (q, End x) ∷ []) c.0 c.1 free c.2 in
     let at : a.0.offset ≡ 0 + length exact.0 = omega (arith, offset_is l gifts before a.0 s a.1 a.2, ap length exact.1, length-append exact.0 a.1) in
     let t : Between 0 s (plainly a.0) a.1 = record { told = NoMore; stop = a.0.stop; front = exact.0; whole = exact.1; place = ap (λ (n : ℕ). between n a.0.stop NoMore) at } in
-    frame_from l on s small middle [] inner p q x h plain.0 c.1 (plainly a.0) a.1 t plain.1
+    frame_from l on strict s small middle [] inner p q x h plain.0 c.1 (plainly a.0) a.1 t plain.1

@@ -29,3 +29,4 @@ pub mod PartLimits
 pub mod FramesSpelled
 pub mod WrittenFrames
 pub mod Heads
+pub mod LenientRuns

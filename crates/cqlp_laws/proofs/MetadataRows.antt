@@ -15,7 +15,7 @@ use Rattle.cqlp_note.specs.Heading.{heading}
 use Rattle.cqlp_decode.specs.Reading.{reading, start, Frame, Holds, Node_of, End, Waits, Refused}
 
 abbrev limits : Rules
-limits = record { text = 64; cell = 64; entries = 8; depth = 3; types = true; part = 64; parts = false }
+limits = record { text = 64; cell = 64; entries = 8; depth = 3; types = true; part = 64; parts = false; lenient = false }
 
 lists_too_deep : reading limits 54 start (132 ∷ 0 ∷ 0 ∷ 0 ∷ 8 ∷ 0 ∷ 0 ∷ 0 ∷ 33 ∷ 0 ∷ 0 ∷ 0 ∷ 2 ∷ 0 ∷ 0 ∷ 0 ∷ 1 ∷ 0 ∷ 0 ∷ 0 ∷ 1 ∷ 0 ∷ 1 ∷ 107 ∷ 0 ∷ 1 ∷ 116 ∷ 0 ∷ 1 ∷ 99 ∷ 0 ∷ 32 ∷ 0 ∷ 32 ∷ 0 ∷ 32 ∷ 0 ∷ 9 ∷ 0 ∷ 0 ∷ 0 ∷ 0 ∷ []) ≡ ((0, Frame (record { response = true; flags = 0; stream = pos 0; opcode = opcode.Result; length = 33 })) ∷ (9, Holds field.ResultKind (note.Int (pos 2))) ∷ (13, Holds field.MetaFlags (note.Int (pos 1))) ∷ (17, Holds field.Columns (note.Count 1)) ∷ (21, Holds field.Keyspace (note.Text (107 ∷ []))) ∷ (24, Holds field.Table (note.Text (116 ∷ []))) ∷ (27, Holds field.ColumnName (note.Text (99 ∷ []))) ∷ (30, Node_of kind.List) ∷ (32, Node_of kind.List) ∷ (34, Node_of kind.List) ∷ [], Refused 36 reason.TooDeep)
 unfolding heading field_of number_of content_of is_utf8 chars encode

@@ -17,7 +17,7 @@ use Rattle.cqlp_kind.specs.CellStep as cell
 use Rattle.cqlp_decode.specs.Reading.{reading, start, Frame, Holds, Node_of, Cell_at, Leave, End, Waits, Refused}
 
 abbrev limits : Rules
-limits = record { text = 64; cell = 64; entries = 8; depth = 3; types = true; part = 64; parts = false }
+limits = record { text = 64; cell = 64; entries = 8; depth = 3; types = true; part = 64; parts = false; lenient = false }
 
 list_with_null_and_empty : reading limits 63 start (132 ∷ 0 ∷ 0 ∷ 0 ∷ 8 ∷ 0 ∷ 0 ∷ 0 ∷ 53 ∷ 0 ∷ 0 ∷ 0 ∷ 2 ∷ 0 ∷ 0 ∷ 0 ∷ 1 ∷ 0 ∷ 0 ∷ 0 ∷ 1 ∷ 0 ∷ 1 ∷ 107 ∷ 0 ∷ 1 ∷ 116 ∷ 0 ∷ 1 ∷ 99 ∷ 0 ∷ 32 ∷ 0 ∷ 9 ∷ 0 ∷ 0 ∷ 0 ∷ 1 ∷ 0 ∷ 0 ∷ 0 ∷ 20 ∷ 0 ∷ 0 ∷ 0 ∷ 3 ∷ 0 ∷ 0 ∷ 0 ∷ 4 ∷ 0 ∷ 0 ∷ 0 ∷ 1 ∷ 255 ∷ 255 ∷ 255 ∷ 255 ∷ 0 ∷ 0 ∷ 0 ∷ 0 ∷ []) ≡ ((0, Frame (record { response = true; flags = 0; stream = pos 0; opcode = opcode.Result; length = 53 })) ∷ (9, Holds field.ResultKind (note.Int (pos 2))) ∷ (13, Holds field.MetaFlags (note.Int (pos 1))) ∷ (17, Holds field.Columns (note.Count 1)) ∷ (21, Holds field.Keyspace (note.Text (107 ∷ []))) ∷ (24, Holds field.Table (note.Text (116 ∷ []))) ∷ (27, Holds field.ColumnName (note.Text (99 ∷ []))) ∷ (30, Node_of kind.List) ∷ (32, Node_of kind.Int) ∷ (34, Holds field.Rows (note.Count 1)) ∷ (38, Cell_at 0 0 (cell.Enter 0 kind.List 3)) ∷ (46, Cell_at 0 0 (cell.Leaf 1 (scalar.Int (pos 1)))) ∷ (54, Cell_at 0 0 (cell.Null 1)) ∷ (58, Cell_at 0 0 (cell.Empty 1)) ∷ (62, Leave 0 3) ∷ (62, End 0) ∷ [], Waits)
 unfolding heading field_of number_of content_of scalar_of is_utf8 chars encode

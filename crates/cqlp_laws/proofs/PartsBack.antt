@@ -230,14 +230,14 @@ module _ (l : Rules) (stop : ℕ) where
         let counted : length last.nodes ≤ l.entries = rw over at gets.counted in
         omega (arith, counted, ap length table, length-append (preorder told) (preorder (types_in w)), many_nodes w)
 
-    type_joined : (items : List (ℕ × TypeEvent)) (last : TypePlace) (front between : List ℕ) (es later : List (ℕ × Event)) → b ≡ front ++ between → es ≡ map (λ e. (e.0, type_event e.1)) items ++ later → last.symbols ≡ [] → AllShort l items
+    type_joined : l.lenient ≡ false → (items : List (ℕ × TypeEvent)) (last : TypePlace) (front between : List ℕ) (es later : List (ℕ × Event)) → b ≡ front ++ between → es ≡ map (λ e. (e.0, type_event e.1)) items ++ later → last.symbols ≡ [] → AllShort l items
         → GetsOn l first_option last (length front) → IsWhole l 1 at (preorder told) front items last.nodes → length later < n → Reads l (to_place last) between later q left
         → ReadsParts l at stop (In_type (Option_at 1 ∷ []) ∷ rest) told b es q left
-    type_joined items last front between es later whole events over short gets w fewer run =
+    type_joined strict items last front between es later whole events over short gets w fewer run =
         let told' = followed_by told (types_in w.tree) in
         let inner : at + length front ≤ stop = omega (arith, gets.within, gets.onward, gets.same_stop) in
         let place = type_place w.tree last (length front) gets over w.table in
-        part_joined (Type_is w.tree) at (In_type (Option_at 1 ∷ []) ∷ rest) rest told told' front between b es later q left whole (record { one = w.one; formed = w.are; spelled = w.spelled })
+        part_joined (Type_is w.tree) at (In_type (Option_at 1 ∷ []) ∷ rest) rest told told' front between b es later q left whole (record { one = w.one; formed = w.are strict; spelled = w.spelled strict })
         (w.shallow, placed_short l at (trees_items false w.tree) (subst (λ (z : List (ℕ × TypeEvent)). AllShort l z) w.items short))
         (subst (λ (z : List (ℕ × TypeEvent)). es ≡ map (λ e. (e.0, type_event e.1)) z ++ later) w.items events)
         (shorter later (at + length front) rest told' between q left fewer due inner ends (subst (λ (y : Place). Reads l y between later q left) place run))
@@ -247,22 +247,22 @@ module _ (l : Rules) (stop : ℕ) where
     some_types [] last front over run none = let begun : Option_at 1 ∷ [] ≡ [] = ap (λ (y : TypePlace). y.symbols) (sym run.0) ∙ over in cc
     some_types (e ∷ items) last front over run none = cc
 
-    type_whole : (items : List (ℕ × TypeEvent)) (last : TypePlace) (front between : List ℕ) (es later : List (ℕ × Event)) → b ≡ front ++ between → es ≡ map (λ e. (e.0, type_event e.1)) items ++ later → last.symbols ≡ [] → Runs (type_step l) first_option front items last []
+    type_whole : l.lenient ≡ false → (items : List (ℕ × TypeEvent)) (last : TypePlace) (front between : List ℕ) (es later : List (ℕ × Event)) → b ≡ front ++ between → es ≡ map (λ e. (e.0, type_event e.1)) items ++ later → last.symbols ≡ [] → Runs (type_step l) first_option front items last []
         → length es ≤ n → Reads l (to_place last) between later q left → ReadsParts l at stop (In_type (Option_at 1 ∷ []) ∷ rest) told b es q left
-    type_whole items last front between es later whole events over run le onward =
-        type_joined items last front between es later whole events over (options_short l items first_option last front run) (options_get l items first_option last front room tt run) (option_read l 1 first_option last front items refl over run)
+    type_whole strict items last front between es later whole events over run le onward =
+        type_joined strict items last front between es later whole events over (options_short l items first_option last front run) (options_get l items first_option last front room tt run) (option_read l 1 first_option last front items refl over run)
         (shorter_part (λ e. (e.0, type_event e.1)) items es later n events (some_types items last front over run) le) onward
 
-    type_read : (es : List (ℕ × Event)) → length es ≤ n → Reads l (inside at stop (In_type (Option_at 1 ∷ []) ∷ rest) told) b es q left → ReadsParts l at stop (In_type (Option_at 1 ∷ []) ∷ rest) told b es q left
-    type_read es le run =
+    type_read : l.lenient ≡ false → (es : List (ℕ × Event)) → length es ≤ n → Reads l (inside at stop (In_type (Option_at 1 ∷ []) ∷ rest) told) b es q left → ReadsParts l at stop (In_type (Option_at 1 ∷ []) ∷ rest) told b es q left
+    type_read strict es le run =
         let out : (r : TypePlace) → q ≡ to_place r → are_none r.symbols ≡ true = λ r is. types_over r.symbols rest (subst (λ (y : Place). IsAtEnd y.symbols) is ends) in
         let k = part_off (step l) (type_step l) type_event to_place (λ r. are_none r.symbols) (λ r some. option_steps l at stop told rest r.offset r.stop r.symbols r.nodes some) es first_option b q left out run in
         let x = runs_exact (type_step l) first_option k.last b k.between k.items k.first in
-        type_whole k.items k.last x.0 k.between es k.later x.1 k.events (none k.last.symbols k.over) x.2 le k.onward
+        type_whole strict k.items k.last x.0 k.between es k.later x.1 k.events (none k.last.symbols k.over) x.2 le k.onward
 
     -- ---- a cell
 
-    module _ (row column : ℕ) (c : Kind) (inner : Types) where
+    module _ (row column : ℕ) (c : Kind) (inner : Types) (strict : l.lenient ≡ false) where
       abbrev of_cell : CellPlace → Place
       of_cell = place_of_cells row column (inside at stop rest told) rest
 
@@ -286,7 +286,7 @@ module _ (l : Rules) (stop : ℕ) where
       cell_whole : (items : List (ℕ × CellEvent)) (last : CellPlace) (front between : List ℕ) (es later : List (ℕ × Event)) → b ≡ front ++ between → es ≡ map (λ e. (e.0, cell_event row column e.1)) items ++ later → last.symbols ≡ []
           → Runs (cell_step l) first_value front items last [] → length es ≤ n → Reads l (of_cell last) between later q left → ReadsParts l at stop (Cell_due row column c inner ∷ rest) told b es q left
       cell_whole items last front between es later whole events over run le onward =
-          cell_joined items last front between es later whole events over (cells_kept l items first_value last front run) (cell_back l c inner at stop last front items room over run)
+          cell_joined items last front between es later whole events over (cells_kept l items first_value last front run) (cell_back l strict c inner at stop last front items room over run)
           (shorter_part (λ e. (e.0, cell_event row column e.1)) items es later n events (some_values items last front over run) le) onward
 
       cell_read : (e : ℕ × Event) (es : List (ℕ × Event)) → length (e ∷ es) ≤ n → Reads l (inside at stop (Cell_due row column c inner ∷ rest) told) b (e ∷ es) q left → ReadsParts l at stop (Cell_due row column c inner ∷ rest) told b (e ∷ es) q left
@@ -298,7 +298,7 @@ module _ (l : Rules) (stop : ℕ) where
 
 -- ---- all parts
 
-module _ (l : Rules) (stop : ℕ) (on : l.types ≡ true) where
+module _ (l : Rules) (stop : ℕ) (on : l.types ≡ true) (strict : l.lenient ≡ false) where
   read_by : (n : ℕ) → Shorter l stop n
   read_by n es at [] told b q left lt due room ends run = absurd due
   read_by n es at (Stream ∷ rest) told b q left lt due room ends run = absurd due
@@ -313,10 +313,10 @@ module _ (l : Rules) (stop : ℕ) (on : l.types ≡ true) where
   read_by (suc n) (e ∷ es) at (In f m r ∷ rest) told b q left lt due room ends run = field_read l stop n (read_by n) at rest told b q left due room ends f m r on e es (omega arith) run
   read_by (suc n) (e ∷ es) at (In_type ts ∷ rest) told b q left lt due room ends run =
       subst (λ (us : List TypeSymbol). ReadsParts l at stop (In_type us ∷ rest) told b (e ∷ es) q left) (sym due.0)
-      (type_read l stop n (read_by n) at rest told b q left due.1 room ends (e ∷ es) (omega arith) (subst (λ (us : List TypeSymbol). Reads l (inside at stop (In_type us ∷ rest) told) b (e ∷ es) q left) due.0 run))
-  read_by (suc n) (e ∷ es) at (Cell_due row column k inner ∷ rest) told b q left lt due room ends run = cell_read l stop n (read_by n) at rest told b q left due room ends row column k inner e es (omega arith) run
+      (type_read l stop n (read_by n) at rest told b q left due.1 room ends strict (e ∷ es) (omega arith) (subst (λ (us : List TypeSymbol). Reads l (inside at stop (In_type us ∷ rest) told) b (e ∷ es) q left) due.0 run))
+  read_by (suc n) (e ∷ es) at (Cell_due row column k inner ∷ rest) told b q left lt due room ends run = cell_read l stop n (read_by n) at rest told b q left due room ends row column k inner strict e es (omega arith) run
 
 -- What is read in a frame, up to where its end or a header is due, begins with parts that its bytes spell.
-pub parts_back : (l : Rules) (at stop : ℕ) (ss : List Symbol) (told : Types) (b : List ℕ) (es : List (ℕ × Event)) (q : Place) (left : List ℕ) → l.types ≡ true → AreDue ss → at ≤ stop → IsAtEnd q.symbols → Reads l (inside at stop ss told) b es q left
+pub parts_back : (l : Rules) (at stop : ℕ) (ss : List Symbol) (told : Types) (b : List ℕ) (es : List (ℕ × Event)) (q : Place) (left : List ℕ) → l.types ≡ true → l.lenient ≡ false → AreDue ss → at ≤ stop → IsAtEnd q.symbols → Reads l (inside at stop ss told) b es q left
     → ReadsParts l at stop ss told b es q left
-parts_back l at stop ss told b es q left on due room ends run = read_by l stop on (suc (length es)) es at ss told b q left (omega arith) due room ends run
+parts_back l at stop ss told b es q left on strict due room ends run = read_by l stop on strict (suc (length es)) es at ss told b q left (omega arith) due room ends run

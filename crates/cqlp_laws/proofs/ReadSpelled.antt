@@ -61,10 +61,10 @@ module _ (l : Rules) (on : l.types ≡ true) (framed : AreOfFrames l) (bytes : L
   of_frame = framed_by (framed h r.parts r.told r.body r.extra r.lawful r.flags r.stream (small_body bytes (header_bytes h) r.body r.extra p (q - p) small r.bytes) r.spelled r.limits r.derives r.long)
 
 pub read_with_gifts : ((l : Rules) → l.types ≡ true → AreOfFrames l) → ReadIsSpelledWithGifts
-read_with_gifts framed l gifts bytes before middle after p q x h v on small inner said none =
+read_with_gifts framed l gifts bytes before middle after p q x h v on strict small inner said none =
     of_frame l on (framed l on) bytes small middle p q x h
-    (frame_back l gifts bytes before middle after p q x h v on small (subst (λ (es : List (ℕ × Event)). Says l (start_with gifts) bytes es v) (in_line before ((p, Frame h) ∷ middle) (q, End x) after) said) none inner)
+    (frame_back l gifts bytes before middle after p q x h v on strict small (subst (λ (es : List (ℕ × Event)). Says l (start_with gifts) bytes es v) (in_line before ((p, Frame h) ∷ middle) (q, End x) after) said) none inner)
 
 pub read_is_spelled : ((l : Rules) → l.types ≡ true → AreOfFrames l) → ReadIsSpelled
-read_is_spelled framed l bytes before middle after p q x h v on small inner said =
-    read_with_gifts framed l [] bytes before middle after p q x h v on small inner said (nothing_in_use l bytes before ((p, Frame h) ∷ middle ++ (q, End x) ∷ []))
+read_is_spelled framed l bytes before middle after p q x h v on strict small inner said =
+    read_with_gifts framed l [] bytes before middle after p q x h v on strict small inner said (nothing_in_use l bytes before ((p, Frame h) ∷ middle ++ (q, End x) ∷ []))

@@ -15,7 +15,7 @@ use Rattle.cqlp_note.specs.Heading.{heading}
 use Rattle.cqlp_decode.specs.Reading.{reading, start, Frame, Holds, End, Waits, Refused}
 
 abbrev limits : Rules
-limits = record { text = 64; cell = 64; entries = 8; depth = 3; types = true; part = 64; parts = false }
+limits = record { text = 64; cell = 64; entries = 8; depth = 3; types = true; part = 64; parts = false; lenient = false }
 
 empty_stream : reading limits 2 start ([]) ≡ ([], Waits)
 unfolding heading

@@ -9,8 +9,8 @@ use Rattle.cqlp_note.specs.Heading.{beside_number}
 use Rattle.cqlp_note.specs.Limits.{Rules}
 use Rattle.cqlp_kind.specs.declared.kind.Kind.{Kind}
 use Rattle.cqlp_kind.specs.Types.{Type_and, kinds, has_no_items}
-use Rattle.cqlp_kind.specs.TypeStep.{TypeSymbol, Option_at, Text_of}
-use Rattle.cqlp_kind.specs.Scalars.{allows_size}
+use Rattle.cqlp_kind.specs.TypeStep.{TypeSymbol, Option_at, Text_of, option_kind}
+use Rattle.cqlp_kind.specs.Scalars.{takes_size}
 use Rattle.cqlp_kind.specs.CellStep.{CellSymbol, Value_of, Items_of, is_opaque}
 use Rattle.cqlp_grammar.specs.Productions.{Symbol, In, In_type, Cell_due, In_cell}
 use Rattle.cqlp_decode.specs.Reading.{Place, Event, Verdict, Refused, Gifts, Reads, Says, start_with}
@@ -58,11 +58,11 @@ IsLongField l n room bytes = ⊥
 abbrev pub comes_in_parts : Rules → Kind → (n : ℕ) → Bool
 comes_in_parts l k n = l.parts && is_opaque k && nat_lt l.part n
 
--- A value of this kind is longer than `cell`: a scalar that may have this length, and that is not handed out in parts.
+-- A value of this kind is longer than `cell`: a scalar whose length is taken, and that is not handed out in parts.
 pub record IsLongValue (l : Rules) (k : Kind) (room : ℕ) (bytes : List ℕ) : Type 0 where
   pub scalar : has_no_items k ≡ true
   pub content : IsLong32 l.cell room bytes
-  pub allowed : allows_size k (first_number 4 w32 bytes) ≡ true
+  pub allowed : takes_size l.lenient k (first_number 4 w32 bytes) ≡ true
   pub whole : comes_in_parts l k (first_number 4 w32 bytes) ≡ false
 
 -- The value that is next in a cell is longer than `cell`.
@@ -74,12 +74,12 @@ IsLongInCell l offset symbols bytes = ⊥
 
 -- ---- type options
 
--- The bytes begin with the id of a kind, and the container has room for it.
-pub record IsOption (room : ℕ) (bytes : List ℕ) : Type 0 where
+-- The bytes begin with the id of a kind, or with any id where the caller is lenient, and the container has room for it.
+pub record IsOption (l : Rules) (room : ℕ) (bytes : List ℕ) : Type 0 where
   pub came : 2 ≤ length bytes
   pub fits : 2 ≤ room
   pub kind : Kind
-  pub known : beside_number (first_number 2 w16 bytes) kinds ≡ Some kind
+  pub known : option_kind (beside_number (first_number 2 w16 bytes) kinds) l.lenient ≡ Some kind
 
 -- An option at this depth, after n others of its metadata, is too deep; or it is not, and is one too many.
 abbrev pub IsOver : Rules → (depth n : ℕ) → Reason → Type 0
@@ -89,7 +89,7 @@ IsOver l depth n why = ⊥
 
 -- What is next of a type option, after n options of its metadata, exceeds a limit.
 abbrev pub ExceedsInType : Rules → (room n : ℕ) → List TypeSymbol → List ℕ → Reason → Type 0
-ExceedsInType l room n (Option_at depth ∷ rest) bytes why = IsOption room bytes × IsOver l depth n why
+ExceedsInType l room n (Option_at depth ∷ rest) bytes why = IsOption l room bytes × IsOver l depth n why
 ExceedsInType l room n (Text_of f ∷ rest) bytes why = (why ≡ TooLong) × IsLongField l notation.Text16 room bytes
 ExceedsInType l room n symbols bytes why = ⊥
 

@@ -8,3 +8,4 @@ pub mod OneAnswer
 pub mod Refused
 pub mod ReadFrames
 pub mod Written
+pub mod Lenient

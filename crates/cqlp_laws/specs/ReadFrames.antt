@@ -1,5 +1,5 @@
 -- Frames that are read are spelled.
-use Rattle.std.specs.Prelude.{◌≡◌, ℕ, ◌-◌, ◌<◌, ◌++◌, true, List, [], ◌∷◌, All, take, drop}
+use Rattle.std.specs.Prelude.{◌≡◌, ℕ, ◌-◌, ◌<◌, ◌++◌, true, false, List, [], ◌∷◌, All, take, drop}
 use Rattle.cqlp_note.specs.declared.header.Header.{Header}
 use Rattle.cqlp_note.specs.Limits.{Rules}
 use Rattle.cqlp_message.specs.FrameValues.{FrameValue}
@@ -23,11 +23,12 @@ pub record IsOfFrame (l : Rules) (bytes : List ℕ) (at x : ℕ) (said : List (�
   pub events : said ≡ Flat l at frame x
 
 -- What is read is spelled: wherever a stream says a header at p, and after it the end of its frame at q, the bytes from
--- the one to the other spell a frame value, with as many bytes more as the end tells, and what was said are its events.
+-- the one to the other spell a frame value, with as many bytes more as the end tells, and what was said are its events. (A
+-- lenient reading says more than what is spelled.)
 abbrev pub ReadIsSpelled : Type 0
 ReadIsSpelled =
     (l : Rules) (bytes : List ℕ) (before middle after : List (ℕ × Event)) (p q x : ℕ) (h : Header) (v : Verdict)
-    → l.types ≡ true → All (λ b. b < 256) bytes → All EndsNone middle
+    → l.types ≡ true → l.lenient ≡ false → All (λ b. b < 256) bytes → All EndsNone middle
     → let events = (p, Frame h) ∷ middle ++ (q, End x) ∷ [] in
     Says l start bytes (before ++ events ++ after) v → IsOfFrame l (take (q - p) (drop p bytes)) p x events
 
@@ -36,7 +37,7 @@ abbrev pub ReadIsSpelledWithGifts : Type 0
 ReadIsSpelledWithGifts =
     (l : Rules) (gifts : Gifts) (bytes : List ℕ) (before middle after : List (ℕ × Event)) (p q x : ℕ) (h : Header)
     (v : Verdict)
-    → l.types ≡ true → All (λ b. b < 256) bytes → All EndsNone middle
+    → l.types ≡ true → l.lenient ≡ false → All (λ b. b < 256) bytes → All EndsNone middle
     → let events = (p, Frame h) ∷ middle ++ (q, End x) ∷ [] in
     Says l (start_with gifts) bytes (before ++ events ++ after) v → NoneInUse l gifts bytes before events
     → IsOfFrame l (take (q - p) (drop p bytes)) p x events

@@ -3,6 +3,7 @@
 #![tactic(auto)]
 
 pub mod frames;
+pub mod lenient;
 pub mod limits;
 pub mod one_answer;
 pub mod reading;

@@ -22,7 +22,7 @@ use Rattle.cqlp_grammar.specs.Events as told
 use Rattle.cqlp_message.specs.Frames.{FrameSpells, frame_bytes, Flat, IsWithin}
 
 abbrev limits : Rules
-limits = record { text = 32; cell = 32; entries = 2; depth = 2; part = 32; types = true; parts = true }
+limits = record { text = 32; cell = 32; entries = 2; depth = 2; part = 32; types = true; parts = true; lenient = false }
 
 -- ---- a request for the supported options
 

@@ -13,3 +13,4 @@ pub mod OneAnswer
 pub mod Appended
 pub mod Texts
 pub mod Wholes
+pub mod Behind

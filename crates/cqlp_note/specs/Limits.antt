@@ -1,6 +1,7 @@
 -- The caller's limits.
-use Rattle.std.specs.Prelude.{ℕ, Bool, ◌&&◌, nat_le, if◌then◌else◌, Result, Ok, Err}
+use Rattle.std.specs.Prelude.{ℕ, Bool, false, ◌&&◌, nat_le, if◌then◌else◌, Result, Ok, Err}
 use Rattle.cqlp_note.specs.declared.limits.Limits.{Limits}
+use Rattle.cqlp_note.specs.declared.limits.Asked.{Asked}
 use Rattle.cqlp_note.specs.declared.limits.LimitRange.{LimitRange}
 use Rattle.cqlp_note.specs.declared.limits.TheConstants.Limits.{TEXT, CELL, ENTRIES, DEPTH}
 use Rattle.cqlp_note.specs.declared.limits.BadLimits.{BadLimits}
@@ -22,7 +23,8 @@ first_bad l =
     else Err bad.Cell)
     else Err bad.Text
 
--- What a caller sets, as definitions see it: the limits, the size of a part of a long content, and what is read.
+-- What a caller sets, as definitions see it: the limits, the size of a part of a long content, what is read, and whether
+-- what a type does not have is taken as raw bytes.
 pub record Rules : Type 0 where
   pub text : ℕ
   pub cell : ℕ
@@ -31,6 +33,7 @@ pub record Rules : Type 0 where
   pub part : ℕ
   pub types : Bool
   pub parts : Bool
+  pub lenient : Bool
 
 abbrev pub rules_of : Limits → Rules
 rules_of l = record {
@@ -41,6 +44,35 @@ rules_of l = record {
   part = l.cell;
   types = l.types;
   parts = l.parts;
+  lenient = false;
+}
+
+-- the same rules, for a caller who asks for a lenient reading, or for one who does not
+abbrev pub with_lenient : (lenient : Bool) → Rules → Rules
+with_lenient lenient l = record l { lenient = lenient }
+
+abbrev pub asked_of : Limits → (lenient : Bool) → Asked
+asked_of l lenient = record {
+  text = l.text;
+  cell = l.cell;
+  entries = l.entries;
+  depth = l.depth;
+  types = l.types;
+  parts = l.parts;
+  lenient = lenient;
+}
+
+-- what a reader is asked for, as rules
+abbrev pub rules_asked : Asked → Rules
+rules_asked a = record {
+  text = a.text;
+  cell = a.cell;
+  entries = a.entries;
+  depth = a.depth;
+  part = a.cell;
+  types = a.types;
+  parts = a.parts;
+  lenient = a.lenient;
 }
 
 -- the caller's limit on the content of a field in this notation

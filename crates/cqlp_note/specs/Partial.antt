@@ -210,6 +210,13 @@ pub record Waits (old : FieldState) (input : List ℕ) (used : ℕ) (new : Field
   pub kept : new.content ≡ drop (front_of old.field.notation) (old.seen ++ input)
   pub fits : length new.content ≤ old.room
 
+-- Some of a content has come, and it goes on also after this many bytes more, for which the buffer has room.
+pub record GathersMore (most : ℕ) (p : FieldState) : Type 0 where
+  pub under_way : p.under_way ≡ true
+  pub some : 0 < length p.content
+  pub waits : (piece : List ℕ) → length piece ≤ most → says (reader_of p.field) 0 (p.seen ++ piece) ≡ More
+  pub fits : length p.content + most ≤ p.room
+
 -- What the input adds to the bytes before it makes of a field.
 abbrev pub Advances : FieldState → List ℕ → FieldAdvance → FieldState → Type 0
 Advances old input (taken.More used) new = Waits old input used new

@@ -1,6 +1,7 @@
 -- Readers and writers of bytes, how often they were called and how often they failed.
+use Rattle.std.specs.Io.KnownBytes.{ReadConsumes}
 use Rattle.std.specs.Prelude.{◌≡◌, ℕ, ◌+◌, ◌-◌, ◌^◌, ◌<◌, Bool, true, ◌&&◌, ◌==◌, nat_lt, List, length, Result, Ok, Err, min}
-use Rattle.std.specs.Prelude.{if◌then◌else◌}
+use Rattle.std.specs.Prelude.{◌≤◌, Option, take, if◌then◌else◌}
 
 -- how many calls failed, of which one more may be: the count stops at 2^64 - 1
 abbrev pub counted : (failed : Bool) → ℕ → ℕ
@@ -14,3 +15,16 @@ CountsUp calls old new = old + calls < 2 ^ 64 → new ≡ old + calls
 abbrev pub took_none : {E : Type 0} → Result ℕ E → List ℕ → Bool
 took_none (Ok n) bytes = (n == 0) && nat_lt 0 (length bytes)
 took_none (Err e) bytes = true
+
+-- what became of the first n bytes of a buffer that a read gave, or of nothing where it failed
+abbrev pub BecameOf : {E : Type 0} → Result ℕ E → (buffer : List ℕ) → (Same : Type 0) → (P : List ℕ → Type 0) → Type 0
+BecameOf (Ok n) buffer Same P = (n ≤ length buffer) × P (take n buffer)
+BecameOf (Err e) buffer Same P = Same
+
+-- A call of a reader into a buffer of this many bytes gave a piece, of which P holds, or it failed.
+pub record ReadsPiece {E : Type 0} (most : ℕ) (old new : Option (List ℕ)) (result : Result ℕ E) (Same : Type 0)
+    (P : List ℕ → Type 0) : Type 0 where
+  pub buffer : List ℕ
+  pub long : length buffer ≡ most
+  pub bytes : ReadConsumes old new result buffer
+  pub became : BecameOf result buffer Same P

@@ -1,10 +1,12 @@
 //! The content of a field out of pieces.
 
-ghost use Rattle.std.specs.Prelude.{◌≡◌, ◌==◌, ◌+◌, ◌≤◌, ◌++◌, [], length, min, replicate, vec_capacity, IfOk};
+ghost use Rattle.std.specs.Prelude.{◌≡◌, ◌==◌, ◌+◌, ◌≤◌, ◌++◌, [], length, min, replicate, take, true, is_err, vec_capacity, IfOk};
 ghost use denote.RawPtr.{InBlock, ◌+ₚ◌};
 ghost use Rattle.std.specs.Vec.{vec_ptr};
+ghost use Rattle.cqlp_note.specs.Streams.{ReadsPiece, counted};
 
 use crate::refusal::NoMemory;
+use crate::streams::{IoFault, Source};
 use std::alloc::Allocator;
 use std::marker::Model;
 
@@ -99,6 +101,26 @@ impl<A: Allocator> GatheredContent<A> {
         self.bytes.slice_mut(start..end).copy_from_slice(piece);
         self.len = end as u32;
     }
+
+    /// Adds at the end what one call of a reader gives, which is up to `most` bytes: it reads them where they belong.
+    pub fn read_from<R: Source>(&mut self, reader: &mut R, most: usize) -> Result<usize, IoFault>
+        requires { length self.old.items + most ≤ self.old.room }
+        ensures bytes { ReadsPiece most (R.left reader.old) (R.left reader.new) result (self.new ≡ self.old)
+            (λ piece. self.new ≡ record self.old { items = self.old.items ++ piece }) }
+        ensures failures { R.failures reader.new ≡ counted (is_err result) (R.failures reader.old) }
+        ensures reads { R.reads reader.new ≡ counted true (R.reads reader.old) }
+    {
+        let start = self.len as usize;
+        let end = start + most;
+        fill_to(&mut self.bytes, end);
+        match reader.read(self.bytes.slice_mut(start..end)) {
+            Ok(count) => {
+                self.len += count as u32;
+                Ok(count)
+            }
+            Err(IoFault) => Err(IoFault),
+        }
+    }
 }
 
 /// The memory of a vector is in a block, so that addresses behind its first are counted on from it. It has nothing to do.
@@ -113,6 +135,21 @@ fn address_after<A: Allocator>(bytes: &Vec<u8, A>, start: usize) -> *const u8
 {
     has_address(bytes);
     unsafe { bytes.as_ptr().byte_add(start) }
+}
+
+/// Adds zeros behind the bytes that there are, so that there are at least so many.
+fn fill_to<A: Allocator>(bytes: &mut Vec<u8, A>, end: usize)
+    requires { end ≤ vec_capacity bytes.old }
+    ensures long { end ≤ length bytes.new.items }
+    ensures kept { take (length bytes.old.items) bytes.new.items ≡ bytes.old.items }
+    ensures no_fewer { length bytes.old.items ≤ length bytes.new.items }
+    ensures capacity { vec_capacity bytes.new ≡ vec_capacity bytes.old }
+    ensures in_place { vec_ptr bytes.new ≡ vec_ptr bytes.old }
+{
+    let written = bytes.len();
+    if written < end {
+        add_zeros(bytes, end - written);
+    }
 }
 
 /// Adds this many zeros.

@@ -22,7 +22,7 @@ pub use advance::{ContentPlace, FieldAdvance, FieldOutline, Push};
 pub use field::{Field, Notation};
 pub use head::ContentForm;
 pub use header::Header;
-pub use limits::{BadLimits, LimitRange, Limits};
+pub use limits::{Asked, BadLimits, LimitRange, Limits};
 pub use offering::offer;
 pub use opcode::Opcode;
 pub use partial::Partial;

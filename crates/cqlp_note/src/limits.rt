@@ -1,4 +1,4 @@
-//! The limits that a caller sets.
+//! The limits that a caller sets. The greatest length of a body is none of them: it is `Header::LONGEST_BODY`.
 
 ghost use Rattle.std.specs.Prelude.{◌≡◌};
 
@@ -19,6 +19,38 @@ pub struct Limits {
     pub types: bool,
     /// Whether a blob, custom or raw scalar longer than `cell` comes in parts of that size.
     pub parts: bool,
+}
+
+/// What a reader of frames is asked for: the limits, and how it reads.
+#[derive(Clone, Copy)]
+pub struct Asked {
+    pub text: u32,
+    pub cell: u32,
+    pub entries: u32,
+    pub depth: u32,
+    pub types: bool,
+    pub parts: bool,
+    /// Whether what a type does not have is taken as raw bytes.
+    pub lenient: bool,
+}
+
+impl Asked {
+    ghost use Rattle.cqlp_note.specs.Limits.{asked_of};
+
+    /// These limits, for a reading that is lenient or not.
+    pub fn new(limits: &Limits, lenient: bool) -> Self
+        ensures { result ≡ asked_of limits.now lenient }
+    {
+        Asked {
+            text: limits.text,
+            cell: limits.cell,
+            entries: limits.entries,
+            depth: limits.depth,
+            types: limits.types,
+            parts: limits.parts,
+            lenient,
+        }
+    }
 }
 
 /// The numbers that a limit may be.

@@ -1,11 +1,12 @@
 //! A field out of pieces of any size.
 
 ghost use Rattle.std.specs.Prelude.{◌≡◌, ◌+◌, ◌-◌, ◌<◌, ◌≤◌, ◌^◌, ◌++◌};
-ghost use Rattle.std.specs.Prelude.{List, [], ℕ, true, false, length, min, drop, IfOk, IfSome, IsTrue};
+ghost use Rattle.std.specs.Prelude.{List, [], ℕ, true, false, length, min, drop, is_err, IfOk, IfSome, IsTrue};
 ghost use denote.RawPtr.{◌+ₚ◌};
 ghost use Rattle.std.specs.Borrow.{sem};
 ghost use Rattle.cqlp_note.specs.Head.{Tells, front_of, reader_of, value_of};
 ghost use Rattle.cqlp_note.specs.Partial.{IsContentHead, LeadsToContent};
+ghost use Rattle.cqlp_note.specs.Streams.{ReadsPiece, counted};
 ghost use Rattle.cqlp_note.specs.Reader.{More, says};
 
 use crate::advance::{ContentPlace, FieldAdvance, FieldOutline, FieldStage, Push};
@@ -17,6 +18,7 @@ use crate::head::{
 };
 use crate::prim::{BoundValue, Primitive};
 use crate::refusal::{NoMemory, Reason, Refusal};
+use crate::streams::{IoFault, Source};
 use crate::utf8::is_text;
 use std::alloc::{Allocator, Global};
 use std::marker::Model;
@@ -45,7 +47,7 @@ impl<A: Allocator> Model for Partial<A> {
 
 impl<A: Allocator> Partial<A> {
     ghost use Rattle.cqlp_note.specs.Lending.{LeavesField};
-    ghost use Rattle.cqlp_note.specs.Partial.{Advances, CanLend, HasContent, IsContentAfter, IsFresh, IsNew, IsPlain, Pushes, Uses, begun, ended, item_value};
+    ghost use Rattle.cqlp_note.specs.Partial.{Advances, CanLend, HasContent, IsContentAfter, IsFresh, GathersMore, IsNew, IsPlain, Pushes, Uses, Waits, begun, ended, item_value};
 
     /// With room for contents of up to `room` bytes, and no field under way. This is the one call that takes memory;
     /// the error is that it was refused.
@@ -363,6 +365,35 @@ impl<A: Allocator> Partial<A> {
         let lies = ContentPlace::InInput { start, len: size };
         let item = FieldOutline::Content { form, lies };
         FieldAdvance::Got { used, item }
+    }
+
+    /// Whether a content is gathered, some of which has come, and more than this many bytes of it are missing.
+    pub fn gathers_more(&self, most: usize) -> bool
+        ensures { IsTrue result → GathersMore most self.now }
+    {
+        match self.stage {
+            FieldStage::Content { len, .. } if !self.content.is_empty() => {
+                let missing = (len - self.content.len()) as usize;
+                most < missing
+            }
+            _ => false,
+        }
+    }
+
+    /// Reads the next bytes of the content that is gathered straight into the buffer, by one call of the reader for up
+    /// to `most` bytes. It does what `advance` does of these bytes, which is to want more.
+    pub fn read_from<R: Source>(&mut self, reader: &mut R, most: usize) -> Result<usize, IoFault>
+        requires { GathersMore most self.old }
+        ensures bytes { ReadsPiece most (R.left reader.old) (R.left reader.new) result (self.new ≡ self.old)
+            (λ piece. Waits self.old piece (length piece) self.new) }
+        ensures failures { R.failures reader.new ≡ counted (is_err result) (R.failures reader.old) }
+        ensures reads { R.reads reader.new ≡ counted true (R.reads reader.old) }
+    {
+        match self.stage {
+            FieldStage::Idle => unreachable!(),
+            FieldStage::Front => unreachable!(),
+            FieldStage::Content { .. } => self.content.read_from(reader, most),
+        }
     }
 
     /// Ends the field by a refusal.

@@ -1,4 +1,4 @@
-//! Why bytes are refused, and why a call is.
+//! Why bytes are refused, and why a call is. `Header::read` has the order in which a header is refused, head.rt that of a field.
 
 use std::alloc::AllocError;
 use thiserror::Error;

@@ -1,4 +1,4 @@
-//! Bytes that are a text.
+//! Bytes that are a text. A text that comes in pieces is looked at once, when its last byte is there: `accepts` in partial.rt.
 
 ghost use Rattle.std.specs.Prelude.{◌≡◌};
 ghost use Rattle.std.specs.Str.{is_utf8};

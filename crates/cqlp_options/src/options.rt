@@ -99,6 +99,8 @@ pub const DEFAULT_LIMITS: Limits = Limits::DEFAULT;
 pub struct Options<'a> {
     pub task: Task,
     pub limits: Limits,
+    /// Whether a content that its type does not have is taken as raw bytes, and read on behind it.
+    pub lenient: bool,
     /// The path of the stream's file, or `-` for standard input.
     pub file: &'a str,
 }
@@ -111,8 +113,14 @@ impl<'a> Options<'a> {
         let task = Task::matched(name, matches)?;
         let file = matches.get_str("file")?;
         let limits = limits_of(matches);
+        let lenient = matches.get_flag("lenient");
         match limits.check() {
-            Ok(()) => Some(Options { task, limits, file }),
+            Ok(()) => Some(Options {
+                task,
+                limits,
+                lenient,
+                file,
+            }),
             Err(_) => None,
         }
     }

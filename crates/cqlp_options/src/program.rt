@@ -13,6 +13,7 @@ const HELP: &str = "Each of show, rows and check takes a FILE, where - is standa
     \x20 --depth <N>    nesting of one type at most, from 1 to 64 [default: 16]\n\
     \x20 --raw          each cell as raw bytes\n\
     \x20 --parts        longer blob, custom and raw cells in parts\n\
+    \x20 --lenient      a content that its column's type does not have as raw bytes\n\
     \x20 --skip         where the body of a frame is refused, pass over it and read on\n\
     \x20 --json         of show: each event as a JSON object in a line of its own;\n\
     \x20                of rows: each row as a JSON array in a line of its own\n\
@@ -314,7 +315,7 @@ fn limit<'a>(alloc: Global, bound: &Bound) -> Arg<'a> {
 }
 
 /// The options without a value, and their help.
-const FLAGS: [(&str, &str); 3] = [
+const FLAGS: [(&str, &str); 4] = [
     (
         "raw",
         "Read each cell as raw bytes, without its column's type",
@@ -322,6 +323,10 @@ const FLAGS: [(&str, &str); 3] = [
     (
         "parts",
         "Give longer blob, custom and raw cells in parts of the size of --cell",
+    ),
+    (
+        "lenient",
+        "Give a content that its column's type does not have as raw bytes, and read on behind it",
     ),
     (
         "skip",

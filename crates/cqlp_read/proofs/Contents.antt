@@ -55,7 +55,7 @@ scalar_step_is l p rest level k inner n e = refl
 
 -- ---- scalars
 
-module _ (l : Rules) (whole : l.parts ≡ false) (at : ℕ) (k : Kind) (c : List ℕ) (scalar : has_no_items k ≡ true) where
+module _ (l : Rules) (whole : l.parts ≡ false) (strict : l.lenient ≡ false) (at : ℕ) (k : Kind) (c : List ℕ) (scalar : has_no_items k ≡ true) where
   refuses : (inner : Types) (why : Reason)
       → ((p : CellPlace) (rest : List CellSymbol) (level : ℕ) (back : List ℕ) → says (scalar_step l p rest level k (length c)) 4 (c ++ back) ≡ Bad (p.offset, why)) → ContentRefused l at k inner c (refusal at why)
   refuses inner why f = content_now l at k inner c (refusal at why) (λ p rest level back here.
@@ -64,7 +64,7 @@ module _ (l : Rules) (whole : l.parts ≡ false) (at : ℕ) (k : Kind) (c : List
   pub scalar_long : (inner : Types) → (ltb l.cell (length c) && allows_size k (length c)) ≡ true → ContentRefused l at k inner c (refusal at TooLong)
   scalar_long inner t =
       let both = both_true (ltb l.cell (length c)) (allows_size k (length c)) t in
-      refuses inner TooLong (λ p rest level back. rw (both.1, whole, both.0) refl)
+      refuses inner TooLong (λ p rest level back. rw (strict, both.1, whole, both.0) refl)
 
   none_is : (why : Reason) (o : Option ScalarValue) → scalar_of k c ≡ o → allows_size k (length c) ≡ true → Err why ≡ scalar_in k c → (scalar_of k c ≡ None) × (fault_of k ≡ why)
   none_is why None e allows is = let got = rw (allows, e) at is in (e, same_why why (fault_of k) got)
@@ -77,10 +77,10 @@ module _ (l : Rules) (whole : l.parts ≡ false) (at : ℕ) (k : Kind) (c : List
         let none = none_is why (scalar_of k c) refl allows is in
         refuses inner why (λ p rest level back.
         let enough : length c ≤ length (c ++ back) = omega (arith, length-append c back) in
-        rw (allows, whole, fits, le-ltb (length (c ++ back)) (length c) enough, take_at c back (length c) refl, none.0) (ap (λ (w : Reason). Bad (p.offset, w)) none.1))
+        rw (strict, allows, whole, fits, le-ltb (length (c ++ back)) (length c) enough, take_at c back (length c) refl, none.0) (ap (λ (w : Reason). Bad (p.offset, w)) none.1))
     | false ↦ λ e.
         let size = same_why why BadSize (rw e at is) in
-        refuses inner why (λ p rest level back. rw e (ap (λ (w : Reason). Bad (p.offset, w)) size))
+        refuses inner why (λ p rest level back. rw (strict, e) (ap (λ (w : Reason). Bad (p.offset, w)) size))
   ] refl
 
   pub scalar_reads : (v : ScalarValue) → c ≢ [] → (ltb l.cell (length c) && allows_size k (length c)) ≡ false → Ok v ≡ scalar_in k c → (inner : Types) → ((front : List ℕ) → IsBytes (Some c) front → ValueSpells k inner (Scalar_and v NoValue) front) × AreWithin l (Scalar_and v NoValue)
@@ -278,6 +278,6 @@ module _ (l : Rules) (at : ℕ) (ts : Types) (c : List ℕ) where
         refused_as l (place x (Value_of j inner (level + 1) stop ∷ due)) (place x (Items_of (Type_and j inner more) level stop n ∷ rest)) (drop used c) r (field_step j inner more x n level rest (omega arith))
         (subst (λ (m : ℕ). IsRefused l (place x (Value_of j inner (level + 1) m ∷ due)) (drop used c) r) far (refused (level + 1) due)))
 
-    pub fields_end : (n used : ℕ) → FieldsLead NoMore n used → used < length c → ContentRefused l at k ts c (refusal (at + 4 + used) ExtraInValue)
-    fields_end n used lead lt = refused_in NoMore n used (refusal (at + 4 + used) ExtraInValue) lead (λ level rest.
-        refused_now l (place (at + 4 + used) (Items_of NoMore level stop n ∷ rest)) (drop used c) (refusal (at + 4 + used) ExtraInValue) (rw (lt-ltb (at + 4 + used) stop (omega arith)) refl))
+    pub fields_end : l.lenient ≡ false → (n used : ℕ) → FieldsLead NoMore n used → used < length c → ContentRefused l at k ts c (refusal (at + 4 + used) ExtraInValue)
+    fields_end strict n used lead lt = refused_in NoMore n used (refusal (at + 4 + used) ExtraInValue) lead (λ level rest.
+        refused_now l (place (at + 4 + used) (Items_of NoMore level stop n ∷ rest)) (drop used c) (refusal (at + 4 + used) ExtraInValue) (rw (strict, lt-ltb (at + 4 + used) stop (omega arith)) refl))

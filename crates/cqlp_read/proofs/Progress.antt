@@ -1,5 +1,5 @@
 -- How far values in a value are read.
-use Rattle.std.proofs.Common.{◌≡◌, ℕ, zero, suc, ◌+◌, ◌-◌, ◌<◌, ◌≤◌, get_or, true, List, [], ◌∷◌, ◌++◌, length, take, drop, drop-cons, refl, sym, ap, ◌∙◌, subst, add-one, arith}
+use Rattle.std.proofs.Common.{◌≡◌, ℕ, zero, suc, ◌+◌, ◌-◌, ◌<◌, ◌≤◌, get_or, true, false, List, [], ◌∷◌, ◌++◌, length, take, drop, drop-cons, refl, sym, ap, ◌∙◌, subst, add-one, arith}
 use Rattle.std.proofs.Math.Seq.{take-append-add}
 use Rattle.std.proofs.lemmas.List.{length-drop, length-take-le, take-append-drop, take_all, drop_all}
 use Rattle.cqlp_note.specs.declared.field.Notation.TheVariants as notation
@@ -199,10 +199,10 @@ module _ {X : Type 0} (f : X → TypeTree) where
       pub field_refused : (k : Kind) → has_fields k ≡ true → (r : Refusal) → used < length c → FrontRefused l (at + 4 + used) (kind_in (head_of (f x))) (types_in (inner_of (f x))) (drop used c) r → ContentRefused l at k (types_by f xs) c r
       field_refused k fields r more refused = fields_stop l at (types_by f xs) c k fields (kind_in (head_of (f x))) (types_in (inner_of (f x))) (types_by f (drop (i + 1) xs)) i used r due more refused
 
-    pub fields_over : (i : ℕ) (vs : Values) (used : ℕ) → AfterFields i vs used → length xs ≤ i → (k : Kind) → has_fields k ≡ true → used < length c → ContentRefused l at k (types_by f xs) c (refusal (at + 4 + used) ExtraInValue)
-    fields_over i vs used read all k fields lt =
+    pub fields_over : l.lenient ≡ false → (i : ℕ) (vs : Values) (used : ℕ) → AfterFields i vs used → length xs ≤ i → (k : Kind) → has_fields k ≡ true → used < length c → ContentRefused l at k (types_by f xs) c (refusal (at + 4 + used) ExtraInValue)
+    fields_over strict i vs used read all k fields lt =
         let none : drop i xs ≡ [] = drop_all i xs all in
-        fields_end l at (types_by f xs) c k fields i used (subst (λ (ys : List X). FieldsLead l at (types_by f xs) c (types_by f ys) i used) none read.lead) lt
+        fields_end l at (types_by f xs) c k fields strict i used (subst (λ (ys : List X). FieldsLead l at (types_by f xs) c (types_by f ys) i used) none read.lead) lt
 
     pub fields_whole : (i : ℕ) (vs : Values) (used : ℕ) → AfterFields i vs used → length c ≤ used → ValuesSpell (first_types i (types_by f xs)) vs c × AreWithin l vs
     fields_whole i vs used read end =

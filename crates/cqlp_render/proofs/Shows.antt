@@ -19,8 +19,7 @@ use Rattle.cqlp_text.specs.declared.ending.Ending.{Ending}
 use Rattle.cqlp_text.specs.declared.ending.Ending.TheVariants as ending
 use Rattle.cqlp_text.specs.Endings.{ending_line, status_of}
 use Rattle.cqlp_grammar.specs.declared.event.Finish.{Finish}
-use Rattle.cqlp_note.specs.declared.limits.Limits.{Limits}
-use Rattle.cqlp_note.specs.Limits.{rules_of}
+use Rattle.cqlp_note.specs.Limits.{Rules}
 use Rattle.cqlp_render.proofs.Renders.{known_nothing, known_still, text-last, fold-text, renders_to, texts_to, Renders, RendersPart}
 use Rattle.cqlp_render.proofs.Buffering.{known_taken, breaks_short, flushes}
 use Rattle.cqlp_render.proofs.Turns.{runs_on}
@@ -203,7 +202,7 @@ module _ (form : TextForm) (turns : ℕ) (o : Outcome) (old new : StreamState) (
 pub tells_at_first : (a : Written) (given : Option (List ℕ)) (f : ℕ) → a ≡ bare given f → IsSome given → IsSome (taken a)
 tells_at_first a given f starts known = subst (λ (w : Written). IsSome (taken w)) (sym starts) (known_still given [] known)
 
-pub shows_by : (form : TextForm) (limits : Limits) (turns : ℕ) (o : Outcome) (old new : StreamState) (xs : List ℕ) (left : Option (List ℕ)) (before after : Output) → After old [] [] → old.refusal ≡ None → old.rules ≡ rules_of limits → new.rules ≡ old.rules → RendersOrFails form turns o old new xs left before after → ShowsTo form limits turns (ending_of o) xs left before after
+pub shows_by : (form : TextForm) (limits : Rules) (turns : ℕ) (o : Outcome) (old new : StreamState) (xs : List ℕ) (left : Option (List ℕ)) (before after : Output) → After old [] [] → old.refusal ≡ None → old.rules ≡ limits → new.rules ≡ old.rules → RendersOrFails form turns o old new xs left before after → ShowsTo form limits turns (ending_of o) xs left before after
 shows_by form limits turns (outcome.Finished f) old new xs left before after fresh unrefused rules same ran = record { old = old; new = new; fresh = fresh; unrefused = unrefused; rules = rules; same_rules = same; renders = ran }
 shows_by form limits turns outcome.ReadFault old new xs left before after fresh unrefused rules same ran = record { old = old; new = new; fresh = fresh; unrefused = unrefused; rules = rules; same_rules = same; renders = ran }
 shows_by form limits turns outcome.Turns old new xs left before after fresh unrefused rules same ran = record { old = old; new = new; fresh = fresh; unrefused = unrefused; rules = rules; same_rules = same; renders = ran }
@@ -219,7 +218,7 @@ reads_by turns outcome.SinkFault old new reads = (outcome.SinkFault, reads)
 -- ---- how a check ends
 
 -- the output of a stream that was read tells what it got
-pub tells_read : (form : TextForm) (limits : Limits) (turns : ℕ) (f : Finish) (xs : List ℕ) (left : Option (List ℕ)) (before after : Output) → IsSome before.given → ShowsTo form limits turns (ending.Finished f) xs left before after → IsSome after.given
+pub tells_read : (form : TextForm) (limits : Rules) (turns : ℕ) (f : Finish) (xs : List ℕ) (left : Option (List ℕ)) (before after : Output) → IsSome before.given → ShowsTo form limits turns (ending.Finished f) xs left before after → IsSome after.given
 tells_read form limits turns f xs left before after known shows =
     let wrote = (texts_to form turns (outcome.Finished f) shows.old shows.new xs left before after shows.renders).0.events [] [] [] shows.fresh in
     subst (λ (g : Option (List ℕ)). IsSome g) (sym (ap (λ o. o.given) wrote.written)) (known_still before.given (text form wrote.more) known)

@@ -1,7 +1,6 @@
 -- What a command that shows a stream writes.
 use Rattle.std.specs.Prelude.{◌≡◌, ℕ, true, List, [], Option, None, IsSome, ◌⊎◌}
-use Rattle.cqlp_note.specs.declared.limits.Limits.{Limits}
-use Rattle.cqlp_note.specs.Limits.{rules_of}
+use Rattle.cqlp_note.specs.Limits.{Rules}
 use Rattle.cqlp_note.specs.Streams.{counted}
 use Rattle.cqlp_decode.specs.declared.running.Outcome.{Outcome}
 use Rattle.cqlp_decode.specs.declared.running.Outcome.TheVariants as outcome
@@ -32,18 +31,18 @@ RendersOrFails form turns outcome.SinkFault old new xs left before after = Rende
 RendersOrFails form turns o old new xs left before after = RendersTo form turns o old new xs left before after
 
 -- A decoder that was just made with these limits, and has refused nothing, rendered the bytes xs of a reader.
-pub record RendersNew (form : TextForm) (limits : Limits) (turns : ℕ) (o : Outcome) (xs : List ℕ)
+pub record RendersNew (form : TextForm) (limits : Rules) (turns : ℕ) (o : Outcome) (xs : List ℕ)
     (left : Option (List ℕ)) (before after : Output) : Type 0 where
   pub old : StreamState
   pub new : StreamState
   pub fresh : After old [] []
   pub unrefused : old.refusal ≡ None
-  pub rules : old.rules ≡ rules_of limits
+  pub rules : old.rules ≡ limits
   pub same_rules : new.rules ≡ old.rules
   pub renders : RendersOrFails form turns o old new xs left before after
 
 -- What was written of the bytes xs of a reader, by how the command ends; it does not end as a conversation does.
-module _ (form : TextForm) (limits : Limits) (turns : ℕ) where
+module _ (form : TextForm) (limits : Rules) (turns : ℕ) where
   abbrev pub ShowsTo : Ending → (xs : List ℕ) → (left : Option (List ℕ)) → (before after : Output) → Type 0
   ShowsTo (ending.Finished f) = RendersNew form limits turns (outcome.Finished f)
   ShowsTo ending.ReadFault = RendersNew form limits turns outcome.ReadFault
@@ -76,11 +75,11 @@ ReadsBy turns ending.SocketFault old new = ⊥
 
 -- When the last read of the bytes xs was made, by a decoder that was just made with these limits: after all text of the
 -- bytes read before, or never.
-abbrev pub ReadsNew : TextForm → Limits → (turns : ℕ) → (xs : List ℕ) → (old new : Input) → (before after : Output)
+abbrev pub ReadsNew : TextForm → Rules → (turns : ℕ) → (xs : List ℕ) → (old new : Input) → (before after : Output)
     → Type 0
 ReadsNew form limits turns xs old new before after =
     (new ≡ old)
-    ⊎ ((start : StreamState) × After start [] [] × (start.refusal ≡ None) × (start.rules ≡ rules_of limits)
+    ⊎ ((start : StreamState) × After start [] [] × (start.refusal ≡ None) × (start.rules ≡ limits)
     × ReadsOnlyAfterText form turns start xs old.reads new.reads new.left before after.given)
 
 -- The line of the ending was written, and the status is its own; or the target failed within it, and the status is
@@ -104,7 +103,7 @@ ConcludesCheck e out err status out' err' = (out' ≡ out) × Concludes e err st
 
 -- The bytes xs of the input were shown: what was written of them, which calls of the reader failed, the line that
 -- reports how it ended, how often the reader was called, and after what.
-abbrev pub ShowsBytes : TextForm → Limits → (turns : ℕ) → List ℕ
+abbrev pub ShowsBytes : TextForm → Rules → (turns : ℕ) → List ℕ
     → (before : Streams) → (status : ℕ) → (after : Streams) → Type 0
 ShowsBytes form limits turns xs before status after =
     (e : Ending) × ShowsTo form limits turns e xs after.input.left before.out after.out
@@ -112,7 +111,7 @@ ShowsBytes form limits turns xs before status after =
     × ReadsBy turns e before.input after.input × ReadsNew form limits turns xs before.input after.input before.out after.out
 
 -- The bytes xs of the input were read and nothing of them written, and how it ended was reported.
-abbrev pub ChecksBytes : Limits → (turns : ℕ) → List ℕ → (before : Streams) → (status : ℕ) → (after : Streams) → Type 0
+abbrev pub ChecksBytes : Rules → (turns : ℕ) → List ℕ → (before : Streams) → (status : ℕ) → (after : Streams) → Type 0
 ChecksBytes limits turns xs before status after =
     (e : Ending) × (read : Output) × ShowsTo forms.Nothing limits turns e xs after.input.left before.out read
     × CountsReads e before.input.failures after.input.failures
@@ -120,13 +119,13 @@ ChecksBytes limits turns xs before status after =
     × ReadsNew forms.Nothing limits turns xs before.input after.input before.out read
 
 -- A stream was shown, and how it ended was reported.
-abbrev pub ShowsAndReports : TextForm → Limits → (turns : ℕ)
+abbrev pub ShowsAndReports : TextForm → Rules → (turns : ℕ)
     → (before : Streams) → (status : ℕ) → (after : Streams) → Type 0
 ShowsAndReports form limits turns before status after =
     IfKnown before.input before.out (λ xs.
     IsSome before.err.given → ShowsBytes form limits turns xs before status after)
 
 -- A stream was checked, and how it ended was reported.
-abbrev pub ChecksAndReports : Limits → (turns : ℕ) → (before : Streams) → (status : ℕ) → (after : Streams) → Type 0
+abbrev pub ChecksAndReports : Rules → (turns : ℕ) → (before : Streams) → (status : ℕ) → (after : Streams) → Type 0
 ChecksAndReports limits turns before status after =
     IfKnown before.input before.out (λ xs. IsSome before.err.given → ChecksBytes limits turns xs before status after)

@@ -1,8 +1,9 @@
 //! A whole stream, shown or checked.
 
-ghost use Rattle.std.specs.Prelude.{◌≡◌, ◌≤◌, [], IfSome, vec_len};
+ghost use Rattle.std.specs.Prelude.{◌≡◌, ◌≤◌, ◌↔◌, [], Err, IfOk, IfSome, IsErrOf, vec_len};
 ghost use Rattle.cqlp_decode.specs.Streams.{After, state};
-ghost use Rattle.cqlp_note.specs.Limits.{first_bad, rules_of};
+ghost use Rattle.cqlp_note.specs.Limits.{first_bad, rules_of, with_lenient};
+ghost use Rattle.cqlp_note.specs.declared.limits.BadLimits.{BadLimits as Bad};
 ghost use Rattle.cqlp_text.specs.Endings.{IsStatusOfTask};
 ghost use Rattle.cqlp_text.specs.PageText.{no_page};
 ghost use Rattle.cqlp_text.specs.Outputs.{Output, written};
@@ -41,9 +42,9 @@ pub fn show<R: Source, O: Target, E: Target, A: Allocator>(
     requires { first_bad limits ≡ Ok tt }
     ensures status { IsStatusOfTask result.0 }
     ensures shows { let view = streams R.Source O.Target E.Target in
-        ShowsAndReports forms.Lines limits TURNS (view input.old out err) result.0 (view input.new result.1 result.2) }
+        ShowsAndReports forms.Lines (rules_of limits) TURNS (view input.old out err) result.0 (view input.new result.1 result.2) }
 {
-    show_as(alloc, limits, TextForm::Lines, input, out, err)
+    show_as(alloc, limits, false, TextForm::Lines, input, out, err)
 }
 
 /// Writes the text of the pages of a stream to `out`, and the verdict line or fault line to `err`. Answers the exit
@@ -58,12 +59,13 @@ pub fn rows<R: Source, O: Target, E: Target, A: Allocator>(
     requires { first_bad limits ≡ Ok tt }
     ensures status { IsStatusOfTask result.0 }
     ensures shows { let view = streams R.Source O.Target E.Target in
-        ShowsAndReports (forms.Pages no_page) limits TURNS
+        ShowsAndReports (forms.Pages no_page) (rules_of limits) TURNS
         (view input.old out err) result.0 (view input.new result.1 result.2) }
 {
     show_as(
         alloc,
         limits,
+        false,
         TextForm::Pages(PagePlace::new()),
         input,
         out,
@@ -71,11 +73,12 @@ pub fn rows<R: Source, O: Target, E: Target, A: Allocator>(
     )
 }
 
-/// Writes the events of a stream to `out` as text in a form, and the verdict line or fault line to `err`. Answers the exit
-/// status, and the two outputs.
+/// Writes the events of a stream, whose reading is lenient or not, to `out` as text in a form, and the verdict line or fault line
+/// to `err`. Answers the exit status, and the two outputs.
 pub fn show_as<R: Source, O: Target, E: Target, A: Allocator>(
     alloc: &A,
     limits: Limits,
+    lenient: bool,
     form: TextForm,
     input: &mut R,
     out: O,
@@ -84,18 +87,20 @@ pub fn show_as<R: Source, O: Target, E: Target, A: Allocator>(
     requires { first_bad limits ≡ Ok tt }
     ensures status { IsStatusOfTask result.0 }
     ensures shows { let view = streams R.Source O.Target E.Target in
-        ShowsAndReports form limits TURNS (view input.old out err) result.0 (view input.new result.1 result.2) }
+        ShowsAndReports form (with_lenient lenient (rules_of limits)) TURNS
+        (view input.old out err) result.0 (view input.new result.1 result.2) }
 {
-    let (ending, out) = write_as(alloc, limits, form, input, out);
+    let (ending, out) = write_as(alloc, limits, lenient, form, input, out);
     let (status, err) = conclude(ending, err);
     (status, out, err)
 }
 
-/// Reads a stream, and writes the verdict line to `out` or the fault line to `err`. Answers the exit status, and the
-/// two outputs.
+/// Reads a stream, leniently or not, and writes the verdict line to `out` or the fault line to `err`. Answers the exit status,
+/// and the two outputs.
 pub fn check<R: Source, O: Target, E: Target, A: Allocator>(
     alloc: &A,
     limits: Limits,
+    lenient: bool,
     input: &mut R,
     out: O,
     err: E,
@@ -103,9 +108,10 @@ pub fn check<R: Source, O: Target, E: Target, A: Allocator>(
     requires { first_bad limits ≡ Ok tt }
     ensures status { IsStatusOfTask result.0 }
     ensures checks { let view = streams R.Source O.Target E.Target in
-        ChecksAndReports limits TURNS (view input.old out err) result.0 (view input.new result.1 result.2) }
+        ChecksAndReports (with_lenient lenient (rules_of limits)) TURNS
+        (view input.old out err) result.0 (view input.new result.1 result.2) }
 {
-    let (ending, mut out) = read_through(alloc, limits, input, out);
+    let (ending, mut out) = read_through(alloc, limits, lenient, input, out);
     let Ending::Finished(_) = ending else {
         let (status, err) = conclude(ending, err);
         return (status, out, err);
@@ -121,20 +127,21 @@ pub fn check<R: Source, O: Target, E: Target, A: Allocator>(
 fn read_through<R: Source, O: Target, A: Allocator>(
     alloc: &A,
     limits: Limits,
+    lenient: bool,
     input: &mut R,
     out: O,
 ) -> (Ending, O)
     requires { first_bad limits ≡ Ok tt }
     ensures shows { IfKnown (unread R.Source input.old) (written O.Target out) (λ xs.
-        ShowsTo forms.Nothing limits TURNS result.0 xs (R.left input.new) (written O.Target out)
+        ShowsTo forms.Nothing (with_lenient lenient (rules_of limits)) TURNS result.0 xs (R.left input.new) (written O.Target out)
         (written O.Target result.1)) }
     ensures failures { CountsReads result.0 (R.failures input.old) (R.failures input.new) }
     ensures reads { ReadsBy TURNS result.0 (unread R.Source input.old) (unread R.Source input.new) }
     ensures in_time { IfKnown (unread R.Source input.old) (written O.Target out) (λ xs.
-        ReadsNew forms.Nothing limits TURNS xs (unread R.Source input.old) (unread R.Source input.new)
+        ReadsNew forms.Nothing (with_lenient lenient (rules_of limits)) TURNS xs (unread R.Source input.old) (unread R.Source input.new)
         (written O.Target out) (written O.Target result.1)) }
 {
-    let Some(mut decoder) = decoder_within(alloc, limits) else {
+    let Some(mut decoder) = decoder_within(alloc, limits, lenient) else {
         return (Ending::NoMemory, out);
     };
     let mut sink = TextSink::new(out, Nothing);
@@ -146,27 +153,35 @@ fn read_through<R: Source, O: Target, A: Allocator>(
 fn write_as<R: Source, O: Target, A: Allocator>(
     alloc: &A,
     limits: Limits,
+    lenient: bool,
     form: TextForm,
     input: &mut R,
     out: O,
 ) -> (Ending, O)
     requires { first_bad limits ≡ Ok tt }
     ensures shows { IfKnown (unread R.Source input.old) (written O.Target out) (λ xs.
-        ShowsTo form limits TURNS result.0 xs (R.left input.new) (written O.Target out)
+        ShowsTo form (with_lenient lenient (rules_of limits)) TURNS result.0 xs (R.left input.new) (written O.Target out)
         (written O.Target result.1)) }
     ensures failures { CountsReads result.0 (R.failures input.old) (R.failures input.new) }
     ensures reads { ReadsBy TURNS result.0 (unread R.Source input.old) (unread R.Source input.new) }
     ensures in_time { IfKnown (unread R.Source input.old) (written O.Target out) (λ xs.
-        ReadsNew form limits TURNS xs (unread R.Source input.old) (unread R.Source input.new)
+        ReadsNew form (with_lenient lenient (rules_of limits)) TURNS xs (unread R.Source input.old) (unread R.Source input.new)
         (written O.Target out) (written O.Target result.1)) }
 {
     match form {
-        TextForm::Lines => write_text(alloc, limits, Lines, input, out),
-        TextForm::JsonLines => write_text(alloc, limits, JsonLines, input, out),
-        TextForm::Pages(place) => write_text(alloc, limits, place, input, out),
-        TextForm::JsonRows(place) => write_text(alloc, limits, JsonRows(place), input, out),
-        TextForm::CsvRows(place) => write_text(alloc, limits, CsvRows(place), input, out),
-        TextForm::Nothing => write_text(alloc, limits, Nothing, input, out),
+        TextForm::Lines => write_text(alloc, limits, lenient, Lines, input, out),
+        TextForm::JsonLines => write_text(alloc, limits, lenient, JsonLines, input, out),
+        TextForm::Pages(place) => write_text(alloc, limits, lenient, place, input, out),
+        TextForm::JsonRows(place) => write_text(
+            alloc,
+            limits,
+            lenient,
+            JsonRows(place),
+            input,
+            out,
+        ),
+        TextForm::CsvRows(place) => write_text(alloc, limits, lenient, CsvRows(place), input, out),
+        TextForm::Nothing => write_text(alloc, limits, lenient, Nothing, input, out),
     }
 }
 
@@ -174,21 +189,22 @@ fn write_as<R: Source, O: Target, A: Allocator>(
 fn write_text<R: Source, O: Target, F: Form + Drop, A: Allocator>(
     alloc: &A,
     limits: Limits,
+    lenient: bool,
     form: F,
     input: &mut R,
     out: O,
 ) -> (Ending, O)
     requires { first_bad limits ≡ Ok tt }
     ensures shows { IfKnown (unread R.Source input.old) (written O.Target out) (λ xs.
-        ShowsTo (F.form form) limits TURNS result.0 xs (R.left input.new) (written O.Target out)
+        ShowsTo (F.form form) (with_lenient lenient (rules_of limits)) TURNS result.0 xs (R.left input.new) (written O.Target out)
         (written O.Target result.1)) }
     ensures failures { CountsReads result.0 (R.failures input.old) (R.failures input.new) }
     ensures reads { ReadsBy TURNS result.0 (unread R.Source input.old) (unread R.Source input.new) }
     ensures in_time { IfKnown (unread R.Source input.old) (written O.Target out) (λ xs.
-        ReadsNew (F.form form) limits TURNS xs (unread R.Source input.old) (unread R.Source input.new)
+        ReadsNew (F.form form) (with_lenient lenient (rules_of limits)) TURNS xs (unread R.Source input.old) (unread R.Source input.new)
         (written O.Target out) (written O.Target result.1)) }
 {
-    let Some(mut decoder) = decoder_within(alloc, limits) else {
+    let Some(mut decoder) = decoder_within(alloc, limits, lenient) else {
         return (Ending::NoMemory, out);
     };
     let Ok(buffer) = vec![in alloc; 0; ROOM] else {
@@ -198,17 +214,39 @@ fn write_text<R: Source, O: Target, F: Form + Drop, A: Allocator>(
     (ending_of(outcome), out)
 }
 
-/// A decoder at the start of a stream, within these limits; none where memory was wanting.
-fn decoder_within<'a, A: Allocator>(alloc: &'a A, limits: Limits) -> Option<Decoder<&'a A>>
+/// A decoder at the start of a stream, within these limits, lenient or not; none where memory was wanting.
+fn decoder_within<'a, A: Allocator>(
+    alloc: &'a A,
+    limits: Limits,
+    lenient: bool,
+) -> Option<Decoder<&'a A>>
     requires { first_bad limits ≡ Ok tt }
     ensures fresh { IfSome result (λ d. After (state d) [] []) }
     ensures unrefused { IfSome result (λ d. (state d).refusal ≡ None) }
-    ensures rules { IfSome result (λ d. (state d).rules ≡ rules_of limits) }
+    ensures rules { IfSome result (λ d. (state d).rules ≡ with_lenient lenient (rules_of limits)) }
 {
-    match Decoder::new(alloc, limits) {
+    match new_decoder(alloc, limits, lenient) {
         Ok(decoder) => Some(decoder),
         Err(NewError::NoMemory) => None,
         Err(NewError::BadLimits(_)) => unreachable!(),
+    }
+}
+
+/// A decoder, which is lenient or not.
+fn new_decoder<A: Allocator + Clone>(
+    alloc: A,
+    limits: Limits,
+    lenient: bool,
+) -> Result<Decoder<A>, NewError>
+    ensures bad { (b : Bad) → IsErrOf result (NewError.BadLimits b) ↔ (first_bad limits ≡ Err b) }
+    ensures fresh { IfOk result (λ d. After (state d) [] []) }
+    ensures unrefused { IfOk result (λ d. (state d).refusal ≡ None) }
+    ensures rules { IfOk result (λ d. (state d).rules ≡ with_lenient lenient (rules_of limits)) }
+{
+    if lenient {
+        Decoder::lenient(alloc, limits)
+    } else {
+        Decoder::new(alloc, limits)
     }
 }
 

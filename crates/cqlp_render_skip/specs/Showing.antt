@@ -2,8 +2,7 @@
 use Rattle.std.specs.Prelude.{◌≡◌, ℕ, ◌+◌, ◌≤◌, Bool, true, false, List, [], ◌++◌, max, Option, Some, None, IsSome, ◌⊎◌}
 use Rattle.cqlp_grammar.specs.declared.event.Finish.{Finish}
 use Rattle.cqlp_grammar.specs.declared.event.Finish.TheVariants as finish
-use Rattle.cqlp_note.specs.declared.limits.Limits.{Limits}
-use Rattle.cqlp_note.specs.Limits.{Rules, rules_of}
+use Rattle.cqlp_note.specs.Limits.{Rules}
 use Rattle.cqlp_note.specs.Streams.{CountsUp}
 use Rattle.cqlp_decode.specs.Reading.{Event}
 use Rattle.cqlp_decode.specs.Draining.{InReads}
@@ -119,28 +118,28 @@ abbrev pub outputs_of : Streams → Outputs
 outputs_of s = record { out = s.out; err = s.err }
 
 -- The bytes xs of the input were shown, and how it ended was reported on the error output.
-abbrev pub ShowsBytes : TextForm → Limits → (turns : ℕ) → List ℕ
+abbrev pub ShowsBytes : TextForm → Rules → (turns : ℕ) → List ℕ
     → (before : Streams) → (status : ℕ) → (after : Streams) → Type 0
 ShowsBytes form limits turns xs before status after =
     (e : Ending) × (passed : Bool) × (told : Outputs)
-    × Reads form (rules_of limits) xs (outputs_of before) turns e passed before.input after.input told
+    × Reads form limits xs (outputs_of before) turns e passed before.input after.input told
     × (after.out ≡ told.out) × ConcludesAfter passed e told.err status after.err
 
 -- The bytes xs of the input were read and nothing of them written but the lines of frames passed over, and how it ended
 -- was reported.
-abbrev pub ChecksBytes : Limits → (turns : ℕ) → List ℕ → (before : Streams) → (status : ℕ) → (after : Streams) → Type 0
+abbrev pub ChecksBytes : Rules → (turns : ℕ) → List ℕ → (before : Streams) → (status : ℕ) → (after : Streams) → Type 0
 ChecksBytes limits turns xs before status after =
     (e : Ending) × (passed : Bool) × (told : Outputs)
-    × Reads forms.Nothing (rules_of limits) xs (outputs_of before) turns e passed before.input after.input told
+    × Reads forms.Nothing limits xs (outputs_of before) turns e passed before.input after.input told
     × (own : ℕ) × ConcludesCheck e told.out told.err own after.out after.err × (status ≡ status_after passed own)
 
 -- A stream was shown, and how it ended was reported.
-abbrev pub ShowsAndReports : TextForm → Limits → (turns : ℕ)
+abbrev pub ShowsAndReports : TextForm → Rules → (turns : ℕ)
     → (before : Streams) → (status : ℕ) → (after : Streams) → Type 0
 ShowsAndReports form limits turns before status after =
     IfKnown before.input before.out (λ xs. IsSome before.err.given → ShowsBytes form limits turns xs before status after)
 
 -- A stream was checked, and how it ended was reported.
-abbrev pub ChecksAndReports : Limits → (turns : ℕ) → (before : Streams) → (status : ℕ) → (after : Streams) → Type 0
+abbrev pub ChecksAndReports : Rules → (turns : ℕ) → (before : Streams) → (status : ℕ) → (after : Streams) → Type 0
 ChecksAndReports limits turns before status after =
     IfKnown before.input before.out (λ xs. IsSome before.err.given → ChecksBytes limits turns xs before status after)

@@ -1,7 +1,8 @@
 //! A stream that is read to its end, with frames passed over.
 
-ghost use Rattle.std.specs.Prelude.{◌≡◌, [], IfSome, IsSome, List, ℕ, Ok, None, false};
-ghost use Rattle.cqlp_note.specs.Limits.{Rules, first_bad, rules_of};
+ghost use Rattle.std.specs.Prelude.{◌≡◌, ◌↔◌, [], Err, IfOk, IfSome, IsErrOf, IsSome, List, ℕ, Ok, None, false};
+ghost use Rattle.cqlp_note.specs.Limits.{Rules, first_bad, rules_of, with_lenient};
+ghost use Rattle.cqlp_note.specs.declared.limits.BadLimits.{BadLimits as Bad};
 ghost use Rattle.cqlp_render.specs.declared.text_form.TextForm.{TextForm as Form};
 ghost use Rattle.cqlp_render.specs.Streams.{IfKnown, unread};
 ghost use Rattle.cqlp_render_skip.specs.Reporting.{Outputs, outputs};
@@ -30,11 +31,12 @@ pub(crate) struct Shown<O: Target, E: Target> {
     pub err: E,
 }
 
-/// Writes the text of the events of a stream within these limits, in a form, and a line for each frame that is passed over.
-/// Takes all memory before the first read.
+/// Writes the text of the events of a stream within these limits, read leniently or not, in a form, and a line for each frame that
+/// is passed over. Takes all memory before the first read.
 pub(crate) fn show_stream<R: Source, O: Target, E: Target, A: Allocator>(
     alloc: &A,
     limits: Limits,
+    lenient: bool,
     form: TextForm,
     input: &mut R,
     out: O,
@@ -43,11 +45,11 @@ pub(crate) fn show_stream<R: Source, O: Target, E: Target, A: Allocator>(
     requires limits { first_bad limits ≡ Ok tt }
     requires form { afresh form ≡ form }
     ensures { IfKnown (unread R.Source input.old) (written O.Target out) (λ xs. IsSome (written E.Target err).given →
-        Reads form (rules_of limits) xs (record { out = written O.Target out; err = written E.Target err }) TURNS
+        Reads form (with_lenient lenient (rules_of limits)) xs (record { out = written O.Target out; err = written E.Target err }) TURNS
         result.ending result.passed_over (unread R.Source input.old) (unread R.Source input.new)
         (record { out = written O.Target result.out; err = written E.Target result.err })) }
 {
-    let Some(mut decoder) = decoder_within(alloc, limits) else {
+    let Some(mut decoder) = decoder_within(alloc, limits, lenient) else {
         return nothing_shown(out, err);
     };
     let Ok(buffer) = vec![in alloc; 0; ROOM] else {
@@ -76,17 +78,39 @@ fn nothing_shown<O: Target, E: Target>(out: O, err: E) -> Shown<O, E>
     }
 }
 
-/// A decoder at the start of a stream, within these limits; none where memory was wanting.
-fn decoder_within<'a, A: Allocator>(alloc: &'a A, limits: Limits) -> Option<SkippingDecoder<&'a A>>
+/// A decoder at the start of a stream, within these limits, lenient or not; none where memory was wanting.
+fn decoder_within<'a, A: Allocator>(
+    alloc: &'a A,
+    limits: Limits,
+    lenient: bool,
+) -> Option<SkippingDecoder<&'a A>>
     requires { first_bad limits ≡ Ok tt }
     ensures fresh { (xs : List ℕ) → IfSome result (λ d. AfterSkips xs d [] [] [] []) }
     ensures unrefused { IfSome result (λ d. (stream d).refusal ≡ None) }
-    ensures rules { IfSome result (λ d. rules_in d ≡ rules_of limits) }
+    ensures rules { IfSome result (λ d. rules_in d ≡ with_lenient lenient (rules_of limits)) }
 {
-    match SkippingDecoder::new(alloc, limits) {
+    match new_decoder(alloc, limits, lenient) {
         Ok(decoder) => Some(decoder),
         Err(NewError::NoMemory) => None,
         Err(NewError::BadLimits(_)) => unreachable!(),
+    }
+}
+
+/// A decoder, which is lenient or not.
+fn new_decoder<A: Allocator + Clone>(
+    alloc: A,
+    limits: Limits,
+    lenient: bool,
+) -> Result<SkippingDecoder<A>, NewError>
+    ensures bad { (b : Bad) → IsErrOf result (NewError.BadLimits b) ↔ (first_bad limits ≡ Err b) }
+    ensures fresh { (xs : List ℕ) → IfOk result (λ d. AfterSkips xs d [] [] [] []) }
+    ensures unrefused { IfOk result (λ d. (stream d).refusal ≡ None) }
+    ensures rules { IfOk result (λ d. rules_in d ≡ with_lenient lenient (rules_of limits)) }
+{
+    if lenient {
+        SkippingDecoder::lenient(alloc, limits)
+    } else {
+        SkippingDecoder::new(alloc, limits)
     }
 }
 

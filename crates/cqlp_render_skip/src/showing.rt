@@ -1,7 +1,7 @@
 //! A whole stream, shown or checked, with frames passed over.
 
 ghost use Rattle.std.specs.Prelude.{◌≡◌, IsSome, Ok};
-ghost use Rattle.cqlp_note.specs.Limits.{first_bad};
+ghost use Rattle.cqlp_note.specs.Limits.{first_bad, rules_of, with_lenient};
 ghost use Rattle.cqlp_render.specs.Streams.{streams};
 ghost use Rattle.cqlp_render_skip.specs.Showing.{ChecksAndReports, ConcludesAfter, ShowsAndReports, status_after};
 ghost use Rattle.cqlp_text.specs.Endings.{IsStatusOfTask};
@@ -16,8 +16,8 @@ use cqlp_text::exit_status::NOT_WHOLE;
 use cqlp_text::{Ending, ending_line};
 use std::alloc::Allocator;
 
-/// Writes the events of a stream to `out` as text in a form, which is at no page. Of a frame whose body is refused it writes those before
-/// the refusal, passes over the rest of the frame, writes the line `skipped OFFSET REASON at AT` to `err`, and goes on with the next
+/// Writes the events of a stream, whose reading is lenient or not, to `out` as text in a form, which is at no page. Of a frame whose body is
+/// refused it writes those before the refusal, passes over the rest of the frame, writes the line `skipped OFFSET REASON at AT` to `err`, and goes on with the next
 /// header. At the end the verdict line or fault line goes to `err`. Answers the exit status, which is 1 where a frame was passed over and
 /// the end is otherwise good, and the two outputs.
 ///
@@ -26,6 +26,7 @@ use std::alloc::Allocator;
 pub fn show_skipping<R: Source, O: Target, E: Target, A: Allocator>(
     alloc: &A,
     limits: Limits,
+    lenient: bool,
     form: TextForm,
     input: &mut R,
     out: O,
@@ -35,16 +36,18 @@ pub fn show_skipping<R: Source, O: Target, E: Target, A: Allocator>(
     requires form { afresh form ≡ form }
     ensures status { IsStatusOfTask result.0 }
     ensures shows { let view = streams R.Source O.Target E.Target in
-        ShowsAndReports form limits TURNS (view input.old out err) result.0 (view input.new result.1 result.2) }
+        ShowsAndReports form (with_lenient lenient (rules_of limits)) TURNS
+        (view input.old out err) result.0 (view input.new result.1 result.2) }
 {
-    report(show_stream(alloc, limits, form, input, out, err))
+    report(show_stream(alloc, limits, lenient, form, input, out, err))
 }
 
-/// Reads a stream, passes over frames as `show_skipping` does, and writes the verdict line to `out` or the fault line to
+/// Reads a stream, leniently or not, passes over frames as `show_skipping` does, and writes the verdict line to `out` or the fault line to
 /// `err`. Answers the exit status, and the two outputs.
 pub fn check_skipping<R: Source, O: Target, E: Target, A: Allocator>(
     alloc: &A,
     limits: Limits,
+    lenient: bool,
     input: &mut R,
     out: O,
     err: E,
@@ -52,9 +55,10 @@ pub fn check_skipping<R: Source, O: Target, E: Target, A: Allocator>(
     requires { first_bad limits ≡ Ok tt }
     ensures status { IsStatusOfTask result.0 }
     ensures checks { let view = streams R.Source O.Target E.Target in
-        ChecksAndReports limits TURNS (view input.old out err) result.0 (view input.new result.1 result.2) }
+        ChecksAndReports (with_lenient lenient (rules_of limits)) TURNS
+        (view input.old out err) result.0 (view input.new result.1 result.2) }
 {
-    let shown = show_stream(alloc, limits, TextForm::Nothing, input, out, err);
+    let shown = show_stream(alloc, limits, lenient, TextForm::Nothing, input, out, err);
     let Shown {
         ending,
         passed_over,

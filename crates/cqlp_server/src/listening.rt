@@ -28,25 +28,25 @@ struct Hub {
 }
 
 /// Listens on a port of the loopback interface, a free one for 0, and serves this many connections.
-pub fn listen<R: Net + Print + AllocGlobal>(
-    rt: &R,
-    port: u16,
-    connections: u64,
-    database: Database,
-) -> io::Result<()> {
+pub fn listen<R: Net + Print + AllocGlobal>(rt: &R, port: u16, connections: u64) -> io::Result<()> {
     let mut poll = Poll::new(rt)?;
     let mut listener = TcpListener::bind(rt, SocketAddr::from((Ipv4Addr::LOCALHOST, port)))?;
-    poll.registry()
-        .register(&mut listener, LISTENER, Interest::READABLE)?;
-    println!(rt; "listening on {}", listener.local_addr()?)?;
     let mut hub = Hub {
         alloc: rt.alloc(),
-        database,
+        database: Database::new(rt.alloc())?,
         connections: Vec::new(rt.alloc()),
         open: 0,
         left: connections,
     };
+    announce(rt, &poll, &mut listener)?;
     serve(&mut hub, &mut poll, &listener)
+}
+
+/// Has the connections that come be told of, and prints where they may come.
+fn announce(rt: &impl Print, poll: &Poll, listener: &mut TcpListener) -> io::Result<()> {
+    poll.registry()
+        .register(listener, LISTENER, Interest::READABLE)?;
+    println!(rt; "listening on {}", listener.local_addr()?)
 }
 
 /// Serves until no connection is open and no more may come.

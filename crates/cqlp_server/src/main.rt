@@ -43,10 +43,7 @@ enum Task {
 fn main(rt: HostRuntime) -> io::Result<ExitCode> {
     match read_words(&rt)? {
         Task::Input => answer_input(&rt)?,
-        Task::Listen { port, connections } => {
-            let database = Database::new(rt.alloc())?;
-            listen(&rt, port, connections, database)?;
-        }
+        Task::Listen { port, connections } => listen(&rt, port, connections)?,
         Task::Usage => {
             eprintln!(rt; "{USAGE}")?;
             return Ok(ExitCode::from(2));
@@ -78,6 +75,11 @@ fn read_words(rt: &HostRuntime) -> io::Result<Task> {
 fn answer_input(rt: &HostRuntime) -> io::Result<()> {
     let mut database = Database::new(rt.alloc())?;
     let mut session = Session::new(rt.alloc())?;
+    answer_all(rt, &mut database, &mut session)
+}
+
+/// Answers them by a session, as they come.
+fn answer_all(rt: &HostRuntime, database: &mut Database, session: &mut Session) -> io::Result<()> {
     let mut piece = [0; PIECE];
     for _ in 0..u64::MAX {
         let count = rt.stdin().read(&mut piece)?;
@@ -85,7 +87,7 @@ fn answer_input(rt: &HostRuntime) -> io::Result<()> {
         if bytes.is_empty() || session.is_over {
             break;
         }
-        session.take(rt.alloc(), &mut database, bytes)?;
+        session.take(rt.alloc(), database, bytes)?;
         let waiting = session.output.waiting();
         let count = waiting.len();
         rt.stdout().write_all(waiting)?;

@@ -14,12 +14,19 @@ const WARNING: u8 = 0x08;
 
 /// The frame of an answer to the request with this stream id and this statement's id. A page of `ks.t` has no cells in it.
 pub fn frame(alloc: Global, stream: i16, id: &[u8], plan: Plan) -> Result<Frame, AllocError> {
-    let mut frame = Frame::plain(stream, message(alloc, id, plan)?);
-    if let Plan::Batch(statements) = plan {
-        let warning = format!(in alloc; "statements that changed nothing: {statements}")?;
-        frame.flags = WARNING;
-        frame.warnings = Some(vec![in alloc; warning]?);
+    match plan {
+        Plan::Batch(statements) => done(alloc, stream, statements),
+        _ => Ok(Frame::plain(stream, message(alloc, id, plan)?)),
     }
+}
+
+/// The answer to a BATCH of this many statements, with a warning.
+fn done(alloc: Global, stream: i16, statements: u32) -> Result<Frame, AllocError> {
+    let warning = format!(in alloc; "statements that changed nothing: {statements}")?;
+    let warnings = vec![in alloc; warning]?;
+    let mut frame = Frame::plain(stream, Message::Void);
+    frame.flags = WARNING;
+    frame.warnings = Some(warnings);
     Ok(frame)
 }
 
@@ -37,14 +44,23 @@ fn message(alloc: Global, id: &[u8], plan: Plan) -> Result<Message, AllocError> 
     }
 }
 
-/// The options that there are: the version of CQL, and no compression.
+/// The options that there are, each with its values: the version of CQL, and no compression.
+const OPTIONS: [(&str, &[&str]); 2] = [("CQL_VERSION", &["3.4.4"]), ("COMPRESSION", &[])];
+
 fn supported(alloc: Global) -> Result<Message, AllocError> {
-    let name = String::from_str(alloc, "CQL_VERSION")?;
-    let version = String::from_str(alloc, "3.4.4")?;
-    let compression = String::from_str(alloc, "COMPRESSION")?;
-    let versions = (name, vec![in alloc; version]?);
-    let none = (compression, Vec::new(alloc));
-    Ok(Message::Supported(vec![in alloc; versions, none]?))
+    let mut options = Vec::new(alloc);
+    for (name, values) in &OPTIONS {
+        options.push((String::from_str(alloc, name)?, texts(alloc, values)?))?;
+    }
+    Ok(Message::Supported(options))
+}
+
+fn texts(alloc: Global, texts: &[&str]) -> Result<Vec<String>, AllocError> {
+    let mut copies = Vec::new(alloc);
+    for text in texts {
+        copies.push(String::from_str(alloc, text)?)?;
+    }
+    Ok(copies)
 }
 
 fn error(alloc: Global, id: &[u8], problem: Problem) -> Result<Message, AllocError> {

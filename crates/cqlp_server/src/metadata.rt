@@ -65,13 +65,17 @@ pub fn untold(columns: u32) -> Metadata {
     }
 }
 
+/// The columns of `ks.t` before the last, a list of ints.
+const PLAIN_COLUMNS: [(&str, Kind); 3] = [("k", Kind::Int), ("c", Kind::Int), ("t", Kind::Varchar)];
+
 /// The columns of `ks.t`.
 pub fn columns(alloc: Global) -> Result<Vec<Spec>, AllocError> {
-    let k = column(alloc, "k", TypeTree::Plain(Kind::Int))?;
-    let c = column(alloc, "c", TypeTree::Plain(Kind::Int))?;
-    let t = column(alloc, "t", TypeTree::Plain(Kind::Varchar))?;
-    let l = column(alloc, "l", list_of_ints(alloc)?)?;
-    Ok(vec![in alloc; k, c, t, l]?)
+    let mut columns = Vec::new(alloc);
+    for (name, kind) in &PLAIN_COLUMNS {
+        columns.push(column(alloc, name, TypeTree::Plain(*kind))?)?;
+    }
+    columns.push(column(alloc, "l", list_of_ints(alloc)?)?)?;
+    Ok(columns)
 }
 
 /// What a page of `ks.t` tells of its columns.

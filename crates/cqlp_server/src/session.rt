@@ -104,12 +104,7 @@ impl Session {
         }
         match plan {
             Plan::Rows { page, terse } => {
-                let page_frame = frame(alloc, stream, &[], plan)?;
-                write_page(
-                    &page_frame,
-                    database.table.cells(page.rows, terse),
-                    &mut self.output.bytes,
-                )
+                self.say_page(alloc, stream, plan, database.table.cells(page.rows, terse))
             }
             _ => self.say(alloc, stream, request.id.as_slice(), plan),
         }
@@ -119,6 +114,18 @@ impl Session {
     fn say(&mut self, alloc: Global, stream: i16, id: &[u8], plan: Plan) -> Result<(), Fault> {
         let frame = frame(alloc, stream, id, plan)?;
         write_frame(&frame, &mut self.output.bytes)
+    }
+
+    /// Writes a page with these cells.
+    fn say_page(
+        &mut self,
+        alloc: Global,
+        stream: i16,
+        plan: Plan,
+        cells: &[Value],
+    ) -> Result<(), Fault> {
+        let frame = frame(alloc, stream, &[], plan)?;
+        write_page(&frame, cells, &mut self.output.bytes)
     }
 
     /// Answers bytes that are no requests: another version by the error by which drivers negotiate, all else by another error.

@@ -51,6 +51,14 @@ impl Row {
         Ok(())
     }
 
+    /// Adds the columns of `system.local`.
+    fn fill(&mut self, alloc: Global) -> Result<(), AllocError> {
+        self.add_texts(alloc)?;
+        self.add_addresses(alloc)?;
+        self.add_ids(alloc)?;
+        self.add_tokens(alloc)
+    }
+
     fn add_texts(&mut self, alloc: Global) -> Result<(), AllocError> {
         for (name, text) in &TEXTS {
             let value = varchar(alloc, text)?;
@@ -93,11 +101,10 @@ pub fn local(alloc: Global) -> Result<Message, AllocError> {
         specs: Vec::new(alloc),
         cells: Vec::new(alloc),
     };
-    row.add_texts(alloc)?;
-    row.add_addresses(alloc)?;
-    row.add_ids(alloc)?;
-    row.add_tokens(alloc)?;
-    page(alloc, "local", 1, row)
+    match row.fill(alloc) {
+        Ok(()) => page(alloc, "local", 1, row),
+        Err(error) => Err(error),
+    }
 }
 
 /// The page of `system.peers`, which has no row, since there is no other node.

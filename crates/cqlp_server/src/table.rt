@@ -25,27 +25,55 @@ pub struct Table {
     spelled: Vec<Value>,
 }
 
+/// The types of its columns.
+#[derive(Drop)]
+struct Types {
+    int: TypeTree,
+    text: TypeTree,
+    list: TypeTree,
+}
+
 impl Table {
     /// With all rows.
     pub fn new(alloc: Global) -> Result<Table, AllocError> {
-        let int = TypeTree::Plain(Kind::Int);
-        let text = TypeTree::Plain(Kind::Varchar);
-        let list = list_of_ints(alloc)?;
+        let types = Types {
+            int: TypeTree::Plain(Kind::Int),
+            text: TypeTree::Plain(Kind::Varchar),
+            list: list_of_ints(alloc)?,
+        };
         let mut table = Table {
             keys: Vec::new(alloc),
             cells: Vec::new(alloc),
             spelled: Vec::new(alloc),
         };
+        match table.fill(alloc, &types) {
+            Ok(()) => Ok(table),
+            Err(error) => Err(error),
+        }
+    }
+
+    /// Adds all rows.
+    fn fill(&mut self, alloc: Global, types: &Types) -> Result<(), AllocError> {
         for key in 0..KEYS {
             for number in 0..ROWS_OF_KEY {
-                table.keys.push(key)?;
-                table.add(alloc, Value::from(key), &int)?;
-                table.add(alloc, Value::from(number), &int)?;
-                table.add(alloc, note(alloc, key, number)?, &text)?;
-                table.add(alloc, around(alloc, number)?, &list)?;
+                self.add_row(alloc, key, number, types)?;
             }
         }
-        Ok(table)
+        Ok(())
+    }
+
+    fn add_row(
+        &mut self,
+        alloc: Global,
+        key: i32,
+        number: i32,
+        types: &Types,
+    ) -> Result<(), AllocError> {
+        self.keys.push(key)?;
+        self.add(alloc, Value::from(key), &types.int)?;
+        self.add(alloc, Value::from(number), &types.int)?;
+        self.add(alloc, note(alloc, key, number)?, &types.text)?;
+        self.add(alloc, around(alloc, number)?, &types.list)
     }
 
     /// Adds the next cell of a row, which is of this type.

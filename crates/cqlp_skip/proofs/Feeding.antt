@@ -12,7 +12,7 @@ use Rattle.cqlp_note.specs.Limits.{Rules}
 use Rattle.cqlp_decode.specs.Reading.{Event, Place, Gifts, Ends, Reads, Refused, Waits, Says, start_with, step}
 use Rattle.cqlp_decode.specs.Progress.{StreamState}
 use Rattle.cqlp_decode.specs.Streams.{Decoding, state, AfterGifts}
-use Rattle.cqlp_decode.specs.Draining.{DrainsPiece, DrainsAll, Drains, fold_events, verdict_of}
+use Rattle.cqlp_decode.specs.Draining.{DrainsPiece, fold_events, verdict_of}
 use Rattle.cqlp_skip.specs.declared.fed.Fed.{Fed}
 use Rattle.cqlp_skip.specs.declared.fed.Fed.TheVariants as fed
 use Rattle.cqlp_skip.specs.declared.frame.OpenFrame.{OpenFrame}
@@ -25,7 +25,7 @@ use Rattle.cqlp_skip.proofs.Passing.{behind_passed, behind_all, behind_piece}
 use Rattle.cqlp_skip.proofs.Folding.{frame-append, fold_shifted}
 
 -- a refusal stays, whatever bytes follow
-is_bad : (x : Said (Emitted Event Place) (ℕ × Reason)) (k : ℕ) (why : Reason) → Ends x (Refused k why) → x ≡ Bad (k, why)
+pub is_bad : (x : Said (Emitted Event Place) (ℕ × Reason)) (k : ℕ) (why : Reason) → Ends x (Refused k why) → x ≡ Bad (k, why)
 is_bad More k why h = absurd h
 is_bad (Bad f) k why h = ap Bad h
 is_bad (Got x used) k why h = absurd h

@@ -3,3 +3,4 @@ pub mod Folding
 pub mod Ending
 pub mod Feeding
 pub mod Skips
+pub mod Giving

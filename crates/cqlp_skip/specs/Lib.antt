@@ -3,3 +3,4 @@ pub mod Shifted
 pub mod Pieces
 pub mod Draining
 pub mod Skipping
+pub mod Giving

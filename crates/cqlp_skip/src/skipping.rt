@@ -1,7 +1,7 @@
 //! A decoder that goes on after a frame whose body is refused.
 
-ghost use Rattle.std.specs.Prelude.{◌≡◌, ◌+◌, ◌-◌, ◌≤◌, ◌^◌, ◌↔◌, List, ℕ, [], length, IfOk, IsErrOf, Err, Ok, None, min};
-ghost use Rattle.cqlp_note.specs.Limits.{first_bad, rules_of};
+ghost use Rattle.std.specs.Prelude.{◌≡◌, ◌+◌, ◌-◌, ◌≤◌, ◌^◌, ◌↔◌, List, ℕ, [], length, IfOk, IsErrOf, Err, Ok, None, min, true};
+ghost use Rattle.cqlp_note.specs.Limits.{first_bad, rules_of, with_lenient};
 ghost use Rattle.cqlp_note.specs.declared.limits.BadLimits.{BadLimits as Bad};
 ghost use Rattle.cqlp_decode.specs.Draining.{Passes};
 ghost use Rattle.cqlp_decode.specs.Streams.{HoldsNothing};
@@ -10,8 +10,9 @@ use crate::draining::drain;
 use crate::fed::{Fed, NotSkippable, Skipped, fed_from, passed_of, refusal_from, used_of};
 use crate::frame::{OpenFrame, told_at};
 use crate::shifting::Shifting;
-use cqlp_decode::{Capacity, Decoder, Finish, Held, NewError, Sink};
+use cqlp_decode::{Capacity, Decoder, Finish, GiveError, Held, NewError, Sink};
 use cqlp_note::Limits;
+use cqlp_type::TypeTable;
 use std::alloc::{Allocator, Global};
 use std::marker::Model;
 
@@ -53,13 +54,22 @@ impl<A: Allocator + Clone> SkippingDecoder<A> {
         ensures nothing_held { IfOk result (λ d. HoldsNothing d.decoder) }
     {
         match Decoder::new(alloc, limits) {
-            Ok(decoder) => Ok(SkippingDecoder {
-                decoder,
-                base: 0,
-                used: 0,
-                frame: None,
-                last: 0,
-            }),
+            Ok(decoder) => Ok(Self::around(decoder)),
+            Err(error) => Err(error),
+        }
+    }
+
+    /// The same, for a lenient reading, as [`Decoder::lenient`] has it: a content that its type does not have is told as a raw scalar, and
+    /// the frame is read on.
+    pub fn lenient(alloc: A, limits: Limits) -> Result<Self, NewError>
+        ensures bad { (b : Bad) → IsErrOf result (NewError.BadLimits b) ↔ (first_bad limits ≡ Err b) }
+        ensures fresh { (xs : List ℕ) → IfOk result (λ d. AfterSkips xs d [] [] [] []) }
+        ensures unrefused { IfOk result (λ d. (stream d).refusal ≡ None) }
+        ensures rules { IfOk result (λ d. rules_in d ≡ with_lenient true (rules_of limits)) }
+        ensures nothing_held { IfOk result (λ d. HoldsNothing d.decoder) }
+    {
+        match Decoder::lenient(alloc, limits) {
+            Ok(decoder) => Ok(Self::around(decoder)),
             Err(error) => Err(error),
         }
     }
@@ -68,8 +78,26 @@ impl<A: Allocator + Clone> SkippingDecoder<A> {
 impl<A: Allocator> SkippingDecoder<A> {
     ghost use Rattle.cqlp_skip.specs.Pieces as pieces;
     ghost use Rattle.cqlp_skip.specs.Skipping.{BeginsAnew, Feeds, FinishesAs, RefusesBy, SkipsOn, rules_in, skip_of, stream};
+    ghost use Rattle.cqlp_skip.specs.Giving.{GivesAlso, GivesBack, TakesAlso};
+    ghost use Rattle.cqlp_decode.specs.Giving.{after_taking, free_table, once_given, reason_against};
     ghost use Rattle.cqlp_decode.specs.Progress.{levels_of};
+    ghost use Rattle.cqlp_decode.specs.Reading.{Gives};
     ghost use Rattle.cqlp_decode.specs.Streams.{IsWithin, capacity_within, given_nodes};
+    ghost use Rattle.cqlp_decode.specs.declared.given.GiveReason.{GiveReason as Why};
+    ghost use Rattle.cqlp_kind.specs.Types.{types_of};
+
+    /// What reads a whole stream with a decoder at its start.
+    fn around(decoder: Decoder<A>) -> Self
+        ensures { result ≡ record { decoder = decoder; base = 0; used = 0; frame = None; last = 0 } }
+    {
+        SkippingDecoder {
+            decoder,
+            base: 0,
+            used: 0,
+            frame: None,
+            last: 0,
+        }
+    }
 
     /// Hands all events of a piece to the sink, at their offsets in the whole stream, up to a refusal or a fault of the
     /// sink. The bytes of a frame that was passed over are used without being looked at. The next call goes on behind the
@@ -103,9 +131,39 @@ impl<A: Allocator> SkippingDecoder<A> {
         (fed, sink)
     }
 
+    /// Gives types for a page without metadata of the present stretch, as `Decoder::give` does. While a frame is passed over that is
+    /// the stretch behind it. The table that was held before comes back; one that is not taken comes back with the reason, and
+    /// nothing changes: after a refusal none is taken until the frame is passed over.
+    pub fn give(&mut self, table: TypeTable<A>) -> Result<Option<TypeTable<A>>, GiveError<A>>
+        ensures refused { (w : Why) → reason_against (stream self.old) table.nodes ≡ Some w
+            → (result ≡ Err (record { why = w; table = table })) × (self.new ≡ self.old) }
+        ensures taken { reason_against (stream self.old) table.nodes ≡ None
+            → (result ≡ Ok (stream self.old).given) × (stream self.new ≡ once_given (stream self.old) table) }
+        ensures after { reason_against (stream self.old) table.nodes ≡ None
+            → GivesAlso (Gives (types_of table.nodes)) self.old self.new }
+        ensures levels { levels_of self.new.decoder.parts ≡ levels_of self.old.decoder.parts }
+        ensures place { self.new ≡ record self.old { decoder = self.new.decoder } }
+    {
+        self.decoder.give(table)
+    }
+
+    /// Takes back the table that was given over the present stretch, if one is held and not in use. After a refusal none is in
+    /// use, so a table that the next stretch is to have is taken back before the frame is passed over, and given again.
+    pub fn take_given(&mut self) -> Option<TypeTable<A>>
+        ensures given { result ≡ free_table (stream self.old) }
+        ensures left { stream self.new ≡ after_taking result (stream self.old) }
+        ensures after { TakesAlso result self.old self.new }
+        ensures refused { GivesBack result self.old }
+        ensures levels { levels_of self.new.decoder.parts ≡ levels_of self.old.decoder.parts }
+        ensures place { self.new ≡ record self.old { decoder = self.new.decoder } }
+    {
+        self.decoder.take_given()
+    }
+
     /// Passes over the rest of the frame in whose body the stream is refused: the next calls use its bytes without looking at
-    /// them, and go on with the header behind it. Nothing is held of them. Where the stream is not refused, or no header
-    /// of the frame was handed out, nothing changes.
+    /// them, and go on with the header behind it. Nothing is held of them. A table of types that was given and not taken back
+    /// is let go of: over the next stretch nothing is given yet. Where the stream is not refused, or no header of the frame was
+    /// handed out, nothing changes.
     pub fn skip(&mut self) -> Result<Skipped, NotSkippable>
         ensures is { result ≡ skip_of self.old }
         ensures goes_on { SkipsOn result self.old self.new }
@@ -169,6 +227,13 @@ impl<A: Allocator> SkippingDecoder<A> {
         ensures { result ≡ capacity_within (rules_in self.now) }
     {
         self.decoder.capacity()
+    }
+
+    /// The types of the metadata begun last in the present stretch, as `Decoder::table` has them.
+    pub fn table(&self) -> &TypeTable<A>
+        ensures { result.now.nodes ≡ (stream self.now).place.nodes }
+    {
+        self.decoder.table()
     }
 
     /// How many bytes of the whole stream were used.

@@ -1,6 +1,9 @@
 -- Laws of streams that are read in stretches.
-use Rattle.std.specs.Prelude.{◌≡◌, ℕ, ◌++◌, List, [], ◌∷◌}
+use Rattle.std.specs.Prelude.{◌≡◌, ℕ, ◌++◌, List, [], ◌∷◌, Option, Some, None, Result, Ok, Err}
 use Rattle.cqlp_note.specs.Limits.{Rules}
+use Rattle.cqlp_type.specs.Table.{Table}
+use Rattle.cqlp_decode.specs.declared.given.GiveReason.{GiveReason}
+use Rattle.cqlp_decode.specs.Giving.{after_taking, free_table, once_given, reason_against}
 use Rattle.cqlp_decode.specs.Reading.{Event, Gifts}
 use Rattle.cqlp_decode.specs.Streams.{AfterGifts}
 use Rattle.cqlp_skip.specs.declared.fed.Fed.{Fed}
@@ -53,3 +56,38 @@ IsOneAnswerOfFeed f faulted =
     → AfterSkips (s ++ input) old s stretches gifts events
     → Fed_on f faulted old new input x before after → Fed_on f faulted old new' input x' before after'
     → IsSound x → IsSound x' → AreAlike x x' × (after' ≡ after)
+
+-- ---- tables that are given and taken back
+
+-- two decoders that differ, if at all, in what their readers keep for themselves
+abbrev pub LookAlike : (new new' : Skipping) → Type 0
+LookAlike new new' =
+    (stream new' ≡ stream new) × (new'.base ≡ new.base) × (new'.used ≡ new.used) × (new'.frame ≡ new.frame) × (new'.last ≡ new.last)
+
+-- what comes back where a table is given: the one that was held before, or that table with the reason against it
+abbrev pub Back : Type 0
+Back = Result (Option Table) (GiveReason × Table)
+
+-- what the clauses of `give` say
+pub record Given_to (old new : Skipping) (table : Table) (back : Back) : Type 0 where
+  pub refused : (w : GiveReason) → reason_against (stream old) table.nodes ≡ Some w → (back ≡ Err (w, table)) × (new ≡ old)
+  pub taken : reason_against (stream old) table.nodes ≡ None → (back ≡ Ok (stream old).given) × (stream new ≡ once_given (stream old) table)
+  pub place : new ≡ record old { decoder = new.decoder }
+
+-- what those of `take_given` say
+pub record Taken_from (old new : Skipping) (back : Option Table) : Type 0 where
+  pub given : back ≡ free_table (stream old)
+  pub left : stream new ≡ after_taking back (stream old)
+  pub place : new ≡ record old { decoder = new.decoder }
+
+-- From one state, given one table, there is one answer and one state after it.
+abbrev pub IsOneAnswerOfGive : Type 0
+IsOneAnswerOfGive =
+    (old new new' : Skipping) (table : Table) (back back' : Back) → Given_to old new table back → Given_to old new' table back'
+    → (back' ≡ back) × LookAlike new new'
+
+-- The same of taking back.
+abbrev pub IsOneAnswerOfTaking : Type 0
+IsOneAnswerOfTaking =
+    (old new new' : Skipping) (back back' : Option Table) → Taken_from old new back → Taken_from old new' back'
+    → (back' ≡ back) × LookAlike new new'

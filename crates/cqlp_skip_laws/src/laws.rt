@@ -1,6 +1,6 @@
 //! Laws of streams that are read in stretches.
 
-ghost use Rattle.cqlp_skip_laws.specs.Laws.{GoesOn, IsGivenUpOnce, IsOneAnswerOfFeed, IsPlainWithoutSkips};
+ghost use Rattle.cqlp_skip_laws.specs.Laws.{GoesOn, IsGivenUpOnce, IsOneAnswerOfFeed, IsOneAnswerOfGive, IsOneAnswerOfTaking, IsPlainWithoutSkips};
 
 use cqlp_grammar::Sink;
 
@@ -25,4 +25,15 @@ pub fn without_skips()
 /// is not among it: no byte that is still to come is part of an event.
 pub fn one_answer_of_feed<S: Sink>()
     ensures { IsOneAnswerOfFeed S.after S.faulted }
+{}
+
+/// From one state, given one table of types, there is one answer of `give`: the same table comes back, for the same reason if it is
+/// that table; and what is left looks the same.
+pub fn one_answer_of_give()
+    ensures { IsOneAnswerOfGive }
+{}
+
+/// From one state there is one answer of `take_given`, and what is left looks the same.
+pub fn one_answer_of_taking()
+    ensures { IsOneAnswerOfTaking }
 {}

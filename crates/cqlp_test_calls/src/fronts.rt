@@ -1,6 +1,6 @@
 //! Scalars whose bytes all lie at the front of the input.
 
-use cqlp_note::Limits;
+use cqlp_note::{Asked, Limits};
 use cqlp_type::Kind;
 use cqlp_value::front_scalar;
 use std::alloc::Global;
@@ -41,7 +41,8 @@ static ROWS: [Row; 9] = [
 /// The scalar at the front and how many bytes it takes.
 fn found(alloc: Global, row: &Row) -> Result<String, Fail> {
     let (kind, room, input, _) = *row;
-    match front_scalar(&LIMITS, kind, room, input) {
+    let limits = Asked::new(&LIMITS, false);
+    match front_scalar(&limits, kind, room, input) {
         Some(front) => Ok(format!(in alloc; "{:?} {}", front.scalar, front.used)?),
         None => Ok(String::from_str(alloc, NONE)?),
     }

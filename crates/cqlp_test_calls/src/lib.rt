@@ -2,8 +2,6 @@
 #![tactic(auto)]
 
 #[cfg(test)]
-mod carried;
-#[cfg(test)]
 mod cells;
 #[cfg(test)]
 mod claims;
@@ -16,15 +14,11 @@ mod fronts;
 #[cfg(test)]
 mod headers;
 #[cfg(test)]
-mod many_requests;
-#[cfg(test)]
 mod memory;
 #[cfg(test)]
 mod runs;
 #[cfg(test)]
 mod server;
-#[cfg(test)]
-mod streams;
 #[cfg(test)]
 mod types;
 #[cfg(test)]

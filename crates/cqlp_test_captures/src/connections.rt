@@ -1,8 +1,6 @@
 //! What a table of connections tells of the segments of a capture.
 
-use crate::reading::{AMPLE, fold};
-use crate::streams::segment_of;
-use cqlp_capture::{CaptureEvent, CaptureLimits, CaptureReader, CaptureStep};
+use crate::reading::{AMPLE, Packet, fold, packets_of};
 use cqlp_connections::{
     ConnectionLimits, ConnectionTotals, Connections, Departure, DirectionTotals, Sight, Told, Way,
 };
@@ -48,8 +46,9 @@ pub fn said_of_connections(alloc: Global, asked: Asked, file: &[u8]) -> io::Resu
     let Ok(mut connections) = Connections::new(alloc, asked.limits, &[asked.port]) else {
         return Err(io::Error::from(io::ErrorKind::OutOfMemory));
     };
+    let packets = packets_of(alloc, file)?;
     let mut listener = Listener::new(alloc);
-    listener.hear(&mut connections, file)?;
+    listener.hear(&mut connections, &packets)?;
     let requests = 3 * asked.limits.connections as u64 + 2;
     for number in 1..=requests {
         let heap = Rationed::new(alloc, Refusals::At(number));
@@ -60,7 +59,7 @@ pub fn said_of_connections(alloc: Global, asked: Asked, file: &[u8]) -> io::Resu
     let heap = Rationed::new(alloc, Refusals::From(requests + 1));
     let mut again = Listener::new(alloc);
     match Connections::new(&heap, asked.limits, &[asked.port]) {
-        Ok(mut connections) => again.hear(&mut connections, file)?,
+        Ok(mut connections) => again.hear(&mut connections, &packets)?,
         Err(_) => write!(listener.said, "more than {requests} requests\n")?,
     }
     if again.said.as_str() != listener.said.as_str() {
@@ -93,33 +92,16 @@ impl Listener {
         }
     }
 
-    /// Hands all segments of a file to a table, and then ends it.
+    /// Hands all segments of a capture to a table, and then ends it.
     fn hear<A: Allocator>(
         &mut self,
         connections: &mut Connections<A>,
-        file: &[u8],
+        packets: &[Packet],
     ) -> io::Result<()> {
-        let Ok(mut reader) = CaptureReader::new(self.alloc, CaptureLimits::DEFAULT) else {
-            return Err(io::Error::from(io::ErrorKind::OutOfMemory));
-        };
-        let mut link = 0;
-        let mut original = 0;
-        let mut rest = file;
-        for _ in 0..AMPLE {
-            let CaptureStep::Event { used, event, .. } = reader.next(rest) else {
-                break;
-            };
-            match event {
-                CaptureEvent::Section(_) => {}
-                CaptureEvent::Interface(head) => link = head.link,
-                CaptureEvent::Packet(head) => original = head.original,
-                CaptureEvent::Data(packet) => {
-                    if let Ok(segment) = segment_of(link, packet, original) {
-                        self.take(connections, &segment)?;
-                    }
-                }
+        for packet in packets {
+            if let Ok(segment) = packet.segment() {
+                self.take(connections, &segment)?;
             }
-            rest = rest.get(used..).unwrap_or(&[]);
         }
         self.end(connections)
     }

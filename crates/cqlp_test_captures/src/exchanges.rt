@@ -2,9 +2,7 @@
 
 use crate::connections::Asked;
 use crate::facts::put_facts;
-use crate::reading::{AMPLE, fold};
-use crate::streams::segment_of;
-use cqlp_capture::{CaptureEvent, CaptureLimits, CaptureReader, CaptureStep};
+use crate::reading::{AMPLE, Packet, fold, packets_of};
 use cqlp_connections::{Connections, Departure, Sight, Told, Way};
 use cqlp_note::Prim;
 use cqlp_reassembly::StreamStep;
@@ -36,12 +34,13 @@ struct Watcher<A: Allocator> {
 /// A line for each exchange in a capture, and for each message that is in none; and whether the same is told where no memory is granted
 /// after one request for each connection, and that request is needed.
 pub fn said_of_exchanges(alloc: Global, watched: Watched, file: &[u8]) -> io::Result<String> {
+    let packets = packets_of(alloc, file)?;
     let mut watcher = Watcher::new(alloc, alloc, watched.limit);
-    watcher.watch(alloc, watched.asked, file)?;
+    watcher.watch(alloc, watched.asked, &packets)?;
     let count = watcher.watches.len() as u64;
     let heap = Rationed::new(alloc, Refusals::From(count.wrapping_add(1)));
     let mut again = Watcher::new(alloc, &heap, watched.limit);
-    again.watch(alloc, watched.asked, file)?;
+    again.watch(alloc, watched.asked, &packets)?;
     if again.said.as_str() != watcher.said.as_str() {
         watcher.said.push_str("differs without memory\n")?;
     }
@@ -64,37 +63,17 @@ impl<A: Allocator + Copy> Watcher<A> {
         }
     }
 
-    /// Watches all connections of a file to their ends.
-    fn watch(&mut self, alloc: Global, asked: Asked, file: &[u8]) -> io::Result<()> {
+    /// Watches all connections of a capture to their ends.
+    fn watch(&mut self, alloc: Global, asked: Asked, packets: &[Packet]) -> io::Result<()> {
         let Ok(mut connections) = Connections::new(alloc, asked.limits, &[asked.port]) else {
             return Err(io::Error::from(io::ErrorKind::OutOfMemory));
         };
-        let Ok(mut reader) = CaptureReader::new(alloc, CaptureLimits::DEFAULT) else {
-            return Err(io::Error::from(io::ErrorKind::OutOfMemory));
-        };
-        let mut link = 0;
-        let mut original = 0;
-        let mut rest = file;
-        for _ in 0..AMPLE {
-            let CaptureStep::Event { used, event, .. } = reader.next(rest) else {
-                break;
-            };
-            match event {
-                CaptureEvent::Section(_) => {}
-                CaptureEvent::Interface(head) => link = head.link,
-                CaptureEvent::Packet(head) => {
-                    link = head.link;
-                    original = head.original;
-                    self.time = head.time;
-                    self.latest = self.latest.max(head.time);
-                }
-                CaptureEvent::Data(packet) => {
-                    if let Ok(segment) = segment_of(link, packet, original) {
-                        self.take(&mut connections, &segment)?;
-                    }
-                }
+        for packet in packets {
+            self.time = packet.time;
+            self.latest = self.latest.max(packet.time);
+            if let Ok(segment) = packet.segment() {
+                self.take(&mut connections, &segment)?;
             }
-            rest = rest.get(used..).unwrap_or(&[]);
         }
         self.end(&mut connections)
     }

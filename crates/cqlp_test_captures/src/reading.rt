@@ -1,9 +1,10 @@
 //! What a reader says of a capture.
 
-use crate::segments::put_segment;
+use crate::segments::{put_segment, segment_of};
 use cqlp_capture::{
     CaptureEnd, CaptureEvent, CaptureLimits, CaptureReader, CaptureStep, PacketHead, SectionForm,
 };
+use cqlp_segment::{NoSegment, Segment};
 use std::alloc::Global;
 use std::io;
 
@@ -103,6 +104,67 @@ fn put_packet(at: u64, head: &PacketHead, said: &mut String) -> io::Result<()> {
         None => said.push_str("no time")?,
     }
     write!(said, " captured {} of {}\n", head.captured, head.original)?;
+    Ok(())
+}
+
+/// A packet of a capture.
+#[derive(Drop)]
+pub struct Packet {
+    link: u16,
+    original: u32,
+    /// When it was captured, in nanoseconds.
+    pub time: Option<u64>,
+    bytes: Vec<u8>,
+}
+
+impl Packet {
+    fn new(alloc: Global, head: &PacketHead) -> Packet {
+        Packet {
+            link: head.link,
+            original: head.original,
+            time: head.time,
+            bytes: Vec::new(alloc),
+        }
+    }
+
+    /// The segment in it.
+    pub fn segment(&self) -> Result<Segment<'_>, NoSegment> {
+        segment_of(self.link, self.bytes.as_slice(), self.original)
+    }
+}
+
+/// The packets of a capture up to its end, or to where it is refused.
+pub fn packets_of(alloc: Global, file: &[u8]) -> io::Result<Vec<Packet>> {
+    let Ok(mut reader) = CaptureReader::new(alloc, CaptureLimits::DEFAULT) else {
+        return Err(io::Error::from(io::ErrorKind::OutOfMemory));
+    };
+    let mut packets = Vec::new(alloc);
+    let mut rest = file;
+    for _ in 0..AMPLE {
+        let CaptureStep::Event { used, event, .. } = reader.next(rest) else {
+            break;
+        };
+        add_packet(alloc, &event, &mut packets)?;
+        rest = rest.get(used..).unwrap_or(&[]);
+    }
+    Ok(packets)
+}
+
+/// Adds the packet that begins with an event, or its bytes.
+fn add_packet(
+    alloc: Global,
+    event: &CaptureEvent<'_>,
+    packets: &mut Vec<Packet>,
+) -> io::Result<()> {
+    match event {
+        CaptureEvent::Section(_) | CaptureEvent::Interface(_) => {}
+        CaptureEvent::Packet(head) => packets.push(Packet::new(alloc, head))?,
+        CaptureEvent::Data(bytes) => {
+            if let Some(packet) = packets.last_mut() {
+                packet.bytes.extend_from_slice(bytes)?;
+            }
+        }
+    }
     Ok(())
 }
 

@@ -4,7 +4,7 @@ use crate::reading::sum_of;
 use cqlp_segment::{Endpoint, LinkType, NoSegment, Segment, read_segment};
 use std::io;
 
-/// Writes down the segment in a packet of this link, which had `original` bytes, or why there is none.
+/// Writes down that segment, or why there is none.
 pub fn put_segment(link: u16, packet: &[u8], original: u32, said: &mut String) -> io::Result<()> {
     match segment_of(link, packet, original) {
         Ok(segment) => put_fields(&segment, said)?,
@@ -13,7 +13,8 @@ pub fn put_segment(link: u16, packet: &[u8], original: u32, said: &mut String) -
     Ok(())
 }
 
-fn segment_of(link: u16, packet: &[u8], original: u32) -> Result<Segment<'_>, NoSegment> {
+/// The segment in a packet of this link, which had `original` bytes.
+pub fn segment_of(link: u16, packet: &[u8], original: u32) -> Result<Segment<'_>, NoSegment> {
     read_segment(LinkType::from_number(link)?, packet, original)
 }
 

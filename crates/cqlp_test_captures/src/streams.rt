@@ -1,9 +1,8 @@
 //! What streams tell of the segments of a capture.
 
-use crate::reading::{AMPLE, fold};
-use cqlp_capture::{CaptureEvent, CaptureLimits, CaptureReader, CaptureStep};
+use crate::reading::{AMPLE, fold, packets_of};
 use cqlp_reassembly::{Control, Stream, StreamStep};
-use cqlp_segment::{Endpoint, LinkType, NoSegment, Segment, read_segment};
+use cqlp_segment::{Endpoint, Segment};
 use std::alloc::Global;
 use std::io;
 
@@ -25,40 +24,17 @@ struct Direction {
 
 /// A line for each direction of a connection in a capture, in the order in which their first segments come.
 pub fn said_of_streams(alloc: Global, file: &[u8]) -> io::Result<String> {
-    let Ok(mut reader) = CaptureReader::new(alloc, CaptureLimits::DEFAULT) else {
-        return Err(io::Error::from(io::ErrorKind::OutOfMemory));
-    };
     let mut directions = Vec::new(alloc);
-    let mut link = 0;
-    let mut original = 0;
-    let mut rest = file;
-    for _ in 0..AMPLE {
-        let CaptureStep::Event { used, event, .. } = reader.next(rest) else {
-            break;
-        };
-        match event {
-            CaptureEvent::Section(_) | CaptureEvent::Interface(_) => {}
-            CaptureEvent::Packet(head) => {
-                link = head.link;
-                original = head.original;
-            }
-            CaptureEvent::Data(packet) => {
-                if let Ok(segment) = segment_of(link, packet, original) {
-                    take_segment(alloc, &mut directions, &segment)?;
-                }
-            }
+    for packet in &packets_of(alloc, file)? {
+        if let Ok(segment) = packet.segment() {
+            take_segment(alloc, &mut directions, &segment)?;
         }
-        rest = rest.get(used..).unwrap_or(&[]);
     }
     let mut said = String::new(alloc);
     for direction in &directions {
         put_direction(direction, &mut said)?;
     }
     Ok(said)
-}
-
-pub fn segment_of(link: u16, packet: &[u8], original: u32) -> Result<Segment<'_>, NoSegment> {
-    read_segment(LinkType::from_number(link)?, packet, original)
 }
 
 /// Hands a segment to the stream of its direction, and its acknowledgement to the other one.

@@ -26,14 +26,14 @@ fn done_in(rt: &HostRuntime, heap: &LocalHeap, task: &str, bytes: &[u8]) -> Done
     let err = Narrow::new(rt.alloc(), usize::MAX, 7);
     let (status, out, err) = match task {
         "show" => show(heap, LIMITS, &mut input, out, err),
-        "show --skip" => show_skipping(heap, LIMITS, TextForm::Lines, &mut input, out, err),
+        "show --skip" => show_skipping(heap, LIMITS, false, TextForm::Lines, &mut input, out, err),
         "rows" => rows(heap, LIMITS, &mut input, out, err),
         "rows --skip" => {
             let pages = TextForm::Pages(PagePlace::new());
-            show_skipping(heap, LIMITS, pages, &mut input, out, err)
+            show_skipping(heap, LIMITS, false, pages, &mut input, out, err)
         }
-        "check --skip" => check_skipping(heap, LIMITS, &mut input, out, err),
-        _ => check(heap, LIMITS, &mut input, out, err),
+        "check --skip" => check_skipping(heap, LIMITS, false, &mut input, out, err),
+        _ => check(heap, LIMITS, false, &mut input, out, err),
     };
     Done { status, out, err }
 }

@@ -31,11 +31,12 @@ pub fn show(rt: &HostRuntime, line: &str) -> io::Result<()> {
         of: words.option(),
         value: words.read(),
     };
-    words.end()?;
-    print_bound(rt, line, &typed)
+    print_bound(rt, &words, line, &typed)
 }
 
-fn print_bound(rt: &HostRuntime, line: &str, typed: &Typed) -> io::Result<()> {
+/// The same, once the words are read.
+fn print_bound(rt: &HostRuntime, words: &Words<'_>, line: &str, typed: &Typed) -> io::Result<()> {
+    words.end()?;
     match bind_value(rt.alloc(), &typed.value, typed.of.as_ref()) {
         Ok(bound) => print_query(rt, line, typed, &query(rt.alloc(), bound)),
         Err(error) => println!(rt; "{line}: {error:?}"),

@@ -83,28 +83,46 @@ pub fn show(rt: &HostRuntime, line: &str) -> io::Result<()> {
         bytes: words.read(),
     };
     let tree: TypeTree = words.read();
-    words.end()?;
     let mut builder = CellBuilder::new(rt.alloc(), limits);
-    println!(rt;
-        "{line}: {:?}, {:?}, {:?}, {:?}, {:?}, {:?}",
-        builder.take(&Event::Leave { level: 0, items: 0 }),
-        builder.take(&Event::Part {
+    print_answers(rt, &words, line, &mut builder, &tree)
+}
+
+/// The same, once the words are read.
+fn print_answers(
+    rt: &HostRuntime,
+    words: &Words<'_>,
+    line: &str,
+    builder: &mut CellBuilder,
+    tree: &TypeTree,
+) -> io::Result<()> {
+    words.end()?;
+    print!(rt; "{line}: ")?;
+    for event in &tried() {
+        print!(rt; "{:?}, ", builder.take(event))?;
+    }
+    println!(rt; "{:?}", builder.finish(Some(tree)))
+}
+
+/// The end of a value, a part of a scalar, a text of three bytes, and an int twice.
+fn tried() -> [Event<'static>; 5] {
+    [
+        Event::Leave { level: 0, items: 0 },
+        Event::Part {
             row: 0,
             column: 0,
             level: 0,
             offset: 0,
             bytes: &[7],
-            last: true
-        }),
-        builder.take(&leaf(Scalar::Varchar("abc"))),
-        builder.take(&leaf(Scalar::Int(7))),
-        builder.take(&leaf(Scalar::Int(7))),
-        builder.finish(Some(&tree))
-    )
+            last: true,
+        },
+        leaf(Scalar::Varchar("abc")),
+        leaf(Scalar::Int(7)),
+        leaf(Scalar::Int(7)),
+    ]
 }
 
 /// An event of a cell that is this scalar.
-fn leaf(scalar: Scalar<'_>) -> Event<'_> {
+fn leaf(scalar: Scalar<'static>) -> Event<'static> {
     Event::Leaf {
         row: 0,
         column: 0,

@@ -4,7 +4,7 @@
 //! `--sum` asks for the number of the events alone, and `--cut` for a target that fails after ten bytes. A line `type |` has a type, a line
 //! `value |` a type or `-`, and a value, a line `cells |` a page that is written cell by cell, a line `lent |` one whose cells are lent
 //! twice, and a line `bind |` a type or `-`, and a value that is bound. A line `cell |` has the limits of a builder of cells, and a type. A line
-//! `read |` or `write |` has what each call of a socket makes.
+//! `page |` has those of a builder of frames, and a page. A line `read |` or `write |` has what each call of a socket makes.
 //! A line without `|` is a heading.
 #![tactic(auto)]
 
@@ -14,6 +14,7 @@ mod by_cell;
 mod cells;
 mod frames;
 mod lent;
+mod pages;
 mod requests;
 mod responses;
 mod results;
@@ -45,6 +46,7 @@ fn execute(rt: &HostRuntime, line: &str) -> io::Result<()> {
         Some(("cells", words)) => by_cell::show(rt, words),
         Some(("cell", words)) => cells::show(rt, words),
         Some(("lent", words)) => lent::show(rt, words),
+        Some(("page", words)) => pages::show(rt, words),
         Some(("bind", words)) => bound::show(rt, words),
         Some(("read", words)) => sockets::show_reads(rt, words),
         Some(("write", words)) => sockets::show_writes(rt, words),

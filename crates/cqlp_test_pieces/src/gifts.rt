@@ -27,7 +27,7 @@ pub fn decoder_with<'a>(
     tables: &'a LocalHeap,
     script: &Script<'_>,
 ) -> io::Result<Decoder<&'a LocalHeap>> {
-    let mut decoder = decoder(heap, script.limits)?;
+    let mut decoder = decoder(heap, script.limits, script.lenient)?;
     match give_types(alloc, tables, &mut decoder, script.given) {
         Ok(()) => Ok(decoder),
         Err(error) => Err(error),
@@ -92,7 +92,7 @@ fn print_given<'a>(
 }
 
 /// The types of the last metadata of a stream, as far as it goes.
-fn table<'a>(
+pub fn table<'a>(
     alloc: Global,
     heap: &'a LocalHeap,
     digits: &str,
@@ -102,7 +102,7 @@ fn table<'a>(
 }
 
 fn table_of<'a>(heap: &'a LocalHeap, stream: &[u8]) -> io::Result<TypeTable<&'a LocalHeap>> {
-    let mut decoder = decoder(heap, LIMITS)?;
+    let mut decoder = decoder(heap, LIMITS, false)?;
     pass_all(&mut decoder, stream);
     copy_of(decoder.table())
 }

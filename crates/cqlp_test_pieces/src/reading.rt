@@ -61,9 +61,14 @@ impl Report {
     }
 }
 
-/// A decoder in this memory.
-pub fn decoder(heap: &LocalHeap, limits: Limits) -> io::Result<Decoder<&LocalHeap>> {
-    match Decoder::new(heap, limits) {
+/// A decoder in this memory, which is lenient or not.
+pub fn decoder(heap: &LocalHeap, limits: Limits, lenient: bool) -> io::Result<Decoder<&LocalHeap>> {
+    let made = if lenient {
+        Decoder::lenient(heap, limits)
+    } else {
+        Decoder::new(heap, limits)
+    };
+    match made {
         Ok(decoder) => Ok(decoder),
         Err(_) => Err(io::Error::from(io::ErrorKind::OutOfMemory)),
     }

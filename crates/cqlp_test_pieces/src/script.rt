@@ -32,6 +32,8 @@ pub enum Shows {
 #[derive(Clone, Copy)]
 pub struct Script<'a> {
     pub limits: Limits,
+    /// Whether the reading is lenient.
+    pub lenient: bool,
     pub shows: Shows,
     /// The stream whose types are given to the decoder before its first byte, in hexadecimal digits.
     pub given: Option<&'a str>,
@@ -43,6 +45,7 @@ impl<'a> Script<'a> {
     pub fn read(words: &'a str) -> Script<'a> {
         let mut script = Script {
             limits: LIMITS,
+            lenient: false,
             shows: Shows::Events,
             given: None,
             room: 0,
@@ -71,6 +74,7 @@ impl<'a> Script<'a> {
         match word {
             "--raw" => self.limits.types = false,
             "--parts" => self.limits.parts = true,
+            "--lenient" => self.lenient = true,
             "--calls" => self.shows = Shows::Calls,
             "--counts" => self.shows = Shows::Counts,
             "--memory" => self.shows = Shows::Memory,

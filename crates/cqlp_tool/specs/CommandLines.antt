@@ -1,6 +1,7 @@
 -- What a command line does, and what is written where it starts no task.
 use Rattle.std.specs.Prelude.{◌≡◌, ◌≢◌, ◌≤◌, true, false, ℕ, List, [], Result, Ok, Err, IsSome, ◌⊎◌, codes, string_bytes}
 use Rattle.cqlp_note.specs.declared.limits.Limits.{Limits}
+use Rattle.cqlp_note.specs.Limits.{Rules, rules_of, with_lenient}
 use Rattle.cqlp_options.specs.declared.command_line.CommandLine.{CommandLine}
 use Rattle.cqlp_options.specs.declared.command_line.CommandLine.TheVariants as line
 use Rattle.cqlp_options.specs.declared.no_task.NoTask.{NoTask}
@@ -79,12 +80,16 @@ form_of_rows rows_as.Json = forms.JsonRows no_table
 form_of_rows rows_as.Csv = forms.CsvRows no_table
 
 -- the text in a form, with frames passed over or not
-abbrev pub Shows : TextForm → AtRefusal → Limits → (before : Streams) → (status : ℕ) → (after : Streams) → Type 0
+abbrev pub Shows : TextForm → AtRefusal → Rules → (before : Streams) → (status : ℕ) → (after : Streams) → Type 0
 Shows form at.End limits before status after = ShowsAndReports form limits turns before status after
 Shows form at.Skip limits before status after = skipping.ShowsAndReports form limits turns before status after
 
--- What a task does with the input, within its limits.
-abbrev pub DoesTask : Task → Limits → (before : Streams) → (status : ℕ) → (after : Streams) → Type 0
+-- the limits of a task, and whether it reads leniently
+abbrev pub rules_for : Options → Rules
+rules_for options = with_lenient options.lenient (rules_of options.limits)
+
+-- What a task does with the input, by these rules.
+abbrev pub DoesTask : Task → Rules → (before : Streams) → (status : ℕ) → (after : Streams) → Type 0
 DoesTask (task.Show form r) limits before status after = Shows (form_of_events form) r limits before status after
 DoesTask (task.Rows form r) limits before status after = Shows (form_of_rows form) r limits before status after
 DoesTask (task.Check at.End) limits before status after = ChecksAndReports limits turns before status after
@@ -98,7 +103,7 @@ IsOfInput options = options.file.now ≡ codes "-"
 abbrev pub Executes : Result CommandLine NoTask
     → (before : Streams) → (status : ℕ) → (after : Streams) → Type 0
 Executes (Ok (line.Stream options)) before status after =
-    IsOfInput options → DoesTask options.task options.limits before status after
+    IsOfInput options → DoesTask options.task (rules_for options) before status after
 Executes (Ok (line.Loop queries)) before status after =
     ConversesAndReports queries before.out before.err status after.out after.err
 Executes (Ok (line.Capture options)) before status after =
@@ -125,7 +130,7 @@ ReadsNoCapture (Err reason) = Unit
 abbrev pub Performs : {W : Type 0} → List W
     → (before : Streams) → (status : ℕ) → (after : Streams) → Type 0
 Performs words before status after =
-    (words ≡ [] → ShowsAndReports forms.Lines default_limits turns before status after)
+    (words ≡ [] → ShowsAndReports forms.Lines (rules_of default_limits) turns before status after)
     × (status ≤ 3)
     × (status ≡ 2 → IsSome before.out.given → IsSome before.err.given
     → ReportsWrong before.out before.err after.out after.err)

@@ -7,7 +7,7 @@ ghost use Rattle.cqlp_options.specs.Ports.{AreWithin, named};
 ghost use Rattle.cqlp_options.specs.declared.capture.CaptureTask.TheVariants as tasks;
 ghost use Rattle.cqlp_tool.specs.Capturing.{DoesCaptureTask, IsCaptureOfInput, SplitsToFolder, filter_of, form_of};
 ghost use Rattle.cqlp_tool.specs.CommandLines.{Complains, DoesTask, Executes, Helps, IsOfInput, NeedsNoInput, Performs, ReadsNoCapture};
-ghost use Rattle.cqlp_tool.specs.CommandLines.{ReportsFault, ReportsWrong, Tells, form_of_events, form_of_rows};
+ghost use Rattle.cqlp_tool.specs.CommandLines.{ReportsFault, ReportsWrong, Tells, form_of_events, form_of_rows, rules_for};
 ghost use Rattle.cqlp_text.specs.Endings.{IsStatusOfTask, cannot_open_line as cannot_open_line_of};
 ghost use Rattle.cqlp_text.specs.Outputs.{written};
 ghost use Rattle.cqlp_render.specs.Streams.{streams};
@@ -125,7 +125,7 @@ fn stream<R: Files + AllocGlobal, I: Source, O: Target, E: Target>(
 ) -> (u8, O, E)
     requires { first_bad options.limits ≡ Ok tt }
     ensures task { let view = streams I.Source O.Target E.Target in
-        IsOfInput options.entry → DoesTask options.entry.task options.entry.limits
+        IsOfInput options.entry → DoesTask options.entry.task (rules_for options.entry)
         (view input.old out err) result.0 (view input.new result.1 result.2) }
     ensures status { IsStatusOfTask result.0 }
     ensures untouched { options.entry.file.now ≢ codes "-" → input.new ≡ input.old }
@@ -312,26 +312,26 @@ fn perform<A: Allocator, I: Source, O: Target, E: Target>(
 ) -> (u8, O, E)
     requires { first_bad options.limits ≡ Ok tt }
     ensures task { let view = streams I.Source O.Target E.Target in
-        DoesTask options.entry.task options.entry.limits
+        DoesTask options.entry.task (rules_for options.entry)
         (view input.old out err) result.0 (view input.new result.1 result.2) }
     ensures status { IsStatusOfTask result.0 }
 {
-    let limits = options.limits;
+    let (limits, lenient) = (options.limits, options.lenient);
     match options.task {
         Task::Show(form, AtRefusal::End) => {
-            show_as(heap, limits, form_of_events(form), input, out, err)
+            show_as(heap, limits, lenient, form_of_events(form), input, out, err)
         }
         Task::Show(form, AtRefusal::Skip) => {
-            show_skipping(heap, limits, form_of_events(form), input, out, err)
+            show_skipping(heap, limits, lenient, form_of_events(form), input, out, err)
         }
         Task::Rows(form, AtRefusal::End) => {
-            show_as(heap, limits, form_of_rows(form), input, out, err)
+            show_as(heap, limits, lenient, form_of_rows(form), input, out, err)
         }
         Task::Rows(form, AtRefusal::Skip) => {
-            show_skipping(heap, limits, form_of_rows(form), input, out, err)
+            show_skipping(heap, limits, lenient, form_of_rows(form), input, out, err)
         }
-        Task::Check(AtRefusal::End) => check(heap, limits, input, out, err),
-        Task::Check(AtRefusal::Skip) => check_skipping(heap, limits, input, out, err),
+        Task::Check(AtRefusal::End) => check(heap, limits, lenient, input, out, err),
+        Task::Check(AtRefusal::Skip) => check_skipping(heap, limits, lenient, input, out, err),
     }
 }
 

@@ -2,7 +2,7 @@
 use Rattle.std.proofs.Common.{◌≡◌, ℕ, List, [], ◌++◌, Option, Some, None, IsSome, Result, Ok, Err, ◌⊎◌, sym, ap, ◌∙◌, inl, inr, subst, append_assoc}
 use Rattle.std.specs.Prelude.{string_bytes}
 use Rattle.std.specs.Io.KnownBytes.{Appends, append_known}
-use Rattle.cqlp_note.specs.declared.limits.Limits.{Limits}
+use Rattle.cqlp_note.specs.Limits.{Rules}
 use Rattle.cqlp_options.specs.Ports.{named}
 use Rattle.cqlp_options.specs.declared.capture.CaptureTask.{CaptureTask}
 use Rattle.cqlp_options.specs.declared.capture.CaptureTask.TheVariants as capture_task
@@ -32,7 +32,7 @@ use Rattle.cqlp_capture_events.proofs.WrittenOnce.{events_once}
 use Rattle.cqlp_capture_rows.proofs.WrittenOnce.{rows_once}
 use Rattle.cqlp_tool.specs.Capturing.{DoesCaptureTask, SplitsCapture, filter_of, form_of}
 use Rattle.cqlp_tool.specs.Faults.{ReportsFault}
-use Rattle.cqlp_tool.specs.CommandLines.{DoesTask, Executes, Complains, Helps, Shows, form_of_events, form_of_rows, turns}
+use Rattle.cqlp_tool.specs.CommandLines.{DoesTask, Executes, Complains, Helps, Shows, form_of_events, form_of_rows, rules_for, turns}
 use Rattle.cqlp_tool.specs.Conversing.{ConversesWithItself, Reports, ending_of}
 use Rattle.cqlp_tool_laws.specs.Text.{FailsAlike, GoesOnFromOther}
 use Rattle.cqlp_tool_laws.specs.Tool.{IsOneOutput}
@@ -75,7 +75,7 @@ module _ (before : Streams) (status status' : ℕ) (after after' : Streams) wher
 
 -- ---- a task
 
-module _ (limits : Limits) (before : Streams) (status status' : ℕ) (after after' : Streams) where
+module _ (limits : Rules) (before : Streams) (status status' : ℕ) (after after' : Streams) where
   showing_once : (form : TextForm) (xs : List ℕ) (a : ShowsBytes form limits turns xs before status after) (b : ShowsBytes form limits turns xs before status' after') → AreShownAlike form limits xs before status status' after after' a b → IsOneAnswer before status status' after after'
   showing_once form xs a b alike =
       let one = shown_once form limits turns xs before status status' after after' a b (commands_end_once form limits turns xs before status status' after after' a b alike.served) alike.error in
@@ -194,7 +194,7 @@ module _ (before : Streams) (status status' : ℕ) (after after' : Streams) wher
 
 module _ (before : Streams) (status status' : ℕ) (after after' : Streams) where
   line_once : (l : Result CommandLine NoTask) (a : Executes l before status after) (b : Executes l before status' after') → AreMetAlike before status status' after after' l a b → IsOneAnswer before status status' after after'
-  line_once (Ok (line.Stream options)) a b alike = task_once options.limits before status status' after after' options.task alike.1 (a alike.0) (b alike.0) alike.2
+  line_once (Ok (line.Stream options)) a b alike = task_once (rules_for options) before status status' after after' options.task alike.1 (a alike.0) (b alike.0) alike.2
   line_once (Ok (line.Loop queries)) a b alike =
       let met = alike.outputs in
       let one = talked_once queries before.out after.out after'.out met.known met.fails a.0 b.0 a.1 b.1 alike.alike alike.decided alike.decided' in

@@ -1,9 +1,8 @@
 -- The last read of a command.
 use Rattle.std.proofs.Common.{◌≡◌, ℕ, List, [], ◌++◌, length, Option, Some, None, ◌⊎◌, ap, ◌∙◌, inl, inr, subst, append-nil, arith}
 use Rattle.std.proofs.lemmas.List.{length-append}
-use Rattle.cqlp_note.specs.declared.limits.Limits.{Limits}
 use Rattle.cqlp_note.specs.declared.refusal.Refusal.{Refusal}
-use Rattle.cqlp_note.specs.Limits.{Rules, rules_of}
+use Rattle.cqlp_note.specs.Limits.{Rules}
 use Rattle.cqlp_decode.specs.declared.running.Outcome.TheVariants as outcome
 use Rattle.cqlp_decode.specs.Reading.{Waits, Says, start}
 use Rattle.cqlp_decode.specs.Progress.{StreamState}
@@ -18,8 +17,8 @@ use Rattle.cqlp_render.specs.Streams.{Input}
 use Rattle.cqlp_render.proofs.Renders.{texts_to}
 use Rattle.cqlp_tool_laws.specs.Tool.{LastReadAfterText, IsReadAfterText, IsReadUnrefused}
 
-module _ (form : TextForm) (limits : Limits) (turns : ℕ) (xs : List ℕ) (was now : Input) (before after : Output) where
-  last_read : (old : StreamState) → After old [] [] → old.refusal ≡ None → old.rules ≡ rules_of limits → ReadsAfterText form turns old xs was.reads now.reads now.left before after.given → LastReadAfterText form limits turns xs was now before after
+module _ (form : TextForm) (limits : Rules) (turns : ℕ) (xs : List ℕ) (was now : Input) (before after : Output) where
+  last_read : (old : StreamState) → After old [] [] → old.refusal ≡ None → old.rules ≡ limits → ReadsAfterText form turns old xs was.reads now.reads now.left before after.given → LastReadAfterText form limits turns xs was now before after
   last_read old fresh unrefused rules r =
       let ran = texts_to form r.earlier outcome.Turns old r.mid xs (Some r.rest) before r.sent r.wrote in
       let d = ran.0 in
@@ -43,7 +42,7 @@ module _ (form : TextForm) (limits : Limits) (turns : ℕ) (xs : List ℕ) (was 
         given = subst (λ (o : Output). GoesOn o.given after.given) w.written r.front;
       }
 
-  timely : (old : StreamState) → After old [] [] → old.refusal ≡ None → old.rules ≡ rules_of limits → ReadsOnlyAfterText form turns old xs was.reads now.reads now.left before after.given → (now.reads ≡ was.reads) ⊎ LastReadAfterText form limits turns xs was now before after
+  timely : (old : StreamState) → After old [] [] → old.refusal ≡ None → old.rules ≡ limits → ReadsOnlyAfterText form turns old xs was.reads now.reads now.left before after.given → (now.reads ≡ was.reads) ⊎ LastReadAfterText form limits turns xs was now before after
   timely old fresh unrefused rules (inl none) = inl none.0
   timely old fresh unrefused rules (inr r) = inr (last_read old fresh unrefused rules r)
 

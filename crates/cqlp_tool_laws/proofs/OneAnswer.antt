@@ -3,9 +3,8 @@ use Rattle.std.proofs.Common.{◌≡◌, ◌≢◌, ℕ, true, List, [], ◌∷�
 use Rattle.std.proofs.lemmas.List.{append_cancel_left, append_cancel_right, length-append}
 use Rattle.std.proofs.lemmas.Bool.{cases_lt}
 use Rattle.std.specs.Io.KnownBytes.{append_known}
-use Rattle.cqlp_note.specs.declared.limits.Limits.{Limits}
 use Rattle.cqlp_note.specs.declared.refusal.Refusal.{Refusal}
-use Rattle.cqlp_note.specs.Limits.{Rules, rules_of}
+use Rattle.cqlp_note.specs.Limits.{Rules}
 use Rattle.cqlp_note.specs.Streams.{counted}
 use Rattle.cqlp_note.proofs.Runs.{runs_stay, runs_compare}
 use Rattle.cqlp_grammar.specs.declared.event.Finish.{Finish}
@@ -219,17 +218,17 @@ module _ (gifts : Gifts) where
 
 -- ---- commands
 
-pub shows_once : (form : TextForm) (limits : Limits) (turns : ℕ) (xs : List ℕ) (left left' : Option (List ℕ)) (before after after' : Output) (e e' : Ending) → EndAlike e e' left left' → ShowsTo form limits turns e xs left before after → ShowsTo form limits turns e' xs left' before after' → (e' ≡ e) × IsOneOutput before after after'
+pub shows_once : (form : TextForm) (limits : Rules) (turns : ℕ) (xs : List ℕ) (left left' : Option (List ℕ)) (before after after' : Output) (e e' : Ending) → EndAlike e e' left left' → ShowsTo form limits turns e xs left before after → ShowsTo form limits turns e' xs left' before after' → (e' ≡ e) × IsOneOutput before after after'
 shows_once form limits turns xs left left' before after after' (ending.Finished f) (ending.Finished f') alike a b =
-    let one = runs_once [] form turns a.old a.new b.old b.new xs left left' before after after' (rules_of limits) [] [] a.fresh b.fresh a.unrefused b.unrefused (a.same_rules ∙ a.rules) (b.same_rules ∙ b.rules) (outcome.Finished f) (outcome.Finished f') tt (texts_to form turns (outcome.Finished f) a.old a.new xs left before after a.renders) (texts_to form turns (outcome.Finished f') b.old b.new xs left' before after' b.renders) in
+    let one = runs_once [] form turns a.old a.new b.old b.new xs left left' before after after' limits [] [] a.fresh b.fresh a.unrefused b.unrefused (a.same_rules ∙ a.rules) (b.same_rules ∙ b.rules) (outcome.Finished f) (outcome.Finished f') tt (texts_to form turns (outcome.Finished f) a.old a.new xs left before after a.renders) (texts_to form turns (outcome.Finished f') b.old b.new xs left' before after' b.renders) in
     let same : outcome.Finished f' ≡ outcome.Finished f = one.0 in
     (cc, one.1)
 shows_once form limits turns xs left left' before after after' ending.ReadFault ending.ReadFault alike a b =
-    (refl, (runs_once [] form turns a.old a.new b.old b.new xs left left' before after after' (rules_of limits) [] [] a.fresh b.fresh a.unrefused b.unrefused (a.same_rules ∙ a.rules) (b.same_rules ∙ b.rules) outcome.ReadFault outcome.ReadFault alike (texts_to form turns outcome.ReadFault a.old a.new xs left before after a.renders) (texts_to form turns outcome.ReadFault b.old b.new xs left' before after' b.renders)).1)
+    (refl, (runs_once [] form turns a.old a.new b.old b.new xs left left' before after after' limits [] [] a.fresh b.fresh a.unrefused b.unrefused (a.same_rules ∙ a.rules) (b.same_rules ∙ b.rules) outcome.ReadFault outcome.ReadFault alike (texts_to form turns outcome.ReadFault a.old a.new xs left before after a.renders) (texts_to form turns outcome.ReadFault b.old b.new xs left' before after' b.renders)).1)
 shows_once form limits turns xs left left' before after after' ending.TooManyTurns ending.TooManyTurns alike a b =
-    (refl, (runs_once [] form turns a.old a.new b.old b.new xs left left' before after after' (rules_of limits) [] [] a.fresh b.fresh a.unrefused b.unrefused (a.same_rules ∙ a.rules) (b.same_rules ∙ b.rules) outcome.Turns outcome.Turns alike (texts_to form turns outcome.Turns a.old a.new xs left before after a.renders) (texts_to form turns outcome.Turns b.old b.new xs left' before after' b.renders)).1)
+    (refl, (runs_once [] form turns a.old a.new b.old b.new xs left left' before after after' limits [] [] a.fresh b.fresh a.unrefused b.unrefused (a.same_rules ∙ a.rules) (b.same_rules ∙ b.rules) outcome.Turns outcome.Turns alike (texts_to form turns outcome.Turns a.old a.new xs left before after a.renders) (texts_to form turns outcome.Turns b.old b.new xs left' before after' b.renders)).1)
 shows_once form limits turns xs left left' before after after' ending.WriteFault ending.WriteFault alike a b =
-    (refl, front_once [] form turns a.old a.new b.old b.new xs left left' before after after' (rules_of limits) [] [] a.fresh b.fresh a.unrefused b.unrefused (a.same_rules ∙ a.rules) (b.same_rules ∙ b.rules) a.renders b.renders)
+    (refl, front_once [] form turns a.old a.new b.old b.new xs left left' before after after' limits [] [] a.fresh b.fresh a.unrefused b.unrefused (a.same_rules ∙ a.rules) (b.same_rules ∙ b.rules) a.renders b.renders)
 shows_once form limits turns xs left left' before after after' ending.NoMemory ending.NoMemory alike a b = (refl, inl (b ∙ sym a))
 shows_once form limits turns xs left left' before after after' e e' alike a b = absurd alike
 
@@ -246,7 +245,7 @@ shown_once form limits turns xs before status status' after after' a b alike fai
     (one.0, reported.0, one.1, reported.1)
 
 -- nothing is written of a stream that is checked
-nothing_written : (limits : Limits) (turns : ℕ) (f : Finish) (xs : List ℕ) (left : Option (List ℕ)) (out read : Output) → ShowsTo forms.Nothing limits turns (ending.Finished f) xs left out read → read ≡ out
+nothing_written : (limits : Rules) (turns : ℕ) (f : Finish) (xs : List ℕ) (left : Option (List ℕ)) (out read : Output) → ShowsTo forms.Nothing limits turns (ending.Finished f) xs left out read → read ≡ out
 nothing_written limits turns f xs left out read shows = ((texts_to forms.Nothing turns (outcome.Finished f) shows.old shows.new xs left out read shows.renders).0.events [] [] [] shows.fresh).written ∙ ap (λ g. output g out.failures) (known_nothing out.given)
 
 module _ (out err : Output) (status status' : ℕ) (out' err' out'' err'' : Output) (fails : FailsAlike out out' out'') (fails_err : FailsAlike err err' err'') where
@@ -263,7 +262,7 @@ module _ (out err : Output) (status status' : ℕ) (out' err' out'' err'' : Outp
       let reported = concludes_once e err err' err'' status status' fails_err a.1 b.1 in
       (reported.0, subst (λ (o : Output). IsOneOutput out o out'') (sym a.0) (subst (λ (o : Output). IsOneOutput out read o) (sym b.0) one), reported.1)
 
-  check_once : (limits : Limits) (turns : ℕ) (xs : List ℕ) (left left' : Option (List ℕ)) (read read' : Output) (e : Ending) → IsOneOutput out read read' → ShowsTo forms.Nothing limits turns e xs left out read → ShowsTo forms.Nothing limits turns e xs left' out read' → ConcludesCheck e read err status out' err' → ConcludesCheck e read' err status' out'' err''
+  check_once : (limits : Rules) (turns : ℕ) (xs : List ℕ) (left left' : Option (List ℕ)) (read read' : Output) (e : Ending) → IsOneOutput out read read' → ShowsTo forms.Nothing limits turns e xs left out read → ShowsTo forms.Nothing limits turns e xs left' out read' → ConcludesCheck e read err status out' err' → ConcludesCheck e read' err status' out'' err''
       → (status' ≡ status) × IsOneOutput out out' out'' × IsOneOutput err err' err''
   check_once limits turns xs left left' read read' (ending.Finished f) one shows shows' a b =
       verdict_once f (subst (λ (o : Output). ConcludesCheck (ending.Finished f) o err status out' err') (nothing_written limits turns f xs left out read shows) a) (subst (λ (o : Output). ConcludesCheck (ending.Finished f) o err status' out'' err'') (nothing_written limits turns f xs left' out read' shows') b)
@@ -296,7 +295,7 @@ three_of e before after status three (inl a) = a.0 ∙ three
 three_of e before after status three (inr a) = a.0
 
 -- the turns run out only where so many reads were made, and each gave some byte
-no_time : (form : TextForm) (limits : Limits) (turns : ℕ) (xs : List ℕ) (was now : Input) (before after : Output) → HasTime turns xs was now → ShowsTo form limits turns ending.TooManyTurns xs now.left before after → ReadsBy turns ending.TooManyTurns was now → ⊥
+no_time : (form : TextForm) (limits : Rules) (turns : ℕ) (xs : List ℕ) (was now : Input) (before after : Output) → HasTime turns xs was now → ShowsTo form limits turns ending.TooManyTurns xs now.left before after → ReadsBy turns ending.TooManyTurns was now → ⊥
 no_time form limits turns xs was now before after (inl few) shows reads =
     let ran = texts_to form turns outcome.Turns shows.old shows.new xs now.left before after shows.renders in
     let d = ran.0 in
@@ -308,7 +307,7 @@ no_time form limits turns xs was now before after (inr fewer) shows reads =
     let counted = reads.counted (omega arith) in
     absurd (omega arith)
 
-module _ (form : TextForm) (limits : Limits) (turns : ℕ) (xs : List ℕ) (before : Streams) (status : ℕ) (after : Streams) where
+module _ (form : TextForm) (limits : Rules) (turns : ℕ) (xs : List ℕ) (before : Streams) (status : ℕ) (after : Streams) where
   no_fault : (e : Ending) → status_of e ≡ 3 → ShowsTo form limits turns e xs after.input.left before.out after.out → CountsReads e before.input.failures after.input.failures → Concludes e before.err status after.err → ReadsBy turns e before.input after.input → IsGranted turns xs before after ⊎ (status ≢ 3) → ⊥
   no_fault e three shows counts ends reads (inr not) = not (three_of e before.err after.err status three ends)
   no_fault (ending.Finished f) three shows counts ends reads (inl g) = no_finish f three
@@ -326,11 +325,11 @@ module _ (form : TextForm) (limits : Limits) (turns : ℕ) (xs : List ℕ) (befo
   told_right f (inr reported) (inl g) = absurd (counts_up before.err.failures g.error_output.0 (sym reported.1.failures ∙ g.error_output.1))
   told_right f (inr reported) (inr not) = absurd (not reported.0)
 
-  module _ (es : List (ℕ × Event)) (v : Verdict) (says : Says (rules_of limits) start xs es v) (granted : IsGranted turns xs before after ⊎ (status ≢ 3)) where
+  module _ (es : List (ℕ × Event)) (v : Verdict) (says : Says limits start xs es v) (granted : IsGranted turns xs before after ⊎ (status ≢ 3)) where
     pub shown_right : (e : Ending) → ShowsTo form limits turns e xs after.input.left before.out after.out → CountsReads e before.input.failures after.input.failures → Concludes e before.err status after.err → ReadsBy turns e before.input after.input
         → (f : Finish) × EndsAs xs es v f × (status ≡ finish_status f) × (after.out ≡ with_text before.out (text form es)) × (after.err ≡ with_text before.err (ending_line (ending.Finished f)))
     shown_right (ending.Finished f) shows counts ends reads =
-        let whole = whole_by [] form turns f shows.old shows.new xs after.input.left before.out after.out (texts_to form turns (outcome.Finished f) shows.old shows.new xs after.input.left before.out after.out shows.renders) (rules_of limits) [] [] shows.fresh shows.unrefused (shows.same_rules ∙ shows.rules) es v says in
+        let whole = whole_by [] form turns f shows.old shows.new xs after.input.left before.out after.out (texts_to form turns (outcome.Finished f) shows.old shows.new xs after.input.left before.out after.out shows.renders) limits [] [] shows.fresh shows.unrefused (shows.same_rules ∙ shows.rules) es v says in
         let reported = told_right f ends granted in
         (f, whole.1, reported.0, whole.0, reported.1)
     shown_right ending.ReadFault shows counts ends reads = absurd (no_fault ending.ReadFault refl shows counts ends reads granted)
@@ -343,7 +342,7 @@ module _ (form : TextForm) (limits : Limits) (turns : ℕ) (xs : List ℕ) (befo
 pub shown_rightly : (form : TextForm) → IsShownRightly form
 shown_rightly form limits turns xs before status after es v says granted a = shown_right form limits turns xs before status after es v says granted a.0 a.1 a.2 a.3 a.4
 
-module _ (limits : Limits) (turns : ℕ) (xs : List ℕ) (before : Streams) (status : ℕ) (after : Streams) (es : List (ℕ × Event)) (v : Verdict) (says : Says (rules_of limits) start xs es v) where
+module _ (limits : Rules) (turns : ℕ) (xs : List ℕ) (before : Streams) (status : ℕ) (after : Streams) (es : List (ℕ × Event)) (v : Verdict) (says : Says limits start xs es v) where
   verdict_right : (f : Finish) → EndsAs xs es v f → ConcludesCheck (ending.Finished f) before.out before.err status after.out after.err → IsGranted turns xs before after ⊎ (status ≢ 3)
       → (f : Finish) × EndsAs xs es v f × (status ≡ finish_status f) × (after.out ≡ with_text before.out (ending_line (ending.Finished f))) × (after.err ≡ before.err)
   verdict_right f is (inl reported) granted = (f, is, reported.0, reported.1, reported.2)
@@ -357,7 +356,7 @@ module _ (limits : Limits) (turns : ℕ) (xs : List ℕ) (before : Streams) (sta
   pub checked_right : (read : Output) (e : Ending) → ShowsTo forms.Nothing limits turns e xs after.input.left before.out read → CountsReads e before.input.failures after.input.failures → ConcludesCheck e read before.err status after.out after.err → ReadsBy turns e before.input after.input → IsGranted turns xs before after ⊎ (status ≢ 3)
       → (f : Finish) × EndsAs xs es v f × (status ≡ finish_status f) × (after.out ≡ with_text before.out (ending_line (ending.Finished f))) × (after.err ≡ before.err)
   checked_right read (ending.Finished f) shows counts ends reads granted =
-      let whole = whole_by [] forms.Nothing turns f shows.old shows.new xs after.input.left before.out read (texts_to forms.Nothing turns (outcome.Finished f) shows.old shows.new xs after.input.left before.out read shows.renders) (rules_of limits) [] [] shows.fresh shows.unrefused (shows.same_rules ∙ shows.rules) es v says in
+      let whole = whole_by [] forms.Nothing turns f shows.old shows.new xs after.input.left before.out read (texts_to forms.Nothing turns (outcome.Finished f) shows.old shows.new xs after.input.left before.out read shows.renders) limits [] [] shows.fresh shows.unrefused (shows.same_rules ∙ shows.rules) es v says in
       verdict_right f whole.1 (subst (λ (o : Output). ConcludesCheck (ending.Finished f) o before.err status after.out after.err) (nothing_written limits turns f xs after.input.left before.out read shows) ends) granted
   checked_right read ending.ReadFault shows counts ends reads granted = absurd (fault_right read ending.ReadFault refl shows counts ends reads granted)
   checked_right read ending.WriteFault shows counts ends reads granted = absurd (fault_right read ending.WriteFault refl shows counts ends reads granted)
@@ -371,7 +370,7 @@ checked_rightly limits turns xs before status after es v says granted a = checke
 
 -- ---- two commands to which the outside did the same
 
-module _ (form : TextForm) (limits : Limits) (turns : ℕ) (xs : List ℕ) (was input input' : Input) (before out out' : Output) where
+module _ (form : TextForm) (limits : Rules) (turns : ℕ) (xs : List ℕ) (was input input' : Input) (before out out' : Output) where
   -- but for a write fault, no call of the output failed
   no_write_failed : (e : Ending) → e ≢ ending.WriteFault → (left : Option (List ℕ)) (after : Output) → ShowsTo form limits turns e xs left before after → after.failures ≡ before.failures
   no_write_failed (ending.Finished f) sound left after shows = ap (λ o. o.failures) ((texts_to form turns (outcome.Finished f) shows.old shows.new xs left before after shows.renders).0.events [] [] [] shows.fresh).written

@@ -8,7 +8,7 @@ use Rattle.cqlp_note.specs.declared.limits.LimitRange.{LimitRange}
 use Rattle.cqlp_note.specs.declared.limits.TheConstants.Limits.{TEXT, CELL, ENTRIES, DEPTH}
 use Rattle.cqlp_note.specs.declared.limits.BadLimits.{BadLimits}
 use Rattle.cqlp_note.specs.declared.limits.BadLimits.TheVariants as bad
-use Rattle.cqlp_note.specs.Limits.{Rules, first_bad, is_in, rules_of}
+use Rattle.cqlp_note.specs.Limits.{Rules, first_bad, is_in, rules_of, with_lenient}
 use Rattle.cqlp_note.specs.declared.refusal.Reason.TheVariants.{StreamTooLong}
 use Rattle.cqlp_kind.specs.Types.{NoMore, Type_and}
 use Rattle.cqlp_value.proofs.ScalarsWritten.{both_true}
@@ -156,10 +156,10 @@ waits : (n : ℕ) → n ≤ 2 ^ 63 → verdict_between n ≡ Waits
 waits n early = let within : nat_lt (2 ^ 63) n ≡ false = grind (arith, nat_tests) in ap (λ (b : Bool). if b then Refused n StreamTooLong else Waits) within
 
 pub values_are_shown : ValuesAreShown
-values_are_shown limits turns xs before status after fs e spelled within early granted shows =
-    let l = rules_of limits in
+values_are_shown limits lenient turns xs before status after fs e spelled within early granted shows =
+    let l = with_lenient lenient (rules_of limits) in
     let ranges = lawful limits e in
     let said = spelled_is_read l fs xs spelled within (begin_in_time l 0 fs xs spelled (omega arith)) in
-    let right = shown_rightly (forms.Pages no_page) limits turns xs before status after (FlatAll l 0 fs) Waits (subst (λ (v : Verdict). Says l start xs (FlatAll l 0 fs) v) (waits (length xs) early) said) granted shows in
+    let right = shown_rightly (forms.Pages no_page) l turns xs before status after (FlatAll l 0 fs) Waits (subst (λ (v : Verdict). Says l start xs (FlatAll l 0 fs) v) (waits (length xs) early) said) granted shows in
     let whole = ends_whole l fs xs right.0 spelled right.1 in
     (right.2 ∙ ap finish_status whole, right.3 ∙ ap (with_text before.out) (frames_are_their_values l 0 fs xs ranges.0 spelled (frames_nest l fs xs ranges.1 spelled within)), right.4 ∙ ap (λ (f : Finish). with_text before.err (ending_line (ending.Finished f))) whole)

@@ -1,7 +1,6 @@
 -- One answer of a task that passes over frames.
 use Rattle.std.proofs.Common.{◌≡◌, ◌≢◌, ℕ, Bool, true, false, List, IsSome, sym, ap, ◌∙◌, inl, subst}
-use Rattle.cqlp_note.specs.declared.limits.Limits.{Limits}
-use Rattle.cqlp_note.specs.Limits.{rules_of}
+use Rattle.cqlp_note.specs.Limits.{Rules}
 use Rattle.cqlp_grammar.specs.declared.event.Finish.{Finish}
 use Rattle.cqlp_text.specs.declared.ending.Ending.TheVariants as ending
 use Rattle.cqlp_render.specs.declared.text_form.TextForm.{TextForm}
@@ -19,10 +18,10 @@ sound_status : (passed : Bool) (own status : ℕ) → status ≡ status_after pa
 sound_status false own status is sound = λ three. sound (is ∙ three)
 sound_status true own status is sound = λ three. sound (is ∙ ap (status_after true) three)
 
-module _ (limits : Limits) (xs : List ℕ) (before : Streams) (status status' : ℕ) (after after' : Streams) (known : IsSome before.err.given) where
+module _ (limits : Rules) (xs : List ℕ) (before : Streams) (status status' : ℕ) (after after' : Streams) (known : IsSome before.err.given) where
   pub skipping_once : (form : TextForm) (a : ShowsBytes form limits turns xs before status after) (b : ShowsBytes form limits turns xs before status' after') → EndsPlainly limits xs before status after form a → EndsPlainly limits xs before status' after' form b → IsOneAnswer before status status' after after'
   skipping_once form (ending.Finished f, passed, told, reads, same, ends) (ending.Finished f', passed', told', reads', same', ends') p q =
-      let one = one_answer form (rules_of limits) xs (outputs_of before) f f' passed passed' told told' after.input.left after'.input.left reads.shows reads'.shows p.1 q.1 in
+      let one = one_answer form limits xs (outputs_of before) f f' passed passed' told told' after.input.left after'.input.left reads.shows reads'.shows p.1 q.1 in
       let c = ends in
       let c' = ends' in
       let d : Concludes (ending.Finished f) told.err c'.0 after'.err =
@@ -45,7 +44,7 @@ module _ (limits : Limits) (xs : List ℕ) (before : Streams) (status status' : 
 
   pub checking_skipping_once : (a : ChecksBytes limits turns xs before status after) (b : ChecksBytes limits turns xs before status' after') → ChecksPlainly limits xs before status after a → ChecksPlainly limits xs before status' after' b → IsOneAnswer before status status' after after'
   checking_skipping_once (ending.Finished f, passed, told, reads, own, ends, is) (ending.Finished f', passed', told', reads', own', ends', is') p q =
-      let one = one_answer forms.Nothing (rules_of limits) xs (outputs_of before) f f' passed passed' told told' after.input.left after'.input.left reads.shows reads'.shows p.1 q.1 in
+      let one = one_answer forms.Nothing limits xs (outputs_of before) f f' passed passed' told told' after.input.left after'.input.left reads.shows reads'.shows p.1 q.1 in
       let d : ConcludesCheck (ending.Finished f) told.out told.err own' after'.out after'.err =
       subst (λ (o : Outputs). ConcludesCheck (ending.Finished f) o.out o.err own' after'.out after'.err) one.2
       (subst (λ (g : Finish). ConcludesCheck (ending.Finished g) told'.out told'.err own' after'.out after'.err) one.0 ends') in

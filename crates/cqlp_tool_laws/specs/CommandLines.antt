@@ -2,8 +2,7 @@
 -- what comes of the outside, but for what only the outside decides.
 use Rattle.std.specs.Prelude.{◌≡◌, ◌≢◌, ℕ, List, Some, IsSome, Result, Ok, Err}
 use Rattle.std.proofs.Common.{inl, inr}
-use Rattle.cqlp_note.specs.declared.limits.Limits.{Limits}
-use Rattle.cqlp_note.specs.Limits.{rules_of}
+use Rattle.cqlp_note.specs.Limits.{Rules}
 use Rattle.cqlp_options.specs.Ports.{named}
 use Rattle.cqlp_options.specs.declared.capture.CaptureTask.{CaptureTask}
 use Rattle.cqlp_options.specs.declared.capture.CaptureTask.TheVariants as capture_task
@@ -28,7 +27,7 @@ use Rattle.cqlp_render_skip.specs.Showing as skipping
 use Rattle.cqlp_render_skip.specs.Showing.{outputs_of}
 use Rattle.cqlp_render_skip_laws.specs.Laws.{IsPlain}
 use Rattle.cqlp_tool.specs.Capturing.{DoesCaptureTask, IsCaptureOfInput, SplitsCapture}
-use Rattle.cqlp_tool.specs.CommandLines.{DoesTask, Executes, IsOfInput, Shows, form_of_events, form_of_rows, turns}
+use Rattle.cqlp_tool.specs.CommandLines.{DoesTask, Executes, IsOfInput, Shows, form_of_events, form_of_rows, rules_for, turns}
 use Rattle.cqlp_tool.specs.Conversing.{ConversesAndReports, ConversesWithItself}
 use Rattle.cqlp_tool_laws.specs.Text.{FailsAlike, GoesOnFromOther}
 use Rattle.cqlp_tool_laws.specs.Tool.{IsOneOutput, IsServedAlike}
@@ -48,7 +47,7 @@ pub record AreKnown (before : Streams) : Type 0 where
 -- ---- a stream
 
 -- To two commands that show the same bytes the outside did the same.
-pub record AreShownAlike (form : TextForm) (limits : Limits) (xs : List ℕ) (before : Streams) (status status' : ℕ)
+pub record AreShownAlike (form : TextForm) (limits : Rules) (xs : List ℕ) (before : Streams) (status status' : ℕ)
     (after after' : Streams) (shows : ShowsBytes form limits turns xs before status after)
     (shows' : ShowsBytes form limits turns xs before status' after') : Type 0 where
   pub served : IsServedAlike turns xs before.input after.input after'.input before.out after.out after'.out shows.0
@@ -56,7 +55,7 @@ pub record AreShownAlike (form : TextForm) (limits : Limits) (xs : List ℕ) (be
   pub error : FailsAlike before.err after.err after'.err
 
 -- The same of two that check them; the output failed alike before the verdict line, and with it.
-pub record AreCheckedAlike (limits : Limits) (xs : List ℕ) (before : Streams) (status status' : ℕ)
+pub record AreCheckedAlike (limits : Rules) (xs : List ℕ) (before : Streams) (status status' : ℕ)
     (after after' : Streams) (checks : ChecksBytes limits turns xs before status after)
     (checks' : ChecksBytes limits turns xs before status' after') : Type 0 where
   pub served : IsServedAlike turns xs before.input after.input after'.input before.out checks.1 checks'.1 checks.0
@@ -66,19 +65,19 @@ pub record AreCheckedAlike (limits : Limits) (xs : List ℕ) (before : Streams) 
 
 -- Of one that passes over frames: it came to a verdict, which is not that a frame ends too far to be passed over, and its status is not that
 -- of a fault.
-module _ (limits : Limits) (xs : List ℕ) (before : Streams) (status : ℕ) (after : Streams) where
+module _ (limits : Rules) (xs : List ℕ) (before : Streams) (status : ℕ) (after : Streams) where
   abbrev pub EndsPlainly : (form : TextForm) → skipping.ShowsBytes form limits turns xs before status after → Type 0
   EndsPlainly form (ending.Finished f, passed, told, reads, same, ends) =
-      (status ≢ 3) × IsPlain form (rules_of limits) xs (outputs_of before) f passed told after.input.left reads.shows
+      (status ≢ 3) × IsPlain form limits xs (outputs_of before) f passed told after.input.left reads.shows
   EndsPlainly form shows = ⊥
 
   -- The same of one that checks.
   abbrev pub ChecksPlainly : skipping.ChecksBytes limits turns xs before status after → Type 0
   ChecksPlainly (ending.Finished f, passed, told, reads, own, ends, is) =
-      (status ≢ 3) × IsPlain forms.Nothing (rules_of limits) xs (outputs_of before) f passed told after.input.left reads.shows
+      (status ≢ 3) × IsPlain forms.Nothing limits xs (outputs_of before) f passed told after.input.left reads.shows
   ChecksPlainly checks = ⊥
 
-module _ (limits : Limits) (before : Streams) (status status' : ℕ) (after after' : Streams) where
+module _ (limits : Rules) (before : Streams) (status status' : ℕ) (after after' : Streams) where
   -- The same of a text in a form, where what is read is known.
   abbrev pub IsTextMetAlike : (form : TextForm) (r : AtRefusal) → AreKnown before → Shows form r limits before status after
       → Shows form r limits before status' after' → Type 0
@@ -184,7 +183,7 @@ module _ (before : Streams) (status status' : ℕ) (after after' : Streams) wher
       → Executes l before status' after' → Type 0
   AreMetAlike (Ok (line.Stream options)) does does' =
       (is : IsOfInput options) × (known : AreKnown before)
-      × IsTaskMetAlike options.limits before status status' after after' options.task known (does is) (does' is)
+      × IsTaskMetAlike (rules_for options) before status status' after after' options.task known (does is) (does' is)
   AreMetAlike (Ok (line.Loop queries)) does does' = AreLoopsMetAlike queries before status status' after after' does does'
   AreMetAlike (Ok (line.Capture options)) does does' =
       (is : IsCaptureOfInput options) × (known : AreKnown before)

@@ -1,7 +1,7 @@
 -- Laws of rows: what is written of pages is the text of the values in them.
-use Rattle.std.specs.Prelude.{◌≡◌, ◌≢◌, ℕ, ◌+◌, ◌≤◌, ◌^◌, max, List, [], ◌∷◌, ◌++◌, length, Option, None, true, Ok, All, ◌⊎◌}
+use Rattle.std.specs.Prelude.{◌≡◌, ◌≢◌, ℕ, Bool, ◌+◌, ◌≤◌, ◌^◌, max, List, [], ◌∷◌, ◌++◌, length, Option, None, true, Ok, All, ◌⊎◌}
 use Rattle.cqlp_note.specs.declared.limits.Limits.{Limits}
-use Rattle.cqlp_note.specs.Limits.{Rules, first_bad, rules_of}
+use Rattle.cqlp_note.specs.Limits.{Rules, first_bad, rules_of, with_lenient}
 use Rattle.cqlp_kind.specs.declared.kind.Kind.{Kind}
 use Rattle.cqlp_kind.specs.Types.{Types}
 use Rattle.cqlp_value.specs.Values.{Values, NoValue, Null_and, Empty_and, Scalar_and, Counted_and, Fields_and, value_fits}
@@ -94,14 +94,14 @@ ValuesAreRendered =
     → RendersTo (forms.Pages no_page) turns (outcome.Finished f) old new xs left before after
     → after ≡ with_text before (frames_text fs)
 
--- `rows` over bytes that spell frames within its limits, where the outside granted all, or the status is not that of a fault,
+-- `rows`, lenient or not, over bytes that spell frames within its limits, where the outside granted all, or the status is not that of a fault,
 -- wrote just the text of the values in their pages, and reported that the stream is whole.
 abbrev pub ValuesAreShown : Type 0
 ValuesAreShown =
-    (limits : Limits) (turns : ℕ) (xs : List ℕ) (before : Streams) (status : ℕ) (after : Streams)
+    (limits : Limits) (lenient : Bool) (turns : ℕ) (xs : List ℕ) (before : Streams) (status : ℕ) (after : Streams)
     (fs : List (FrameValue × ℕ))
-    → first_bad limits ≡ Ok tt → AllSpell fs xs → AllWithin (rules_of limits) fs → length xs ≤ 2 ^ 63
+    → first_bad limits ≡ Ok tt → AllSpell fs xs → AllWithin (with_lenient lenient (rules_of limits)) fs → length xs ≤ 2 ^ 63
     → IsGranted turns xs before after ⊎ (status ≢ 3)
-    → ShowsBytes (forms.Pages no_page) limits turns xs before status after
+    → ShowsBytes (forms.Pages no_page) (with_lenient lenient (rules_of limits)) turns xs before status after
     → (status ≡ 0) × (after.out ≡ with_text before.out (frames_text fs))
     × (after.err ≡ with_text before.err (ending_line (ending.Finished (finish.Whole (length xs)))))

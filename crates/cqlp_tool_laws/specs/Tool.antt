@@ -1,8 +1,7 @@
 -- Laws of one answer: what is written of a stream, and how that ends, is decided by its bytes, but for what only the
 -- outside decides: whether a target or the reader fails, whether there is memory, and whether the turns run out.
 use Rattle.std.specs.Prelude.{◌≡◌, ◌≢◌, ℕ, ◌+◌, ◌-◌, ◌^◌, ◌<◌, ◌≤◌, ◌*◌, List, ◌++◌, length, Option, None, ◌⊎◌}
-use Rattle.cqlp_note.specs.declared.limits.Limits.{Limits}
-use Rattle.cqlp_note.specs.Limits.{rules_of}
+use Rattle.cqlp_note.specs.Limits.{Rules}
 use Rattle.cqlp_note.specs.Streams.{CountsUp}
 use Rattle.std.specs.Io.KnownBytes.{append_known}
 use Rattle.cqlp_grammar.specs.declared.event.Finish.{Finish}
@@ -66,9 +65,9 @@ pub record IsGranted (turns : ℕ) (xs : List ℕ) (before after : Streams) : Ty
 -- of a fault, just the text of the events was written, the verdict line is that of the stream, and the status is its
 -- own.
 abbrev pub IsShownRightly : TextForm → Type 0
-IsShownRightly form = (limits : Limits) (turns : ℕ) (xs : List ℕ) (before : Streams) (status : ℕ) (after : Streams)
+IsShownRightly form = (limits : Rules) (turns : ℕ) (xs : List ℕ) (before : Streams) (status : ℕ) (after : Streams)
     (es : List (ℕ × Event)) (v : Verdict)
-    → Says (rules_of limits) start xs es v → IsGranted turns xs before after ⊎ (status ≢ 3)
+    → Says limits start xs es v → IsGranted turns xs before after ⊎ (status ≢ 3)
     → ShowsBytes form limits turns xs before status after
     → (f : Finish) × EndsAs xs es v f × (status ≡ finish_status f)
     × (after.out ≡ with_text before.out (text form es))
@@ -76,9 +75,9 @@ IsShownRightly form = (limits : Limits) (turns : ℕ) (xs : List ℕ) (before : 
 
 -- The same of a stream that is checked: the verdict line is all that was written.
 abbrev pub IsCheckedRightly : Type 0
-IsCheckedRightly = (limits : Limits) (turns : ℕ) (xs : List ℕ) (before : Streams) (status : ℕ) (after : Streams)
+IsCheckedRightly = (limits : Rules) (turns : ℕ) (xs : List ℕ) (before : Streams) (status : ℕ) (after : Streams)
     (es : List (ℕ × Event)) (v : Verdict)
-    → Says (rules_of limits) start xs es v → IsGranted turns xs before after ⊎ (status ≢ 3)
+    → Says limits start xs es v → IsGranted turns xs before after ⊎ (status ≢ 3)
     → ChecksBytes limits turns xs before status after
     → (f : Finish) × EndsAs xs es v f × (status ≡ finish_status f)
     × (after.out ≡ with_text before.out (ending_line (ending.Finished f))) × (after.err ≡ before.err)
@@ -87,7 +86,7 @@ IsCheckedRightly = (limits : Limits) (turns : ℕ) (xs : List ℕ) (before : Str
 
 -- Of a command the last read. The bytes that the reads before it gave say these events and no refusal, and before it the
 -- output had been given all their text: that is a front of what it was given in the end.
-pub record LastReadAfterText (form : TextForm) (limits : Limits) (turns : ℕ) (xs : List ℕ) (was now : Input)
+pub record LastReadAfterText (form : TextForm) (limits : Rules) (turns : ℕ) (xs : List ℕ) (was now : Input)
     (before after : Output) : Type 0 where
   pub earlier : ℕ
   pub counted : CountsUp (earlier + 1) was.reads now.reads
@@ -98,19 +97,19 @@ pub record LastReadAfterText (form : TextForm) (limits : Limits) (turns : ℕ) (
   pub some : earlier ≤ length first
   pub few : length first ≤ 4096 * earlier
   pub events : List (ℕ × Event)
-  pub says : Says (rules_of limits) start first events Waits
+  pub says : Says limits start first events Waits
   pub given : GoesOn (append_known before.given (text form events)) after.given
 
 -- A command that showed a stream made no read, or its last one after that text.
 abbrev pub IsReadAfterText : TextForm → Type 0
-IsReadAfterText form = (limits : Limits) (turns : ℕ) (xs : List ℕ) (before : Streams) (status : ℕ) (after : Streams)
+IsReadAfterText form = (limits : Rules) (turns : ℕ) (xs : List ℕ) (before : Streams) (status : ℕ) (after : Streams)
     → ShowsBytes form limits turns xs before status after
     → (after.input.reads ≡ before.input.reads)
     ⊎ LastReadAfterText form limits turns xs before.input after.input before.out after.out
 
 -- One that checked a stream made no read, or its last one when the bytes read before were refused nothing.
 abbrev pub IsReadUnrefused : Type 0
-IsReadUnrefused = (limits : Limits) (turns : ℕ) (xs : List ℕ) (before : Streams) (status : ℕ) (after : Streams)
+IsReadUnrefused = (limits : Rules) (turns : ℕ) (xs : List ℕ) (before : Streams) (status : ℕ) (after : Streams)
     → (checks : ChecksBytes limits turns xs before status after)
     → (after.input.reads ≡ before.input.reads)
     ⊎ LastReadAfterText forms.Nothing limits turns xs before.input after.input before.out checks.1
@@ -172,7 +171,7 @@ pub record IsServedAlike (turns : ℕ) (xs : List ℕ) (was input input' : Input
 
 -- Two commands that show the same bytes within the same limits, and to which the outside did the same, end alike.
 abbrev pub EndsOnce : TextForm → Type 0
-EndsOnce form = (limits : Limits) (turns : ℕ) (xs : List ℕ) (before : Streams) (status status' : ℕ)
+EndsOnce form = (limits : Rules) (turns : ℕ) (xs : List ℕ) (before : Streams) (status status' : ℕ)
     (after after' : Streams)
     → (shows : ShowsBytes form limits turns xs before status after)
     (shows' : ShowsBytes form limits turns xs before status' after')
@@ -181,7 +180,7 @@ EndsOnce form = (limits : Limits) (turns : ℕ) (xs : List ℕ) (before : Stream
 
 -- The same of two that check them; the output is the one before the verdict line.
 abbrev pub ChecksEndOnce : Type 0
-ChecksEndOnce = (limits : Limits) (turns : ℕ) (xs : List ℕ) (before : Streams) (status status' : ℕ)
+ChecksEndOnce = (limits : Rules) (turns : ℕ) (xs : List ℕ) (before : Streams) (status status' : ℕ)
     (after after' : Streams)
     → (checks : ChecksBytes limits turns xs before status after)
     (checks' : ChecksBytes limits turns xs before status' after')
@@ -191,7 +190,7 @@ ChecksEndOnce = (limits : Limits) (turns : ℕ) (xs : List ℕ) (before : Stream
 -- Two commands that show the same bytes within the same limits, and end alike: one ending, one status, and one text on
 -- each output.
 abbrev pub IsShownOnce : TextForm → Type 0
-IsShownOnce form = (limits : Limits) (turns : ℕ) (xs : List ℕ) (before : Streams) (status status' : ℕ)
+IsShownOnce form = (limits : Rules) (turns : ℕ) (xs : List ℕ) (before : Streams) (status status' : ℕ)
     (after after' : Streams)
     → (shows : ShowsBytes form limits turns xs before status after)
     (shows' : ShowsBytes form limits turns xs before status' after')
@@ -200,7 +199,7 @@ IsShownOnce form = (limits : Limits) (turns : ℕ) (xs : List ℕ) (before : Str
     × IsOneOutput before.out after.out after'.out × IsOneOutput before.err after.err after'.err
 
 abbrev pub IsCheckedOnce : Type 0
-IsCheckedOnce = (limits : Limits) (turns : ℕ) (xs : List ℕ) (before : Streams) (status status' : ℕ)
+IsCheckedOnce = (limits : Rules) (turns : ℕ) (xs : List ℕ) (before : Streams) (status status' : ℕ)
     (after after' : Streams)
     → (checks : ChecksBytes limits turns xs before status after)
     (checks' : ChecksBytes limits turns xs before status' after')

@@ -4,37 +4,16 @@ use Rattle.std.specs.Prelude.{Some, slice_get}
 use Rattle.std.proofs.lemmas.List.{append-nil, drop-drop, length-append, length-drop, drop_at, drop_all}
 use Rattle.cqlp_note.specs.Limits.{Rules}
 use Rattle.cqlp_kind.specs.declared.kind.Kind.{Kind}
-use Rattle.cqlp_kind.specs.declared.kind.Kind.TheVariants as kind
 use Rattle.cqlp_kind.specs.declared.node.Node.{Node}
-use Rattle.cqlp_kind.specs.Types.{Types, NoMore, Type_and, how_many, types_of, preorder, followed_by, HasInner, AreFormed}
+use Rattle.cqlp_kind.specs.Types.{Types, NoMore, Type_and, how_many, types_of, preorder, followed_by, AreFormed}
 use Rattle.cqlp_kind.specs.TypeStep.{TypeEvent}
-use Rattle.cqlp_type.specs.Trees.{Head, Plain, Custom, ListOf, SetOf, MapOf, TupleOf, UdtOf, Trees, NoTree, Tree_and, kind_in, types_in, IsHead, AreTrees, Shallow}
-use Rattle.cqlp_kind.specs.Types.{is_plain}
+use Rattle.cqlp_type.specs.Trees.{Trees, NoTree, Tree_and, types_in, Shallow}
 use Rattle.cqlp_type.specs.Pushing.{IsWhole}
-use Rattle.cqlp_type.proofs.Forests.{many_types, types_of_own_preorder}
+use Rattle.cqlp_type.proofs.Forests.{types_of_own_preorder}
 use Rattle.cqlp_type.specs.Forests.{types_at, depth_of, Forest, Stand}
 use Rattle.cqlp_type.proofs.Inside.{first_read, stand_there, preorder-followed, formed-followed, depth-followed}
 
 -- ---- the types of trees
-
-plain_inner : (k : Kind) (n : ℕ) → is_plain k ≡ true → HasInner k n
-plain_inner kind.List n e = absurd cc
-plain_inner kind.Map n e = absurd cc
-plain_inner kind.Set n e = absurd cc
-plain_inner k n e = tt
-
-has_inner : (h : Head) (n : ℕ) → IsHead h n → HasInner (kind_in h) n
-has_inner (Plain k) n h = plain_inner k n h.0
-has_inner (Custom class) n h = tt
-has_inner ListOf n h = h
-has_inner SetOf n h = h
-has_inner MapOf n h = h
-has_inner TupleOf n h = tt
-has_inner (UdtOf keyspace name) n h = tt
-
-pub are_types : (t : Trees) → AreTrees t → AreFormed (types_in t)
-are_types NoTree a = tt
-are_types (Tree_and name h inner others) a = (has_inner h (how_many (types_in inner)) (rw (many_types inner) a.0), are_types inner a.1, are_types others a.2)
 
 -- types that begin at this depth are nested no deeper than there is room below
 pub are_shallow : (l : Rules) (depth room : ℕ) (t : Trees) → Shallow l depth t → l.depth + 1 ≤ depth + room → depth_of (types_in t) ≤ room
@@ -56,7 +35,7 @@ forest_more l at before s es nodes f w =
     record {
       types = followed_by f.types one;
       are = w.table ∙ ap (λ (m : List Node). m ++ preorder one) f.are ∙ sym (preorder-followed f.types one);
-      formed = formed-followed f.types one f.formed (are_types w.tree w.are);
+      formed = formed-followed f.types one f.formed w.formed;
       shallow = depth-followed f.types one l.depth f.shallow (are_shallow l 1 l.depth w.tree w.shallow (omega arith));
     }
 

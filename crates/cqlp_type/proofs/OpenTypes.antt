@@ -22,7 +22,7 @@ use Rattle.cqlp_kind.specs.declared.kind.Kind.TheVariants as kind
 use Rattle.cqlp_kind.specs.declared.node.Node.{Node}
 use Rattle.cqlp_type.specs.declared.advance.TypeOutline.{TypeOutline}
 use Rattle.cqlp_kind.specs.Types.{Types, NoMore, Type_and, how_many, HasInner, AreFormed, IsPreorder, preorder, followed_by, kinds}
-use Rattle.cqlp_kind.specs.TypeStep.{TypeSymbol, Option_at, Text_of, Fields_of, Whole, TypeEvent, IsNode, IsField, TypePlace, parameters_of, arity_of, inner_symbols, symbol_copies, with_arity, with_span, settled, type_place, option_step, count_in, type_step_at, type_step}
+use Rattle.cqlp_kind.specs.TypeStep.{TypeSymbol, Option_at, Text_of, Fields_of, Whole, TypeEvent, IsNode, IsField, TypePlace, parameters_of, arity_of, inner_symbols, symbol_copies, with_arity, with_span, settled, type_place, option_kind, option_step, count_in, type_step_at, type_step}
 use Rattle.cqlp_type.specs.Table.{Table, HoldsTypes}
 use Rattle.cqlp_type.specs.Remaining.{Closes, Keeps, item_step, short_in, event_at}
 use Rattle.cqlp_type.specs.Progress.{TypeState, IsShared, place_of, pending, step_says, started, Waits, Ends}
@@ -223,8 +223,8 @@ module _ (base : List Node) (l : Rules) (p : TypePlace) where
   unfolding number_of
   step_shaped [] h = tt
   step_shaped (Option_at depth ∷ rest) h =
-      let next : List ℕ → Step TypeEvent TypePlace = λ b. option_step l depth rest p (beside_number (from_be_bytes w16 b) kinds) in
-      either_always (IsShaped base) [] (ltb (p.stop - p.offset) 2) (Refuses (p.offset, Overrun)) (Takes 2 next) (λ _. tt) (λ _ c long. option_shaped depth rest (beside_number (from_be_bytes w16 c) kinds) c h)
+      let next : List ℕ → Step TypeEvent TypePlace = λ b. option_step l depth rest p (option_kind (beside_number (from_be_bytes w16 b) kinds) l.lenient) in
+      either_always (IsShaped base) [] (ltb (p.stop - p.offset) 2) (Refuses (p.offset, Overrun)) (Takes 2 next) (λ _. tt) (λ _ c long. option_shaped depth rest (option_kind (beside_number (from_be_bytes w16 c) kinds) l.lenient) c h)
   step_shaped (Text_of f ∷ rest) h =
       let next : FieldValue → Step TypeEvent TypePlace = λ v. Emit p.offset (IsField f v) (type_place p (settled rest p.nodes)) in
       field_shaped base p.offset (field_of notation.Text16 l.text (p.stop - p.offset)) next [] (λ v b u. settled_shape base rest p.nodes (text_opens base f rest p.nodes h))
@@ -253,29 +253,10 @@ formed_followed : (ts us : Types) → AreFormed ts → AreFormed us → AreForme
 formed_followed NoMore us a b = b
 formed_followed (Type_and k inner others) us a b = (a.0, a.1, formed_followed others us a.2 b)
 
-plain_inner : (k : Kind) (n : ℕ) → is_plain k ≡ true → HasInner k n
-plain_inner kind.List n e = absurd cc
-plain_inner kind.Map n e = absurd cc
-plain_inner kind.Set n e = absurd cc
-plain_inner k n e = tt
-
-has_inner : (h : Head) (n : ℕ) → IsHead h n → HasInner (kind_in h) n
-has_inner (Plain k) n h = plain_inner k n h.0
-has_inner (Custom class) n h = tt
-has_inner ListOf n h = h
-has_inner SetOf n h = h
-has_inner MapOf n h = h
-has_inner TupleOf n h = tt
-has_inner (UdtOf keyspace name) n h = tt
-
-trees_formed : (t : Trees) → AreTrees t → AreFormed (types_in t)
-trees_formed NoTree a = tt
-trees_formed (Tree_and name h inner others) a = (has_inner h (how_many (types_in inner)) (rw (many_types inner) a.0), trees_formed inner a.1, trees_formed others a.2)
-
 pub whole_more : (l : Rules) (depth at : ℕ) (before : List Node) (s : List ℕ) (es : List (ℕ × TypeEvent)) (nodes : List Node) → IsPreorder before → IsWhole l depth at before s es nodes → IsPreorder nodes
 whole_more l depth at before s es nodes h w = record {
   types = followed_by h.types (types_in w.tree);
-  formed = formed_followed h.types (types_in w.tree) h.formed (trees_formed w.tree w.are);
+  formed = formed_followed h.types (types_in w.tree) h.formed w.formed;
   are = w.table ∙ ap (λ (x : List Node). x ++ preorder (types_in w.tree)) h.are ∙ sym (preorder_followed h.types (types_in w.tree));
 }
 
@@ -309,7 +290,7 @@ module _ (r : TypeState) (p : FieldState) (t : Table) (input : List ℕ) (reads 
   keeps used v [] same within said = tt
   keeps used v (Option_at depth ∷ rest) same within said = λ k is deep room.
       let next = type_place (place_of r t.nodes) (settled (parameters_of k depth ++ Whole (length t.nodes) ∷ rest) (t.nodes ++ new_node k ∷ [])) in
-      let step : option_step r.rules depth rest (place_of r t.nodes) (beside_number (short_in v) kinds) ≡ Emit r.offset (IsNode k) next = rw (is, le-ltb _ _ deep, lt-leb _ _ room) refl in
+      let step : option_step r.rules depth rest (place_of r t.nodes) (option_kind (beside_number (short_in v) kinds) r.rules.lenient) ≡ Emit r.offset (IsNode k) next = rw (is, le-ltb _ _ deep, lt-leb _ _ room) refl in
       let all_said = said ∙ ap (λ (z : Step TypeEvent TypePlace). says z (length (pending r p) + used) (drop (length (pending r p) + used) all)) step in
       let o = option_opens reads.start.nodes depth depth rest t.nodes k (rw same shape) in
       closes reads.start.nodes (parameters_of k depth ++ Whole (length t.nodes) ∷ rest) (t.nodes ++ new_node k ∷ []) o (ended used (IsNode k) (parameters_of k depth ++ Whole (length t.nodes) ∷ rest) (t.nodes ++ new_node k ∷ []) within all_said)

@@ -44,8 +44,8 @@ SpelledIsRead =
     let after : TypePlace = record { offset = at + length b; stop = stop; symbols = []; nodes = all } in
     Runs (type_step l) before b (placed at (trees_items false t)) after []
 
--- What is read of an option, up to its end, is a type that its bytes spell, with its items and its nodes, and no inner
--- type is deeper than the limit.
+-- What is read of an option, up to its end, is a type that its bytes spell (where the caller is not lenient), with its items
+-- and its nodes, and no inner type is deeper than the limit.
 abbrev pub ReadIsSpelled : Type 0
 ReadIsSpelled =
     (l : Rules) (depth : ℕ) (before after : TypePlace) (b : List ℕ) (es : List (ℕ × TypeEvent))

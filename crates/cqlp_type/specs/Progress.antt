@@ -5,11 +5,11 @@ use Rattle.cqlp_note.specs.declared.field.Notation.{Notation}
 use Rattle.cqlp_note.specs.declared.field.Notation.TheVariants as notation
 use Rattle.cqlp_note.specs.declared.head.Wanted.{Wanted}
 use Rattle.cqlp_note.specs.declared.refusal.Reason.{Reason}
-use Rattle.cqlp_note.specs.declared.limits.Limits.{Limits}
+use Rattle.cqlp_note.specs.declared.limits.Asked.{Asked}
 use Rattle.cqlp_note.specs.Reader.{Said, More, Bad, Got, says}
 use Rattle.cqlp_note.specs.Field.{Text}
 use Rattle.cqlp_note.specs.Step.{Emitted}
-use Rattle.cqlp_note.specs.Limits.{Rules, rules_of, limit_of}
+use Rattle.cqlp_note.specs.Limits.{Rules, rules_asked, limit_of}
 use Rattle.cqlp_note.specs.Partial.{FieldState, item_value, CanLend, content_bytes}
 use Rattle.cqlp_note.specs.Field.{content_length}
 use Rattle.cqlp_kind.specs.declared.node.Node.{Node}
@@ -36,10 +36,10 @@ pub record TypeState : Type 0 where
   pub begun : Bool
   pub taken : ℕ
 
-abbrev pub progress : Limits → (offset stop : ℕ) → OptionStage → Nest → (begun : Bool) → (taken : ℕ) → TypeState
+abbrev pub progress : Asked → (offset stop : ℕ) → OptionStage → Nest → (begun : Bool) → (taken : ℕ) → TypeState
 progress l offset stop s n begun taken =
     record {
-      rules = rules_of l;
+      rules = rules_asked l;
       under_way = is_under_way s;
       offset = offset;
       stop = stop;

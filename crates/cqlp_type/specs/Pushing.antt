@@ -13,7 +13,7 @@ use Rattle.cqlp_type.specs.declared.advance.TypeAdvance.{TypeAdvance}
 use Rattle.cqlp_type.specs.declared.advance.TypeAdvance.TheVariants as advance
 use Rattle.cqlp_type.specs.declared.item.TypePush.{TypePush}
 use Rattle.cqlp_type.specs.declared.item.TypePush.TheVariants as push
-use Rattle.cqlp_kind.specs.Types.{IsPreorder, preorder}
+use Rattle.cqlp_kind.specs.Types.{AreFormed, IsPreorder, preorder}
 use Rattle.cqlp_kind.specs.TypeStep.{TypeEvent, IsNode, IsField, TypePlace, type_step, Option_at}
 use Rattle.cqlp_type.specs.Table.{Table}
 use Rattle.cqlp_type.specs.Trees.{Trees, trees_in, types_in, AreTrees, Shallow, trees_items, placed, TreeSpells}
@@ -53,14 +53,16 @@ AdvanceLeaves advance.Done r p t = IsPreorder t.nodes
 AdvanceLeaves (advance.Refused x) r p t = Unit {0}
 
 -- These bytes spell the option of a type at this depth, none of whose inner types is too deep; these are its items,
--- the first at `at`; and its nodes in preorder stand after the ones before.
+-- the first at `at`; and its nodes in preorder stand after the ones before. (What a lenient caller reads of an unknown id
+-- is a type in the table all the same, but nothing spells it.)
 pub record IsWhole (l : Rules) (depth at : ℕ) (before : List Node) (s : List ℕ) (es : List (ℕ × TypeEvent))
     (nodes : List Node) : Type 0 where
   pub tree : Trees
   pub one : trees_in tree ≡ 1
-  pub are : AreTrees tree
+  pub formed : AreFormed (types_in tree)
+  pub are : l.lenient ≡ false → AreTrees tree
   pub shallow : Shallow l depth tree
-  pub spelled : TreeSpells tree s
+  pub spelled : l.lenient ≡ false → TreeSpells tree s
   pub items : es ≡ placed at (trees_items false tree)
   pub table : nodes ≡ before ++ preorder (types_in tree)
 

@@ -2,14 +2,14 @@
 
 ghost use Rattle.std.specs.Prelude.{◌≡◌, ◌+◌, ◌<◌, ◌≤◌, ◌++◌, ◌∷◌, [], true, false, length, IfOk, IsTrue, ◌↔◌};
 ghost use Rattle.std.specs.Borrow.{sem};
-ghost use Rattle.cqlp_note.specs.Limits.{rules_of};
+ghost use Rattle.cqlp_note.specs.Limits.{rules_asked, rules_of};
 
 use crate::advance::TypeAdvance;
 use crate::item::TypePush;
 use crate::open_options::OpenOptions;
 use crate::remaining::{OptionStage, Remaining};
 use crate::table::TypeTable;
-use cqlp_note::{FieldAdvance, Limits, NoMemory, Notation, Partial, Refusal};
+use cqlp_note::{Asked, FieldAdvance, Limits, NoMemory, Notation, Partial, Refusal};
 use std::alloc::{Allocator, Global};
 use std::marker::Model;
 
@@ -17,7 +17,7 @@ use std::marker::Model;
 /// table.
 #[derive(Drop)]
 pub struct TypeReader<A: Allocator = Global> {
-    limits: Limits,
+    limits: Asked,
     /// The offset of the item that is read now.
     at: u64,
     /// The end of the frame.
@@ -52,6 +52,13 @@ impl<A: Allocator> TypeReader<A> {
     /// With room for the nesting that the limits allow.
     pub fn new(alloc: A, limits: &Limits) -> Result<Self, NoMemory>
         ensures { IfOk result (λ reader. reader ≡ new_reader (rules_of limits.now)) }
+    {
+        Self::asked(alloc, &Asked::new(limits, false))
+    }
+
+    /// The same, where the caller may ask for a lenient reading.
+    pub fn asked(alloc: A, limits: &Asked) -> Result<Self, NoMemory>
+        ensures { IfOk result (λ reader. reader ≡ new_reader (rules_asked limits.now)) }
     {
         Ok(TypeReader {
             limits: *limits,

@@ -2,18 +2,21 @@
 
 ghost use Rattle.std.specs.Prelude.{◌≡◌, ◌+◌, ◌<◌, ◌≤◌, ◌++◌, ◌∷◌, List, ℕ, true, length, IfOk};
 ghost use Rattle.cqlp_note.specs.Partial.{item_value};
-ghost use Rattle.cqlp_note.specs.Limits.{rules_of};
+ghost use Rattle.cqlp_note.specs.Limits.{rules_asked};
 ghost use Rattle.cqlp_type.specs.OpenOptions.{entered, entered_symbols};
 ghost use Rattle.cqlp_type.specs.declared.remaining.OptionStage.TheVariants as stage;
 ghost use Rattle.cqlp_type.specs.Remaining.{Closes, FollowsId, FollowsItem, HasRoom, IsPart, Keeps, Settles};
 ghost use Rattle.cqlp_type.specs.Remaining.{is_under_way, is_wanted, number_of, short_in, symbols_of};
+ghost use Rattle.cqlp_note.specs.Heading.{beside_number};
 ghost use Rattle.cqlp_kind.specs.declared.kind.Kind.{Kind};
+ghost use Rattle.cqlp_kind.specs.Types.{kinds};
+ghost use Rattle.cqlp_kind.specs.TypeStep.{option_kind as option_kind_is};
 
 use crate::advance::TypeOutline;
 use crate::open_options::{NextOption, OpenOptions};
 use crate::table::TypeTable;
 use cqlp_kind::{Kind, Node};
-use cqlp_note::{Field, FieldOutline, Limits, Prim, Reason};
+use cqlp_note::{Asked, Field, FieldOutline, Prim, Reason};
 use std::alloc::Allocator;
 
 /// What of an option is read now.
@@ -48,7 +51,7 @@ impl<A: Allocator> Remaining<A> {
     /// Goes on after an item: what part of the option it is, or why its type is refused.
     pub(crate) fn follow<C: Allocator>(
         &mut self,
-        limits: &Limits,
+        limits: &Asked,
         item: FieldOutline,
         table: &mut TypeTable<C>,
     ) -> Result<TypeOutline, Reason>
@@ -56,14 +59,14 @@ impl<A: Allocator> Remaining<A> {
         requires lawful { HasRoom self.old.stage self.old.open_options }
         requires depth { self.old.open_options.room ≡ limits.now.depth }
         requires entries { limits.now.entries ≤ table.old.room }
-        requires types { Keeps (rules_of limits.now) (symbols_of self.old) table.old.nodes (number_of item) }
+        requires types { Keeps (rules_asked limits.now) (symbols_of self.old) table.old.nodes (number_of item) }
         ensures lawful { HasRoom self.new.stage self.new.open_options }
         ensures depth { self.new.open_options.room ≡ limits.now.depth }
         ensures under_way { is_under_way self.new.stage ≡ true }
         ensures table { table.new.room ≡ table.old.room }
         ensures entries { length table.old.nodes ≤ limits.now.entries → length table.new.nodes ≤ limits.now.entries }
         ensures part { IfOk result (λ q. IsPart (symbols_of self.old) item q) }
-        ensures follows { FollowsItem (rules_of limits.now) self.old table.old item result self.new table.new }
+        ensures follows { FollowsItem (rules_asked limits.now) self.old table.old item result self.new table.new }
     {
         match self.stage {
             OptionStage::Idle | OptionStage::Done => unreachable!(),
@@ -96,7 +99,7 @@ impl<A: Allocator> Remaining<A> {
     /// Goes on after the id of an option, whose node is added to the table.
     fn take_id<C: Allocator>(
         &mut self,
-        limits: &Limits,
+        limits: &Asked,
         id: u16,
         table: &mut TypeTable<C>,
     ) -> Result<TypeOutline, Reason>
@@ -104,16 +107,16 @@ impl<A: Allocator> Remaining<A> {
         requires lawful { HasRoom self.old.stage self.old.open_options }
         requires depth { self.old.open_options.room ≡ limits.now.depth }
         requires entries { limits.now.entries ≤ table.old.room }
-        requires types { Keeps (rules_of limits.now) (symbols_of self.old) table.old.nodes id }
+        requires types { Keeps (rules_asked limits.now) (symbols_of self.old) table.old.nodes id }
         ensures lawful { HasRoom self.new.stage self.new.open_options }
         ensures depth { self.new.open_options.room ≡ limits.now.depth }
         ensures under_way { is_under_way self.new.stage ≡ true }
         ensures table { table.new.room ≡ table.old.room }
         ensures entries { length table.old.nodes ≤ limits.now.entries → length table.new.nodes ≤ limits.now.entries }
         ensures part { IfOk result (λ q. (k : Kind) × (q ≡ TypeOutline.Node k)) }
-        ensures follows { FollowsId (rules_of limits.now) self.old table.old id result self.new table.new }
+        ensures follows { FollowsId (rules_asked limits.now) self.old table.old id result self.new table.new }
     {
-        let Some(kind) = Kind::from_id(id) else {
+        let Some(kind) = option_kind(limits.lenient, id) else {
             return Err(Reason::BadType);
         };
         if self.open_options.len() >= limits.depth {
@@ -136,6 +139,16 @@ impl<A: Allocator> Remaining<A> {
             _ => enter_option(&mut self.open_options, node, false, arity, table),
         };
         Ok(TypeOutline::Node(kind))
+    }
+}
+
+/// The kind of an option of this id: of an unknown type, where no kind has the id and the caller is lenient.
+fn option_kind(lenient: bool, id: u16) -> Option<Kind>
+    ensures { result ≡ option_kind_is (beside_number id kinds) lenient }
+{
+    match Kind::from_id(id) {
+        None if lenient => Some(Kind::Raw),
+        known => known,
     }
 }
 

@@ -31,11 +31,13 @@ use Rattle.cqlp_cell.specs.Items.{content_length, event_at, event_of}
 use Rattle.cqlp_cell.specs.Sizes.{is_counted}
 use Rattle.cqlp_type.specs.Forests.{types_at}
 use Rattle.cqlp_cell.specs.Progress.{CellState, value_symbols, left_of, open_symbols, all_open_symbols, symbols_for, cell_symbols, place, due_value, is_under_way, is_some_next, ended, NextStands, Stands}
-use Rattle.cqlp_cell.specs.Reading.{gathered, Joined, UnderBy, PartUnder, HaveCome, Answers, Empties, Moves}
+use Rattle.cqlp_cell.specs.OpenValues.{last_open}
+use Rattle.cqlp_cell.specs.Reading.{gathered, Joined, UnderBy, FurtherUnder, PartUnder, HaveCome, Answers, Empties, Moves}
 use Rattle.cqlp_cell.specs.Pushing.{After, Continues, Keeps, Pushes, Uses, is_done, done_by}
 use Rattle.cqlp_value.specs.Laws.{Answer, More, FieldOutline, Done, Refused, push_answer, advance_answer, Call, Seen, seen, LeaveAlike, IsPush, IsAdvance, AreAlike}
 use Rattle.cqlp_cell.proofs.Coming.{first_kind, one_value, value_first_is}
 use Rattle.cqlp_cell.proofs.Leading.{keeps, told_is, stands_under, is_over_done, is_not_done}
+use Rattle.cqlp_cell.proofs.Further.{inner_symbols}
 use Rattle.cqlp_cell.proofs.Leavings.{stop_is}
 
 -- ---- runs with the same events
@@ -180,10 +182,14 @@ module _ (nodes : List Node) (d : CellState) (p : FieldState) (stands : Stands n
   abbrev AreCome : Arrived → Type 0
   AreCome u = (p.seen ≡ field_bytes first b) × (gathered u p.seen ≡ buffer_bytes first b)
 
+  further_first : (o : Option OpenValue) → FurtherUnder nodes d p o → first_kind (all_open_symbols nodes 0 d.open_values) ≡ None
+  further_first None h = absurd h
+  further_first (Some o) h = ap first_kind (inner_symbols nodes d o stands h.0 h.1)
+
   part_first : (n : NextInCell) → PartUnder nodes d p n → first_kind (symbols_for nodes d.stop d.open_values n) ≡ None
   part_first next.Nothing h = absurd h
   part_first (next.Cell _) h = absurd h
-  part_first next.Items h = absurd h
+  part_first next.Items h = further_first (last_open d.open_values) h
   part_first (next.Part offset total) h = refl
 
   known_come : (head : List ℕ) (k : Kind) (t : Bool) → length head ≡ 4 → b ≡ head ++ p.seen → first ≡ Some k → is_counted k ≡ t → (p.seen ≡ field_bytes first b) × (cond t [] p.seen ≡ buffer_bytes first b)

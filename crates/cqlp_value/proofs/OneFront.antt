@@ -1,8 +1,8 @@
 -- One answer of `front_scalar`.
-use Rattle.std.proofs.Common.{◌≡◌, ℕ, List, [], sym, ap, ◌∙◌}
+use Rattle.std.proofs.Common.{◌≡◌, ℕ, false, List, [], sym, ap, ◌∙◌}
 use Rattle.std.specs.Prelude.{Option, Some, None}
 use Rattle.cqlp_note.specs.Step.{Emitted}
-use Rattle.cqlp_note.specs.Limits.{Rules}
+use Rattle.cqlp_note.specs.Limits.{Rules, with_lenient}
 use Rattle.cqlp_kind.specs.declared.kind.Kind.{Kind}
 use Rattle.cqlp_kind.specs.Types.{NoMore}
 use Rattle.cqlp_kind.specs.Scalars.{ScalarValue}
@@ -22,6 +22,6 @@ same_scalar l k room input j n v w h g =
 
 pub one_front : (l : Rules) (k : Kind) (room : ℕ) (input : List ℕ) (a b : Option FrontScalar) → IsFront l k room input a → IsFront l k room input b → AreSameFront a b
 one_front l k room input None None h g = tt
-one_front l k room input None (Some y) h g = h y.used (value_of y.scalar) g
-one_front l k room input (Some x) None h g = g x.used (value_of x.scalar) h
-one_front l k room input (Some x) (Some y) h g = same_scalar l k room input x.used y.used (value_of x.scalar) (value_of y.scalar) h g
+one_front l k room input None (Some y) h g = h y.used (value_of y.scalar) g.1
+one_front l k room input (Some x) None h g = g x.used (value_of x.scalar) h.1
+one_front l k room input (Some x) (Some y) h g = same_scalar (with_lenient false l) k room input x.used y.used (value_of x.scalar) (value_of y.scalar) h.1 g.1

@@ -17,8 +17,9 @@ use Rattle.cqlp_kind.specs.declared.kind.Kind.{Kind}
 use Rattle.cqlp_kind.specs.declared.kind.Kind.TheVariants as kind
 use Rattle.cqlp_kind.specs.Types.{Types, NoMore, Type_and, how_many, first_types, followed_by}
 use Rattle.cqlp_type.specs.Trees.{Joined}
-use Rattle.cqlp_kind.specs.Scalars.{ScalarValue, allows_size, scalar_of, content_size}
-use Rattle.cqlp_kind.specs.CellStep.{CellSymbol, Value_of, Items_of, Close_of, Content_from, CellEvent, Null, Empty, Enter, Leave, Part, CellPlace, cell_copies, values_of, is_opaque, place_after, leaf_step, fielded_step, close_step, counted_step, part_step, scalar_step, content_step, sized_step, value_step, items_step, cell_step_at, cell_step}
+use Rattle.cqlp_kind.specs.Scalars.{ScalarValue, allows_size, scalar_of, takes_size, scalar_taken, content_size}
+use Rattle.cqlp_cell.proofs.Further.{reads_when}
+use Rattle.cqlp_kind.specs.CellStep.{CellSymbol, Value_of, Items_of, Close_of, Content_from, CellEvent, Null, Empty, Enter, Leave, Part, CellPlace, cell_copies, values_of, is_opaque, place_after, leaf_step, fielded_step, close_step, counted_step, part_step, scalar_step, content_step, sized_step, value_step, items_step, cell_step_at, cell_step, reads_further}
 use Rattle.cqlp_cell.specs.Sizes.{is_counted}
 use Rattle.cqlp_value.specs.Values.{Values, NoValue, Null_and, Empty_and, Scalar_and, Counted_and, Fields_and, values_in, type_copies, has_fields, IsBytes, IsScalar, ValuesSpell, ValueSpells, values_size, part_items, scalar_items, values_items, value_items}
 use Rattle.cqlp_value.proofs.ScalarItems.{is_own, whole_items, parted_items}
@@ -284,7 +285,7 @@ all_true true true false e = absurd cc
 all_true true false c e = absurd cc
 all_true false b c e = absurd cc
 
-module _ (l : Rules) where
+module _ (l : Rules) (strict : l.lenient ≡ false) where
   -- What comes after a step comes, with its item and its bytes, of the symbols before it.
   abbrev pub Came : (at : ℕ) → List CellSymbol → Emitted CellEvent CellPlace → List ℕ → Type 0
   Came at ss x b = (es : Events) (c : List ℕ) → Comes l (x.after (length b)).symbols (x.after (length b)).offset es c → Comes l ss at ((x.at, x.event) ∷ es) (b ++ c)
@@ -382,9 +383,10 @@ module _ (l : Rules) where
             rw (more, size) (λ d long. first_came k d long a e.0 e.1 lt)
 
         scalar_came : (k : Kind) → Always (Value_came k) (scalar_step l p rest level k number) c
-        scalar_came k = either_always (Value_came k) c (allows_size k number) _ _ (λ a.
+        scalar_came k = either_always (Value_came k) c (takes_size l.lenient k number) _ _ (λ taken.
+            let a : allows_size k number ≡ true = rw strict at taken in
             either_always (Value_came k) c (l.parts && is_opaque k && ltb l.part number) _ _ (λ t. parts_came k a t) (λ f.
-            either_always (Value_came k) c (ltb l.cell number) _ _ (λ _. tt) (λ _ d size. leaf_came k d (scalar_of k d) size a f refl))) (λ _. tt)
+            either_always (Value_came k) c (ltb l.cell number) _ _ (λ _. tt) (λ _ d size. leaf_came k d (scalar_taken l.lenient k d) size a f (rw strict refl)))) (λ _. tt)
 
         fields_came : (k : Kind) → has_fields k ≡ true → Always (Value_came k) (fielded_step p rest level k inner number) c
         fields_came k fields = λ es b h.
@@ -495,7 +497,10 @@ module _ (l : Rules) where
         })
 
     items_came : (ts : Types) (level stop taken : ℕ) → Always (Came p.offset (Items_of ts level stop taken ∷ rest)) (items_step l p ts level stop taken rest) []
-    items_came NoMore level stop taken = last_came NoMore level stop taken
+    items_came NoMore level stop taken =
+        either_always (Came p.offset (Items_of NoMore level stop taken ∷ rest)) [] (reads_further l (stop - p.offset)) _ _
+        (λ t. let no : ◌≡◌ {A = Bool} true false = sym (reads_when l (stop - p.offset) t).0 ∙ strict in absurd cc)
+        (λ _. last_came NoMore level stop taken)
     items_came (Type_and k inner others) level stop taken =
         let behind = Items_of others level stop (taken + 1) ∷ rest in
         either_always (Came p.offset (Items_of (Type_and k inner others) level stop taken ∷ rest)) [] (leb stop p.offset) _ _ (λ _. last_came (Type_and k inner others) level stop taken) (λ _.
@@ -569,10 +574,10 @@ module _ (l : Rules) where
       rw c.2 (c.5 es c.1 (rw c.4 (rw c.3 at later)))
 
 -- A cell that is read is that of a value.
-pub cell_read : (l : Rules) (k : Kind) (inner : Types) (stop : ℕ) (before after : CellPlace) (b : List ℕ) (es : Events) → before.symbols ≡ Value_of k inner 0 stop ∷ [] → after.symbols ≡ [] → Runs (cell_step l) before b es after []
+pub cell_read : (l : Rules) → l.lenient ≡ false → (k : Kind) (inner : Types) (stop : ℕ) (before after : CellPlace) (b : List ℕ) (es : Events) → before.symbols ≡ Value_of k inner 0 stop ∷ [] → after.symbols ≡ [] → Runs (cell_step l) before b es after []
     → (v : Values) × ValueSpells k inner v b × (es ≡ value_items l before.offset k inner v)
-cell_read l k inner stop before after b es first done r =
-    let h : Comes l (Value_of k inner 0 stop ∷ []) before.offset es b = rw first at (runs_come l es before after b r done) in
+cell_read l strict k inner stop before after b es first done r =
+    let h : Comes l (Value_of k inner 0 stop ∷ []) before.offset es b = rw first at (runs_come l strict es before after b r done) in
     let last = h.later in
     let all : b ≡ h.front = h.whole ∙ ap (λ (y : List ℕ). h.front ++ y) last.1 ∙ append-nil h.front in
     let its = value_items l before.offset k inner h.values in

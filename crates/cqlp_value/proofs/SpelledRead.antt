@@ -14,6 +14,8 @@ use Rattle.cqlp_kind.specs.declared.kind.Kind.{Kind}
 use Rattle.cqlp_kind.specs.declared.kind.Kind.TheVariants as kind
 use Rattle.cqlp_kind.specs.Types.{Types, NoMore, Type_and, how_many, first_types, followed_by}
 use Rattle.cqlp_type.specs.Trees.{Joined}
+use Rattle.cqlp_cell.proofs.Contents.{allowed_taken, spelled_taken}
+use Rattle.cqlp_cell.proofs.Further.{past_reads}
 use Rattle.cqlp_kind.specs.Scalars.{ScalarValue, allows_size, scalar_of, content_of}
 use Rattle.cqlp_kind.specs.CellStep.{CellSymbol, Value_of, Items_of, Close_of, Content_from, CellEvent, Leaf, Null, Empty, Enter, Leave, Part, CellPlace, cell_copies, values_of, is_opaque, place_after, fielded_step, close_step, scalar_step, content_step, sized_step, value_step, cell_step}
 use Rattle.cqlp_cell.specs.Sizes.{is_counted}
@@ -154,7 +156,7 @@ module _ (l : Rules) where
   unfolding Spells
   leaf_read k inner c front v some allows is s whole fits p rest level stop step le =
       let x : Emitted CellEvent CellPlace = record { at = p.offset; event = Leaf level v; after = place_after p rest [] } in
-      let content : Yields (content_step l p rest level k inner (length c)) x c = rw (scalar_step_is l p rest level k inner (length c) c v is, allows, whole, le-ltb l.cell (length c) fits) (c, [], refl, sym (append-nil c), rw is (refl, refl)) in
+      let content : Yields (content_step l p rest level k inner (length c)) x c = rw (scalar_step_is l p rest level k inner (length c) c v is, allowed_taken l.lenient k (length c) allows, whole, le-ltb l.cell (length c) fits) (c, [], refl, sym (append-nil c), rw (spelled_taken l.lenient k c v allows is) (refl, refl)) in
       let y = content_yields p rest k inner level stop step (length c) s.0.head c x s.0.counts s.1 (some_bytes c some) (omega (arith, bytes_size c front s)) content in
       one_step p x front (subst (Yields (cell_step l p) x) (sym s.0.parts) y)
 
@@ -171,7 +173,7 @@ module _ (l : Rules) where
       let more : leb (n - 0) l.part ≡ false = lt-leb (n - 0) l.part (omega arith) in
       let mid = Content_from level (0 + l.part) n ∷ rest in
       let x : Emitted CellEvent CellPlace = record { at = p.offset + 4; event = Part level 0 d false; after = place_after p rest (Content_from level (0 + l.part) n ∷ []) } in
-      let content : Yields (content_step l p rest level k inner n) x d = rw (scalar_step_is l p rest level k inner n (d ++ e) v is, allows, parts, opaque, lt-ltb l.part n lt, more, size) (d, [], long, sym (append-nil d), (refl, refl)) in
+      let content : Yields (content_step l p rest level k inner n) x d = rw (scalar_step_is l p rest level k inner n (d ++ e) v is, allowed_taken l.lenient k n allows, parts, opaque, lt-ltb l.part n lt, more, size) (d, [], long, sym (append-nil d), (refl, refl)) in
       let y = content_yields p rest k inner level stop step n s.0.head d x s.0.counts s.1 (omega arith) (omega (arith, bytes_size (d ++ e) front s)) content in
       let first = one_step p x (s.0.head ++ d) y in
       let whole : (s.0.head ++ d) ++ e ≡ front = append_assoc s.0.head d e ∙ sym s.0.parts in
@@ -291,7 +293,7 @@ module _ (l : Rules) where
   none_values (Type_and k inner ts) b h at level stop rest = absurd h
 
   last_step : (ts : Types) (at level stop taken : ℕ) (rest : List CellSymbol) → stop ≤ at → cell_step l (place at (Items_of ts level stop taken ∷ rest)) ≡ close_step (place at (Items_of ts level stop taken ∷ rest)) rest level stop taken
-  last_step NoMore at level stop taken rest le = refl
+  last_step NoMore at level stop taken rest le = rw (past_reads l (stop - at) (omega arith)) refl
   last_step (Type_and k inner ts) at level stop taken rest le = rw (le-leb stop at le) refl
 
   none_fields : (ts : Types) (b : List ℕ) → b ≡ [] → (at level stop taken : ℕ) (rest : List CellSymbol) → at + length b ≡ stop → Reads (place at (Items_of ts level stop taken ∷ rest)) b ((stop, Leave level (taken + 0)) ∷ []) (place stop rest)

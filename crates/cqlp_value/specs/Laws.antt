@@ -1,5 +1,5 @@
 -- Laws of the values of cells.
-use Rattle.std.specs.Prelude.{◌≡◌, ℕ, ◌+◌, ◌<◌, ◌≤◌, ◌^◌, Bool, true, List, length, [], ◌∷◌, Option, Some, None, ⊤, if◌then◌else◌}
+use Rattle.std.specs.Prelude.{◌≡◌, ℕ, ◌+◌, ◌<◌, ◌≤◌, ◌^◌, Bool, true, false, List, length, [], ◌∷◌, Option, Some, None, ⊤, if◌then◌else◌}
 use Rattle.std.specs.List.{All}
 use Rattle.cqlp_note.specs.declared.refusal.Refusal.{Refusal}
 use Rattle.cqlp_note.specs.Step.{Runs}
@@ -24,10 +24,11 @@ use Rattle.cqlp_cell.specs.Progress.{CellState, Stands, is_under_way, place}
 use Rattle.cqlp_cell.specs.Reading.{Answers, Empties, HaveCome, Joined, Moves}
 use Rattle.cqlp_cell.specs.Pushing.{After, Continues, Pushes, Uses, is_done}
 
--- What is read of a cell, up to its end, is a value of its type that its bytes spell, with just its items.
+-- What is read of a cell, up to its end, is a value of its type that its bytes spell, with just its items, where the
+-- reading is not lenient.
 abbrev pub ReadIsSpelled : Type 0
 ReadIsSpelled =
-    (l : Rules) (k : Kind) (inner : Types) (stop : ℕ)
+    (l : Rules) → l.lenient ≡ false → (k : Kind) (inner : Types) (stop : ℕ)
     (before after : CellPlace) (b : List ℕ) (es : List (ℕ × CellEvent))
     → before.symbols ≡ Value_of k inner 0 stop ∷ [] → after.symbols ≡ [] → Runs (cell_step l) before b es after []
     → (v : Values) × ValueSpells k inner v b × (es ≡ value_items l before.offset k inner v)

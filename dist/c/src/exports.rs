@@ -17,6 +17,11 @@ pub extern "C" fn cqlp_new(limits: &CqlpLimits, decoder: &mut CqlpDecoder) -> u3
 }
 
 #[unsafe(no_mangle)]
+pub extern "C" fn cqlp_new_lenient(limits: &CqlpLimits, decoder: &mut CqlpDecoder) -> u32 {
+    crate::cqlp_c::cqlp_new_lenient(Global, limits, decoder)
+}
+
+#[unsafe(no_mangle)]
 pub unsafe extern "C" fn cqlp_next(
     decoder: &mut CqlpDecoder,
     input: *const u8,

@@ -202,6 +202,7 @@ struct Readme;
 mod checked;
 mod cqlp_capture;
 mod cqlp_cell;
+mod cqlp_columns;
 mod cqlp_decode;
 mod cqlp_encode;
 mod cqlp_grammar;
@@ -234,6 +235,11 @@ pub use cqlp_note::{
 pub use cqlp_note::OfStd;
 pub use cqlp_type::TypeTable;
 pub use kit_std::alloc::Global;
+
+/// Columns of pages, in the layout of Apache Arrow.
+pub mod columns {
+    pub use crate::cqlp_columns::{Cell, Column, Layout, MakeError, Refusal, layout_of};
+}
 
 /// Values of frames, and what writes them.
 pub mod frame {

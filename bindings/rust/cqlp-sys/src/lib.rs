@@ -476,6 +476,9 @@ extern "C" {
     /// Makes a decoder in a handle that has none.
     pub fn cqlp_new(limits: *const cqlp_limits, decoder: *mut cqlp_decoder) -> u32;
 
+    /// The same, for a lenient reading.
+    pub fn cqlp_new_lenient(limits: *const cqlp_limits, decoder: *mut cqlp_decoder) -> u32;
+
     /// Takes the next bytes of the stream, and puts the events that they end into the array, at most `room`.
     pub fn cqlp_next(
         decoder: *mut cqlp_decoder,

@@ -182,9 +182,22 @@ unsafe impl Send for Decoder {}
 impl Decoder {
     /// A decoder at the start of a stream. All of its memory is asked for here.
     pub fn new(limits: Limits) -> Result<Decoder, NewError> {
+        Decoder::by(sys::cqlp_new, limits)
+    }
+
+    /// The same, for a lenient reading: a content that its type does not have, by its length or by its bytes, comes as a leaf of the kind
+    /// [`Kind::Raw`](crate::Kind::Raw) with all its bytes, and the reading goes on.
+    pub fn lenient(limits: Limits) -> Result<Decoder, NewError> {
+        Decoder::by(sys::cqlp_new_lenient, limits)
+    }
+
+    fn by(
+        make: unsafe extern "C" fn(*const sys::cqlp_limits, *mut sys::cqlp_decoder) -> u32,
+        limits: Limits,
+    ) -> Result<Decoder, NewError> {
         let mut handle = Box::new(sys::cqlp_decoder::NONE);
         // SAFETY: both point to what their types say, and the handle has no decoder.
-        made(unsafe { sys::cqlp_new(&limits.raw(), &mut *handle) })?;
+        made(unsafe { make(&limits.raw(), &mut *handle) })?;
         let room = vec![sys::cqlp_event::BLANK; ROOM].into_boxed_slice();
         Ok(Decoder { handle, room })
     }

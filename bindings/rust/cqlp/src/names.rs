@@ -335,7 +335,7 @@ numbers! {
         NoEvent = cqlp_sys::CQLP_NO_EVENT, "NoEvent";
         /// It is a frame's header and not the first event, or the other way round, or comes after the end; or there is no event.
         Misplaced = cqlp_sys::CQLP_MISPLACED, "Misplaced";
-        /// It is of a page, or a part: these the library does not write.
+        /// It is a part of a scalar of a cell: a scalar is written whole.
         Unbuilt = cqlp_sys::CQLP_UNBUILT, "Unbuilt";
         /// There are more than 268,435,456 fields.
         TooManyFields = cqlp_sys::CQLP_TOO_MANY_FIELDS, "TooManyFields";

@@ -48,6 +48,32 @@ fn nine_bytes() {
 }
 
 #[test]
+fn a_content_that_no_type_has() {
+    let bytes = bytes_of(
+        "840000010800000028 00000002 00000001 00000001 0000 0000 0001 6e 0009 00000002
+         00000004 00000007 00000003 000102",
+    );
+    let refused = Refusal {
+        at: 42,
+        reason: Reason::BadSize,
+    };
+    assert_eq!(check(Limits::default(), &bytes), Ok(Verdict::Refused(refused)));
+    let mut decoder = Decoder::lenient(Limits::default()).unwrap();
+    let scalars: Vec<Scalar> = (decoder.batch(&bytes))
+        .filter_map(|event| match event.what {
+            What::Leaf(_, scalar) => Some(scalar),
+            _ => None,
+        })
+        .collect();
+    assert_eq!(scalars, [Scalar::Int(7), Scalar::Raw(&[0, 1, 2])]);
+    assert_eq!(decoder.finish(), Verdict::Whole { bytes: 49 });
+    assert!(matches!(
+        Decoder::lenient(Limits { depth: 0, ..Limits::default() }),
+        Err(NewError::BadLimit(BadLimit::Depth))
+    ));
+}
+
+#[test]
 fn a_refusal_stays() {
     let refusal = Refusal {
         at: 14,

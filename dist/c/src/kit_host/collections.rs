@@ -14,6 +14,12 @@ impl<T> VecDeque<T> {
         self.0.try_reserve(more).map_err(|_| AllocError)
     }
 
+    pub fn push_back(&mut self, item: T) -> Result<(), AllocError> {
+        self.reserve(1)?;
+        self.0.push_back(item);
+        Ok(())
+    }
+
     pub fn push_back_reserved(&mut self, item: T) {
         self.0.push_back(item);
     }

@@ -5,7 +5,7 @@ use Rattle.cqlp_decode.specs.Streams.{state}
 use Rattle.cqlp_decode.proofs.Gets.{rest_is, refuses_new}
 use Rattle.cqlp_text.proofs.Writing.{takes_nothing}
 use Rattle.cqlp_capture_frames.specs.Frames.{gifts_of, nodes_of}
-use Rattle.cqlp_capture_frames.proofs.Reading.{drains_err, drained_breaks, drained_one, drained_refused, drained_waits}
+use Rattle.cqlp_capture_frames.proofs.Reading.{drains_err, drained_stops, drained_one, drained_refused, drained_waits}
 use Rattle.cqlp_capture_frames.proofs.drain.drain.Goals as goal
 
 pub events-init : goal.events-init
@@ -32,7 +32,7 @@ returns-in-More-clause-drains g c = λ bytes r.
     let new = state c.next.follows.lender-at-none in
     let goes = rw c.in-More.is at c.next.follows.holds-at-none.0 in
     let leads = rw (c.in-More.is, rest_is) at (c.next.follows.holds-at-none.1 (gifts_of (nodes_of first.given)) _ _ d.after) in
-    drained_waits g.T.Transcript.manner first c.requires.some c.args.at bytes c.args.input.now (g.T.Transcript.state c.args.transcript.now) (state l.decoder) (g.T.Transcript.state l.transcript) l.used c.args.writer.now l.writer d new (goes.0 ∙ d.rules) (ap nodes_of goes.2 ∙ d.held) goes.1 leads.2 leads.3
+    drained_waits g.T.Transcript.refuses g.T.Transcript.manner first c.requires.some c.args.at bytes c.args.input.now (g.T.Transcript.state c.args.transcript.now) (state l.decoder) (g.T.Transcript.state l.transcript) l.used c.args.writer.now l.writer d new (goes.0 ∙ d.rules) (ap nodes_of goes.2 ∙ d.held) goes.1 leads.2 leads.3
 
 pub returns-in-Refused-clause-drains : goal.returns-in-Refused-clause-drains
 returns-in-Refused-clause-drains g c = λ bytes r.
@@ -41,7 +41,7 @@ returns-in-Refused-clause-drains g c = λ bytes r.
     let first = state c.args.decoder.now in
     let new = state c.next.follows.lender-at-none in
     let leads = rw (c.in-Refused.is, rest_is) at (c.next.follows.holds-at-none.1 (gifts_of (nodes_of first.given)) _ _ d.after) in
-    drained_refused g.T.Transcript.manner first c.requires.some c.args.at bytes c.args.input.now (g.T.Transcript.state c.args.transcript.now) (state l.decoder) (g.T.Transcript.state l.transcript) l.used c.args.writer.now l.writer d new c.in-Refused.refusal (rw d.rules at (refuses_new (state l.decoder).refusal (gifts_of (nodes_of first.given)) (state l.decoder) _ _ (drop l.used c.args.input.now) c.in-Refused.refusal d.free leads.2))
+    drained_refused g.T.Transcript.refuses g.T.Transcript.manner first c.requires.some c.args.at bytes c.args.input.now (g.T.Transcript.state c.args.transcript.now) (state l.decoder) (g.T.Transcript.state l.transcript) l.used c.args.writer.now l.writer d new c.in-Refused.refusal (rw d.rules at (refuses_new (state l.decoder).refusal (gifts_of (nodes_of first.given)) (state l.decoder) _ _ (drop l.used c.args.input.now) c.in-Refused.refusal d.free leads.2))
 
 pub returns-in_err-event-in-Event-clause-drains : goal.returns-in_err-event-in-Event-clause-drains
 returns-in_err-event-in-Event-clause-drains g c = λ bytes r.
@@ -52,8 +52,8 @@ returns-in_err-event-in-Event-clause-drains g c = λ bytes r.
     let new = state c.next.follows.lender-at-none in
     let goes = rw c.in-Event.is at c.next.follows.holds-at-none.0 in
     let leads = rw (c.in-Event.is, rest_is) at (c.next.follows.holds-at-none.1 (gifts_of (nodes_of first.given)) _ _ d.after) in
-    drains_err t.manner first c.requires.some c.args.at bytes c.args.input.now (t.state c.args.transcript.now) c.from_residual.result _ _ c.args.writer.now _ c.from_residual.ensures.0
-    (drained_breaks t.manner first c.requires.some c.args.at bytes c.args.input.now (t.state c.args.transcript.now) (state l.decoder) (t.state l.transcript) l.used c.args.writer.now l.writer d new _ (event_of c.in-Event.event) c.in-Event.taken (goes.2 ∙ d.rules) leads.3 _ (rw (sym c.behind.ensures) c.in_err-event-in-Event.ensures.text))
+    drains_err t.refuses t.manner first c.requires.some c.args.at bytes c.args.input.now (t.state c.args.transcript.now) c.from_residual.result _ _ _ c.args.writer.now _ c.from_residual.ensures
+    (drained_stops t.refuses t.manner first c.requires.some c.args.at bytes c.args.input.now (t.state c.args.transcript.now) (state l.decoder) (t.state l.transcript) l.used c.args.writer.now l.writer d new _ (event_of c.in-Event.event) c.in-Event.taken (goes.2 ∙ d.rules) leads.3 _ _ (rw (sym c.behind.ensures) c.in_err-event-in-Event.ensures.text))
 
 pub events-smaller : goal.events-smaller
 events-smaller g c =
@@ -79,6 +79,6 @@ events-preserved g c =
       drained = λ bytes r.
           let d = l.invariant.drained bytes r in
           let leads = rw (c.in-Event.is, rest_is) at (c.next.follows.holds-at-none.1 (gifts_of (nodes_of first.given)) _ _ d.after) in
-          drained_one t.manner first c.requires.some c.args.at bytes input (t.state c.args.transcript.now) (state l.decoder) (t.state l.transcript) l.used c.args.writer.now l.writer d new _ (event_of c.in-Event.event) c.in-Event.taken (goes.2 ∙ d.rules) leads.3 _ _ goes.3 (ap nodes_of goes.4 ∙ d.held)
+          drained_one t.refuses t.manner first c.requires.some c.args.at bytes input (t.state c.args.transcript.now) (state l.decoder) (t.state l.transcript) l.used c.args.writer.now l.writer d new _ (event_of c.in-Event.event) c.in-Event.taken (goes.2 ∙ d.rules) leads.3 _ _ goes.3 (ap nodes_of goes.4 ∙ d.held)
           (rw (sym c.behind.ensures) c.in_ok-event-in-Event.ensures.text) (rw (sym c.behind.ensures) c.in_ok-event-in-Event.ensures.after);
     }

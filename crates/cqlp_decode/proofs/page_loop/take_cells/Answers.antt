@@ -1,6 +1,6 @@
 use Rattle.std.proofs.Common.{◌≡◌, ◌+◌, refl, sym, ap, subst, ◌∙◌, arith}
 use Rattle.std.proofs.lemmas.List.{length-drop}
-use Rattle.cqlp_note.specs.Limits.{rules_of}
+use Rattle.cqlp_note.specs.Limits.{rules_asked}
 use Rattle.cqlp_decode.specs.Cells.{HandsOut, FailsAfter}
 use Rattle.cqlp_decode.specs.Progress.{IsConsistent, ends_due, nodes_of, parts_state, rest_of, state_of, symbols_at}
 use Rattle.cqlp_decode.specs.declared.progress.StreamStage.TheVariants as stage
@@ -76,6 +76,6 @@ returns-clause-stays g c =
     let after : ends_due (symbols_at (stage.BeforeCell c.cells.page) q c.cells.progress.upcoming) ≡ 1 = cells_due (nodes_of q c.cells.page.columns) c.args.progress.now.limits.depth c.cells.page (rest_of c.cells.progress.upcoming) i.lawful.stage.0.0 in (
       (i.within, rw (before, after) (omega arith)),
       ap (λ (z : StreamProgress). z.refusal) i.progress,
-      ap (λ (z : StreamProgress). rules_of z.limits) i.progress,
+      ap (λ (z : StreamProgress). rules_asked z.limits) i.progress,
       refl,
     )

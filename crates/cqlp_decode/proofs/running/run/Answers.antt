@@ -4,7 +4,7 @@ use Rattle.cqlp_grammar.specs.declared.event.Finish.{Finish}
 use Rattle.cqlp_decode.specs.declared.running.Outcome.TheVariants as outcome
 use Rattle.cqlp_decode.specs.Progress.{StreamState}
 use Rattle.cqlp_decode.specs.Streams.{state}
-use Rattle.cqlp_decode.proofs.Gets.{feeds_none, feeds_then, feeds_into, has_all, has_all_still, read_some, keeps_some, at_end, gives_none, gives_kept, gives_end, gives_more, idle_refused, idle_at_end}
+use Rattle.cqlp_decode.proofs.Gets.{feeds_none, feeds_then, feeds_into, has_all, has_all_still, read_some, keeps_some, at_end, gives_none, gives_kept, gives_end, gives_more, idle_refused, idle_at_end, drains_waits}
 use Rattle.cqlp_decode.proofs.InTime.{last_read}
 use Rattle.cqlp_decode.proofs.Taken.{passes_then}
 use Rattle.cqlp_decode.proofs.running.run.Goals as goal
@@ -66,20 +66,20 @@ returns-in-Err-clause-runs g c = λ xs is tells.
 pub returns-then-count-eq0-clause-runs : goal.returns-then-count-eq0-clause-runs
 returns-then-count-eq0-clause-runs g c = λ xs is tells.
     let d = c.loop-after_cell.invariant.fed xs is tells in
-    let r = read_some _ _ d.0.rest c.read.new.buffer c.in-Ok.count d.1 c.in-Ok.ensures.bytes.0 c.in-Ok.ensures.bytes.1 in
+    let r = read_some _ _ d.0.rest c.read.new.buffer c.in-Ok-read.count d.1 c.in-Ok-read.ensures.bytes.0 c.in-Ok-read.ensures.bytes.1 in
     let long : 0 < length c.read.new.buffer = let a = c.read.auto.buffer in let b = c.loop-after_cell.invariant.long in omega arith in
-    let none = at_end d.0.rest r.0 c.read.new.buffer c.in-Ok.count r.2 c.if-count-eq0.true (r.3 c.if-count-eq0.true long) in
+    let none = at_end d.0.rest r.0 c.read.new.buffer c.in-Ok-read.count r.2 c.if-count-eq0.true (r.3 c.if-count-eq0.true long) in
     let same = d.1 ∙ ap (λ (z : List ℕ). Some z) (none ∙ sym (r.3 c.if-count-eq0.true long)) ∙ sym r.1 in
     (d.0, inl none, c.finish-then-count-eq0.ensures.ends, has_all_still g.S.Sink.after (state c.args.decoder.now) (state c.loop-after_cell.decoder) xs _ _ _ _ d.0 same d.3)
 
 pub returns-in-Refused-drain-clause-runs : goal.returns-in-Refused-drain-clause-runs
 returns-in-Refused-drain-clause-runs g c = λ xs is tells.
     let d = c.loop-after_cell.invariant.fed xs is tells in
-    let r = read_some _ _ d.0.rest c.read.new.buffer c.in-Ok.count d.1 c.in-Ok.ensures.bytes.0 c.in-Ok.ensures.bytes.1 in
+    let r = read_some _ _ d.0.rest c.read.new.buffer c.in-Ok-read.count d.1 c.in-Ok-read.ensures.bytes.0 c.in-Ok-read.ensures.bytes.1 in
     let e = c.in-Refused-drain.ensures.drains (c.loop-after_cell.invariant.tells tells) in
     let refused = c.in-Refused-drain.ensures.refusal in
-    let piece = take c.in-Ok.count c.read.new.buffer in
-    let small : length piece ≤ 4096 = let a = c.read.auto.buffer in let b = c.loop-after_cell.invariant.long in omega (arith, length-take-le c.in-Ok.count c.read.new.buffer c.in-Ok.ensures.bound, c.in-Ok.ensures.bound) in
+    let piece = take c.in-Ok-read.count c.read.new.buffer in
+    let small : length piece ≤ 4096 = let a = c.read.auto.buffer in let b = c.loop-after_cell.invariant.long in omega (arith, length-take-le c.in-Ok-read.count c.read.new.buffer c.in-Ok-read.ensures.bound, c.in-Ok-read.ensures.bound) in
     let split = sym (take-append-drop e.0 piece) in (
       feeds_then g.S.Sink.after (state c.args.decoder.now) (state c.loop-after_cell.decoder) (state c.drain-in-loop-after_cell.new.decoder) xs piece r.0 _ _ _ d.0 r.2 (take e.0 piece) (drop e.0 piece) split (λ gifts s es a. (e.1 gifts s es a).drains),
       inr refused,
@@ -90,10 +90,10 @@ returns-in-Refused-drain-clause-runs g c = λ xs is tells.
 pub returns-in-Fault-drain-clause-runs : goal.returns-in-Fault-drain-clause-runs
 returns-in-Fault-drain-clause-runs g c = λ xs is tells.
     let d = c.loop-after_cell.invariant.fed xs is tells in
-    let r = read_some _ _ d.0.rest c.read.new.buffer c.in-Ok.count d.1 c.in-Ok.ensures.bytes.0 c.in-Ok.ensures.bytes.1 in
+    let r = read_some _ _ d.0.rest c.read.new.buffer c.in-Ok-read.count d.1 c.in-Ok-read.ensures.bytes.0 c.in-Ok-read.ensures.bytes.1 in
     let e = c.in-Fault-drain.ensures.drains (c.loop-after_cell.invariant.tells tells) in
-    let piece = take c.in-Ok.count c.read.new.buffer in
-    let small : length piece ≤ 4096 = let a = c.read.auto.buffer in let b = c.loop-after_cell.invariant.long in omega (arith, length-take-le c.in-Ok.count c.read.new.buffer c.in-Ok.ensures.bound, c.in-Ok.ensures.bound) in
+    let piece = take c.in-Ok-read.count c.read.new.buffer in
+    let small : length piece ≤ 4096 = let a = c.read.auto.buffer in let b = c.loop-after_cell.invariant.long in omega (arith, length-take-le c.in-Ok-read.count c.read.new.buffer c.in-Ok-read.ensures.bound, c.in-Ok-read.ensures.bound) in
     feeds_into g.S.Sink.after (state c.args.decoder.now) (state c.loop-after_cell.decoder) (state c.drain-in-loop-after_cell.new.decoder) xs piece r.0 _ _ _ d.0 r.2 (take e.0 piece) (drop e.0 piece) (sym (take-append-drop e.0 piece)) small _ r.1 g.S.Sink.faulted e.1
 
 pub loop-after_cell-preserved : goal.loop-after_cell-preserved
@@ -103,35 +103,35 @@ loop-after_cell-preserved g c =
       long = long;
       rules = c.in-More-drain.ensures.rules ∙ c.loop-after_cell.invariant.rules;
       given = c.in-More-drain.ensures.given ∙ c.loop-after_cell.invariant.given;
-      counted = λ fits. let before = c.loop-after_cell.invariant.counted (omega arith) in let one = c.in-Ok.ensures.reads in omega arith;
-      gives = λ xs is. let some = c.if-count-eq0.false in gives_more _ xs _ _ c.read.new.buffer c.in-Ok.count (omega arith) c.in-Ok.ensures.bound long (c.loop-after_cell.invariant.gives xs is) c.in-Ok.ensures.bytes;
-      failures = let a = c.in-Ok.ensures.failures in let b = c.loop-after_cell.invariant.failures in cc;
+      counted = λ fits. let before = c.loop-after_cell.invariant.counted (omega arith) in let one = c.in-Ok-read.ensures.reads in omega arith;
+      gives = λ xs is. let some = c.if-count-eq0.false in gives_more _ xs _ _ c.read.new.buffer c.in-Ok-read.count (omega arith) c.in-Ok-read.ensures.bound long (c.loop-after_cell.invariant.gives xs is) c.in-Ok-read.ensures.bytes;
+      failures = let a = c.in-Ok-read.ensures.failures in let b = c.loop-after_cell.invariant.failures in cc;
       tells = λ tells. c.in-More-drain.ensures.tells (c.loop-after_cell.invariant.tells tells) refl;
       also = passes_then g.S.Sink.also _ _ _ c.loop-after_cell.invariant.also c.in-More-drain.ensures.also;
       in_time = λ xs is tells.
           let d = c.loop-after_cell.invariant.fed xs is tells in
           let some = c.if-count-eq0.false in
-          let r = read_some _ _ d.0.rest c.read.new.buffer c.in-Ok.count d.1 c.in-Ok.ensures.bytes.0 c.in-Ok.ensures.bytes.1 in
+          let r = read_some _ _ d.0.rest c.read.new.buffer c.in-Ok-read.count d.1 c.in-Ok-read.ensures.bytes.0 c.in-Ok-read.ensures.bytes.1 in
           let e = c.in-More-drain.ensures.drains (c.loop-after_cell.invariant.tells tells) in
-          let piece = take c.in-Ok.count c.read.new.buffer in
+          let piece = take c.in-Ok-read.count c.read.new.buffer in
           let mid = state c.loop-after_cell.decoder in
-          last_read g.S.Sink.after g.S.Sink.faulted c.args.turns c.loop-after_cell.after_cell _ _ (state c.args.decoder.now) mid (state c.drain-in-loop-after_cell.new.decoder) xs _ _ _ _ _ d (c.loop-after_cell.invariant.gives xs is) c.loop-after_cell.invariant.waits c.loop-after_cell.invariant.rules outcome.Turns (λ fits. let before = c.loop-after_cell.invariant.counted (omega arith) in let one = c.in-Ok.ensures.reads in omega arith)
+          last_read g.S.Sink.after g.S.Sink.faulted c.args.turns c.loop-after_cell.after_cell _ _ (state c.args.decoder.now) mid (state c.drain-in-loop-after_cell.new.decoder) xs _ _ _ _ _ d (c.loop-after_cell.invariant.gives xs is) c.loop-after_cell.invariant.waits c.loop-after_cell.invariant.rules outcome.Turns (λ fits. let before = c.loop-after_cell.invariant.counted (omega arith) in let one = c.in-Ok-read.ensures.reads in omega arith)
           (let a = c.loop-after_cell-test.true in omega arith)
           (feeds_then g.S.Sink.after mid mid (state c.drain-in-loop-after_cell.new.decoder) d.0.rest piece r.0 _ _ _ (feeds_none g.S.Sink.after mid d.0.rest _) r.2 piece [] (sym (append-nil piece)) (λ gifts s es a. (e gifts s es a).drains))
-          (gives_more 0 d.0.rest _ _ c.read.new.buffer c.in-Ok.count (omega arith) c.in-Ok.ensures.bound long (gives_none d.0.rest _ d.1) c.in-Ok.ensures.bytes);
+          (gives_more 0 d.0.rest _ _ c.read.new.buffer c.in-Ok-read.count (omega arith) c.in-Ok-read.ensures.bound long (gives_none d.0.rest _ d.1) c.in-Ok-read.ensures.bytes);
       waits = c.in-More-drain.ensures.refusal;
       unrefused = c.loop-after_cell.invariant.unrefused;
       fed = λ xs is tells.
           let d = c.loop-after_cell.invariant.fed xs is tells in
-          let r = read_some _ _ d.0.rest c.read.new.buffer c.in-Ok.count d.1 c.in-Ok.ensures.bytes.0 c.in-Ok.ensures.bytes.1 in
+          let r = read_some _ _ d.0.rest c.read.new.buffer c.in-Ok-read.count d.1 c.in-Ok-read.ensures.bytes.0 c.in-Ok-read.ensures.bytes.1 in
           let e = c.in-More-drain.ensures.drains (c.loop-after_cell.invariant.tells tells) in
-          let piece = take c.in-Ok.count c.read.new.buffer in
-          let size : length piece ≡ c.in-Ok.count = length-take-le c.in-Ok.count c.read.new.buffer c.in-Ok.ensures.bound in
+          let piece = take c.in-Ok-read.count c.read.new.buffer in
+          let size : length piece ≡ c.in-Ok-read.count = length-take-le c.in-Ok-read.count c.read.new.buffer c.in-Ok-read.ensures.bound in
           let some = c.if-count-eq0.false in (
             feeds_then g.S.Sink.after (state c.args.decoder.now) (state c.loop-after_cell.decoder) (state c.drain-in-loop-after_cell.new.decoder) xs piece r.0 _ _ _ d.0 r.2 piece [] (sym (append-nil piece)) (λ gifts s es a. (e gifts s es a).drains),
             r.1,
             omega (arith, d.2, length-append d.0.bytes piece),
-            has_all g.S.Sink.after (state c.args.decoder.now) (state c.loop-after_cell.decoder) (state c.drain-in-loop-after_cell.new.decoder) xs piece r.0 _ _ _ d.0 r.2 piece [] (sym (append-nil piece)) (omega (arith, size, long, c.in-Ok.ensures.bound)) _ r.1 (λ _. refl) (λ none. c.loop-after_cell.invariant.waits) e,
+            has_all g.S.Sink.after (state c.args.decoder.now) (state c.loop-after_cell.decoder) (state c.drain-in-loop-after_cell.new.decoder) xs piece r.0 _ _ _ d.0 r.2 piece [] (sym (append-nil piece)) (omega (arith, size, long, c.in-Ok-read.ensures.bound)) _ r.1 (λ _. refl) (λ none. c.loop-after_cell.invariant.waits) e,
           );
     }
 
@@ -192,10 +192,10 @@ returns-then-count-eq0-clause-reads g c =
     let long : 0 < length c.read.new.buffer = let a = c.read.auto.buffer in let b = c.loop-after_cell.invariant.long in omega arith in
     record {
       giving = c.loop-after_cell.after_cell;
-      counted = λ fits. let before = c.loop-after_cell.invariant.counted (omega arith) in let one = c.in-Ok.ensures.reads in omega (arith, idle);
+      counted = λ fits. let before = c.loop-after_cell.invariant.counted (omega arith) in let one = c.in-Ok-read.ensures.reads in omega (arith, idle);
       within = let a = c.loop-after_cell-test.true in omega (arith, idle);
       all = λ is. absurd (let e = is in cc);
-      gives = λ xs is. gives_end _ xs _ _ c.read.new.buffer c.in-Ok.count c.if-count-eq0.true long (c.loop-after_cell.invariant.gives xs is) c.in-Ok.ensures.bytes;
+      gives = λ xs is. gives_end _ xs _ _ c.read.new.buffer c.in-Ok-read.count c.if-count-eq0.true long (c.loop-after_cell.invariant.gives xs is) c.in-Ok-read.ensures.bytes;
     }
 
 pub returns-in-Refused-drain-clause-reads : goal.returns-in-Refused-drain-clause-reads
@@ -205,10 +205,10 @@ returns-in-Refused-drain-clause-reads g c =
     let long : length c.read.new.buffer ≡ 4096 = let a = c.read.auto.buffer in let b = c.loop-after_cell.invariant.long in omega arith in
     record {
       giving = c.loop-after_cell.after_cell + 1;
-      counted = λ fits. let before = c.loop-after_cell.invariant.counted (omega arith) in let one = c.in-Ok.ensures.reads in omega (arith, idle);
+      counted = λ fits. let before = c.loop-after_cell.invariant.counted (omega arith) in let one = c.in-Ok-read.ensures.reads in omega (arith, idle);
       within = let a = c.loop-after_cell-test.true in omega (arith, idle);
       all = λ is. absurd (let e = is in cc);
-      gives = λ xs is. let some = c.if-count-eq0.false in gives_more _ xs _ _ c.read.new.buffer c.in-Ok.count (omega arith) c.in-Ok.ensures.bound long (c.loop-after_cell.invariant.gives xs is) c.in-Ok.ensures.bytes;
+      gives = λ xs is. let some = c.if-count-eq0.false in gives_more _ xs _ _ c.read.new.buffer c.in-Ok-read.count (omega arith) c.in-Ok-read.ensures.bound long (c.loop-after_cell.invariant.gives xs is) c.in-Ok-read.ensures.bytes;
     }
 
 pub returns-in-Fault-drain-clause-reads : goal.returns-in-Fault-drain-clause-reads
@@ -216,10 +216,10 @@ returns-in-Fault-drain-clause-reads g c =
     let long : length c.read.new.buffer ≡ 4096 = let a = c.read.auto.buffer in let b = c.loop-after_cell.invariant.long in omega arith in
     record {
       giving = c.loop-after_cell.after_cell + 1;
-      counted = λ fits. let before = c.loop-after_cell.invariant.counted (omega arith) in let one = c.in-Ok.ensures.reads in omega arith;
+      counted = λ fits. let before = c.loop-after_cell.invariant.counted (omega arith) in let one = c.in-Ok-read.ensures.reads in omega arith;
       within = let a = c.loop-after_cell-test.true in omega arith;
       all = λ is. absurd (let e = is in cc);
-      gives = λ xs is. let some = c.if-count-eq0.false in gives_more _ xs _ _ c.read.new.buffer c.in-Ok.count (omega arith) c.in-Ok.ensures.bound long (c.loop-after_cell.invariant.gives xs is) c.in-Ok.ensures.bytes;
+      gives = λ xs is. let some = c.if-count-eq0.false in gives_more _ xs _ _ c.read.new.buffer c.in-Ok-read.count (omega arith) c.in-Ok-read.ensures.bound long (c.loop-after_cell.invariant.gives xs is) c.in-Ok-read.ensures.bytes;
     }
 
 pub returns-clause-reads : goal.returns-clause-reads
@@ -251,10 +251,10 @@ returns-then-count-eq0-clause-in_time g c = λ xs is tells.
     let f = c.finish-then-count-eq0.result in
     let idle = idle_at_end f (c.finish-then-count-eq0.ensures.unrefused c.loop-after_cell.invariant.waits) in
     let long : 0 < length c.read.new.buffer = let a = c.read.auto.buffer in let b = c.loop-after_cell.invariant.long in omega arith in
-    last_read g.S.Sink.after g.S.Sink.faulted c.args.turns c.loop-after_cell.after_cell _ _ (state c.args.decoder.now) mid mid xs _ _ _ _ _ d (c.loop-after_cell.invariant.gives xs is) c.loop-after_cell.invariant.waits c.loop-after_cell.invariant.rules (outcome.Finished f) (λ fits. let before = c.loop-after_cell.invariant.counted (omega arith) in let one = c.in-Ok.ensures.reads in omega arith)
+    last_read g.S.Sink.after g.S.Sink.faulted c.args.turns c.loop-after_cell.after_cell _ _ (state c.args.decoder.now) mid mid xs _ _ _ _ _ d (c.loop-after_cell.invariant.gives xs is) c.loop-after_cell.invariant.waits c.loop-after_cell.invariant.rules (outcome.Finished f) (λ fits. let before = c.loop-after_cell.invariant.counted (omega arith) in let one = c.in-Ok-read.ensures.reads in omega arith)
     (let a = c.loop-after_cell-test.true in omega arith)
     (feeds_none g.S.Sink.after mid d.0.rest _)
-    (rw idle (gives_end 0 d.0.rest _ _ c.read.new.buffer c.in-Ok.count c.if-count-eq0.true long (gives_none d.0.rest _ d.1) c.in-Ok.ensures.bytes))
+    (rw idle (gives_end 0 d.0.rest _ _ c.read.new.buffer c.in-Ok-read.count c.if-count-eq0.true long (gives_none d.0.rest _ d.1) c.in-Ok-read.ensures.bytes))
 
 pub returns-in-Refused-drain-clause-in_time : goal.returns-in-Refused-drain-clause-in_time
 returns-in-Refused-drain-clause-in_time g c = λ xs is tells.
@@ -266,13 +266,13 @@ returns-in-Refused-drain-clause-in_time g c = λ xs is tells.
     let refused = c.in-Refused-drain.ensures.refusal in
     let idle = idle_refused f refused.0 (c.finish-in-Refused-drain.ensures.refused refused.0 refused.1) in
     let long : length c.read.new.buffer ≡ 4096 = let a = c.read.auto.buffer in let b = c.loop-after_cell.invariant.long in omega arith in
-    let r = read_some _ _ d.0.rest c.read.new.buffer c.in-Ok.count d.1 c.in-Ok.ensures.bytes.0 c.in-Ok.ensures.bytes.1 in
+    let r = read_some _ _ d.0.rest c.read.new.buffer c.in-Ok-read.count d.1 c.in-Ok-read.ensures.bytes.0 c.in-Ok-read.ensures.bytes.1 in
     let e = c.in-Refused-drain.ensures.drains (c.loop-after_cell.invariant.tells tells) in
-    let piece = take c.in-Ok.count c.read.new.buffer in
-    last_read g.S.Sink.after g.S.Sink.faulted c.args.turns c.loop-after_cell.after_cell _ _ (state c.args.decoder.now) mid new xs _ _ _ _ _ d (c.loop-after_cell.invariant.gives xs is) c.loop-after_cell.invariant.waits c.loop-after_cell.invariant.rules (outcome.Finished f) (λ fits. let before = c.loop-after_cell.invariant.counted (omega arith) in let one = c.in-Ok.ensures.reads in omega arith)
+    let piece = take c.in-Ok-read.count c.read.new.buffer in
+    last_read g.S.Sink.after g.S.Sink.faulted c.args.turns c.loop-after_cell.after_cell _ _ (state c.args.decoder.now) mid new xs _ _ _ _ _ d (c.loop-after_cell.invariant.gives xs is) c.loop-after_cell.invariant.waits c.loop-after_cell.invariant.rules (outcome.Finished f) (λ fits. let before = c.loop-after_cell.invariant.counted (omega arith) in let one = c.in-Ok-read.ensures.reads in omega arith)
     (let a = c.loop-after_cell-test.true in omega arith)
     (feeds_then g.S.Sink.after mid mid new d.0.rest piece r.0 _ _ _ (feeds_none g.S.Sink.after mid d.0.rest _) r.2 (take e.0 piece) (drop e.0 piece) (sym (take-append-drop e.0 piece)) (λ gifts s es a. (e.1 gifts s es a).drains))
-    (rw idle (gives_more 0 d.0.rest _ _ c.read.new.buffer c.in-Ok.count (omega arith) c.in-Ok.ensures.bound long (gives_none d.0.rest _ d.1) c.in-Ok.ensures.bytes))
+    (rw idle (gives_more 0 d.0.rest _ _ c.read.new.buffer c.in-Ok-read.count (omega arith) c.in-Ok-read.ensures.bound long (gives_none d.0.rest _ d.1) c.in-Ok-read.ensures.bytes))
 
 pub returns-in-Fault-drain-clause-in_time : goal.returns-in-Fault-drain-clause-in_time
 returns-in-Fault-drain-clause-in_time g c = λ xs is tells.
@@ -281,14 +281,14 @@ returns-in-Fault-drain-clause-in_time g c = λ xs is tells.
     let mid = state c.loop-after_cell.decoder in
     let new = state c.drain-in-loop-after_cell.new.decoder in
     let long : length c.read.new.buffer ≡ 4096 = let a = c.read.auto.buffer in let b = c.loop-after_cell.invariant.long in omega arith in
-    let r = read_some _ _ d.0.rest c.read.new.buffer c.in-Ok.count d.1 c.in-Ok.ensures.bytes.0 c.in-Ok.ensures.bytes.1 in
+    let r = read_some _ _ d.0.rest c.read.new.buffer c.in-Ok-read.count d.1 c.in-Ok-read.ensures.bytes.0 c.in-Ok-read.ensures.bytes.1 in
     let e = c.in-Fault-drain.ensures.drains (c.loop-after_cell.invariant.tells tells) in
-    let piece = take c.in-Ok.count c.read.new.buffer in
-    let small : length piece ≤ 4096 = omega (arith, length-take-le c.in-Ok.count c.read.new.buffer c.in-Ok.ensures.bound, c.in-Ok.ensures.bound) in
-    last_read g.S.Sink.after g.S.Sink.faulted c.args.turns c.loop-after_cell.after_cell _ _ (state c.args.decoder.now) mid new xs _ _ _ _ _ d (c.loop-after_cell.invariant.gives xs is) c.loop-after_cell.invariant.waits c.loop-after_cell.invariant.rules outcome.SinkFault (λ fits. let before = c.loop-after_cell.invariant.counted (omega arith) in let one = c.in-Ok.ensures.reads in omega arith)
+    let piece = take c.in-Ok-read.count c.read.new.buffer in
+    let small : length piece ≤ 4096 = omega (arith, length-take-le c.in-Ok-read.count c.read.new.buffer c.in-Ok-read.ensures.bound, c.in-Ok-read.ensures.bound) in
+    last_read g.S.Sink.after g.S.Sink.faulted c.args.turns c.loop-after_cell.after_cell _ _ (state c.args.decoder.now) mid new xs _ _ _ _ _ d (c.loop-after_cell.invariant.gives xs is) c.loop-after_cell.invariant.waits c.loop-after_cell.invariant.rules outcome.SinkFault (λ fits. let before = c.loop-after_cell.invariant.counted (omega arith) in let one = c.in-Ok-read.ensures.reads in omega arith)
     (let a = c.loop-after_cell-test.true in omega arith)
     (feeds_into g.S.Sink.after mid mid new d.0.rest piece r.0 _ _ _ (feeds_none g.S.Sink.after mid d.0.rest _) r.2 (take e.0 piece) (drop e.0 piece) (sym (take-append-drop e.0 piece)) small _ r.1 g.S.Sink.faulted e.1)
-    (gives_more 0 d.0.rest _ _ c.read.new.buffer c.in-Ok.count (omega arith) c.in-Ok.ensures.bound long (gives_none d.0.rest _ d.1) c.in-Ok.ensures.bytes)
+    (gives_more 0 d.0.rest _ _ c.read.new.buffer c.in-Ok-read.count (omega arith) c.in-Ok-read.ensures.bound long (gives_none d.0.rest _ d.1) c.in-Ok-read.ensures.bytes)
 
 -- what a sink passed through
 
@@ -297,3 +297,123 @@ returns-in-Refused-drain-clause-also g c = passes_then g.S.Sink.also _ _ _ c.loo
 
 pub returns-in-Fault-drain-clause-also : goal.returns-in-Fault-drain-clause-also
 returns-in-Fault-drain-clause-also g c = passes_then g.S.Sink.also _ _ _ c.loop-after_cell.invariant.also c.in-Fault-drain.ensures.also
+
+-- a content that is gathered: a read straight into the decoder
+
+pub returns-in_default-clause-runs : goal.returns-in_default-clause-runs
+returns-in_default-clause-runs g c = λ xs is tells.
+    let e = c.in_default.ensures.bytes in
+    let d = c.loop-after_cell.invariant.fed xs is tells in
+    let left = keeps_some _ _ d.0.rest d.1 e.bytes in
+    rw e.became (d.0, left, has_all_still g.S.Sink.after (state c.args.decoder.now) (state c.loop-after_cell.decoder) xs _ _ _ _ d.0 (d.1 ∙ sym left) d.3)
+
+pub returns-in_default-clause-refused : goal.returns-in_default-clause-refused
+returns-in_default-clause-refused g c = λ r is. absurd (c.loop-after_cell.invariant.unrefused r is)
+
+pub returns-in_default-clause-reads : goal.returns-in_default-clause-reads
+returns-in_default-clause-reads g c = record {
+  giving = c.loop-after_cell.after_cell;
+  counted = λ fits. let before = c.loop-after_cell.invariant.counted (omega arith) in let one = c.in_default.ensures.reads in omega arith;
+  within = let a = c.loop-after_cell-test.true in omega arith;
+  all = λ is. absurd (let e = is in cc);
+  gives = λ xs is. gives_kept _ xs _ _ (c.loop-after_cell.invariant.gives xs is) c.in_default.ensures.bytes.bytes;
+}
+
+pub returns-in_default-clause-in_time : goal.returns-in_default-clause-in_time
+returns-in_default-clause-in_time g c = λ xs is tells.
+    let e = c.in_default.ensures.bytes in
+    let d = c.loop-after_cell.invariant.fed xs is tells in
+    let mid = state c.loop-after_cell.decoder in
+    rw e.became (last_read g.S.Sink.after g.S.Sink.faulted c.args.turns c.loop-after_cell.after_cell _ _ (state c.args.decoder.now) mid mid xs _ _ _ _ _ d (c.loop-after_cell.invariant.gives xs is) c.loop-after_cell.invariant.waits c.loop-after_cell.invariant.rules outcome.ReadFault (λ fits. let before = c.loop-after_cell.invariant.counted (omega arith) in let one = c.in_default.ensures.reads in omega arith)
+    (let a = c.loop-after_cell-test.true in omega arith)
+    (feeds_none g.S.Sink.after mid d.0.rest _)
+    (gives_kept 0 d.0.rest _ _ (gives_none d.0.rest _ d.1) e.bytes))
+
+pub returns-then-gathered-eq0-clause-runs : goal.returns-then-gathered-eq0-clause-runs
+returns-then-gathered-eq0-clause-runs g c = λ xs is tells.
+    let d = c.loop-after_cell.invariant.fed xs is tells in
+    let e = c.in-Ok.ensures.bytes in
+    let r = read_some _ _ d.0.rest e.buffer c.in-Ok.gathered d.1 e.bytes.0 e.bytes.1 in
+    let long : 0 < length e.buffer = omega (arith, e.long) in
+    let none = r.3 c.if-gathered-eq0.true long in
+    let piece = take c.in-Ok.gathered e.buffer in
+    let small : length piece ≤ 4096 = omega (arith, length-take-le c.in-Ok.gathered e.buffer e.became.0, e.became.0, e.long) in
+    let old = state c.args.decoder.now in
+    let mid = state c.loop-after_cell.decoder in
+    let new = state c.read_content.new.self in (
+      feeds_then g.S.Sink.after old mid new xs piece r.0 _ _ _ d.0 r.2 piece [] (sym (append-nil piece)) (λ gifts s es a. (drains_waits g.S.Sink.after gifts mid new s piece es _ _ (e.became.1.1 gifts s es a)).drains),
+      inl none,
+      c.finish-then-gathered-eq0.ensures.ends,
+      has_all g.S.Sink.after old mid new xs piece r.0 _ _ _ d.0 r.2 piece [] (sym (append-nil piece)) small _ r.1 (λ _. refl) (λ none. c.loop-after_cell.invariant.waits) (λ gifts s es a. drains_waits g.S.Sink.after gifts mid new s piece es _ _ (e.became.1.1 gifts s es a)),
+    )
+
+pub returns-then-gathered-eq0-clause-refused : goal.returns-then-gathered-eq0-clause-refused
+returns-then-gathered-eq0-clause-refused g c = λ r is. absurd (c.loop-after_cell.invariant.unrefused r is)
+
+pub returns-then-gathered-eq0-clause-reads : goal.returns-then-gathered-eq0-clause-reads
+returns-then-gathered-eq0-clause-reads g c =
+    let e = c.in-Ok.ensures.bytes in
+    let idle = idle_at_end c.finish-then-gathered-eq0.result (c.finish-then-gathered-eq0.ensures.unrefused e.became.1.0.1) in
+    record {
+      giving = c.loop-after_cell.after_cell;
+      counted = λ fits. let before = c.loop-after_cell.invariant.counted (omega arith) in let one = c.in-Ok.ensures.reads in omega (arith, idle);
+      within = let a = c.loop-after_cell-test.true in omega (arith, idle);
+      all = λ is. absurd (let e = is in cc);
+      gives = λ xs is. gives_end _ xs _ _ e.buffer c.in-Ok.gathered c.if-gathered-eq0.true (omega (arith, e.long)) (c.loop-after_cell.invariant.gives xs is) e.bytes;
+    }
+
+pub returns-then-gathered-eq0-clause-in_time : goal.returns-then-gathered-eq0-clause-in_time
+returns-then-gathered-eq0-clause-in_time g c = λ xs is tells.
+    let d = c.loop-after_cell.invariant.fed xs is tells in
+    let e = c.in-Ok.ensures.bytes in
+    let mid = state c.loop-after_cell.decoder in
+    let new = state c.read_content.new.self in
+    let f = c.finish-then-gathered-eq0.result in
+    let idle = idle_at_end f (c.finish-then-gathered-eq0.ensures.unrefused e.became.1.0.1) in
+    let long : 0 < length e.buffer = omega (arith, e.long) in
+    let r = read_some _ _ d.0.rest e.buffer c.in-Ok.gathered d.1 e.bytes.0 e.bytes.1 in
+    let piece = take c.in-Ok.gathered e.buffer in
+    last_read g.S.Sink.after g.S.Sink.faulted c.args.turns c.loop-after_cell.after_cell _ _ (state c.args.decoder.now) mid new xs _ _ _ _ _ d (c.loop-after_cell.invariant.gives xs is) c.loop-after_cell.invariant.waits c.loop-after_cell.invariant.rules (outcome.Finished f) (λ fits. let before = c.loop-after_cell.invariant.counted (omega arith) in let one = c.in-Ok.ensures.reads in omega arith)
+    (let a = c.loop-after_cell-test.true in omega arith)
+    (feeds_then g.S.Sink.after mid mid new d.0.rest piece r.0 _ _ _ (feeds_none g.S.Sink.after mid d.0.rest _) r.2 piece [] (sym (append-nil piece)) (λ gifts s es a. (drains_waits g.S.Sink.after gifts mid new s piece es _ _ (e.became.1.1 gifts s es a)).drains))
+    (rw idle (gives_end 0 d.0.rest _ _ e.buffer c.in-Ok.gathered c.if-gathered-eq0.true long (gives_none d.0.rest _ d.1) e.bytes))
+
+pub loop-after_cell-preserved-then-gathers : goal.loop-after_cell-preserved-then-gathers
+loop-after_cell-preserved-then-gathers g c =
+    let e = c.in-Ok.ensures.bytes in
+    let goes = e.became.1.0 in
+    let old = state c.args.decoder.now in
+    let mid = state c.loop-after_cell.decoder in
+    let new = state c.read_content.new.self in
+    let piece = take c.in-Ok.gathered e.buffer in
+    let size : length piece ≡ c.in-Ok.gathered = length-take-le c.in-Ok.gathered e.buffer e.became.0 in
+    let small : length piece ≤ 4096 = omega (arith, size, e.became.0, e.long) in
+    record {
+      long = c.loop-after_cell.invariant.long;
+      rules = goes.0 ∙ c.loop-after_cell.invariant.rules;
+      given = goes.2 ∙ c.loop-after_cell.invariant.given;
+      counted = λ fits. let before = c.loop-after_cell.invariant.counted (omega arith) in let one = c.in-Ok.ensures.reads in omega arith;
+      gives = λ xs is. let some = c.if-gathered-eq0.false in gives_more _ xs _ _ e.buffer c.in-Ok.gathered (omega arith) e.became.0 e.long (c.loop-after_cell.invariant.gives xs is) e.bytes;
+      failures = let a = c.in-Ok.ensures.failures in let b = c.loop-after_cell.invariant.failures in cc;
+      tells = c.loop-after_cell.invariant.tells;
+      also = c.loop-after_cell.invariant.also;
+      in_time = λ xs is tells.
+          let d = c.loop-after_cell.invariant.fed xs is tells in
+          let some = c.if-gathered-eq0.false in
+          let r = read_some _ _ d.0.rest e.buffer c.in-Ok.gathered d.1 e.bytes.0 e.bytes.1 in
+          last_read g.S.Sink.after g.S.Sink.faulted c.args.turns c.loop-after_cell.after_cell _ _ old mid new xs _ _ _ _ _ d (c.loop-after_cell.invariant.gives xs is) c.loop-after_cell.invariant.waits c.loop-after_cell.invariant.rules outcome.Turns (λ fits. let before = c.loop-after_cell.invariant.counted (omega arith) in let one = c.in-Ok.ensures.reads in omega arith)
+          (let a = c.loop-after_cell-test.true in omega arith)
+          (feeds_then g.S.Sink.after mid mid new d.0.rest piece r.0 _ _ _ (feeds_none g.S.Sink.after mid d.0.rest _) r.2 piece [] (sym (append-nil piece)) (λ gifts s es a. (drains_waits g.S.Sink.after gifts mid new s piece es _ _ (e.became.1.1 gifts s es a)).drains))
+          (gives_more 0 d.0.rest _ _ e.buffer c.in-Ok.gathered (omega arith) e.became.0 e.long (gives_none d.0.rest _ d.1) e.bytes);
+      waits = goes.1;
+      unrefused = c.loop-after_cell.invariant.unrefused;
+      fed = λ xs is tells.
+          let d = c.loop-after_cell.invariant.fed xs is tells in
+          let some = c.if-gathered-eq0.false in
+          let r = read_some _ _ d.0.rest e.buffer c.in-Ok.gathered d.1 e.bytes.0 e.bytes.1 in (
+            feeds_then g.S.Sink.after old mid new xs piece r.0 _ _ _ d.0 r.2 piece [] (sym (append-nil piece)) (λ gifts s es a. (drains_waits g.S.Sink.after gifts mid new s piece es _ _ (e.became.1.1 gifts s es a)).drains),
+            r.1,
+            omega (arith, d.2, size, length-append d.0.bytes piece),
+            has_all g.S.Sink.after old mid new xs piece r.0 _ _ _ d.0 r.2 piece [] (sym (append-nil piece)) small _ r.1 (λ _. refl) (λ none. c.loop-after_cell.invariant.waits) (λ gifts s es a. drains_waits g.S.Sink.after gifts mid new s piece es _ _ (e.became.1.1 gifts s es a)),
+          );
+    }

@@ -307,7 +307,7 @@ read_types-loop-tree-preserved t c =
 pub read_types-returns-then-used-content-2 : goal.read_types-returns-then-used-content-2
 read_types-returns-then-used-content-2 t c =
     let l = whole_rules c.args.reading.now.limits in
-    rw c.refused.ensures (λ k is. fields_over (λ t. t) l c.args.at c.args.types.now c.args.content.now c.loop-tree.tree-index (listed_values c.loop-tree.items.items) c.loop-tree.used c.loop-tree.invariant.fields (omega arith) k is (omega arith))
+    rw c.refused.ensures (λ k is. fields_over (λ t. t) l c.args.at c.args.types.now c.args.content.now refl c.loop-tree.tree-index (listed_values c.loop-tree.items.items) c.loop-tree.used c.loop-tree.invariant.fields (omega arith) k is (omega arith))
 
 pub read_fields-read_front-requires : goal.read_fields-read_front-requires
 read_fields-read_front-requires t c =
@@ -334,4 +334,4 @@ read_fields-loop-tree-preserved t c =
 pub read_fields-returns-then-used-content-2 : goal.read_fields-returns-then-used-content-2
 read_fields-returns-then-used-content-2 t c =
     let l = whole_rules c.args.reading.now.limits in
-    rw c.refused.ensures (λ k is. fields_over (λ x. x.1) l c.args.at c.args.fields.now c.args.content.now c.loop-tree.tree-index (listed_values c.loop-tree.items.items) c.loop-tree.used c.loop-tree.invariant.fields (omega arith) k is (omega arith))
+    rw c.refused.ensures (λ k is. fields_over (λ x. x.1) l c.args.at c.args.fields.now c.args.content.now refl c.loop-tree.tree-index (listed_values c.loop-tree.items.items) c.loop-tree.used c.loop-tree.invariant.fields (omega arith) k is (omega arith))

@@ -7,14 +7,14 @@ use Rattle.cqlp_read.proofs.Contents.{scalar_long, scalar_fails, scalar_reads}
 use Rattle.cqlp_read.proofs.reading.read_scalar.Goals as goal
 
 pub returns-then-is_too_long : goal.returns-then-is_too_long
-returns-then-is_too_long c = rw c.refused.ensures (λ inner. scalar_long (whole_rules c.args.reading.now.limits) refl c.args.at c.args.kind c.args.content.now c.requires.scalar inner (sym c.is_too_long.ensures ∙ c.if-is_too_long.true))
+returns-then-is_too_long c = rw c.refused.ensures (λ inner. scalar_long (whole_rules c.args.reading.now.limits) refl refl c.args.at c.args.kind c.args.content.now c.requires.scalar inner (sym c.is_too_long.ensures ∙ c.if-is_too_long.true))
 
 pub returns-in_ok-own-in-Ok : goal.returns-in_ok-own-in-Ok
 returns-in_ok-own-in-Ok c inner =
     let rules = whole_rules c.args.reading.now.limits in
     let content = c.args.content.now in
     subst (λ (v : ScalarValue). ((front : List ℕ) → IsBytes (Some content) front → ValueSpells c.args.kind inner (Scalar_and v NoValue) front) × AreWithin rules (Scalar_and v NoValue)) (sym c.in_ok-own-in-Ok.ensures)
-    (scalar_reads rules refl c.args.at c.args.kind content c.requires.scalar (value_of c.in-Ok.scalar) c.requires.some (sym c.is_too_long.ensures ∙ c.if-is_too_long.false) c.in-Ok.ensures inner)
+    (scalar_reads rules refl refl c.args.at c.args.kind content c.requires.scalar (value_of c.in-Ok.scalar) c.requires.some (sym c.is_too_long.ensures ∙ c.if-is_too_long.false) c.in-Ok.ensures inner)
 
 pub returns-in-Err : goal.returns-in-Err
-returns-in-Err c = rw c.refused-in-Err.ensures (λ inner. scalar_fails (whole_rules c.args.reading.now.limits) refl c.args.at c.args.kind c.args.content.now c.requires.scalar inner c.in-Err.why (sym c.is_too_long.ensures ∙ c.if-is_too_long.false) c.in-Err.ensures)
+returns-in-Err c = rw c.refused-in-Err.ensures (λ inner. scalar_fails (whole_rules c.args.reading.now.limits) refl refl c.args.at c.args.kind c.args.content.now c.requires.scalar inner c.in-Err.why (sym c.is_too_long.ensures ∙ c.if-is_too_long.false) c.in-Err.ensures)

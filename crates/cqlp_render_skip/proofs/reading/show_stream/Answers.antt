@@ -1,5 +1,5 @@
 use Rattle.std.proofs.Common.{◌≡◌, Bool, sym, ap, ◌∙◌, subst}
-use Rattle.cqlp_note.specs.Limits.{rules_of}
+use Rattle.cqlp_note.specs.Limits.{rules_of, with_lenient}
 use Rattle.cqlp_render.specs.declared.showing.TheConstants.{TURNS}
 use Rattle.cqlp_render.specs.Streams.{unread}
 use Rattle.cqlp_render_skip.specs.Reporting.{Outputs, outputs}
@@ -12,7 +12,7 @@ use Rattle.cqlp_render_skip.proofs.reading.show_stream.Goals as goal
 pub returns : goal.returns
 returns g c = λ xs left known err.
     let form = c.args.form in
-    let rules = rules_of c.args.limits in
+    let rules = with_lenient c.args.lenient (rules_of c.args.limits) in
     let first : Outputs = record { out = written g.O.Target c.args.out; err = written g.E.Target c.args.err } in
     let begins : Begins form rules xs first (g.R.Source.left c.args.input.now) c.in-Some.decoder c.new-report.result = record {
       fresh = c.requires.form;

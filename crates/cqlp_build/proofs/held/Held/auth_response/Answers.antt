@@ -5,4 +5,4 @@ use Rattle.cqlp_message.specs.FrameValues.{AuthResponse}
 use Rattle.cqlp_build.proofs.held.Held.auth_response.Goals as goal
 
 pub returns : goal.returns
-returns c = made_of c.bytes.ensures _ _ (λ a. AuthResponse a) (λ a p. refl) (λ a p. record { opcode = refl; agrees = refl; built = refl }) auth_response_view
+returns c = made_of c.bytes.ensures _ _ (λ a. AuthResponse a) (λ a p. refl) (λ a p. record { opcode = refl; agrees = refl; built = refl; cells = refl }) auth_response_view

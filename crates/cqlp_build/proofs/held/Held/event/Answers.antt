@@ -8,4 +8,4 @@ use Rattle.cqlp_build.proofs.held.Held.event.Goals as goal
 pub returns : goal.returns
 returns c =
     made_of (pair_builds (λ e d. event_agrees e d ≡ true) c.text-event.ensures.is (rw c.deref.ensures at c.detail-detail.ensures)) _ _
-    (λ a. Event a.0 a.1) (λ a p. refl) (λ a p. record { opcode = refl; agrees = p.1; built = refl }) event_view
+    (λ a. Event a.0 a.1) (λ a p. refl) (λ a p. record { opcode = refl; agrees = p.1; built = refl; cells = refl }) event_view

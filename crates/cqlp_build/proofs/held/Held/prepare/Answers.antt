@@ -5,4 +5,4 @@ use Rattle.cqlp_message.specs.FrameValues.{Prepare}
 use Rattle.cqlp_build.proofs.held.Held.prepare.Goals as goal
 
 pub returns : goal.returns
-returns c = made_of c.text.ensures.is _ _ (λ a. Prepare a) (λ a p. refl) (λ a p. record { opcode = refl; agrees = refl; built = refl }) prepare_view
+returns c = made_of c.text.ensures.is _ _ (λ a. Prepare a) (λ a p. refl) (λ a p. record { opcode = refl; agrees = refl; built = refl; cells = refl }) prepare_view

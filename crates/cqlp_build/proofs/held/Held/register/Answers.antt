@@ -5,4 +5,4 @@ use Rattle.cqlp_message.specs.FrameValues.{Register}
 use Rattle.cqlp_build.proofs.held.Held.register.Goals as goal
 
 pub returns : goal.returns
-returns c = made_of c.texts.ensures _ _ (λ a. Register a) (λ a p. refl) (λ a p. record { opcode = refl; agrees = refl; built = refl }) register_view
+returns c = made_of c.texts.ensures _ _ (λ a. Register a) (λ a p. refl) (λ a p. record { opcode = refl; agrees = refl; built = refl; cells = refl }) register_view

@@ -5,4 +5,4 @@ use Rattle.cqlp_message.specs.FrameValues.{Startup}
 use Rattle.cqlp_build.proofs.held.Held.startup.Goals as goal
 
 pub returns : goal.returns
-returns c = made_of c.counted.ensures _ _ (λ a. Startup a) (λ a p. refl) (λ a p. record { opcode = refl; agrees = refl; built = refl }) startup_view
+returns c = made_of c.counted.ensures _ _ (λ a. Startup a) (λ a p. refl) (λ a p. record { opcode = refl; agrees = refl; built = refl; cells = refl }) startup_view

@@ -5,4 +5,4 @@ use Rattle.cqlp_message.specs.FrameValues.{Supported}
 use Rattle.cqlp_build.proofs.held.Held.supported.Goals as goal
 
 pub returns : goal.returns
-returns c = made_of c.counted.ensures _ _ (λ a. Supported a) (λ a p. refl) (λ a p. record { opcode = refl; agrees = refl; built = refl }) supported_view
+returns c = made_of c.counted.ensures _ _ (λ a. Supported a) (λ a p. refl) (λ a p. record { opcode = refl; agrees = refl; built = refl; cells = refl }) supported_view

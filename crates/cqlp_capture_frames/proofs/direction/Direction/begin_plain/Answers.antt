@@ -12,9 +12,9 @@ returns-in_err-types-clause-told g c =
     let t = g.T.Transcript in
     let a = c.args in
     let known = t.state a.transcript.now in
-    first_stops a.writer.now a.writer.now c.begin.new.writer (t.manner.text known (Begins a.at a.header.now))
+    first_stops t.refuses a.writer.now a.writer.now c.begin.new.writer (t.manner.text known (Begins a.at a.header.now))
     (goes_on t.manner (header_bytes a.header.now) (opened a.at (taken a.self.now.rules (t.manner.types known a.at a.header.now)) []) (t.manner.after known (Begins a.at a.header.now)) a.self.now)
-    _ _ c.from_residual.result c.from_residual.ensures.0 c.in_err-types.ensures.text
+    _ _ c.from_residual.result _ c.from_residual.ensures c.in_err-types.ensures.text
 
 -- the header's nine bytes are the first of a frame
 pub returns-clause-told : goal.returns-clause-told
@@ -30,8 +30,8 @@ returns-clause-told g c =
     let is : goes_on t.manner c.write.result (opened a.at (nodes_of new.given) c.new-self-inside.result.bytes) (t.state c.begin.new.self) (direction new.rules old.responses old.heads None)
     ≡ goes_on t.manner (header_bytes a.header.now) (opened a.at (taken first.rules types) []) (t.manner.after known (Begins a.at a.header.now)) (direction first.rules old.responses old.heads None) =
     λ i. goes_on t.manner (c.write.ensures.bytes i) (opened a.at (given i) (c.new-self-inside.ensures i)) (c.in_ok-types.ensures.after i) (direction (c.begin_frame.ensures.rules i) old.responses old.heads None) in
-    subst (λ (d : Direction). IsTold (begins_plain t.manner a.at a.header.now known d) c.go_on.result a.writer.now c.go_on.new.writer c.go_on.new.self (t.state c.go_on.new.transcript)) c.self.view_is
-    (then_told a.writer.now c.begin.new.writer c.go_on.new.writer (t.manner.text known (Begins a.at a.header.now))
+    subst (λ (d : Direction). IsTold t.refuses (begins_plain t.manner a.at a.header.now known d) c.go_on.result a.writer.now c.go_on.new.writer c.go_on.new.self (t.state c.go_on.new.transcript)) c.self.view_is
+    (then_told t.refuses a.writer.now c.begin.new.writer c.go_on.new.writer (t.manner.text known (Begins a.at a.header.now))
     (goes_on t.manner (header_bytes a.header.now) (opened a.at (taken first.rules types) []) (t.manner.after known (Begins a.at a.header.now)) (direction first.rules old.responses old.heads None))
     c.go_on.new.self (t.state c.go_on.new.transcript) c.go_on.result c.in_ok-types.ensures.text
-    (subst (λ (z : Telling t.State). IsTold z c.go_on.result c.begin.new.writer c.go_on.new.writer c.go_on.new.self (t.state c.go_on.new.transcript)) is c.go_on.ensures.told))
+    (subst (λ (z : Telling t.State). IsTold t.refuses z c.go_on.result c.begin.new.writer c.go_on.new.writer c.go_on.new.self (t.state c.go_on.new.transcript)) is c.go_on.ensures.told))

@@ -24,6 +24,6 @@ returns-clause-told g c =
     let closed = direction first.rules old.responses old.heads None in
     let is : happens t.manner (Ends c.table.result.now.nodes) known closed ≡ ends t.manner frame known before =
     (λ i. happens t.manner (Ends (types i)) known closed) ∙ (λ i. ends t.manner (frame_if (sym opened i) old.at (nodes_of first.given) old.came.bytes) known before) in
-    subst (λ (d : Direction). IsTold (ends t.manner d.frame known d) c.end.result a.writer.now c.end.new.writer closed (t.state c.end.new.self)) c.self.view_is
-    (subst (λ z. IsTold z c.end.result a.writer.now c.end.new.writer closed (t.state c.end.new.self)) is
-    (one_leaves c.end.result a.writer.now c.end.new.writer (t.manner.text known (Ends c.table.result.now.nodes)) closed (t.manner.after known (Ends c.table.result.now.nodes)) (t.state c.end.new.self) c.end.ensures.text c.end.ensures.after))
+    subst (λ (d : Direction). IsTold t.refuses (ends t.manner d.frame known d) c.end.result a.writer.now c.end.new.writer closed (t.state c.end.new.self)) c.self.view_is
+    (subst (λ z. IsTold t.refuses z c.end.result a.writer.now c.end.new.writer closed (t.state c.end.new.self)) is
+    (one_leaves t.refuses c.end.result a.writer.now c.end.new.writer (t.manner.text known (Ends c.table.result.now.nodes)) closed (t.manner.after known (Ends c.table.result.now.nodes)) (t.state c.end.new.self) c.end.ensures.text c.end.ensures.after))

@@ -13,11 +13,11 @@ returns-in_err-drain-clause-told g c =
     let first = state old.decoder in
     let b = c.args.bytes.now in
     let known = t.state c.args.transcript.now in
-    let is : whole t.manner first old.at old.came.bytes b known old.responses old.heads None ≡ body t.manner b c.args.self.now.frame known c.args.self.now =
+    let is : whole t.refuses t.manner first old.at old.came.bytes b known old.responses old.heads None ≡ body t.manner b c.args.self.now.frame known c.args.self.now =
     (λ i. body t.manner b (frame_if (sym c.if-not-self.false i) old.at (nodes_of first.given) old.came.bytes) known (direction first.rules old.responses old.heads (frame_if (sym c.if-not-self.false i) old.at (nodes_of first.given) old.came.bytes)))
     ∙ ap (λ (d : Direction). body t.manner b d.frame known d) c.self.view_is in
-    subst (λ (z : Telling t.State). IsTold z c.from_residual.result c.args.writer.now c.drain.new.writer (direction (state c.drain.new.decoder).rules old.responses old.heads None) (t.state c.drain.new.transcript)) is
-    (body_stops t.manner first old.at old.came.bytes b known old.responses old.heads None c.from_residual.result _ _ _ _ c.from_residual.ensures.0 (c.in_err-drain.ensures.drains old.came.bytes (c.self.invariant.reads c.if-not-self.false)))
+    subst (λ (z : Telling t.State). IsTold t.refuses z c.from_residual.result c.args.writer.now c.drain.new.writer (direction (state c.drain.new.decoder).rules old.responses old.heads None) (t.state c.drain.new.transcript)) is
+    (body_stops t.refuses t.manner first old.at old.came.bytes b known old.responses old.heads None c.from_residual.result _ _ _ _ _ c.from_residual.ensures (c.in_err-drain.ensures.drains old.came.bytes (c.self.invariant.reads c.if-not-self.false)))
 
 pub returns-in-None-clause-told : goal.returns-in-None-clause-told
 returns-in-None-clause-told g c =
@@ -28,12 +28,12 @@ returns-in-None-clause-told g c =
     let b = c.args.bytes.now in
     let known = t.state c.args.transcript.now in
     let drains = rw c.in-None.is at (c.in_ok-drain.ensures.drains old.came.bytes (c.self.invariant.reads c.if-not-self.false)) in
-    let is : whole t.manner first old.at old.came.bytes b known old.responses old.heads None ≡ body t.manner b c.args.self.now.frame known c.args.self.now =
+    let is : whole t.refuses t.manner first old.at old.came.bytes b known old.responses old.heads None ≡ body t.manner b c.args.self.now.frame known c.args.self.now =
     (λ i. body t.manner b (frame_if (sym c.if-not-self.false i) old.at (nodes_of first.given) old.came.bytes) known (direction first.rules old.responses old.heads (frame_if (sym c.if-not-self.false i) old.at (nodes_of first.given) old.came.bytes)))
     ∙ ap (λ (d : Direction). body t.manner b d.frame known d) c.self.view_is in
-    let told = body_waits t.manner first old.at old.came.bytes b known old.responses old.heads None tt new (t.state c.drain.new.transcript) c.args.writer.now c.drain.new.writer c.in_ok-drain.ensures.rules (ap nodes_of c.in_ok-drain.ensures.given) drains in
-    subst (λ (z : Telling t.State). IsTold z (Ok tt) c.args.writer.now c.drain.new.writer (direction new.rules old.responses old.heads (Some (opened old.at (nodes_of new.given) c.note.new.self.bytes))) (t.state c.drain.new.transcript)) is
-    (subst (λ (bs : List ℕ). IsTold (whole t.manner first old.at old.came.bytes b known old.responses old.heads None) (Ok tt) c.args.writer.now c.drain.new.writer (direction new.rules old.responses old.heads (Some (opened old.at (nodes_of new.given) bs))) (t.state c.drain.new.transcript)) (sym c.note.ensures) told)
+    let told = body_waits t.refuses t.manner first old.at old.came.bytes b known old.responses old.heads None tt new (t.state c.drain.new.transcript) c.args.writer.now c.drain.new.writer c.in_ok-drain.ensures.rules (ap nodes_of c.in_ok-drain.ensures.given) drains in
+    subst (λ (z : Telling t.State). IsTold t.refuses z (Ok tt) c.args.writer.now c.drain.new.writer (direction new.rules old.responses old.heads (Some (opened old.at (nodes_of new.given) c.note.new.self.bytes))) (t.state c.drain.new.transcript)) is
+    (subst (λ (bs : List ℕ). IsTold t.refuses (whole t.refuses t.manner first old.at old.came.bytes b known old.responses old.heads None) (Ok tt) c.args.writer.now c.drain.new.writer (direction new.rules old.responses old.heads (Some (opened old.at (nodes_of new.given) bs))) (t.state c.drain.new.transcript)) (sym c.note.ensures) told)
 
 pub returns-in-Some-clause-told : goal.returns-in-Some-clause-told
 returns-in-Some-clause-told g c =
@@ -43,8 +43,8 @@ returns-in-Some-clause-told g c =
     let b = c.args.bytes.now in
     let known = t.state c.args.transcript.now in
     let drains = rw c.in-Some.is at (c.in_ok-drain.ensures.drains old.came.bytes (c.self.invariant.reads c.if-not-self.false)) in
-    let is : whole t.manner first old.at old.came.bytes b known old.responses old.heads None ≡ body t.manner b c.args.self.now.frame known c.args.self.now =
+    let is : whole t.refuses t.manner first old.at old.came.bytes b known old.responses old.heads None ≡ body t.manner b c.args.self.now.frame known c.args.self.now =
     (λ i. body t.manner b (frame_if (sym c.if-not-self.false i) old.at (nodes_of first.given) old.came.bytes) known (direction first.rules old.responses old.heads (frame_if (sym c.if-not-self.false i) old.at (nodes_of first.given) old.came.bytes)))
     ∙ ap (λ (d : Direction). body t.manner b d.frame known d) c.self.view_is in
-    subst (λ (z : Telling t.State). IsTold z c.refusal.result c.args.writer.now c.refusal.new.writer (direction (state c.drain.new.decoder).rules old.responses old.heads None) (t.state c.refusal.new.self)) is
-    (body_refused t.manner first old.at old.came.bytes b known old.responses old.heads None (state c.drain.new.decoder) c.in-Some.refusal (t.state c.drain.new.transcript) (t.state c.refusal.new.self) _ c.drain.new.writer _ c.in_ok-drain.ensures.rules drains c.refusal.result (rw (sym c.behind.ensures) c.refusal.ensures.text) (rw (sym c.behind.ensures) c.refusal.ensures.after))
+    subst (λ (z : Telling t.State). IsTold t.refuses z c.refusal.result c.args.writer.now c.refusal.new.writer (direction (state c.drain.new.decoder).rules old.responses old.heads None) (t.state c.refusal.new.self)) is
+    (body_refused t.refuses t.manner first old.at old.came.bytes b known old.responses old.heads None (state c.drain.new.decoder) c.in-Some.refusal (t.state c.drain.new.transcript) (t.state c.refusal.new.self) _ c.drain.new.writer _ c.in_ok-drain.ensures.rules drains c.refusal.result (rw (sym c.behind.ensures) c.refusal.ensures.text) (rw (sym c.behind.ensures) c.refusal.ensures.after))

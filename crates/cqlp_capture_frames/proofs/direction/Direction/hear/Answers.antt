@@ -1,7 +1,7 @@
 use Rattle.std.proofs.Common.{◌≡◌, Ok, ap, subst}
 use Rattle.cqlp_watch.specs.Directions.{Closes, after_gap}
-use Rattle.cqlp_text.specs.Written.{BreaksOff}
 use Rattle.cqlp_decode.specs.Streams.{state}
+use Rattle.cqlp_capture_frames.specs.Faults.{Stops}
 use Rattle.cqlp_capture_frames.specs.Frames.{nodes_of}
 use Rattle.cqlp_capture_frames.specs.Reading.{frame_if}
 use Rattle.cqlp_capture_frames.specs.Directions.{Direction, IsTold, Telling, closes, direction, gap_told, with_heads}
@@ -20,9 +20,9 @@ returns-in_err-close-in-Gap-clause-told g c =
     let closed = closes t.manner frame known (direction first.rules old.responses (after_gap n old.heads).after frame) in
     let is : closes t.manner frame known (direction first.rules old.responses c.gap.new.self frame) ≡ closed = λ i. closes t.manner frame known (direction first.rules old.responses (ap (λ (z : Closes). z.after) c.gap.ensures i) frame) in
     let r = c.from_residual-in_err-close-in-Gap.result in
-    rw c.in-Gap.is (subst (λ (d : Direction). IsTold (gap_told t.manner a.at n (closes t.manner d.frame known (with_heads (after_gap n d.heads).after d))) r a.writer.now c.close-in-Gap.new.writer c.close-in-Gap.new.self (t.state c.close-in-Gap.new.transcript)) c.self.view_is
-    (gap_stops t.manner a.at n closed c.close-in-Gap.new.self a.writer.now a.writer.now c.close-in-Gap.new.writer (t.state c.close-in-Gap.new.transcript) r c.from_residual-in_err-close-in-Gap.ensures.0
-    (subst (λ (z : Telling t.State). BreaksOff a.writer.now z.text c.close-in-Gap.new.writer) is c.in_err-close-in-Gap.ensures.told)))
+    rw c.in-Gap.is (subst (λ (d : Direction). IsTold t.refuses (gap_told t.manner a.at n (closes t.manner d.frame known (with_heads (after_gap n d.heads).after d))) r a.writer.now c.close-in-Gap.new.writer c.close-in-Gap.new.self (t.state c.close-in-Gap.new.transcript)) c.self.view_is
+    (gap_stops t.refuses t.manner a.at n closed c.close-in-Gap.new.self a.writer.now a.writer.now c.close-in-Gap.new.writer (t.state c.close-in-Gap.new.transcript) r _ c.from_residual-in_err-close-in-Gap.ensures
+    (subst (λ (z : Telling t.State). Stops (t.refuses c.in_err-close-in-Gap.field-0.0) a.writer.now z.text c.close-in-Gap.new.writer) is c.in_err-close-in-Gap.ensures.told)))
 
 pub returns-in_ok-close-in-Gap-clause-told : goal.returns-in_ok-close-in-Gap-clause-told
 returns-in_ok-close-in-Gap-clause-told g c =
@@ -36,6 +36,6 @@ returns-in_ok-close-in-Gap-clause-told g c =
     let closed = closes t.manner frame known (direction first.rules old.responses (after_gap n old.heads).after frame) in
     let is : closes t.manner frame known (direction first.rules old.responses c.gap.new.self frame) ≡ closed = λ i. closes t.manner frame known (direction first.rules old.responses (ap (λ (z : Closes). z.after) c.gap.ensures i) frame) in
     let r = c.gap-in-Gap.result in
-    rw c.in-Gap.is (subst (λ (d : Direction). IsTold (gap_told t.manner a.at n (closes t.manner d.frame known (with_heads (after_gap n d.heads).after d))) r a.writer.now c.gap-in-Gap.new.writer c.close-in-Gap.new.self (t.state c.gap-in-Gap.new.self)) c.self.view_is
-    (gap_writes t.manner a.at n closed c.close-in-Gap.new.self a.writer.now c.close-in-Gap.new.writer c.gap-in-Gap.new.writer (t.state c.close-in-Gap.new.transcript) (t.state c.gap-in-Gap.new.self) r
-    (subst (λ (z : Telling t.State). IsTold z (Ok tt) a.writer.now c.close-in-Gap.new.writer c.close-in-Gap.new.self (t.state c.close-in-Gap.new.transcript)) is c.in_ok-close-in-Gap.ensures.told) c.gap-in-Gap.ensures.text c.gap-in-Gap.ensures.after))
+    rw c.in-Gap.is (subst (λ (d : Direction). IsTold t.refuses (gap_told t.manner a.at n (closes t.manner d.frame known (with_heads (after_gap n d.heads).after d))) r a.writer.now c.gap-in-Gap.new.writer c.close-in-Gap.new.self (t.state c.gap-in-Gap.new.self)) c.self.view_is
+    (gap_writes t.refuses t.manner a.at n closed c.close-in-Gap.new.self a.writer.now c.close-in-Gap.new.writer c.gap-in-Gap.new.writer (t.state c.close-in-Gap.new.transcript) (t.state c.gap-in-Gap.new.self) r
+    (subst (λ (z : Telling t.State). IsTold t.refuses z (Ok tt) a.writer.now c.close-in-Gap.new.writer c.close-in-Gap.new.self (t.state c.close-in-Gap.new.transcript)) is c.in_ok-close-in-Gap.ensures.told) c.gap-in-Gap.ensures.text c.gap-in-Gap.ensures.after))

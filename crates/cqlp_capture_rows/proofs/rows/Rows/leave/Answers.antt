@@ -7,5 +7,5 @@ pub returns : goal.returns
 returns g c = λ known.
     let old = c.self.inside in
     let new = c.put_left.new in
-    subst (λ (s : Listening). Tells s (leaves s.requests s.responses) c.put_left.result (record { asked = old.asked; requests = old.requests; responses = new.responses; output = record { given = new.writer.given; failures = new.writer.failures } })) c.self.view_is
-    (tells_told old.asked old.requests old.requests old.responses new.responses old.writer new.writer (leaves old.requests old.responses) c.put_left.result c.self.invariant c.put_left.ensures.passed (subst (λ (s : Listening). IsSome s.output.given) (sym c.self.view_is) known) c.put_left.ensures.text (on_ok c.put_left.result old.requests) c.put_left.ensures.after)
+    subst (λ (s : Listening). Tells s (leaves s.requests s.direction s.responses) c.put_left.result (record { asked = old.asked; requests = old.requests; direction = new.direction; responses = new.responses; output = record { given = new.writer.given; failures = new.writer.failures } })) c.self.view_is
+    (tells_told old.asked old.requests old.requests old.direction new.direction old.responses new.responses old.writer new.writer (leaves old.requests old.direction old.responses) c.put_left.result c.self.invariant c.put_left.ensures.passed (subst (λ (s : Listening). IsSome s.output.given) (sym c.self.view_is) known) c.put_left.ensures.text (on_ok c.put_left.result old.requests) c.put_left.ensures.direction c.put_left.ensures.responses)

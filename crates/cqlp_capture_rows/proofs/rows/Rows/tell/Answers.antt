@@ -7,5 +7,5 @@ pub returns : goal.returns
 returns g c = λ known.
     let old = c.self.inside in
     let new = c.put_told.new in
-    subst (λ (s : Listening). Tells s (heard c.args.told.now c.args.bytes.now s.requests s.responses) c.put_told.result (record { asked = old.asked; requests = new.requests; responses = new.responses; output = record { given = new.writer.given; failures = new.writer.failures } })) c.self.view_is
-    (tells_told old.asked old.requests new.requests old.responses new.responses old.writer new.writer (heard c.args.told.now c.args.bytes.now old.requests old.responses) c.put_told.result c.self.invariant c.put_told.ensures.passed (subst (λ (s : Listening). IsSome s.output.given) (sym c.self.view_is) known) c.put_told.ensures.text c.put_told.ensures.requests c.put_told.ensures.responses)
+    subst (λ (s : Listening). Tells s (heard c.args.told.now c.args.bytes.now s.requests s.direction s.responses) c.put_told.result (record { asked = old.asked; requests = new.requests; direction = new.direction; responses = new.responses; output = record { given = new.writer.given; failures = new.writer.failures } })) c.self.view_is
+    (tells_told old.asked old.requests new.requests old.direction new.direction old.responses new.responses old.writer new.writer (heard c.args.told.now c.args.bytes.now old.requests old.direction old.responses) c.put_told.result c.self.invariant c.put_told.ensures.passed (subst (λ (s : Listening). IsSome s.output.given) (sym c.self.view_is) known) c.put_told.ensures.text c.put_told.ensures.requests c.put_told.ensures.direction c.put_told.ensures.responses)

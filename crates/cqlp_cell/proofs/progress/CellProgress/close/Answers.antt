@@ -5,7 +5,7 @@ use Rattle.cqlp_cell.proofs.progress.CellProgress.close.Goals as goal
 
 pub returns-then-at-value-clause-closes : goal.returns-then-at-value-clause-closes
 returns-then-at-value-clause-closes g c = λ nodes p input stands idle.
-    rw c.refuse.ensures.answer (close_fails nodes (state_of c.args.self.now) c.args.value p input stands c.requires.due idle (state_of c.refuse.new.self) c.if-at-value.true c.refuse.ensures.state)
+    rw c.refuse.ensures.answer (close_fails nodes (state_of c.args.self.now) c.args.value p input stands c.requires.due idle (state_of c.refuse.new.self) c.requires.over c.if-at-value.true c.refuse.ensures.state)
 
 pub returns-clause-closes : goal.returns-clause-closes
 returns-clause-closes g c = λ nodes p input stands idle.

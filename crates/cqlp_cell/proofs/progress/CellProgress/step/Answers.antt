@@ -5,10 +5,7 @@ use Rattle.cqlp_cell.proofs.progress.CellProgress.step.Goals as goal
 
 pub returns-in-Close-clause-moves : goal.returns-in-Close-clause-moves
 returns-in-Close-clause-moves g c =
-    let r = c.requires in
-    let nodes = c.args.table.now.nodes in
-    let idle = rw c.in-Nothing.is at r.joined.under_way in
-    moves_afresh nodes (state_of c.args.self.now) c.args.partial.now c.args.input.now c.close.result (state_of c.close.new.self) c.args.partial.now c.in-Nothing.is (c.close.ensures.closes nodes c.args.partial.now c.args.input.now r.stands idle)
+    moves_afresh c.args.table.now.nodes (state_of c.args.self.now) c.args.partial.now c.args.input.now c.leave.result (state_of c.leave.new.self) c.leave.new.partial c.in-Nothing.is c.leave.ensures.settles
 
 pub returns-in-Scalar-clause-moves : goal.returns-in-Scalar-clause-moves
 returns-in-Scalar-clause-moves g c =
@@ -42,11 +39,19 @@ returns-in-First-clause-moves g c =
 
 pub returns-in-Close-clause-answers : goal.returns-in-Close-clause-answers
 returns-in-Close-clause-answers g c =
-    let r = c.requires in
-    let nodes = c.args.table.now.nodes in
-    let idle = rw c.in-Nothing.is at r.joined.under_way in
-    settles_answers nodes (state_of c.args.self.now) c.args.partial.now c.args.input.now _ _ _ c.close.result (state_of c.close.new.self) c.args.partial.now (c.close.ensures.closes nodes c.args.partial.now c.args.input.now r.stands idle)
+    settles_answers c.args.table.now.nodes (state_of c.args.self.now) c.args.partial.now c.args.input.now _ _ _ c.leave.result (state_of c.leave.new.self) c.leave.new.partial c.leave.ensures.settles
     (close_some (state_of c.args.self.now) _ (sym c.due.ensures ∙ c.in-Close.is))
+
+pub leave-requires : goal.leave-requires
+leave-requires g c =
+    let r = c.requires in
+    record {
+      stands = r.stands;
+      due = sym c.due.ensures ∙ c.in-Close.is;
+      fresh = c.in-Nothing.is;
+      idle = rw c.in-Nothing.is at r.joined.under_way;
+      longest = r.joined.longest;
+    }
 
 pub advance_length-requires : goal.advance_length-requires
 advance_length-requires g c =

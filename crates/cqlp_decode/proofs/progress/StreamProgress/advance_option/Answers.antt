@@ -1,5 +1,5 @@
 use Rattle.std.proofs.Common.{rules, ◌≡◌, Bool, true, false, refl, ap, ◌∙◌, arith}
-use Rattle.cqlp_note.specs.Limits.{rules_of}
+use Rattle.cqlp_note.specs.Limits.{rules_asked}
 use Rattle.cqlp_type.specs.Progress as type
 use Rattle.cqlp_decode.specs.declared.progress.StreamProgress.{StreamProgress}
 use Rattle.cqlp_decode.specs.Progress.{parts_state}
@@ -15,7 +15,7 @@ advance-requires g c =
       under_way = stage.0.under_way;
       shared = stage.0.shared;
       room = search rules;
-      table = option_reads (rules_of c.args.self.now.limits) q runs;
+      table = option_reads (rules_asked c.args.self.now.limits) q runs;
     }
 
 pub returns-in-More-clause-moves : goal.returns-in-More-clause-moves

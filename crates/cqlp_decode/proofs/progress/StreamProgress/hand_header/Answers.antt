@@ -1,5 +1,5 @@
 use Rattle.std.proofs.Common.{ap, sym, ◌∙◌, refl, arith}
-use Rattle.cqlp_note.specs.Limits.{rules_of}
+use Rattle.cqlp_note.specs.Limits.{rules_asked}
 use Rattle.cqlp_decode.specs.Reading as reading
 use Rattle.cqlp_decode.specs.Progress.{state_of}
 use Rattle.cqlp_decode.proofs.FieldLoop.{header_takes, takes_one}
@@ -11,7 +11,7 @@ returns-in-Ok-take-clause-hands g c = λ q idle.
     let r = rw c.read_array.ensures at c.in-Ok.ensures in
     let e = c.enter.ensures in
     let hands = header_takes s q c.args.input.now c.requires.here c.if-self.false c.requires.bounded.long (omega (arith, c.if-self-gt0.false)) (omega (arith, c.if-input-lt9.false)) c.enter.new.self c.in-Ok.header r.0 e.offset e.stop (e.symbols q) e.room e.frame.0 e.frame.1 e.given_use idle in
-    takes_one (state_of s q) (state_of c.enter.new.self q) c.args.input.now s.offset 9 (reading.Frame c.in-Ok.header) (reading.Frame c.in-Ok.header) hands refl (e.rest.0 ∙ sym c.requires.unrefused) (ap rules_of e.rest.1) refl _ (c.in-Ok-take.ensures.ok, c.in-Ok-take.ensures.also)
+    takes_one (state_of s q) (state_of c.enter.new.self q) c.args.input.now s.offset 9 (reading.Frame c.in-Ok.header) (reading.Frame c.in-Ok.header) hands refl (e.rest.0 ∙ sym c.requires.unrefused) (ap rules_asked e.rest.1) refl _ (c.in-Ok-take.ensures.ok, c.in-Ok-take.ensures.also)
 
 pub returns-in-Err-clause-hands : goal.returns-in-Err-clause-hands
 returns-in-Err-clause-hands g c = λ q idle.
@@ -19,4 +19,4 @@ returns-in-Err-clause-hands g c = λ q idle.
     let r = rw c.read_array.ensures at c.in-Ok.ensures in
     let e = c.enter.ensures in
     let hands = header_takes s q c.args.input.now c.requires.here c.if-self.false c.requires.bounded.long (omega (arith, c.if-self-gt0.false)) (omega (arith, c.if-input-lt9.false)) c.enter.new.self c.in-Ok.header r.0 e.offset e.stop (e.symbols q) e.room e.frame.0 e.frame.1 e.given_use idle in
-    takes_one (state_of s q) (state_of c.enter.new.self q) c.args.input.now s.offset 9 (reading.Frame c.in-Ok.header) (reading.Frame c.in-Ok.header) hands refl (e.rest.0 ∙ sym c.requires.unrefused) (ap rules_of e.rest.1) refl _ (c.in-Err.ensures.err, c.in-Err.ensures.also)
+    takes_one (state_of s q) (state_of c.enter.new.self q) c.args.input.now s.offset 9 (reading.Frame c.in-Ok.header) (reading.Frame c.in-Ok.header) hands refl (e.rest.0 ∙ sym c.requires.unrefused) (ap rules_asked e.rest.1) refl _ (c.in-Err.ensures.err, c.in-Err.ensures.also)

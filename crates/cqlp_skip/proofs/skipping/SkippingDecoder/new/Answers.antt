@@ -4,7 +4,7 @@ use Rattle.cqlp_skip.proofs.Skips.{starts}
 use Rattle.cqlp_skip.proofs.skipping.SkippingDecoder.new.Goals as goal
 
 pub returns-in-Ok-clause-fresh : goal.returns-in-Ok-clause-fresh
-returns-in-Ok-clause-fresh g c = λ xs. starts c.in-Ok.decoder xs c.in-Ok.ensures.fresh c.in-Ok.ensures.unrefused
+returns-in-Ok-clause-fresh g c = λ xs. rw c.around.ensures (starts c.in-Ok.decoder xs c.in-Ok.ensures.fresh c.in-Ok.ensures.unrefused)
 
 pub returns-in-Ok-clause-bad : goal.returns-in-Ok-clause-bad
 returns-in-Ok-clause-bad g c = λ b. (λ is. absurd cc, λ bad. absurd (let is = (c.in-Ok.ensures.bad b).1 bad in cc))

@@ -1,0 +1,75 @@
+-- What is known of the responses of a connection, and how what happens in them is written.
+use Rattle.std.specs.Prelude.{ℕ, Bool, true, false, if◌then◌else◌, List, [], ◌++◌, Option, Some, None}
+use Rattle.cqlp_note.specs.declared.header.Header.{Header}
+use Rattle.cqlp_note.specs.declared.opcode.Opcode.{Opcode}
+use Rattle.cqlp_note.specs.declared.opcode.Opcode.TheVariants as opcode
+use Rattle.cqlp_note.specs.Limits.{Rules, rules_of}
+use Rattle.cqlp_kind.specs.declared.node.Node.{Node}
+use Rattle.cqlp_prepared.specs.Keeping.{Keeping, answered, prepared, types_for}
+use Rattle.cqlp_capture_frames.specs.Happenings.{Happening, Manner, Begins, Says, Fails, Compressed, Gap, Ends, Closes}
+use Rattle.cqlp_capture_rows.specs.declared.limits.TheConstants.{LIMITS}
+use Rattle.cqlp_capture_rows.specs.declared.responses.TheConstants.{NO_HEADER}
+use Rattle.cqlp_capture_rows.specs.declared.spot.FrameSpot.{FrameSpot}
+use Rattle.cqlp_capture_rows.specs.Spots.{compressed_line, frame_spot, gap_line, refused_line, spot}
+use Rattle.cqlp_capture_rows.specs.Pages.{Page, cut_text, no_rows, page_after, rows_part}
+
+abbrev pub rules : Rules
+rules = rules_of LIMITS
+
+-- the number of the connection, what is known of its statements, where the frame that began last begins, and its page
+pub record Responses : Type 0 where
+  pub number : ℕ
+  pub known : Keeping
+  pub begun : FrameSpot
+  pub page : Page
+
+abbrev pub responses : ℕ → Keeping → FrameSpot → Page → Responses
+responses number known begun page = record { number = number; known = known; begun = begun; page = page }
+
+-- nothing came
+abbrev pub new_responses : (number : ℕ) → Keeping → Responses
+new_responses number known = responses number known (frame_spot (spot number 0) NO_HEADER) no_rows
+
+abbrev pub with_known : Keeping → Responses → Responses
+with_known known r = responses r.number known r.begun r.page
+
+abbrev pub with_page : Page → Responses → Responses
+with_page page r = responses r.number r.known r.begun page
+
+-- ---- a frame that came whole: a PREPARED says the types of its statement (section 4.2.5.4)
+
+abbrev pub prepared_as : (id : Option (List ℕ)) → List Node → Keeping → Keeping
+prepared_as None types known = known
+prepared_as (Some id) types known = prepared id types known
+
+abbrev pub is_result : Opcode → Bool
+is_result opcode.Result = true
+is_result o = false
+
+abbrev pub known_by : Header → Page → (types : List Node) → Keeping → Keeping
+known_by h p types known = if is_result h.opcode then prepared_as p.id types known else known
+
+-- ---- what happens: its text, and what is known after it
+
+abbrev pub text_of : Responses → Happening → List ℕ
+text_of r (Begins at h) = []
+text_of r (Says at e) = rows_part r.begun r.page e
+text_of r (Fails at why) = cut_text r.page ++ refused_line (spot r.number at) why
+text_of r (Compressed at h) = compressed_line (spot r.number at)
+text_of r (Gap at n) = gap_line (spot r.number at) n
+text_of r (Ends types) = cut_text r.page
+text_of r Closes = cut_text r.page
+
+-- A frame answers what waits under its stream id. Once no more of it is read, no page is under way.
+abbrev pub after : Responses → Happening → Responses
+after r (Begins at h) = responses r.number (answered h.stream r.known) (frame_spot (spot r.number at) h) no_rows
+after r (Says at e) = with_page (page_after r.page e) r
+after r (Fails at why) = with_page no_rows r
+after r (Compressed at h) = with_known (answered h.stream r.known) r
+after r (Gap at n) = r
+after r (Ends types) = with_known (known_by r.begun.header r.page types r.known) (with_page no_rows r)
+after r Closes = with_page no_rows r
+
+-- Where an EXECUTE waits under the frame's stream id, the types are those that the last PREPARED said of the statement which it names.
+abbrev pub page_manner : Manner Responses
+page_manner = record { text = text_of; after = after; types = λ r at h. types_for h.stream r.known }

@@ -1,0 +1,213 @@
+//! The text of the responses of a connection.
+
+ghost use Rattle.std.specs.Prelude.{◌≡◌, IfOk, OnOk};
+ghost use Rattle.cqlp_text.specs.Written.{Writes};
+ghost use Rattle.cqlp_prepared.specs.Keeping.{new_keeping};
+ghost use Rattle.cqlp_prepared.specs.Requests.{asked, step_asked};
+ghost use Rattle.cqlp_capture_rows.specs.Pages.{cut_text, no_rows};
+ghost use Rattle.cqlp_capture_rows.specs.Spots.{spot};
+ghost use Rattle.cqlp_capture_rows.specs.Responses.{is_result, known_by, new_responses, with_known, with_page};
+
+use crate::fault::TellFault;
+use crate::limits::{EXECUTES, STATEMENTS};
+use crate::page::Page;
+use crate::spot::{FrameSpot, Spot, put_compressed, put_gap, put_refused};
+use cqlp_capture_frames::Transcript;
+use cqlp_grammar::{Event, SinkFault};
+use cqlp_note::{Header, NoMemory, Opcode, Reason};
+use cqlp_prepared::{NewPreparedError, PreparedTypes, Requests};
+use cqlp_reassembly::StreamStep;
+use cqlp_text::{Pen, TextWriter};
+use cqlp_type::TypeTable;
+use std::alloc::{AllocError, Allocator, Global};
+use std::marker::Model;
+
+/// The header before that of the first frame.
+const NO_HEADER: Header = Header {
+    response: true,
+    flags: 0,
+    stream: 0,
+    opcode: Opcode::Ready,
+    length: 0,
+};
+
+/// What is known of the responses of a connection: of its statements, and of the page of the frame that is read.
+#[derive(Drop)]
+pub(crate) struct Responses<A: Allocator = Global> {
+    /// The number of the connection.
+    number: u64,
+    known: PreparedTypes<A>,
+    /// Where the frame that began last begins, and its header.
+    begun: FrameSpot,
+    /// What it said of a page.
+    page: Page,
+}
+
+impl<A: Allocator> Model for Responses<A> {
+    ghost use Rattle.cqlp_capture_rows.specs.Responses.{Responses, responses};
+
+    ghost Value = { Responses };
+
+    ghost view = { λ r. responses r.number r.known r.begun r.page };
+}
+
+impl<A: Allocator + Clone> Responses<A> {
+    /// Nothing came of the connection with this number. All memory but that of types is taken here.
+    pub(crate) fn new(alloc: A, number: u64) -> Result<Self, AllocError>
+        ensures { IfOk result (λ r. r ≡ new_responses number (new_keeping STATEMENTS EXECUTES)) }
+    {
+        match PreparedTypes::new(alloc, STATEMENTS, EXECUTES) {
+            Ok(known) => Ok(Responses {
+                number,
+                known,
+                begun: FrameSpot {
+                    spot: Spot { number, at: 0 },
+                    header: NO_HEADER,
+                },
+                page: Page::new(),
+            }),
+            Err(NewPreparedError::NoMemory | NewPreparedError::BadLimit) => Err(AllocError),
+        }
+    }
+}
+
+impl<A: Allocator> Responses<A> {
+    /// Takes what is told of the requests, with its bytes: what is known of statements changes by that.
+    pub(crate) fn hear_requests(&mut self, step: StreamStep, bytes: &[u8], requests: &mut Requests)
+        ensures known { asked requests.new self.new.known ≡ step_asked step bytes.now (asked requests.old self.old.known) }
+        ensures others { self.new ≡ with_known self.new.known self.old }
+    {
+        requests.hear(step, bytes, &mut self.known);
+    }
+
+    /// A place in the responses.
+    fn spot(&self, at: u64) -> Spot
+        ensures { result ≡ spot self.now.number at }
+    {
+        Spot {
+            number: self.number,
+            at,
+        }
+    }
+
+    /// No more is read of the frame. Takes the end of its page, if that has not ended.
+    fn cut<P: Pen>(&mut self, writer: &mut TextWriter<P>) -> Result<(), SinkFault>
+        ensures text { Writes writer.old (cut_text self.old.page) result writer.new }
+        ensures after { self.new ≡ with_page no_rows self.old }
+    {
+        let cut = self.page.put_cut(writer);
+        self.page = Page::new();
+        cut
+    }
+
+    /// The frame came whole. A PREPARED says the types of its statement's result: it is the RESULT that names a statement.
+    fn learn(&mut self, types: &TypeTable<A>) -> Result<(), NoMemory>
+    where
+        A: Clone,
+        ensures { OnOk result
+            (self.new ≡ with_known (known_by self.old.begun.header self.old.page types.now.nodes self.old.known) self.old) }
+    {
+        if !is_result(&self.begun.header) {
+            return Ok(());
+        }
+        match self.page.id() {
+            Some(id) => self.known.prepared(id.as_slice(), types),
+            None => Ok(()),
+        }
+    }
+}
+
+impl<A: Allocator + Clone> Transcript<A> for Responses<A> {
+    ghost use Rattle.cqlp_capture_rows.specs.Faults.{is_memory};
+    ghost use Rattle.cqlp_capture_rows.specs.Responses.{Responses, page_manner};
+
+    type Fault = TellFault;
+
+    ghost refuses = { is_memory };
+
+    ghost State = { Responses };
+
+    ghost state = { λ r. r };
+
+    ghost manner = { page_manner };
+
+    #[tactic(auto, using(crate::proofs::Faults::refused_here))]
+    fn begin<P: Pen>(
+        &mut self,
+        at: u64,
+        header: &Header,
+        _writer: &mut TextWriter<P>,
+    ) -> Result<Option<TypeTable<A>>, TellFault> {
+        let types = self.known.types_for(header.stream)?;
+        self.begun = FrameSpot {
+            spot: self.spot(at),
+            header: *header,
+        };
+        self.page = Page::new();
+        Ok(types)
+    }
+
+    #[tactic(auto, using(crate::proofs::Faults::breaks_here))]
+    fn event<P: Pen>(
+        &mut self,
+        _at: u64,
+        event: &Event<'_>,
+        writer: &mut TextWriter<P>,
+    ) -> Result<(), TellFault> {
+        Ok(self.page.put_event(event, self.begun, writer)?)
+    }
+
+    #[tactic(auto, using(crate::proofs::Faults::first_breaks, crate::proofs::Faults::then_breaks))]
+    fn refusal<P: Pen>(
+        &mut self,
+        at: u64,
+        why: Reason,
+        writer: &mut TextWriter<P>,
+    ) -> Result<(), TellFault> {
+        self.cut(writer)?;
+        Ok(put_refused(writer, self.spot(at), why)?)
+    }
+
+    #[tactic(auto, using(crate::proofs::Faults::breaks_here))]
+    fn compressed<P: Pen>(
+        &mut self,
+        at: u64,
+        header: &Header,
+        writer: &mut TextWriter<P>,
+    ) -> Result<(), TellFault> {
+        self.known.forget(header.stream);
+        Ok(put_compressed(writer, self.spot(at))?)
+    }
+
+    #[tactic(auto, using(crate::proofs::Faults::breaks_here))]
+    fn gap<P: Pen>(
+        &mut self,
+        at: u64,
+        length: u64,
+        writer: &mut TextWriter<P>,
+    ) -> Result<(), TellFault> {
+        Ok(put_gap(writer, self.spot(at), length)?)
+    }
+
+    #[tactic(auto, using(crate::proofs::Faults::breaks_here, crate::proofs::Faults::refused_here))]
+    fn end<P: Pen>(
+        &mut self,
+        types: &TypeTable<A>,
+        writer: &mut TextWriter<P>,
+    ) -> Result<(), TellFault> {
+        self.learn(types)?;
+        Ok(self.cut(writer)?)
+    }
+
+    #[tactic(auto, using(crate::proofs::Faults::breaks_here))]
+    fn close<P: Pen>(&mut self, writer: &mut TextWriter<P>) -> Result<(), TellFault> {
+        Ok(self.cut(writer)?)
+    }
+}
+
+/// Whether it is that of a RESULT.
+fn is_result(header: &Header) -> bool
+    ensures { result ≡ is_result header.now.opcode }
+{
+    header.opcode == Opcode::Result
+}

@@ -1,0 +1,4 @@
+pub mod Numbers
+pub mod Appends
+pub mod OneSpelling
+pub mod OneAnswer

@@ -1,0 +1,187 @@
+//! Cells of columns.
+
+ghost use Rattle.std.specs.Prelude.{◌≡◌, ◌+◌, ◌≤◌, ◌++◌, length, reverse, vec_capacity};
+ghost use Rattle.cqlp_kind.specs.Contents.{value_of};
+ghost use Rattle.cqlp_kind.specs.Scalars.{kind_of as kind_of_value};
+ghost use Rattle.cqlp_columns.specs.Cells.{cell_of, is_empty, is_valid, stored, truth};
+
+use crate::layout::Layout;
+use cqlp_kind::{Kind, Scalar};
+use cqlp_note::Address;
+use std::alloc::Allocator;
+
+/// A cell of a column whose values have no items.
+#[derive(Clone, Copy, Debug, PartialEq, Eq)]
+pub enum Cell<'a> {
+    /// A value of a negative length.
+    Null,
+    /// A value of no bytes.
+    Empty,
+    Holds(Scalar<'a>),
+}
+
+/// Whether a cell has a value in this layout: a value of no bytes is one only where as many bytes stand for a value as it has.
+#[inline(always)]
+pub(crate) fn is_valid(layout: Layout, cell: &Cell<'_>) -> bool
+    ensures { result ≡ is_valid layout (cell_of cell.now) }
+{
+    match *cell {
+        Cell::Null => false,
+        Cell::Empty => matches!(layout, Layout::Variable),
+        Cell::Holds(_) => true,
+    }
+}
+
+/// Whether a cell has a value of no bytes.
+#[inline(always)]
+pub(crate) fn is_empty(cell: &Cell<'_>) -> bool
+    ensures { result ≡ is_empty (cell_of cell.now) }
+{
+    matches!(*cell, Cell::Empty)
+}
+
+/// Whether a cell is true.
+#[inline(always)]
+pub(crate) fn is_true(cell: &Cell<'_>) -> bool
+    ensures { result ≡ truth (cell_of cell.now) }
+{
+    matches!(*cell, Cell::Holds(Scalar::Boolean(true)))
+}
+
+/// The kind of a scalar.
+#[inline(always)]
+pub(crate) fn kind_of(scalar: &Scalar<'_>) -> Kind
+    ensures { result ≡ kind_of_value (value_of scalar.now) }
+{
+    match *scalar {
+        Scalar::Custom(_) => Kind::Custom,
+        Scalar::Ascii(_) => Kind::Ascii,
+        Scalar::Bigint(_) => Kind::Bigint,
+        Scalar::Blob(_) => Kind::Blob,
+        Scalar::Boolean(_) => Kind::Boolean,
+        Scalar::Counter(_) => Kind::Counter,
+        Scalar::Decimal { .. } => Kind::Decimal,
+        Scalar::Double(_) => Kind::Double,
+        Scalar::Float(_) => Kind::Float,
+        Scalar::Int(_) => Kind::Int,
+        Scalar::Timestamp(_) => Kind::Timestamp,
+        Scalar::Uuid(_) => Kind::Uuid,
+        Scalar::Varchar(_) => Kind::Varchar,
+        Scalar::Varint(_) => Kind::Varint,
+        Scalar::Timeuuid(_) => Kind::Timeuuid,
+        Scalar::Inet(_) => Kind::Inet,
+        Scalar::Date(_) => Kind::Date,
+        Scalar::Time(_) => Kind::Time,
+        Scalar::Smallint(_) => Kind::Smallint,
+        Scalar::Tinyint(_) => Kind::Tinyint,
+        Scalar::Raw(_) => Kind::Raw,
+    }
+}
+
+/// How many bytes stand for a scalar.
+#[inline(always)]
+pub(crate) fn stored_len(scalar: &Scalar<'_>) -> usize
+    ensures { result ≡ length (stored (value_of scalar.now)) }
+{
+    match *scalar {
+        Scalar::Boolean(_) => 0,
+        Scalar::Tinyint(_) => 1,
+        Scalar::Smallint(_) => 2,
+        Scalar::Int(_) | Scalar::Date(_) => 4,
+        Scalar::Float(bytes) => array_len(bytes),
+        Scalar::Bigint(_) | Scalar::Counter(_) | Scalar::Timestamp(_) | Scalar::Time(_) => 8,
+        Scalar::Double(bytes) => array_len(bytes),
+        Scalar::Uuid(bytes) => array_len(bytes),
+        Scalar::Timeuuid(bytes) => array_len(bytes),
+        Scalar::Decimal { unscaled, .. } => decimal_len(unscaled),
+        Scalar::Inet(Address::V4(bytes)) => array_len(bytes),
+        Scalar::Inet(Address::V6(bytes)) => array_len(bytes),
+        Scalar::Ascii(text) | Scalar::Varchar(text) => text.len(),
+        Scalar::Custom(bytes) | Scalar::Blob(bytes) | Scalar::Varint(bytes) | Scalar::Raw(bytes) =>
+            bytes.len(),
+    }
+}
+
+/// How many bytes an array has.
+#[inline(always)]
+fn array_len<const N: usize>(bytes: [u8; N]) -> usize
+    ensures { result ≡ length bytes.entry }
+{
+    bytes.len()
+}
+
+/// How many bytes a decimal has, with its scale.
+#[inline(always)]
+fn decimal_len(unscaled: &[u8]) -> usize
+    ensures { result ≡ 4 + length unscaled.now }
+{
+    4 + unscaled.len()
+}
+
+/// Adds the bytes that stand for a scalar, for which there is room.
+#[inline(always)]
+pub(crate) fn put_scalar<A: Allocator>(values: &mut Vec<u8, A>, scalar: &Scalar<'_>)
+    requires { length values.old.items + length (stored (value_of scalar.now)) ≤ vec_capacity values.old }
+    ensures items { values.new.items ≡ values.old.items ++ stored (value_of scalar.now) }
+    ensures capacity { vec_capacity values.old ≤ vec_capacity values.new }
+{
+    match *scalar {
+        Scalar::Boolean(_) => {}
+        Scalar::Tinyint(n) => put(values, &n.to_le_bytes()),
+        Scalar::Smallint(n) => put(values, &n.to_le_bytes()),
+        Scalar::Int(n) => put(values, &n.to_le_bytes()),
+        Scalar::Date(n) => put(values, &n.to_le_bytes()),
+        Scalar::Float(bytes) => put_reversed(values, bytes),
+        Scalar::Bigint(n) => put(values, &n.to_le_bytes()),
+        Scalar::Counter(n) => put(values, &n.to_le_bytes()),
+        Scalar::Timestamp(n) => put(values, &n.to_le_bytes()),
+        Scalar::Time(n) => put(values, &n.to_le_bytes()),
+        Scalar::Double(bytes) => put_reversed(values, bytes),
+        Scalar::Uuid(bytes) => put_array(values, bytes),
+        Scalar::Timeuuid(bytes) => put_array(values, bytes),
+        Scalar::Decimal { scale, unscaled } => {
+            put(values, &scale.to_be_bytes());
+            put(values, unscaled);
+        }
+        Scalar::Inet(Address::V4(bytes)) => put_array(values, bytes),
+        Scalar::Inet(Address::V6(bytes)) => put_array(values, bytes),
+        Scalar::Ascii(text) => put(values, text.as_bytes()),
+        Scalar::Varchar(text) => put(values, text.as_bytes()),
+        Scalar::Custom(bytes) => put(values, bytes),
+        Scalar::Blob(bytes) => put(values, bytes),
+        Scalar::Varint(bytes) => put(values, bytes),
+        Scalar::Raw(bytes) => put(values, bytes),
+    }
+}
+
+/// Adds bytes, for which there is room.
+#[inline(always)]
+pub(crate) fn put<A: Allocator>(values: &mut Vec<u8, A>, bytes: &[u8])
+    requires { length values.old.items + length bytes.now ≤ vec_capacity values.old }
+    ensures items { values.new.items ≡ values.old.items ++ bytes.now }
+    ensures capacity { vec_capacity values.old ≤ vec_capacity values.new }
+{
+    values.extend_from_slice(bytes).unwrap();
+}
+
+/// Adds bytes.
+#[inline(always)]
+fn put_array<const N: usize, A: Allocator>(values: &mut Vec<u8, A>, bytes: [u8; N])
+    requires { length values.old.items + length bytes ≤ vec_capacity values.old }
+    ensures items { values.new.items ≡ values.old.items ++ bytes.entry }
+    ensures capacity { vec_capacity values.old ≤ vec_capacity values.new }
+{
+    put(values, &bytes);
+}
+
+/// Adds bytes, the last of them first.
+#[inline(always)]
+fn put_reversed<const N: usize, A: Allocator>(values: &mut Vec<u8, A>, bytes: [u8; N])
+    requires { length values.old.items + length bytes ≤ vec_capacity values.old }
+    ensures items { values.new.items ≡ values.old.items ++ reverse bytes.entry }
+    ensures capacity { vec_capacity values.old ≤ vec_capacity values.new }
+{
+    let mut turned = bytes;
+    turned.reverse();
+    put(values, &turned);
+}

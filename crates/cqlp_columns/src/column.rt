@@ -1,0 +1,348 @@
+//! A column of a batch.
+
+ghost use Rattle.std.specs.Prelude.{◌≡◌, ◌==◌, ◌+◌, ◌<◌, ◌≤◌, ◌++◌, ◌∷◌, [], List, length, replicate, vec_capacity, Err, IfOk, IsOk, None, OnErr, OnOk, Some};
+ghost use Rattle.cqlp_kind.specs.Types.{is_kind};
+ghost use Rattle.cqlp_columns.specs.Arrays.{AreBytesOf, HasCells, IsAnswer, column_of, fits, offset_in, refusal_of, with_cell};
+ghost use Rattle.cqlp_columns.specs.Bits.{Spells, bits};
+ghost use Rattle.cqlp_columns.specs.Layouts.{layout_of};
+ghost use Rattle.cqlp_columns.specs.Cells.{Cell as CellValue, blank, cell_bits, cell_bytes, cell_of, is_of};
+
+use crate::bits::Bits;
+use crate::cell::{Cell, is_empty, is_true, is_valid, kind_of, put_scalar, stored_len};
+use crate::layout::{Layout, layout_of};
+use cqlp_kind::Kind;
+use std::alloc::{AllocError, Allocator, Global};
+use std::marker::Model;
+use thiserror::Error;
+
+/// Why no column is made.
+#[derive(Clone, Copy, Debug, PartialEq, Eq, Error)]
+pub enum MakeError {
+    /// Values of the kind have items.
+    #[error("values with items")]
+    Unsupported,
+    #[error("no memory")]
+    NoMemory,
+}
+
+/// Why a column does not take a cell.
+#[derive(Clone, Copy, Debug, PartialEq, Eq, Error)]
+pub enum Refusal {
+    /// It is none of the column's kind.
+    #[error("a value of another kind")]
+    NotOfKind,
+    /// There is no room for it.
+    #[error("no room")]
+    Full,
+}
+
+/// The cells of a column, in arrays as Apache Arrow lays them out. All memory is taken when it is made.
+#[derive(Drop)]
+pub struct Column<A: Allocator = Global> {
+    kind: Kind,
+    layout: Layout,
+    rows: u32,
+    size: usize,
+    values: Vec<u8, A>,
+    /// The values, where they are bits.
+    truths: Bits<A>,
+    offsets: Vec<u64, A>,
+    valid: Bits<A>,
+    empty: Bits<A>,
+}
+
+impl<A: Allocator> Model for Column<A> {
+    ghost use Rattle.std.specs.Prelude.{◌≡◌, ◌+◌, ◌≤◌, length, vec_capacity};
+    ghost use Rattle.cqlp_columns.specs.Arrays.{Column};
+
+    ghost Value = { Column };
+
+    ghost view = { λ c. record {
+      kind = c.kind;
+      layout = c.layout;
+      rows = c.rows;
+      size = c.size;
+      values = c.values.items;
+      truths = c.truths.bits;
+      offsets = c.offsets.items;
+      valid = c.valid.bits;
+      empty = c.empty.bits;
+    } };
+
+    ghost invariant = { λ c. (c.size ≤ vec_capacity c.values) × (c.rows + 1 ≤ vec_capacity c.offsets)
+        × (c.rows ≤ c.truths.room) × (c.rows ≤ c.valid.room) × (c.rows ≤ c.empty.room)
+        × (length c.truths.bits ≤ length c.valid.bits) × (length c.empty.bits ≡ length c.valid.bits)
+        × (length c.offsets.items ≤ length c.valid.bits + 1) };
+}
+
+impl<A: Allocator> Column<A> {
+    /// With no cells, and room for so many, which have at most `size` bytes of values. This is the one call that takes memory: `size`, 8 bytes for each cell and
+    /// one more, and three bits for each cell.
+    ///
+    /// # Errors
+    ///
+    /// `Unsupported` where values of the kind have items; `NoMemory` where memory is refused.
+    pub fn new(alloc: A, kind: Kind, rows: u32, size: usize) -> Result<Self, MakeError>
+    where
+        A: Clone,
+        ensures made { IfOk result (λ column. layout_of kind ≡ Some column.layout × (column ≡ column_of kind column.layout rows size [])) }
+        ensures unsupported { result ≡ Err MakeError.Unsupported → layout_of kind ≡ None }
+    {
+        match layout_of(kind) {
+            None => Err(MakeError::Unsupported),
+            Some(layout) => match Column::with_layout(alloc, kind, layout, rows, size) {
+                Ok(column) => Ok(column),
+                Err(_) => Err(MakeError::NoMemory),
+            },
+        }
+    }
+
+    /// With no cells, in this layout.
+    #[tactic(auto, using(crate::proofs::Numbers::rounded_holds))]
+    fn with_layout(
+        alloc: A,
+        kind: Kind,
+        layout: Layout,
+        rows: u32,
+        size: usize,
+    ) -> Result<Self, AllocError>
+    where
+        A: Clone,
+        ensures { IfOk result (λ column. column ≡ column_of kind layout rows size []) }
+    {
+        let mut offsets = Vec::with_capacity(alloc.clone()?, rows as usize + 1)?;
+        put_offset(&mut offsets, layout, 0);
+        Ok(Column {
+            kind,
+            layout,
+            rows,
+            size,
+            values: Vec::with_capacity(alloc.clone()?, size)?,
+            truths: Bits::new(alloc.clone()?, rows)?,
+            offsets,
+            valid: Bits::new(alloc.clone()?, rows)?,
+            empty: Bits::new(alloc, rows)?,
+        })
+    }
+
+    /// The kind of its values.
+    pub fn kind(&self) -> Kind
+        ensures { result ≡ self.now.kind }
+    {
+        self.kind
+    }
+
+    /// How its values lie in memory.
+    pub fn layout(&self) -> Layout
+        ensures { result ≡ self.now.layout }
+    {
+        self.layout
+    }
+
+    /// The values, one after the other, also zeros for cells without one; where they are bits, the bytes that have them.
+    pub fn values(&self) -> &[u8]
+        ensures { AreBytesOf self.now result.now }
+    {
+        match self.layout {
+            Layout::Bits => self.truths.as_slice(),
+            Layout::Fixed(_) | Layout::Variable => &self.values,
+        }
+    }
+
+    /// Where each value begins in the bytes, and where the last one ends; none where the layout is not of values of any length. Below 2^63.
+    pub fn offsets(&self) -> &[u64]
+        ensures { result.now ≡ self.now.offsets }
+    {
+        &self.offsets
+    }
+
+    /// A bit for each cell: whether it has a value.
+    pub fn validity(&self) -> &[u8]
+        ensures { Spells self.now.valid result.now }
+    {
+        self.valid.as_slice()
+    }
+
+    /// A bit for each cell: whether it has a value of no bytes. Among numbers and other values of a fixed length these have no other place, and
+    /// count as having no value.
+    pub fn empties(&self) -> &[u8]
+        ensures { Spells self.now.empty result.now }
+    {
+        self.empty.as_slice()
+    }
+
+    /// How many cells it has.
+    pub fn len(&self) -> usize
+        ensures { result ≡ length self.now.valid }
+    {
+        self.valid.len()
+    }
+
+    /// Whether it has none.
+    pub fn is_empty(&self) -> bool
+        ensures { result ≡ (length self.now.valid == 0) }
+    {
+        self.valid.len() == 0
+    }
+
+    /// Takes the next cell. Its arrays are those of the cells before, and of this one behind them.
+    ///
+    /// # Errors
+    ///
+    /// `NotOfKind` for a scalar of another kind than the column's; else `Full` where there is no room for it. Nothing changes then.
+    #[inline]
+    pub fn take(&mut self, cell: &Cell<'_>) -> Result<(), Refusal>
+        ensures answer { IsAnswer (refusal_of (cell_of cell.now) self.old) result }
+        ensures taken { IsOk result → (cells : List CellValue) → HasCells cells self.old → HasCells (cells ++ cell_of cell.now ∷ []) self.new }
+        ensures room { OnOk result (self.new ≡ with_cell (cell_of cell.now) self.old) }
+        ensures refused { OnErr result (self.new ≡ self.old) }
+    {
+        match self.refusal(cell) {
+            Some(why) => Err(why),
+            None => {
+                self.push(cell);
+                Ok(())
+            }
+        }
+    }
+
+    /// Why it does not take a cell.
+    #[inline]
+    pub fn refusal(&self, cell: &Cell<'_>) -> Option<Refusal>
+        ensures { result ≡ refusal_of (cell_of cell.now) self.now }
+    {
+        if !is_of(self.kind, cell) {
+            return Some(Refusal::NotOfKind);
+        }
+        if self.fits(cell) {
+            None
+        } else {
+            Some(Refusal::Full)
+        }
+    }
+
+    /// Whether there is room for a cell.
+    #[inline]
+    fn fits(&self, cell: &Cell<'_>) -> bool
+        ensures { result ≡ fits (cell_of cell.now) self.now }
+    {
+        self.valid.len() < self.rows as usize
+            && self.values.len() <= self.size
+            && cell_len(self.layout, cell) <= self.size - self.values.len()
+    }
+
+    /// Adds a cell.
+    #[inline]
+    fn push(&mut self, cell: &Cell<'_>)
+        requires { refusal_of (cell_of cell.now) self.old ≡ None }
+        ensures { self.new ≡ with_cell (cell_of cell.now) self.old }
+    {
+        put_cell(&mut self.values, self.layout, cell);
+        put_bit(&mut self.truths, self.layout, cell);
+        put_offset(&mut self.offsets, self.layout, self.values.len() as u64);
+        self.valid.push(is_valid(self.layout, cell));
+        self.empty.push(is_empty(cell));
+    }
+
+    /// Removes all cells, and keeps the memory.
+    pub fn clear(&mut self)
+        ensures { self.new ≡ column_of self.old.kind self.old.layout self.old.rows self.old.size [] }
+    {
+        self.values.clear();
+        self.truths.clear();
+        self.offsets.clear();
+        put_offset(&mut self.offsets, self.layout, 0);
+        self.valid.clear();
+        self.empty.clear();
+    }
+}
+
+/// Whether a cell can be one of a column of this kind.
+#[inline(always)]
+fn is_of(kind: Kind, cell: &Cell<'_>) -> bool
+    ensures { result ≡ is_of kind (cell_of cell.now) }
+{
+    match *cell {
+        Cell::Null | Cell::Empty => true,
+        Cell::Holds(ref scalar) => is(kind_of(scalar), kind),
+    }
+}
+
+/// Whether two kinds are the same.
+#[inline(always)]
+fn is(one: Kind, other: Kind) -> bool
+    ensures { result ≡ is_kind one other }
+{
+    one == other
+}
+
+/// How many bytes stand in a cell's place.
+#[inline(always)]
+fn cell_len(layout: Layout, cell: &Cell<'_>) -> usize
+    ensures { result ≡ length (cell_bytes layout (cell_of cell.now)) }
+{
+    match *cell {
+        Cell::Null | Cell::Empty => blank_len(layout),
+        Cell::Holds(ref scalar) => stored_len(scalar),
+    }
+}
+
+/// How many bytes stand in the place of a cell without a value.
+#[inline(always)]
+fn blank_len(layout: Layout) -> usize
+    ensures { result ≡ length (blank layout) }
+{
+    match layout {
+        Layout::Bits | Layout::Variable => 0,
+        Layout::Fixed(width) => width as usize,
+    }
+}
+
+/// Adds the bytes in a cell's place, for which there is room.
+#[inline(always)]
+fn put_cell<A: Allocator>(values: &mut Vec<u8, A>, layout: Layout, cell: &Cell<'_>)
+    requires { length values.old.items + length (cell_bytes layout (cell_of cell.now)) ≤ vec_capacity values.old }
+    ensures items { values.new.items ≡ values.old.items ++ cell_bytes layout (cell_of cell.now) }
+    ensures capacity { vec_capacity values.old ≤ vec_capacity values.new }
+{
+    match *cell {
+        Cell::Null | Cell::Empty => put_zeros(values, blank_len(layout)),
+        Cell::Holds(ref scalar) => put_scalar(values, scalar),
+    }
+}
+
+/// Adds zeros, for which there is room.
+#[inline(always)]
+fn put_zeros<A: Allocator>(values: &mut Vec<u8, A>, count: usize)
+    requires { length values.old.items + count ≤ vec_capacity values.old }
+    ensures items { values.new.items ≡ values.old.items ++ replicate count 0 }
+    ensures capacity { vec_capacity values.old ≤ vec_capacity values.new }
+{
+    let end = values.len() + count;
+    values.resize(end, 0).unwrap();
+}
+
+/// Adds the bit in a cell's place, where values are bits.
+#[inline(always)]
+fn put_bit<A: Allocator>(truths: &mut Bits<A>, layout: Layout, cell: &Cell<'_>)
+    requires { length truths.old.bits < truths.old.room }
+    ensures { truths.new ≡ bits (truths.old.bits ++ cell_bits layout (cell_of cell.now)) truths.old.room }
+{
+    match layout {
+        Layout::Bits => truths.push(is_true(cell)),
+        Layout::Fixed(_) | Layout::Variable => {}
+    }
+}
+
+/// Adds an offset, where the layout has offsets.
+#[inline(always)]
+fn put_offset<A: Allocator>(offsets: &mut Vec<u64, A>, layout: Layout, offset: u64)
+    requires { length offsets.old.items < vec_capacity offsets.old }
+    ensures items { offsets.new.items ≡ offsets.old.items ++ offset_in layout offset }
+    ensures capacity { vec_capacity offsets.new ≡ vec_capacity offsets.old }
+{
+    match layout {
+        Layout::Variable => offsets.push_reserved(offset),
+        Layout::Bits | Layout::Fixed(_) => {}
+    }
+}

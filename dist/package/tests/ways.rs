@@ -1,0 +1,215 @@
+//! Each worked stream says its events in every way of reading it: in three pieces cut at each pair of places, up to each of its bytes, with
+//! a read that fails and a second run after it, in a run of each number of turns and a second one, and with a writer and a sink that have
+//! room for each number of bytes and events; the text of its pages too.
+#![forbid(unsafe_code)]
+
+mod common;
+
+use common::{Stream, said, streams};
+use cqlp::text::{render_events, render_rows};
+use cqlp::{Decoder, Event, Finish, Global, IoFault, Outcome, Sink, SinkFault, Source, Target, run};
+
+/// How many bytes a read gives where a run stops between two reads.
+const PIECE: usize = 7;
+
+/// Gives pieces of this many bytes, and fails once after so many reads.
+struct Pieces<'a> {
+    rest: &'a [u8],
+    size: usize,
+    before: usize,
+    has_failed: bool,
+}
+
+impl<'a> Pieces<'a> {
+    fn failing(bytes: &'a [u8], size: usize, before: usize) -> Self {
+        Pieces { rest: bytes, size, before, has_failed: false }
+    }
+
+    fn new(bytes: &'a [u8], size: usize) -> Self {
+        Pieces::failing(bytes, size, usize::MAX)
+    }
+}
+
+impl Source for Pieces<'_> {
+    fn read(&mut self, buffer: &mut [u8]) -> Result<usize, IoFault> {
+        if self.before == 0 && !self.has_failed {
+            self.has_failed = true;
+            return Err(IoFault);
+        }
+        self.before = self.before.saturating_sub(1);
+        let count = self.size.min(self.rest.len()).min(buffer.len());
+        let (piece, rest) = self.rest.split_at(count);
+        buffer[..count].copy_from_slice(piece);
+        self.rest = rest;
+        Ok(count)
+    }
+}
+
+/// Keeps as many bytes as there is room for, and fails then.
+struct Narrow {
+    text: Vec<u8>,
+    room: usize,
+}
+
+impl Narrow {
+    fn new(room: usize) -> Narrow {
+        Narrow { text: Vec::new(), room }
+    }
+}
+
+impl Target for Narrow {
+    fn write(&mut self, bytes: &[u8]) -> Result<usize, IoFault> {
+        let count = bytes.len().min(PIECE).min(self.room - self.text.len());
+        if count == 0 && !bytes.is_empty() {
+            return Err(IoFault);
+        }
+        self.text.extend_from_slice(&bytes[..count]);
+        Ok(count)
+    }
+}
+
+/// Takes as many events as there is room for, and fails then.
+struct Takes {
+    taken: usize,
+    room: usize,
+}
+
+impl Sink for Takes {
+    fn take(&mut self, _: u64, _: &Event<'_>) -> Result<(), SinkFault> {
+        if self.taken == self.room {
+            return Err(SinkFault);
+        }
+        self.taken += 1;
+        Ok(())
+    }
+}
+
+fn decoder(stream: &Stream) -> Decoder {
+    Decoder::new(Global, stream.limits).unwrap()
+}
+
+/// The lines of the events of these bytes, and how their reading ends.
+fn lines(stream: &Stream, bytes: &[u8], room: usize) -> (Vec<u8>, Outcome) {
+    let (outcome, out) = render_events(&mut decoder(stream), &mut Pieces::new(bytes, usize::MAX), Narrow::new(room), u64::MAX);
+    (out.text, outcome)
+}
+
+/// The text of its pages.
+fn rows(stream: &Stream, size: usize, room: usize) -> (Vec<u8>, Outcome) {
+    let (outcome, out) = render_rows(&mut decoder(stream), &mut Pieces::new(&stream.bytes, size), Narrow::new(room), u64::MAX);
+    (out.text, outcome)
+}
+
+/// What two runs of one decoder say, the first of this many turns; and how the first ends.
+fn in_two_runs(stream: &Stream, source: &mut Pieces<'_>, turns: u64) -> (Outcome, (Vec<u8>, Outcome)) {
+    let mut decoder = decoder(stream);
+    let (first, out) = render_events(&mut decoder, source, Narrow::new(usize::MAX), turns);
+    let (outcome, out) = render_events(&mut decoder, source, out, u64::MAX);
+    (first, (out.text, outcome))
+}
+
+/// The streams, but the longest, and what is said of each whole.
+fn all() -> Vec<(Stream, (Vec<u8>, Outcome))> {
+    let streams = streams().into_iter().filter(|stream| stream.bytes.len() < 2_000);
+    streams.map(|stream| (lines(&stream, &stream.bytes, usize::MAX), stream)).map(|(whole, stream)| (stream, whole)).collect()
+}
+
+#[test]
+fn in_three_pieces() {
+    for (stream, _) in all().iter().filter(|(stream, _)| stream.bytes.len() < 100) {
+        for second in 2..stream.bytes.len() {
+            let (front, third) = stream.bytes.split_at(second);
+            for first in 1..second {
+                let (one, two) = front.split_at(first);
+                assert_eq!(said(stream.limits, [one, two, third]), stream.said, "{} cut at {first} and {second}", stream.name);
+            }
+        }
+    }
+}
+
+/// Where its frames end.
+fn ends(stream: &Stream) -> Vec<u64> {
+    let words = stream.said.lines().map(|line| line.split_once(' ').unwrap_or((line, "")));
+    words.filter(|(_, event)| event.starts_with("End ")).map(|(at, _)| at.parse().unwrap()).collect()
+}
+
+/// A front that is refused says all that the stream does; any other says a front of its lines, and is whole at the end of a frame, and cut elsewhere.
+#[test]
+fn fronts() {
+    for (stream, whole) in all() {
+        let ends = ends(&stream);
+        for count in 0..stream.bytes.len() {
+            let front = lines(&stream, &stream.bytes[..count], usize::MAX);
+            let bytes = count as u64;
+            let frame_at = ends.iter().copied().filter(|end| *end <= bytes).max().unwrap_or(0);
+            let finish = if frame_at == bytes { Finish::Whole { bytes } } else { Finish::Cut { frame_at, bytes } };
+            if let Outcome::Finished(Finish::Refused(_)) = front.1 {
+                assert_eq!(front, whole, "{} up to {count}", stream.name);
+            } else {
+                assert_eq!(front.1, Outcome::Finished(finish), "{} up to {count}", stream.name);
+                assert!(whole.0.starts_with(&front.0), "{} up to {count}", stream.name);
+            }
+        }
+    }
+}
+
+#[test]
+fn after_reads_that_fail() {
+    for (stream, whole) in all() {
+        for before in 0..=stream.bytes.len().div_ceil(PIECE) {
+            let mut source = Pieces::failing(&stream.bytes, PIECE, before);
+            let (first, both) = in_two_runs(&stream, &mut source, u64::MAX);
+            assert_eq!(first == Outcome::ReadFault, source.has_failed, "{} after {before}", stream.name);
+            assert_eq!(both, whole, "{} after {before}", stream.name);
+        }
+    }
+}
+
+#[test]
+fn after_turns() {
+    for (stream, whole) in all() {
+        for turns in 0..=stream.bytes.len().div_ceil(PIECE) {
+            let (_, both) = in_two_runs(&stream, &mut Pieces::new(&stream.bytes, PIECE), turns as u64);
+            assert_eq!(both, whole, "{} after {turns}", stream.name);
+        }
+    }
+}
+
+/// How a run ends where there is room for a part of what is said, or for all.
+fn with_room(room: usize, all: usize, outcome: Outcome) -> Outcome {
+    if room < all { Outcome::SinkFault } else { outcome }
+}
+
+#[test]
+fn with_room_for_text() {
+    for (stream, (text, outcome)) in all() {
+        for room in 0..=text.len() {
+            let wanted = (text[..room].to_vec(), with_room(room, text.len(), outcome));
+            assert_eq!(lines(&stream, &stream.bytes, room), wanted, "{} with room for {room}", stream.name);
+        }
+    }
+}
+
+#[test]
+fn pages() {
+    for (stream, _) in all() {
+        let (text, outcome) = rows(&stream, usize::MAX, usize::MAX);
+        assert_eq!(rows(&stream, 1, usize::MAX), (text.clone(), outcome), "{} byte by byte", stream.name);
+        for room in 0..=text.len() {
+            let wanted = (text[..room].to_vec(), with_room(room, text.len(), outcome));
+            assert_eq!(rows(&stream, usize::MAX, room), wanted, "{} with room for {room}", stream.name);
+        }
+    }
+}
+
+#[test]
+fn with_room_for_events() {
+    for (stream, (text, outcome)) in all() {
+        let events = text.iter().filter(|byte| **byte == b'\n').count();
+        for room in 0..=events {
+            let mut sink = Takes { taken: 0, room };
+            let ended = run(&mut decoder(&stream), &mut Pieces::new(&stream.bytes, 5), &mut sink, u64::MAX);
+            assert_eq!((sink.taken, ended), (room, with_room(room, events, outcome)), "{} with room for {room}", stream.name);
+        }
+    }
+}
