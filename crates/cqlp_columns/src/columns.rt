@@ -5,7 +5,8 @@ ghost use Rattle.std.specs.List.{list_all};
 ghost use Rattle.cqlp_grammar.specs.Events.{Event as Told, event_of};
 ghost use Rattle.cqlp_kind.specs.declared.kind.Kind.{Kind as OneKind};
 ghost use Rattle.cqlp_columns.specs.Batches.{HasTaken, IsAnswerOf, IsMade, cleared, empty_column, empty_columns, fault_among, fault_at, fault_in};
-ghost use Rattle.cqlp_columns.specs.Batches.{has_layout, has_room, next_after, refusal_among, refusal_of_kinds, refusal_to, rows_in, with_cell_at, with_cell_in};
+ghost use Rattle.cqlp_columns.specs.Batches.{has_layout, has_room, next_after, refusal_among, refusal_of_kinds};
+ghost use Rattle.cqlp_columns.specs.Batches.{refusal_to, rows_in, with_cell_at, with_cell_in};
 ghost use Rattle.cqlp_columns.specs.Cells.{cell_of};
 ghost use Rattle.cqlp_columns.specs.Findings.{found_in};
 

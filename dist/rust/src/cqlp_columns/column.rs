@@ -51,8 +51,8 @@ pub struct Column<A: Allocator = Global> {
 }
 
 impl<A: Allocator> Column<A> {
-    /// With no cells, and room for so many, which have at most `size` bytes of values. This is the one call that takes memory: `size`, 8 bytes for each cell and
-    /// one more, and three bits for each cell.
+    /// With no cells, and room for so many, which have at most `size` bytes of values. This is the one call that takes memory: `size`
+    /// bytes, 8 for each cell and one more, and three bits for each cell.
     ///
     /// # Errors
     ///
