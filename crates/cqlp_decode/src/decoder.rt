@@ -147,7 +147,8 @@ impl<A: Allocator> Decoder<A> {
     ghost use Rattle.cqlp_decode.specs.Sinks.{Gets, Fails};
     ghost use Rattle.cqlp_decode.specs.Progress.{Advances, HoldsGiven, LeavesTypes, Takes, WhatThere, event_at};
     ghost use Rattle.cqlp_decode.specs.Gathering.{Gathers};
-    ghost use Rattle.cqlp_decode.specs.Streams.{After, Answers, EndsAs, HoldsNothing, IsUnrefused, IsWithin, Uses, buffer_of, capacity_within, given_nodes, state};
+    ghost use Rattle.cqlp_decode.specs.Streams.{After, Answers, EndsAs, HoldsNothing, IsUnrefused, IsWithin, Uses};
+    ghost use Rattle.cqlp_decode.specs.Streams.{buffer_of, capacity_within, given_nodes, state};
     ghost use Rattle.cqlp_decode.specs.declared.given.GiveReason.{GiveReason as Why};
     ghost use Rattle.cqlp_kind.specs.Types.{types_of};
 

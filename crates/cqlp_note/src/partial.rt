@@ -47,7 +47,8 @@ impl<A: Allocator> Model for Partial<A> {
 
 impl<A: Allocator> Partial<A> {
     ghost use Rattle.cqlp_note.specs.Lending.{LeavesField};
-    ghost use Rattle.cqlp_note.specs.Partial.{Advances, CanLend, HasContent, IsContentAfter, IsFresh, GathersMore, IsNew, IsPlain, Pushes, Uses, Waits, begun, ended, item_value};
+    ghost use Rattle.cqlp_note.specs.Partial.{Advances, CanLend, HasContent, IsContentAfter, IsFresh, GathersMore, IsNew, IsPlain};
+    ghost use Rattle.cqlp_note.specs.Partial.{Pushes, Uses, Waits, begun, ended, item_value};
 
     /// With room for contents of up to `room` bytes, and no field under way. This is the one call that takes memory;
     /// the error is that it was refused.

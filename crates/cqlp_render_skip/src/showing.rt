@@ -16,10 +16,10 @@ use cqlp_text::exit_status::NOT_WHOLE;
 use cqlp_text::{Ending, ending_line};
 use std::alloc::Allocator;
 
-/// Writes the events of a stream, whose reading is lenient or not, to `out` as text in a form, which is at no page. Of a frame whose body is
-/// refused it writes those before the refusal, passes over the rest of the frame, writes the line `skipped OFFSET REASON at AT` to `err`, and goes on with the next
-/// header. At the end the verdict line or fault line goes to `err`. Answers the exit status, which is 1 where a frame was passed over and
-/// the end is otherwise good, and the two outputs.
+/// Writes the events of a stream, whose reading is lenient or not, to `out` as text in a form, which is at no page. Of a frame whose body
+/// is refused it writes those before the refusal, passes over the rest of the frame, writes the line `skipped OFFSET REASON at AT` to `err`,
+/// and goes on with the next header. At the end the verdict line or fault line goes to `err`. Answers the exit status, which is 1 where a
+/// frame was passed over and the end is otherwise good, and the two outputs.
 ///
 /// What comes next begins on a new line: of the text of pages a line break follows each frame that was passed over, which ends a row that is
 /// cut, and is an empty line where none is. Of rows as JSON or CSV it follows where a page is cut; in CSV after the quote of its field.
