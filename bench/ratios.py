@@ -1,0 +1,146 @@
+#!/usr/bin/env python3
+"""Times the program, the library for C and the encoder beside programs by hand, all in one run: ratios.py [ROUNDS]
+
+The programs of each line run in turn, ROUNDS times (15); a time is that of the processor, the least of them, and a ratio is the time of
+what is by hand to that of ours, so that over 1 is faster than by hand. Of batches it is `cqlp check` in place of what is by hand. The program is
+what cargo compiles over dist/rust, or $CQLP; `-` stands for what is not on this machine (a C compiler, or bindings/out/libcqlp.a).
+"""
+import os
+import pathlib
+import shutil
+import subprocess
+import sys
+import tempfile
+
+HERE = pathlib.Path(__file__).resolve().parent
+TOP = HERE.parent
+PAGES = ('rows', 'collections', 'columns', 'kinds', 'blobs')
+OPTIONS = bytes([4, 0, 0, 0, 5, 0, 0, 0, 0])
+WRITES = 20
+
+
+def spent(command, given=None):
+    """The milliseconds of the processor that a command takes, and the KiB that it had in memory at most."""
+    with open(given or os.devnull, 'rb') as stream, open(os.devnull, 'wb') as out:
+        child = subprocess.Popen(command, stdin=stream, stdout=out, stderr=out)
+        _, status, used = os.wait4(child.pid, 0)
+    child.returncode = os.waitstatus_to_exitcode(status)
+    if child.returncode:
+        sys.exit(f'{command}: status {child.returncode}')
+    return (used.ru_utime + used.ru_stime) * 1e3, used.ru_maxrss
+
+
+def least(rounds, tasks):
+    """The least time of each of these tasks, which run in turn; None of those that are None."""
+    runs = [[task and task() for task in tasks] for _ in range(rounds)]
+    return [tasks[at] and max(min(run[at] for run in runs), 1e-3) for at in range(len(tasks))]
+
+
+def tell(name, times, base=0):
+    """Writes a line: the times, and the ratio of the one named `base` to each other."""
+    told = ['-' if it is None else f'{it:.1f} ms' for it in times]
+    ratios = ['-' if it is None or times[base] is None else f'{times[base] / it:.2f}' for at, it in enumerate(times) if at != base]
+    print(f'| {name} | {" | ".join(told)} | {" | ".join(ratios)} |', flush=True)
+
+
+def table(*heads):
+    print(f'\n| {" | ".join(heads)} |\n|{"---|" * len(heads)}', flush=True)
+
+
+class Programs:
+    """What is timed, compiled into a folder."""
+
+    def __init__(self, room):
+        self.room = room
+        self.check, self.text, self.encode = (self.rust(it) for it in ('check', 'show', 'encode'))
+        self.pages = self.cargo(HERE / 'pages', HERE / 'out', 'pages')
+        self.cqlp = os.environ.get('CQLP') or self.program()
+        self.batches = self.c()
+
+    def rust(self, name):
+        made = self.room / name
+        subprocess.run(['rustc', '--edition', '2021', '-O', '-C', 'codegen-units=1', '-o', made, HERE / f'{name}.rs'], check=True)
+        return str(made)
+
+    def cargo(self, package, target, name):
+        subprocess.run(['cargo', 'build', '--release', '--offline', '--quiet', '--manifest-path', package / 'Cargo.toml', '--target-dir', target], check=True)
+        return str(target / 'release' / name)
+
+    def program(self):
+        """The program that `./cqlp` runs: the one that cargo built, where it did."""
+        subprocess.run([TOP / 'cqlp', '--version'], check=True, stdout=subprocess.DEVNULL)
+        return str(next(it for it in (TOP / made for made in ('dist/out/program/target/release/cqlp', 'crates/cqlp/out/cqlp')) if it.exists()))
+
+    def c(self):
+        """What counts the events that cqlp_next puts, in batches."""
+        library, made = TOP / 'bindings/out/libcqlp.a', self.room / 'speed'
+        if not library.exists() or not shutil.which('cc'):
+            return None
+        subprocess.run(['cc', '-O2', f'-I{TOP}/include', '-o', made, TOP / 'bindings/c/speed.c', library], check=True)
+        return str(made)
+
+    def page(self, name):
+        page = self.room / name
+        with open(page, 'wb') as out:
+            subprocess.run([sys.executable, HERE / 'pages.py', name], stdout=out, check=True)
+        return str(page)
+
+    def task(self, words):
+        """A file with a line for a program that writes a page in memory, as it takes it on standard input."""
+        file = self.room / words.replace(' ', '.')
+        file.write_text(words + '\n')
+        return str(file)
+
+
+def read_tables(programs, pages, rounds):
+    table('`check`', 'by hand', '`cqlp check`', 'ratio')
+    for name in ('rows', 'collections', 'columns', 'blobs'):
+        times = least(rounds, [lambda: spent([programs.check, pages[name]])[0], lambda: spent([programs.cqlp, 'check', pages[name]])[0]])
+        tell(name, times)
+    table('batches from C', '`cqlp check`', '256 events', '64 events', 'ratio of 256', 'ratio of 64')
+    for name in ('rows', 'collections', 'columns'):
+        batch = [programs.batches and (lambda room=room: spent([programs.batches, room], pages[name])[0]) for room in ('256', '64')]
+        tell(name, least(rounds, [lambda: spent([programs.cqlp, 'check', '-'], pages[name])[0], *batch]))
+
+
+def text_table(programs, pages, rounds):
+    table('text', 'by hand', '`cqlp`', 'ratio')
+    for command in ('show', 'rows'):
+        for name in ('rows', 'collections', 'columns', 'kinds'):
+            times = least(rounds, [lambda: spent([it, command, pages[name]])[0] for it in (programs.text, programs.cqlp)])
+            tell(f'`{command}` {name}', times)
+
+
+def once(program, programs, page, how):
+    """The milliseconds of one writing of a page: a part of what many writings take more than one."""
+    one, many = (spent([program], programs.task(f'{page} {times} {how}'.strip()))[0] for times in (1, 1 + WRITES))
+    return (many - one) / WRITES
+
+
+def encode_table(programs, rounds):
+    table('writing', 'by hand, checked', 'by hand, trusting', '`encode`', 'cell by cell', 'trusting', '`encode`', 'cell by cell')
+    for page in ('rows 1000000', 'collections 200000', 'columns 5000', 'blobs 96'):
+        ways = ((programs.encode, 'checked'), (programs.encode, ''), (programs.pages, ''), (programs.pages, 'cells'))
+        tell(page, least(rounds, [lambda it=it: once(it[0], programs, page, it[1]) for it in ways]))
+
+
+def start_line(programs, rounds):
+    frame = programs.room / 'options'
+    frame.write_bytes(OPTIONS)
+    runs = [spent([programs.cqlp, 'show', '-'], frame) for _ in range(rounds)]
+    print(f'\n`cqlp show -` of nine bytes: {min(it[0] for it in runs):.2f} ms, {max(it[1] for it in runs) / 1024:.1f} MiB')
+
+
+def main(rounds=15):
+    with tempfile.TemporaryDirectory() as room:
+        programs = Programs(pathlib.Path(room))
+        print(f'{programs.cqlp}, the least of {rounds} runs in turn')
+        pages = {name: programs.page(name) for name in PAGES}
+        read_tables(programs, pages, int(rounds))
+        text_table(programs, pages, int(rounds))
+        encode_table(programs, int(rounds))
+        start_line(programs, int(rounds))
+
+
+if __name__ == '__main__':
+    main(*sys.argv[1:])
