@@ -21,7 +21,7 @@ use Rattle.cqlp_type.proofs.ReadBack.{item_sized}
 use Rattle.cqlp_type.proofs.WrittenTrees.{both, and_of, tree_written}
 use Rattle.cqlp_type_tables.specs.Making.{AreWritable}
 use Rattle.cqlp_type_tables.specs.Reading.{IsReadAs}
-use Rattle.cqlp_type_tables.proofs.Ranges.{tree_range}
+use Rattle.cqlp_message.proofs.Ranges.{tree_range}
 
 -- ---- one of some types
 

@@ -3,6 +3,6 @@ pub mod Counts
 pub mod Filling
 pub mod Fitting
 pub mod Options
-pub mod Ranges
 pub mod Reading
 pub mod TableLaws
+pub mod ItemTypes

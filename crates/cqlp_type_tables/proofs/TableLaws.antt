@@ -1,23 +1,26 @@
 -- The laws of tables that are made of types.
-use Rattle.std.proofs.Common.{◌≡◌, ℕ, ◌+◌, true, List, length, Result, Ok, Err, refl, sym, ◌∙◌, subst, arith}
+use Rattle.std.proofs.Common.{◌≡◌, ℕ, ◌+◌, true, List, [], ◌∷◌, length, map, Result, Ok, Err, refl, sym, ap, ◌∙◌, subst, arith}
 use Rattle.cqlp_kind.specs.declared.kind.Kind.{Kind}
 use Rattle.cqlp_kind.specs.declared.kind.Kind.TheVariants as kind
 use Rattle.cqlp_kind.specs.declared.node.Node.{Node}
-use Rattle.cqlp_kind.specs.Types.{Types, HasInner, AreFormed, IsPreorder, is_plain, preorder, types_of}
+use Rattle.cqlp_kind.specs.Types.{Types, Type_and, HasInner, AreFormed, IsPreorder, is_plain, preorder, types_of}
 use Rattle.cqlp_type.specs.Laws.{AreTypesOf}
 use Rattle.cqlp_type.specs.Table.{Table}
 use Rattle.cqlp_type.specs.Trees.{Head, Plain, Custom, ListOf, SetOf, MapOf, TupleOf, UdtOf, Trees, NoTree, Tree_and, kind_in, trees_in, types_in, IsHead, AreTrees}
 use Rattle.cqlp_type.specs.TypeLists.{listed_types}
-use Rattle.cqlp_type.specs.TypeTrees.{tree_of}
+use Rattle.cqlp_type.specs.TypeTrees.{head_of, inner_of, tree_of}
 use Rattle.cqlp_type.proofs.Forests.{many_types as as_many, many_nodes, types_of_own_preorder}
 use Rattle.cqlp_type.proofs.SpelledRead.{tree_read}
 use Rattle.cqlp_type.proofs.TreeLengths.{many_types}
 use Rattle.cqlp_type.proofs.WholeTables.{are_types}
 use Rattle.cqlp_type.proofs.WrittenTrees.{trees_are}
+use Rattle.cqlp_message.specs.declared.response.Spec.{Spec}
+use Rattle.cqlp_message.specs.Bodies.{column_types}
+use Rattle.cqlp_message.specs.Owned.{spec_of}
 use Rattle.cqlp_type_tables.specs.declared.making.TableError.{TableError}
 use Rattle.cqlp_type_tables.specs.declared.making.TableError.TheVariants as error
-use Rattle.cqlp_type_tables.specs.Laws.{IsAsRead, IsOfTypes, OneAnswer, AreSame, ReadsTo}
-use Rattle.cqlp_type_tables.specs.Making.{Makes}
+use Rattle.cqlp_type_tables.specs.Laws.{IsAsRead, IsOfTypes, IsOfColumns, OneAnswer, AreSame, ReadsTo}
+use Rattle.cqlp_type_tables.specs.Making.{types_of_specs, Makes}
 use Rattle.cqlp_type_tables.proofs.Fitting.{fits, nodes_more}
 
 pub is_as_read : IsAsRead
@@ -62,6 +65,15 @@ is_of_types = λ ts writable.
     let same : types_of nodes ≡ types = types_of_own_preorder types in
     let is = subst (λ (x : Types). AreTypesOf nodes x) same are in
     (is, is.many ∙ as_many trees ∙ many_types ts, sym (many_nodes trees))
+
+-- ---- columns
+
+columns_typed : (specs : List Spec) → types_in (listed_types (types_of_specs specs)) ≡ column_types (map spec_of specs)
+columns_typed [] = refl
+columns_typed (s ∷ specs) = ap (Type_and (kind_in (head_of s.tree)) (types_in (inner_of s.tree))) (columns_typed specs)
+
+pub is_of_columns : IsOfColumns
+is_of_columns specs = ap preorder (columns_typed specs)
 
 -- ---- one answer
 

@@ -1,8 +1,9 @@
 -- The laws of tables that are made of types.
-use Rattle.std.specs.Prelude.{◌≡◌, ℕ, ◌+◌, ◌≤◌, ◌++◌, false, List, [], ◌∷◌, length, Result, Ok, Err}
+use Rattle.std.specs.Prelude.{◌≡◌, ℕ, ◌+◌, ◌≤◌, ◌++◌, false, List, [], ◌∷◌, length, map, Result, Ok, Err}
 use Rattle.cqlp_note.specs.Limits.{Rules}
 use Rattle.cqlp_note.specs.Step.{Runs}
 use Rattle.cqlp_kind.specs.declared.node.Node.{Node}
+use Rattle.cqlp_kind.specs.Types.{preorder}
 use Rattle.cqlp_kind.specs.TypeStep.{TypePlace, Option_at, type_step}
 use Rattle.cqlp_type.specs.declared.tree.TypeTree.{TypeTree}
 use Rattle.cqlp_type.specs.Laws.{AreTypesOf}
@@ -12,7 +13,10 @@ use Rattle.cqlp_type.specs.TypeLists.{listed_types}
 use Rattle.cqlp_type.specs.TypeTrees.{tree_of}
 use Rattle.cqlp_type_tables.specs.declared.making.TableError.{TableError}
 use Rattle.cqlp_type_tables.specs.declared.making.TableError.TheVariants as error
-use Rattle.cqlp_type_tables.specs.Making.{AreWritable, table_of, Makes}
+use Rattle.cqlp_message.specs.declared.response.Spec.{Spec}
+use Rattle.cqlp_message.specs.Bodies.{column_types}
+use Rattle.cqlp_message.specs.Owned.{spec_of}
+use Rattle.cqlp_type_tables.specs.Making.{AreWritable, table_of, types_of_specs, Makes}
 
 -- within these limits a type's option is read after these nodes
 pub record IsWithin (l : Rules) (nodes : List Node) (t : Trees) : Type 0 where
@@ -45,6 +49,10 @@ IsOfTypes =
     AreTypesOf table.nodes (types_in (listed_types ts))
     × (length (beginnings 0 0 table.nodes) ≡ length ts)
     × (table.room ≡ length table.nodes)
+
+-- The nodes of a table of specs are those of the types that the cells of a page with these columns have.
+abbrev pub IsOfColumns : Type 0
+IsOfColumns = (specs : List Spec) → (table_of (listed_types (types_of_specs specs))).nodes ≡ preorder (column_types (map spec_of specs))
 
 -- the same table is made, or the same is why not; or memory was refused to one of two that else make it
 abbrev pub AreSame : Result Table TableError → Result Table TableError → Type 0

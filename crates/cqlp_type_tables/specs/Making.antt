@@ -1,7 +1,9 @@
 -- What becomes of types that a table is to be made of.
-use Rattle.std.specs.Prelude.{◌≡◌, ◌<◌, ◌≤◌, true, false, Result, Ok, Err}
+use Rattle.std.specs.Prelude.{◌≡◌, ◌<◌, ◌≤◌, true, false, List, map, Result, Ok, Err}
 use Rattle.cqlp_note.specs.declared.header.TheConstants.Header.{LONGEST_BODY}
 use Rattle.cqlp_kind.specs.Types.{preorder}
+use Rattle.cqlp_message.specs.declared.response.Spec.{Spec}
+use Rattle.cqlp_type.specs.declared.tree.TypeTree.{TypeTree}
 use Rattle.cqlp_type.specs.Table.{Table}
 use Rattle.cqlp_type.specs.TreeChecks.{checks_of}
 use Rattle.cqlp_type.specs.Trees.{Trees, options_in, types_in}
@@ -27,3 +29,7 @@ Makes ts (Ok t) = AreWritable ts × AreInBody ts × (t ≡ table_of ts)
 Makes ts (Err error.NotWritable) = AreWritable ts → ⊥
 Makes ts (Err error.TooLong) = AreWritable ts × (LONGEST_BODY < trees_size false ts)
 Makes ts (Err error.NoMemory) = AreWritable ts × AreInBody ts
+
+-- Section 4.2.5.2: the types of columns, or of values that are to be bound.
+abbrev pub types_of_specs : List Spec → List TypeTree
+types_of_specs specs = map (λ s. s.tree) specs

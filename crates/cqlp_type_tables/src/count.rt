@@ -1,15 +1,15 @@
 //! How many nodes types have.
 
-ghost use Rattle.std.specs.Prelude.{◌≡◌, ◌-◌, ◌^◌, false, min};
+ghost use Rattle.std.specs.Prelude.{◌≡◌, ◌-◌, ◌^◌, min};
 ghost use Rattle.cqlp_type.specs.Trees.{options_in};
 ghost use Rattle.cqlp_type.specs.TypeLists.{listed_fields, listed_types};
-ghost use Rattle.cqlp_type.specs.TypeTrees.{tree_of, trees_size};
+ghost use Rattle.cqlp_type.specs.TypeTrees.{tree_of};
 
-use cqlp_type::{TypeTree, type_size};
+use cqlp_type::TypeTree;
 
 /// How many nodes a type has, those of its inner types counted; 2^64 - 1 where there are more.
 #[cycle(count_nodes)]
-fn count_nodes(tree: &TypeTree) -> u64
+pub(crate) fn count_nodes(tree: &TypeTree) -> u64
     ensures { result ≡ min (options_in (tree_of tree.now)) (2 ^ 64 - 1) }
 {
     match tree {
@@ -31,9 +31,9 @@ fn count_nodes(tree: &TypeTree) -> u64
     }
 }
 
-/// The same of types side by side.
+/// The same of inner types without names.
 #[cycle(count_nodes)]
-pub(crate) fn count_types(types: &[TypeTree]) -> u64
+fn count_types(types: &[TypeTree]) -> u64
     ensures { result ≡ min (options_in (listed_types types.now)) (2 ^ 64 - 1) }
 {
     let mut count: u64 = 0;
@@ -53,15 +53,4 @@ fn count_fields(fields: &[(String, TypeTree)]) -> u64
         count = count.saturating_add(count_nodes(tree));
     }
     count
-}
-
-/// How many bytes the options of types have; 2^64 - 1 where there are more.
-pub(crate) fn types_size(types: &[TypeTree]) -> u64
-    ensures { result ≡ min (trees_size false (listed_types types.now)) (2 ^ 64 - 1) }
-{
-    let mut size: u64 = 0;
-    for tree in types {
-        size = size.saturating_add(type_size(tree));
-    }
-    size
 }

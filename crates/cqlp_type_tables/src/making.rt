@@ -1,16 +1,17 @@
 //! A table out of types.
 
-ghost use Rattle.std.specs.Prelude.{◌≡◌, ◌≤◌, ◌++◌, false, IfOk};
+ghost use Rattle.std.specs.Prelude.{◌≡◌, ◌≤◌, ◌++◌, false, IfOk, map};
 ghost use Rattle.cqlp_kind.specs.Types.{IsPreorder, preorder};
-ghost use Rattle.cqlp_type.specs.Trees.{types_in};
+ghost use Rattle.cqlp_type.specs.Trees.{options_in, types_in};
 ghost use Rattle.cqlp_type.specs.TypeLists.{listed_types};
 ghost use Rattle.cqlp_type.specs.TypeTrees.{tree_of, trees_size};
-ghost use Rattle.cqlp_type_tables.specs.Making.{AreWritable, Makes, table_of};
+ghost use Rattle.cqlp_type_tables.specs.Making.{AreWritable, Makes, table_of, types_of_specs};
 ghost use Rattle.cqlp_type_tables.specs.Reading.{IsIdle, IsReadAs};
 
-use crate::check::are_writable;
-use crate::count::{count_types, types_size};
+use crate::found::find;
+use crate::typed::HasType;
 use crate::writing::put_tree;
+use cqlp_message::Spec;
 use cqlp_note::{Header, Limits, NoMemory, Partial};
 use cqlp_type::{TypeAdvance, TypeReader, TypeTable, TypeTree};
 use std::alloc::Allocator;
@@ -45,30 +46,54 @@ pub fn table_of<A: Allocator + Clone>(
 ) -> Result<TypeTable<A>, TableError>
     ensures { Makes (listed_types types.now) result }
 {
-    if !are_writable(types) {
+    make(alloc, types)
+}
+
+/// The table of the types of these columns, as [`table_of`] makes it: of the `specs` of a page's `Metadata` or of what a
+/// `Prepared` tells of its pages, the one for those pages without metadata; of the `specs` of a `Prepared` itself, the types
+/// of the values that are to be bound. Sections 4.2.5.2 and 4.2.5.4 of `native_protocol_v4.spec`.
+///
+/// # Errors
+///
+/// As [`table_of`] has them of the types alone: no name is in the way.
+pub fn table_of_specs<A: Allocator + Clone>(
+    alloc: A,
+    specs: &[Spec],
+) -> Result<TypeTable<A>, TableError>
+    ensures { Makes (listed_types (types_of_specs specs.now)) result }
+{
+    make(alloc, specs)
+}
+
+/// The table of the types of these.
+fn make<A: Allocator + Clone, T: HasType>(alloc: A, items: &[T]) -> Result<TypeTable<A>, TableError>
+    ensures { Makes (listed_types (map T.type_of items.now)) result }
+{
+    let found = find(items);
+    if !found.is_writable() {
         return Err(TableError::NotWritable);
     }
-    let size = types_size(types);
-    if size > Header::LONGEST_BODY as u64 {
+    if found.size > Header::LONGEST_BODY as u64 {
         return Err(TableError::TooLong);
     }
-    match read_types(alloc, types, size as u32) {
+    match read_types(alloc, items, found.size as u32, found.nodes as u32) {
         Ok(table) => Ok(table),
         Err(_) => Err(TableError::NoMemory),
     }
 }
 
-/// The same of types whose options have this many bytes.
-fn read_types<A: Allocator + Clone>(
+/// The same of types whose options have this many bytes, and which have this many nodes.
+fn read_types<A: Allocator + Clone, T: HasType>(
     alloc: A,
-    types: &[TypeTree],
+    items: &[T],
     size: u32,
+    nodes: u32,
 ) -> Result<TypeTable<A>, NoMemory>
-    requires writable { AreWritable (listed_types types.now) }
-    requires size { trees_size false (listed_types types.now) ≡ size }
-    ensures { IfOk result (λ table. table ≡ table_of (listed_types types.now)) }
+    requires writable { AreWritable (listed_types (map T.type_of items.now)) }
+    requires size { trees_size false (listed_types (map T.type_of items.now)) ≡ size }
+    requires nodes { options_in (listed_types (map T.type_of items.now)) ≡ nodes }
+    ensures { IfOk result (λ table. table ≡ table_of (listed_types (map T.type_of items.now))) }
 {
-    let nodes = count_types(types) as u32;
     let limits = Limits {
         text: size.min(LONGEST_TEXT),
         cell: 0,
@@ -81,8 +106,14 @@ fn read_types<A: Allocator + Clone>(
     let mut partial = Partial::new(alloc.clone()?, limits.text)?;
     let mut reader = TypeReader::new(alloc.clone()?, &limits)?;
     let mut option = Vec::new(alloc);
-    for tree in types {
-        add_type(&mut reader, &mut partial, &mut table, &mut option, tree)?;
+    for item in items {
+        add_type(
+            &mut reader,
+            &mut partial,
+            &mut table,
+            &mut option,
+            item.tree(),
+        )?;
     }
     Ok(table)
 }

@@ -3,9 +3,9 @@
 
 use cqlp::capture::{CaptureEnd, CaptureLimits, CaptureReader, CaptureStep, Control, Stream, StreamStep};
 use cqlp::columns::{BatchLimits, Columns, MakeError, TakeError};
-use cqlp::frame::{Atom, BindError, Frame, OwnedBound, ReadError, TypeTree, Value, bind_value, raw_value, read_value};
+use cqlp::frame::{Atom, BindError, Frame, OwnedBound, ReadError, Spec, TypeTree, Value, bind_value, raw_value, read_value};
 use cqlp::memory::{AllocError, Box, String, Vec};
-use cqlp::{Event, Global, Kind, Limits, Scalar, TableError, table_of};
+use cqlp::{Event, Global, Kind, Limits, Scalar, TableError, table_of, table_of_specs};
 use std::alloc::{GlobalAlloc, Layout, System};
 use std::cell::Cell;
 use std::ptr::null_mut;
@@ -176,11 +176,14 @@ fn values_that_are_bound() {
 #[test]
 fn tables() {
     let types = [tuple().unwrap(), TypeTree::Plain(Kind::Int)];
-    finds_just_what_is_there(4, || match table_of(Global, &types) {
-        Ok(table) if table.capacity() == table.len() as usize => Answer::Granted,
-        Err(TableError::NoMemory) => Answer::NoMemory,
-        _ => Answer::Other,
-    });
+    let specs = [Spec { table: None, name: String::from_str(Global, "c").unwrap(), tree: tuple().unwrap() }];
+    for made in [&(|| table_of(Global, &types)) as &dyn Fn() -> _, &|| table_of_specs(Global, &specs)] {
+        finds_just_what_is_there(4, || match made() {
+            Ok(table) if table.capacity() == table.len() as usize => Answer::Granted,
+            Err(TableError::NoMemory) => Answer::NoMemory,
+            _ => Answer::Other,
+        });
+    }
 }
 
 #[test]

@@ -1,9 +1,9 @@
 //! Tables that are made of types, beside their nodes in preorder, and why there is none.
 #![forbid(unsafe_code)]
 
-use cqlp::frame::TypeTree;
+use cqlp::frame::{Frame, Message, Metadata, Prepared, Spec, TypeTree, encode};
 use cqlp::memory::Box;
-use cqlp::{Global, Kind, Node, TableError, table_of};
+use cqlp::{Decoder, Global, Kind, Limits, Node, OfStd, Step, TableError, TypeTable, table_of, table_of_specs};
 
 const INT: TypeTree = TypeTree::Plain(Kind::Int);
 
@@ -68,10 +68,66 @@ fn types_without_a_table() {
     ];
     for (types, wanted) in types {
         assert_eq!(table_of(Global, &types).err(), Some(wanted));
+        assert_eq!(table_of_specs(Global, &specs(types)).err(), Some(wanted));
     }
 
     let mut types = (0..4_100).map(|_| custom(65_535)).collect::<Vec<_>>();
     assert_eq!(table_of(Global, &types).err(), Some(TableError::TooLong));
     types.push(TypeTree::Plain(Kind::List));
     assert_eq!(table_of(Global, &types).err(), Some(TableError::NotWritable));
+
+    let mut specs = specs(types);
+    assert_eq!(table_of_specs(Global, &specs[..4_100]).err(), Some(TableError::TooLong));
+    assert_eq!(table_of_specs(Global, &specs).err(), Some(TableError::NotWritable));
+    specs.truncate(1);
+    specs[0].name = "x".repeat(65_536).into();
+    assert_eq!(nodes(&table_of_specs(Global, &specs).unwrap()), [(Kind::Custom, 0, 1)]);
+}
+
+/// Columns of these types.
+fn specs(types: Vec<TypeTree>) -> Vec<Spec> {
+    let spec = |(i, tree)| Spec { table: Some(("k".to_string().into(), "t".to_string().into())), name: format!("c{i}").into(), tree };
+    types.into_iter().enumerate().map(spec).collect()
+}
+
+fn nodes(table: &TypeTable) -> Vec<Told> {
+    (0..table.len()).map(|i| table.node(i).unwrap()).map(|Node { kind, arity, span }| (kind, arity, span)).collect()
+}
+
+/// The table of the last metadata in these bytes.
+fn read_table(stream: &[u8]) -> TypeTable {
+    let mut decoder = Decoder::new(Global, Limits::DEFAULT).unwrap();
+    let mut rest = stream;
+    while let Step::Event { used, .. } = decoder.next(rest) {
+        rest = &rest[used..];
+    }
+    assert_eq!(rest, []);
+    decoder.table().clone_table().unwrap()
+}
+
+/// The specs of a PREPARED that a caller holds make the tables that a decoder reads from its bytes: that of the values that are to be bound
+/// stands before the last eight bytes, which tell of no columns.
+#[test]
+fn specs_of_a_prepared() {
+    let some = || vec![INT, TypeTree::List(boxed(TypeTree::Custom("a.B".to_string().into()))), udt("u", vec![("f".to_string(), nested(2))]), INT];
+    let prepared = |bound: Vec<TypeTree>, columns: Option<Vec<TypeTree>>| {
+        let (count, told) = (columns.as_ref().map_or(0, Vec::len) as u32, columns.is_some());
+        let result = Metadata { flags: if told { 0 } else { 4 }, columns: count, paging: None, table: None, specs: columns.map(|types| specs(types).into()) };
+        let (columns, specs) = (bound.len() as u32, specs(bound).into());
+        Prepared { id: vec![7].into(), flags: 0, columns, keys: vec![].into(), table: None, specs, result }
+    };
+    for (bound, columns) in [(some(), None), (vec![], None), (some(), Some(vec![INT])), (vec![INT], Some(some())), (vec![INT], Some(vec![]))] {
+        let frame = Frame::plain(0, Message::Prepared(prepared(bound, columns)));
+        let mut bytes = OfStd::new(Vec::new());
+        encode(&frame, &mut bytes).unwrap();
+        let bytes = bytes.into_inner();
+        let Message::Prepared(prepared) = &frame.message else { unreachable!() };
+        let (specs, stream) = match &prepared.result.specs {
+            Some(specs) => (specs, &bytes[..]),
+            None => (&prepared.specs, &bytes[..bytes.len() - 8]),
+        };
+        let (made, read) = (table_of_specs(Global, specs).unwrap(), read_table(stream));
+        assert_eq!(nodes(&made), nodes(&read));
+        assert_eq!((made.whole(), made.roots() as usize, made.room()), (true, specs.len(), made.len()));
+    }
 }

@@ -235,7 +235,7 @@ pub use cqlp_note::{
 #[cfg(feature = "std")]
 pub use cqlp_note::OfStd;
 pub use cqlp_type::TypeTable;
-pub use cqlp_type_tables::{TableError, table_of};
+pub use cqlp_type_tables::{TableError, table_of, table_of_specs};
 pub use kit_std::alloc::Global;
 
 /// Columns of pages, in the layout of Apache Arrow.

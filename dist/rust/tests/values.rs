@@ -11,7 +11,7 @@ use cqlp::frame::{
 };
 use cqlp::memory::Box;
 use cqlp::text::render_rows;
-use cqlp::{Decoder, Finish, Global, Kind, Limits, Node, OfStd, Outcome, Reason, Refusal, TypeTable, table_of};
+use cqlp::{Decoder, Finish, Global, Kind, Limits, Node, OfStd, Outcome, Reason, Refusal, TypeTable, table_of, table_of_specs};
 use std::slice::from_ref;
 
 const PLAIN: [Kind; 19] = [
@@ -217,6 +217,8 @@ fn mutated_values() {
 
         let (stream, head) = with_bytes(&bare_page(), &bytes);
         let given = table_of(Global, from_ref(column(&mut page))).unwrap();
+        assert_eq!(nodes(&given), nodes(&table), "{about}");
+        let given = table_of_specs(Global, rows(&mut page).meta.specs.as_ref().unwrap()).unwrap();
         assert_eq!(nodes(&given), nodes(&table), "{about}");
         let by_given = read_page(&stream, Some(given));
         assert_eq!((by_given.0, by_given.1), (ending(refused, head, &bytes), row), "{about}");

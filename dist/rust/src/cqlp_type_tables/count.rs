@@ -2,10 +2,10 @@
 //! How many nodes types have.
 
 use crate::kit_std::prelude::{String};
-use crate::cqlp_type::{TypeTree, type_size};
+use crate::cqlp_type::TypeTree;
 
 /// How many nodes a type has, those of its inner types counted; 2^64 - 1 where there are more.
-fn count_nodes(tree: &TypeTree) -> u64
+pub(crate) fn count_nodes(tree: &TypeTree) -> u64
 {
     match tree {
         TypeTree::Plain(_) => 1,
@@ -26,8 +26,8 @@ fn count_nodes(tree: &TypeTree) -> u64
     }
 }
 
-/// The same of types side by side.
-pub(crate) fn count_types(types: &[TypeTree]) -> u64
+/// The same of inner types without names.
+fn count_types(types: &[TypeTree]) -> u64
 {
     let mut count: u64 = 0;
     for tree in types {
@@ -44,14 +44,4 @@ fn count_fields(fields: &[(String, TypeTree)]) -> u64
         count = count.saturating_add(count_nodes(tree));
     }
     count
-}
-
-/// How many bytes the options of types have; 2^64 - 1 where there are more.
-pub(crate) fn types_size(types: &[TypeTree]) -> u64
-{
-    let mut size: u64 = 0;
-    for tree in types {
-        size = size.saturating_add(type_size(tree));
-    }
-    size
 }

@@ -2,9 +2,10 @@
 //! A table out of types.
 
 use crate::kit_std::prelude::{Clone, Vec};
-use crate::cqlp_type_tables::check::are_writable;
-use crate::cqlp_type_tables::count::{count_types, types_size};
+use crate::cqlp_type_tables::found::find;
+use crate::cqlp_type_tables::typed::HasType;
 use crate::cqlp_type_tables::writing::put_tree;
+use crate::cqlp_message::Spec;
 use crate::cqlp_note::{Header, Limits, NoMemory, Partial};
 use crate::cqlp_type::{TypeAdvance, TypeReader, TypeTable, TypeTree};
 use crate::kit_std::alloc::Allocator;
@@ -39,27 +40,48 @@ pub fn table_of<A: Allocator + Clone>(
     types: &[TypeTree],
 ) -> Result<TypeTable<A>, TableError>
 {
-    if !are_writable(types) {
+    make(alloc, types)
+}
+
+/// The table of the types of these columns, as [`table_of`] makes it: of the `specs` of a page's `Metadata` or of what a
+/// `Prepared` tells of its pages, the one for those pages without metadata; of the `specs` of a `Prepared` itself, the types
+/// of the values that are to be bound. Sections 4.2.5.2 and 4.2.5.4 of `native_protocol_v4.spec`.
+///
+/// # Errors
+///
+/// As [`table_of`] has them of the types alone: no name is in the way.
+pub fn table_of_specs<A: Allocator + Clone>(
+    alloc: A,
+    specs: &[Spec],
+) -> Result<TypeTable<A>, TableError>
+{
+    make(alloc, specs)
+}
+
+/// The table of the types of these.
+fn make<A: Allocator + Clone, T: HasType>(alloc: A, items: &[T]) -> Result<TypeTable<A>, TableError>
+{
+    let found = find(items);
+    if !found.is_writable() {
         return Err(TableError::NotWritable);
     }
-    let size = types_size(types);
-    if size > Header::LONGEST_BODY as u64 {
+    if found.size > Header::LONGEST_BODY as u64 {
         return Err(TableError::TooLong);
     }
-    match read_types(alloc, types, size as u32) {
+    match read_types(alloc, items, found.size as u32, found.nodes as u32) {
         Ok(table) => Ok(table),
         Err(_) => Err(TableError::NoMemory),
     }
 }
 
-/// The same of types whose options have this many bytes.
-fn read_types<A: Allocator + Clone>(
+/// The same of types whose options have this many bytes, and which have this many nodes.
+fn read_types<A: Allocator + Clone, T: HasType>(
     alloc: A,
-    types: &[TypeTree],
+    items: &[T],
     size: u32,
+    nodes: u32,
 ) -> Result<TypeTable<A>, NoMemory>
 {
-    let nodes = count_types(types) as u32;
     let limits = Limits {
         text: size.min(LONGEST_TEXT),
         cell: 0,
@@ -72,8 +94,14 @@ fn read_types<A: Allocator + Clone>(
     let mut partial = Partial::new(alloc.clone()?, limits.text)?;
     let mut reader = TypeReader::new(alloc.clone()?, &limits)?;
     let mut option = Vec::new(alloc);
-    for tree in types {
-        add_type(&mut reader, &mut partial, &mut table, &mut option, tree)?;
+    for item in items {
+        add_type(
+            &mut reader,
+            &mut partial,
+            &mut table,
+            &mut option,
+            item.tree(),
+        )?;
     }
     Ok(table)
 }
