@@ -1,5 +1,6 @@
 #!/usr/bin/env python3
-"""expected.py <stdin >stdout, in this folder: what cqlp_test_captures has to print, by a reading of its own."""
+"""expected.py <stdin >stdout, in this folder: what cqlp_test_captures has to print, by a reading of its own; and so said.txt of lines.txt in
+dist/package/tests/packets."""
 import re
 import struct
 import sys

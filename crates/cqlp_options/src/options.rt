@@ -99,7 +99,8 @@ pub const DEFAULT_LIMITS: Limits = Limits::DEFAULT;
 pub struct Options<'a> {
     pub task: Task,
     pub limits: Limits,
-    /// Whether a content that its type does not have is taken as raw bytes, and read on behind it.
+    /// Whether a content that its type does not have, bytes after the last field of a tuple or a user-defined value, and the cells of a type
+    /// with an unknown id are taken as raw bytes, and read on behind them.
     pub lenient: bool,
     /// The path of the stream's file, or `-` for standard input.
     pub file: &'a str,

@@ -1,6 +1,7 @@
 //! The program's command line, as its parser is told of it.
 
 use crate::command_line::QUERIES;
+use clap::builder::ValueParser;
 use clap::{Arg, ArgAction, Command, value_parser};
 use cqlp_note::{LimitRange, Limits};
 use std::alloc::{AllocError, Global};
@@ -13,7 +14,8 @@ const HELP: &str = "Each of show, rows and check takes a FILE, where - is standa
     \x20 --depth <N>    nesting of one type at most, from 1 to 64 [default: 16]\n\
     \x20 --raw          each cell as raw bytes\n\
     \x20 --parts        longer blob, custom and raw cells in parts\n\
-    \x20 --lenient      a content that its column's type does not have as raw bytes\n\
+    \x20 --lenient      as raw bytes what is refused else: a content that its type does not have,\n\
+    \x20                bytes after the last field, and the cells of a type with an unknown id\n\
     \x20 --skip         where the body of a frame is refused, pass over it and read on\n\
     \x20 --json         of show: each event as a JSON object in a line of its own;\n\
     \x20                of rows: each row as a JSON array in a line of its own\n\
@@ -22,318 +24,354 @@ const HELP: &str = "Each of show, rows and check takes a FILE, where - is standa
     Without words it does what `cqlp show -` does.\n\
     Example: cqlp rows capture.bin";
 
-/// The program's command line. Each task is handed on as it is made, so that no other is alive at a `?`.
+/// The program's command line.
 pub(crate) fn program<'a>(alloc: Global) -> Result<Command<'a>, AllocError> {
-    let program = with_rows(alloc, with_showing(alloc, without_tasks(alloc)?)?)?;
-    let program = with_task(
-        alloc,
-        program,
-        "check",
-        "Write the verdict on a stream alone",
-        "Example: cqlp check - < capture.bin",
-    )?;
-    with_capture(alloc, with_conversation(alloc, program)?)
+    let mut program = without_tasks(alloc)?;
+    for task in &TASKS {
+        program = with_task(alloc, program, task)?;
+    }
+    Ok(program)
 }
 
 fn without_tasks<'a>(alloc: Global) -> Result<Command<'a>, AllocError> {
-    let program = Command::new(alloc, "cqlp").bin_name("cqlp")?;
-    Ok(
-        program
-            .about(
-                "Reads streams of the CQL native protocol v4 and packet captures, and has a client and a server talk",
-            )
-            .after_help(HELP)
-            .version("0.1.0")
-            .no_binary_name(true)
-            .subcommand_required(true),
-    )
-}
-
-fn with_showing<'a>(alloc: Global, program: Command<'a>) -> Result<Command<'a>, AllocError> {
-    program.subcommand(showing(alloc)?)
-}
-
-fn with_rows<'a>(alloc: Global, program: Command<'a>) -> Result<Command<'a>, AllocError> {
-    program.subcommand(rows(alloc)?)
-}
-
-/// The subcommand `rows`, which can write JSON and CSV.
-fn rows<'a>(alloc: Global) -> Result<Command<'a>, AllocError> {
-    let task = subcommand(
-        alloc,
-        "rows",
-        "Write the pages of a stream as text, and a verdict to standard error",
-        "Example: cqlp rows --parts capture.bin",
-    )?;
-    task.arg(json_rows(alloc)?)?.arg(csv_rows(alloc))
-}
-
-fn json_rows<'a>(alloc: Global) -> Result<Arg<'a>, AllocError> {
-    flag(alloc, "json")
-        .help("Write each row as a JSON array in a line of its own, after a line for its page")
-        .conflicts_with("csv")
-}
-
-fn csv_rows<'a>(alloc: Global) -> Arg<'a> {
-    flag(alloc, "csv").help(
-        "Write each row as a record of CSV, after one with the names of the columns",
-    )
-}
-
-/// The subcommand `show`, which can write JSON.
-fn showing<'a>(alloc: Global) -> Result<Command<'a>, AllocError> {
-    let task = subcommand(
-        alloc,
-        "show",
-        "Write a line for each event of a stream, and a verdict to standard error",
-        "Example: cqlp show --text 4096 capture.bin",
-    )?;
-    task.arg(json_events(alloc))
-}
-
-fn json_events<'a>(alloc: Global) -> Arg<'a> {
-    flag(alloc, "json").help("Write each event as a JSON object in a line of its own")
+    let program = Command::new(alloc, "cqlp")
+        .about(
+            "Reads streams of the CQL native protocol v4 and packet captures, and has a client and a server talk",
+        )
+        .after_help(HELP)
+        .version("0.1.0")
+        .no_binary_name(true)
+        .subcommand_required(true);
+    program.bin_name("cqlp")
 }
 
 fn with_task<'a>(
     alloc: Global,
     program: Command<'a>,
-    name: &'a str,
-    about: &'a str,
-    example: &'a str,
+    task: &Task,
 ) -> Result<Command<'a>, AllocError> {
-    program.subcommand(subcommand(alloc, name, about, example)?)
+    let mut command = Command::new(alloc, task.name)
+        .about(task.about)
+        .after_help(task.example);
+    for words in task.words {
+        command = with_words(alloc, command, words)?;
+    }
+    program.subcommand(command)
 }
 
-/// A task with the arguments that each takes.
-fn subcommand<'a>(
+fn with_words<'a>(
     alloc: Global,
-    name: &'a str,
-    about: &'a str,
-    example: &'a str,
+    task: Command<'a>,
+    words: &[Word],
 ) -> Result<Command<'a>, AllocError> {
-    let mut task = Command::new(alloc, name)
-        .about(about)
-        .after_help(example)
-        .arg(file(alloc))?;
-    for bound in &BOUNDS {
-        task = task.arg(limit(alloc, bound))?;
-    }
-    for (name, help) in FLAGS {
-        task = task.arg(flag(alloc, name).help(help))?;
+    let mut task = task;
+    for word in words {
+        task = task.arg(word_of(alloc, word)?)?;
     }
     Ok(task)
 }
 
-fn with_conversation<'a>(alloc: Global, program: Command<'a>) -> Result<Command<'a>, AllocError> {
-    program.subcommand(conversation(alloc)?)
+/// A word as the parser is told of it.
+fn word_of<'a>(alloc: Global, word: &Word) -> Result<Arg<'a>, AllocError> {
+    let arg = Arg::new(alloc, word.name).help(word.help);
+    formed(arg, word.name, word.form)
+        .requires_all(word.with)?
+        .conflicts_with_all(word.without)
 }
 
-/// The subcommand `loop`.
-fn conversation<'a>(alloc: Global) -> Result<Command<'a>, AllocError> {
-    Command::new(alloc, "loop")
-        .about(
-            "Have a client and a server talk over a loopback connection, and write a line for each reply",
-        )
-        .after_help("Example: cqlp loop 3")
-        .arg(queries(alloc))
+fn formed<'a>(arg: Arg<'a>, name: &'static str, form: Form) -> Arg<'a> {
+    match form {
+        Form::File => arg.value_name("FILE").required(true),
+        Form::Count(range) => arg
+            .value_name("COUNT")
+            .required(true)
+            .value_parser(in_range(range)),
+        Form::Flag => arg.long(name).action(ArgAction::SetTrue),
+        Form::Folder => arg.long(name).value_name("DIR"),
+        Form::Number(value, range) => arg
+            .long(name)
+            .value_name(value)
+            .value_parser(in_range(range)),
+        Form::Numbers(range, default) => arg
+            .long(name)
+            .value_name("N")
+            .action(ArgAction::Append)
+            .value_parser(in_range(range))
+            .default_value(default),
+        Form::Place => arg
+            .long(name)
+            .value_name("N")
+            .value_parser(value_parser!(u64).range(1..)),
+    }
 }
 
-fn with_capture<'a>(alloc: Global, program: Command<'a>) -> Result<Command<'a>, AllocError> {
-    program.subcommand(capture(alloc)?)
+fn in_range<'a>(range: LimitRange) -> ValueParser<'a> {
+    value_parser!(u32).range(i64::from(range.least)..=i64::from(range.greatest))
 }
 
-/// The subcommand `capture`.
-fn capture<'a>(alloc: Global) -> Result<Command<'a>, AllocError> {
-    let lines = Command::new(alloc, "capture")
-        .about(
-            "Write a line for each request in a packet capture and its reply, with --summary one for each statement \
-             at the end, with --events one for each event of each frame, with --rows the pages of one connection, or \
-             with --streams the bytes of each direction of each connection to a file of its own",
-        )
-        .after_help("Example: tcpdump -U -w - port 9042 | cqlp capture --slow 10 -")
-        .arg(
-            Arg::new(alloc, "file")
-                .value_name("FILE")
-                .required(true)
-                .help("The capture, a pcap or pcapng file; - is standard input"),
-        )?
-        .arg(port(alloc))?
-        .arg(slow(alloc))?
-        .arg(flag(alloc, "errors").help(
-            "Only requests whose reply is an ERROR, and those without one",
-        ))?
-        .arg(connection(alloc))?;
-    lines
-        .arg(streams(alloc)?)?
-        .arg(objects(alloc)?)?
-        .arg(summary(alloc)?)?
-        .arg(events(alloc)?)?
-        .arg(pages(alloc)?)
-}
-
-/// Requests as JSON.
-fn objects<'a>(alloc: Global) -> Result<Arg<'a>, AllocError> {
-    flag(alloc, "json")
-        .help("Write each request with its reply as a JSON object in a line of its own")
-        .conflicts_with("streams")
-}
-
-/// A summary in place of the lines.
-fn summary<'a>(alloc: Global) -> Result<Arg<'a>, AllocError> {
-    flag(alloc, "summary")
-        .help(
-            "A line for each statement at the end: how often it was asked for and how long it took, the one that took \
-             most time first",
-        )
-        .conflicts_with("streams")?
-        .conflicts_with("json")
-}
-
-/// Frames in place of requests, which goes with no other option of the lines.
-fn events<'a>(alloc: Global) -> Result<Arg<'a>, AllocError> {
-    flag(alloc, "events")
-        .help(
-            "A line for each event of each frame, after the connection's number and > of a request or < of a response",
-        )
-        .conflicts_with("slow")?
-        .conflicts_with("errors")?
-        .conflicts_with("json")?
-        .conflicts_with("summary")?
-        .conflicts_with("streams")
-}
-
-/// The pages of a connection in place of requests, which goes with no other option of the lines.
-fn pages<'a>(alloc: Global) -> Result<Arg<'a>, AllocError> {
-    flag(alloc, "rows")
-        .help("The pages of the connection that --connection names, as cqlp rows writes them")
-        .requires_arg("connection")?
-        .conflicts_with("slow")?
-        .conflicts_with("errors")?
-        .conflicts_with("json")?
-        .conflicts_with("summary")?
-        .conflicts_with("events")?
-        .conflicts_with("streams")
-}
-
-fn slow<'a>(alloc: Global) -> Arg<'a> {
-    Arg::new(alloc, "slow")
-        .long("slow")
-        .value_name("MS")
-        .value_parser(value_parser!(u32))
-        .help("Only requests whose reply took this many milliseconds or more, from 0 to 4294967295")
-}
-
-fn connection<'a>(alloc: Global) -> Arg<'a> {
-    Arg::new(alloc, "connection")
-        .long("connection")
-        .value_name("N")
-        .value_parser(value_parser!(u64).range(1..))
-        .help("Only what is told of the connection with this number; the first has the number 1")
-}
-
-/// The folder for streams, which goes with no option of the lines.
-fn streams<'a>(alloc: Global) -> Result<Arg<'a>, AllocError> {
-    Arg::new(alloc, "streams")
-        .long("streams")
-        .value_name("DIR")
-        .help("The folder for the files N.requests.bin and N.responses.bin of connection N")
-        .conflicts_with("slow")?
-        .conflicts_with("errors")?
-        .conflicts_with("connection")
-}
-
-fn port<'a>(alloc: Global) -> Arg<'a> {
-    Arg::new(alloc, "port")
-        .long("port")
-        .value_name("N")
-        .action(ArgAction::Append)
-        .value_parser(value_parser!(u16).range(1..=65_535))
-        .default_value("9042")
-        .help(
-            "A port on which nodes listen, from 1 to 65535; it may be repeated, for up to 16 ports",
-        )
-}
-
-fn queries<'a>(alloc: Global) -> Arg<'a> {
-    let (least, greatest) = (i64::from(QUERIES.least), i64::from(QUERIES.greatest));
-    Arg::new(alloc, "queries")
-        .value_name("COUNT")
-        .required(true)
-        .value_parser(value_parser!(u16).range(least..=greatest))
-        .help("How many queries the client sends, from 1 to 1000")
-}
-
-fn file<'a>(alloc: Global) -> Arg<'a> {
-    Arg::new(alloc, "file")
-        .value_name("FILE")
-        .required(true)
-        .help("The file with the stream; - is standard input")
-}
-
-/// An option for a number in a range. The help tells the range and what the number is where it is not given, and docs/check
-/// compares both with `Limits`.
-struct Bound {
+/// A subcommand.
+struct Task {
     name: &'static str,
-    range: LimitRange,
+    about: &'static str,
+    /// What its help ends with.
+    example: &'static str,
+    /// What it takes, in the order of its help.
+    words: &'static [&'static [Word]],
+}
+
+/// What a subcommand takes.
+struct Word {
+    name: &'static str,
+    form: Form,
     help: &'static str,
+    /// What it needs beside it.
+    with: &'static [&'static str],
+    /// What it does not go with.
+    without: &'static [&'static str],
 }
 
-const BOUNDS: [Bound; 4] = [
-    Bound {
+/// How it is given.
+#[derive(Clone, Copy)]
+enum Form {
+    /// By a path in its place.
+    File,
+    /// By a number in its place, in this range.
+    Count(LimitRange),
+    /// By its name alone.
+    Flag,
+    /// By its name and a path.
+    Folder,
+    /// By its name and a number in this range, which help calls so.
+    Number(&'static str, LimitRange),
+    /// By its name and a number in this range, once or more often; this one where it is not given.
+    Numbers(LimitRange, &'static str),
+    /// By its name and a number from 1.
+    Place,
+}
+
+const TASKS: [Task; 5] = [
+    Task {
+        name: "show",
+        about: "Write a line for each event of a stream, and a verdict to standard error",
+        example: "Example: cqlp show --text 4096 capture.bin",
+        words: &[&READING, &SHOWING],
+    },
+    Task {
+        name: "rows",
+        about: "Write the pages of a stream as text, and a verdict to standard error",
+        example: "Example: cqlp rows --parts capture.bin",
+        words: &[&READING, &ROWS],
+    },
+    Task {
+        name: "check",
+        about: "Write the verdict on a stream alone",
+        example: "Example: cqlp check - < capture.bin",
+        words: &[&READING],
+    },
+    Task {
+        name: "loop",
+        about: "Have a client and a server talk over a loopback connection, and write a line for each reply",
+        example: "Example: cqlp loop 3",
+        words: &[&TALKING],
+    },
+    Task {
+        name: "capture",
+        about: "Write a line for each request in a packet capture and its reply, with --summary one for each statement \
+                at the end, with --events one for each event of each frame, with --rows the pages of one connection, or \
+                with --streams the bytes of each direction of each connection to a file of its own",
+        example: "Example: tcpdump -U -w - port 9042 | cqlp capture --slow 10 -",
+        words: &[&CAPTURE],
+    },
+];
+
+/// What each task with a stream takes. The help of a limit tells its range and what the number is where it is not given, and docs/check
+/// compares both with `Limits`.
+const READING: [Word; 9] = [
+    Word {
+        name: "file",
+        form: Form::File,
+        help: "The file with the stream; - is standard input",
+        with: &[],
+        without: &[],
+    },
+    Word {
         name: "text",
-        range: Limits::TEXT,
+        form: Form::Number("N", Limits::TEXT),
         help: "Bytes of one [string] or [long string] at most, from 32 to 16777216 [default: 1048576]",
+        with: &[],
+        without: &[],
     },
-    Bound {
+    Word {
         name: "cell",
-        range: Limits::CELL,
+        form: Form::Number("N", Limits::CELL),
         help: "Bytes of one [bytes], [short bytes], [value] or scalar cell at most, from 32 to 16777216 [default: 1048576]",
+        with: &[],
+        without: &[],
     },
-    Bound {
+    Word {
         name: "entries",
-        range: Limits::ENTRIES,
+        form: Form::Number("N", Limits::ENTRIES),
         help: "Type options of one metadata at most, nested ones counted, from 1 to 65536 [default: 4096]",
+        with: &[],
+        without: &[],
     },
-    Bound {
+    Word {
         name: "depth",
-        range: Limits::DEPTH,
+        form: Form::Number("N", Limits::DEPTH),
         help: "Nesting of one type at most, from 1 to 64; a column's own type has depth 1 [default: 16]",
+        with: &[],
+        without: &[],
+    },
+    Word {
+        name: "raw",
+        form: Form::Flag,
+        help: "Read each cell as raw bytes, without its column's type",
+        with: &[],
+        without: &[],
+    },
+    Word {
+        name: "parts",
+        form: Form::Flag,
+        help: "Give longer blob, custom and raw cells in parts of the size of --cell",
+        with: &[],
+        without: &[],
+    },
+    Word {
+        name: "lenient",
+        form: Form::Flag,
+        help: "Give as raw bytes, and read on behind it, a content that its type does not have, bytes after the last field of a \
+            tuple or a user-defined value, and each cell of a type with an unknown id",
+        with: &[],
+        without: &[],
+    },
+    Word {
+        name: "skip",
+        form: Form::Flag,
+        help: "Where the body of a frame is refused, pass over it and read on behind it",
+        with: &[],
+        without: &[],
     },
 ];
 
-fn limit<'a>(alloc: Global, bound: &Bound) -> Arg<'a> {
-    let (least, greatest) = (
-        i64::from(bound.range.least),
-        i64::from(bound.range.greatest),
-    );
-    Arg::new(alloc, bound.name)
-        .long(bound.name)
-        .value_name("N")
-        .value_parser(value_parser!(u32).range(least..=greatest))
-        .help(bound.help)
-}
+/// What `show` takes beside.
+const SHOWING: [Word; 1] = [Word {
+    name: "json",
+    form: Form::Flag,
+    help: "Write each event as a JSON object in a line of its own",
+    with: &[],
+    without: &[],
+}];
 
-/// The options without a value, and their help.
-const FLAGS: [(&str, &str); 4] = [
-    (
-        "raw",
-        "Read each cell as raw bytes, without its column's type",
-    ),
-    (
-        "parts",
-        "Give longer blob, custom and raw cells in parts of the size of --cell",
-    ),
-    (
-        "lenient",
-        "Give a content that its column's type does not have as raw bytes, and read on behind it",
-    ),
-    (
-        "skip",
-        "Where the body of a frame is refused, pass over it and read on behind it",
-    ),
+/// What `rows` takes beside.
+const ROWS: [Word; 2] = [
+    Word {
+        name: "json",
+        form: Form::Flag,
+        help: "Write each row as a JSON array in a line of its own, after a line for its page",
+        with: &[],
+        without: &["csv"],
+    },
+    Word {
+        name: "csv",
+        form: Form::Flag,
+        help: "Write each row as a record of CSV, after one with the names of the columns",
+        with: &[],
+        without: &[],
+    },
 ];
 
-fn flag<'a>(alloc: Global, name: &'a str) -> Arg<'a> {
-    Arg::new(alloc, name).long(name).action(ArgAction::SetTrue)
-}
+/// What `loop` takes.
+const TALKING: [Word; 1] = [Word {
+    name: "queries",
+    form: Form::Count(QUERIES),
+    help: "How many queries the client sends, from 1 to 1000",
+    with: &[],
+    without: &[],
+}];
+
+/// The ports that there are.
+const PORTS: LimitRange = LimitRange {
+    least: 1,
+    greatest: 65_535,
+};
+
+/// All numbers of 32 bits.
+const ALL: LimitRange = LimitRange {
+    least: 0,
+    greatest: u32::MAX,
+};
+
+/// What `capture` takes.
+const CAPTURE: [Word; 10] = [
+    Word {
+        name: "file",
+        form: Form::File,
+        help: "The capture, a pcap or pcapng file; - is standard input",
+        with: &[],
+        without: &[],
+    },
+    Word {
+        name: "port",
+        form: Form::Numbers(PORTS, "9042"),
+        help: "A port on which nodes listen, from 1 to 65535; it may be repeated, for up to 16 ports",
+        with: &[],
+        without: &[],
+    },
+    Word {
+        name: "slow",
+        form: Form::Number("MS", ALL),
+        help: "Only requests whose reply took this many milliseconds or more, from 0 to 4294967295",
+        with: &[],
+        without: &[],
+    },
+    Word {
+        name: "errors",
+        form: Form::Flag,
+        help: "Only requests whose reply is an ERROR, and those without one",
+        with: &[],
+        without: &[],
+    },
+    Word {
+        name: "connection",
+        form: Form::Place,
+        help: "Only what is told of the connection with this number; the first has the number 1",
+        with: &[],
+        without: &[],
+    },
+    Word {
+        name: "streams",
+        form: Form::Folder,
+        help: "The folder for the files N.requests.bin and N.responses.bin of connection N",
+        with: &[],
+        without: &["slow", "errors", "connection"],
+    },
+    Word {
+        name: "json",
+        form: Form::Flag,
+        help: "Write each request with its reply as a JSON object in a line of its own",
+        with: &[],
+        without: &["streams"],
+    },
+    Word {
+        name: "summary",
+        form: Form::Flag,
+        help: "A line for each statement at the end: how often it was asked for and how long it took, the one that took \
+            most time first",
+        with: &[],
+        without: &["streams", "json"],
+    },
+    Word {
+        name: "events",
+        form: Form::Flag,
+        help: "A line for each event of each frame, after the connection's number and > of a request or < of a response",
+        with: &[],
+        without: &["slow", "errors", "json", "summary", "streams"],
+    },
+    Word {
+        name: "rows",
+        form: Form::Flag,
+        help: "The pages of the connection that --connection names, as cqlp rows writes them",
+        with: &["connection"],
+        without: &["slow", "errors", "json", "summary", "events", "streams"],
+    },
+];

@@ -1,6 +1,6 @@
 //! What a table of connections tells of the segments of a capture.
 
-use crate::reading::{AMPLE, Packet, fold, packets_of};
+use crate::reading::{AMPLE, Packet, fold};
 use cqlp_connections::{
     ConnectionLimits, ConnectionTotals, Connections, Departure, DirectionTotals, Sight, Told, Way,
 };
@@ -40,32 +40,75 @@ pub struct Asked {
     pub limits: ConnectionLimits,
 }
 
-/// A line for each direction of a connection in a capture, when it leaves, and what was counted; and whether the same is told where
+/// Writes a line for each direction of a connection in a capture, when it leaves, and what was counted; and whether the same is told where
 /// no memory is granted after the requests of `new`, and each of those is needed.
-pub fn said_of_connections(alloc: Global, asked: Asked, file: &[u8]) -> io::Result<String> {
-    let Ok(mut connections) = Connections::new(alloc, asked.limits, &[asked.port]) else {
-        return Err(io::Error::from(io::ErrorKind::OutOfMemory));
-    };
-    let packets = packets_of(alloc, file)?;
+pub fn put_connections(
+    alloc: Global,
+    asked: Asked,
+    packets: &[Packet],
+    said: &mut String,
+) -> io::Result<()> {
     let mut listener = Listener::new(alloc);
-    listener.hear(&mut connections, &packets)?;
-    let requests = 3 * asked.limits.connections as u64 + 2;
-    for number in 1..=requests {
-        let heap = Rationed::new(alloc, Refusals::At(number));
-        if Connections::new(&heap, asked.limits, &[asked.port]).is_ok() {
-            write!(listener.said, "made without request {number}\n")?;
+    let mut again = Listener::new(alloc);
+    match hear_twice(alloc, asked, packets, &mut listener, &mut again) {
+        Ok(()) => put_heard(alloc, asked, &listener, &again, said),
+        Err(error) => Err(error),
+    }
+}
+
+/// Has one hear a table that gets all its memory, and one a table that gets none after the requests of `new`.
+fn hear_twice(
+    alloc: Global,
+    asked: Asked,
+    packets: &[Packet],
+    listener: &mut Listener,
+    again: &mut Listener,
+) -> io::Result<()> {
+    hear_all(alloc, asked, packets, listener)?;
+    let heap = Rationed::new(alloc, Refusals::From(requests_of(asked).wrapping_add(1)));
+    hear_all(&heap, asked, packets, again)
+}
+
+fn hear_all<A: Allocator + Copy>(
+    heap: A,
+    asked: Asked,
+    packets: &[Packet],
+    listener: &mut Listener,
+) -> io::Result<()> {
+    match Connections::new(heap, asked.limits, &[asked.port]) {
+        Ok(mut connections) => listener.hear(&mut connections, packets),
+        Err(_) => Err(io::Error::from(io::ErrorKind::OutOfMemory)),
+    }
+}
+
+/// How often `new` requests memory.
+fn requests_of(asked: Asked) -> u64 {
+    3 * u64::from(asked.limits.connections) + 2
+}
+
+fn put_heard(
+    alloc: Global,
+    asked: Asked,
+    listener: &Listener,
+    again: &Listener,
+    said: &mut String,
+) -> io::Result<()> {
+    said.push_str(listener.said.as_str())?;
+    for number in 1..=requests_of(asked) {
+        if is_made_without(alloc, asked, number) {
+            write!(said, "made without request {number}\n")?;
         }
     }
-    let heap = Rationed::new(alloc, Refusals::From(requests + 1));
-    let mut again = Listener::new(alloc);
-    match Connections::new(&heap, asked.limits, &[asked.port]) {
-        Ok(mut connections) => again.hear(&mut connections, &packets)?,
-        Err(_) => write!(listener.said, "more than {requests} requests\n")?,
-    }
     if again.said.as_str() != listener.said.as_str() {
-        write!(listener.said, "differs without memory\n")?;
+        said.push_str("differs without memory\n")?;
     }
-    Ok(listener.said)
+    Ok(())
+}
+
+/// Whether a table is made though the request for memory with this number is refused.
+fn is_made_without(alloc: Global, asked: Asked, number: u64) -> bool {
+    let heap = Rationed::new(alloc, Refusals::At(number));
+    Connections::new(&heap, asked.limits, &[asked.port]).is_ok()
 }
 
 impl Heard {
@@ -119,17 +162,23 @@ impl Listener {
                     self.leave(connections)?;
                 }
                 Sight::Taken { number, .. } => {
-                    for _ in self.pairs.len() as u64..number {
-                        self.pairs.push(Pair {
-                            requests: Heard::new(self.alloc),
-                            responses: Heard::new(self.alloc),
-                        })?;
-                    }
+                    self.open(number)?;
                     return self.pull(connections, segment);
                 }
             }
         }
         self.said.push_str("a segment is never taken\n")?;
+        Ok(())
+    }
+
+    /// There are connections with all numbers up to this one.
+    fn open(&mut self, number: u64) -> io::Result<()> {
+        for _ in self.pairs.len() as u64..number {
+            self.pairs.push(Pair {
+                requests: Heard::new(self.alloc),
+                responses: Heard::new(self.alloc),
+            })?;
+        }
         Ok(())
     }
 

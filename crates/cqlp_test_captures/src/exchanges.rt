@@ -2,7 +2,7 @@
 
 use crate::connections::Asked;
 use crate::facts::put_facts;
-use crate::reading::{AMPLE, Packet, fold, packets_of};
+use crate::reading::{AMPLE, Packet, fold};
 use cqlp_connections::{Connections, Departure, Sight, Told, Way};
 use cqlp_note::Prim;
 use cqlp_reassembly::StreamStep;
@@ -28,27 +28,65 @@ struct Watcher<A: Allocator> {
     /// When the present packet was captured, and the latest time of any so far.
     time: Option<u64>,
     latest: Option<u64>,
-    said: String,
 }
 
-/// A line for each exchange in a capture, and for each message that is in none; and whether the same is told where no memory is granted
-/// after one request for each connection, and that request is needed.
-pub fn said_of_exchanges(alloc: Global, watched: Watched, file: &[u8]) -> io::Result<String> {
-    let packets = packets_of(alloc, file)?;
-    let mut watcher = Watcher::new(alloc, alloc, watched.limit);
-    watcher.watch(alloc, watched.asked, &packets)?;
-    let count = watcher.watches.len() as u64;
+/// Writes a line for each exchange in a capture, and for each message that is in none; and whether the same is told where no memory is
+/// granted after one request for each connection, and that request is needed.
+pub fn put_exchanges(
+    alloc: Global,
+    watched: Watched,
+    packets: &[Packet],
+    said: &mut String,
+) -> io::Result<()> {
+    let count = watch_all(alloc, alloc, watched, packets, said)?;
+    let mut again = String::new(alloc);
+    match watch_again(alloc, watched, packets, count, &mut again) {
+        Ok(_) => put_differences(alloc, watched.limit, again.as_str(), said),
+        Err(error) => Err(error),
+    }
+}
+
+/// Watches all connections of a capture with memory from this heap. How many there were.
+fn watch_all<A: Allocator + Copy>(
+    alloc: Global,
+    heap: A,
+    watched: Watched,
+    packets: &[Packet],
+    said: &mut String,
+) -> io::Result<u64> {
+    let mut watcher = Watcher::new(alloc, heap, watched.limit);
+    match watcher.watch(alloc, watched.asked, packets, said) {
+        Ok(()) => Ok(watcher.watches.len() as u64),
+        Err(error) => Err(error),
+    }
+}
+
+/// Watches them with memory for this many requests alone.
+fn watch_again(
+    alloc: Global,
+    watched: Watched,
+    packets: &[Packet],
+    count: u64,
+    said: &mut String,
+) -> io::Result<u64> {
     let heap = Rationed::new(alloc, Refusals::From(count.wrapping_add(1)));
-    let mut again = Watcher::new(alloc, &heap, watched.limit);
-    again.watch(alloc, watched.asked, &packets)?;
-    if again.said.as_str() != watcher.said.as_str() {
-        watcher.said.push_str("differs without memory\n")?;
+    watch_all(alloc, &heap, watched, packets, said)
+}
+
+fn put_differences(alloc: Global, limit: u16, again: &str, said: &mut String) -> io::Result<()> {
+    if again != said.as_str() {
+        said.push_str("differs without memory\n")?;
     }
+    if is_made_without(alloc, limit) {
+        said.push_str("made without memory\n")?;
+    }
+    Ok(())
+}
+
+/// Whether a watch is made though its request for memory is refused.
+fn is_made_without(alloc: Global, limit: u16) -> bool {
     let heap = Rationed::new(alloc, Refusals::At(1));
-    if Watch::new(&heap, watched.limit).is_ok() {
-        watcher.said.push_str("made without memory\n")?;
-    }
-    Ok(watcher.said)
+    Watch::new(&heap, limit).is_ok()
 }
 
 impl<A: Allocator + Copy> Watcher<A> {
@@ -59,51 +97,76 @@ impl<A: Allocator + Copy> Watcher<A> {
             watches: Vec::new(alloc),
             time: None,
             latest: None,
-            said: String::new(alloc),
         }
     }
 
     /// Watches all connections of a capture to their ends.
-    fn watch(&mut self, alloc: Global, asked: Asked, packets: &[Packet]) -> io::Result<()> {
-        let Ok(mut connections) = Connections::new(alloc, asked.limits, &[asked.port]) else {
-            return Err(io::Error::from(io::ErrorKind::OutOfMemory));
-        };
+    fn watch(
+        &mut self,
+        alloc: Global,
+        asked: Asked,
+        packets: &[Packet],
+        said: &mut String,
+    ) -> io::Result<()> {
+        match Connections::new(alloc, asked.limits, &[asked.port]) {
+            Ok(mut connections) => self.watch_over(&mut connections, packets, said),
+            Err(_) => Err(io::Error::from(io::ErrorKind::OutOfMemory)),
+        }
+    }
+
+    fn watch_over(
+        &mut self,
+        connections: &mut Connections,
+        packets: &[Packet],
+        said: &mut String,
+    ) -> io::Result<()> {
         for packet in packets {
             self.time = packet.time;
             self.latest = self.latest.max(packet.time);
             if let Ok(segment) = packet.segment() {
-                self.take(&mut connections, &segment)?;
+                self.take(connections, &segment, said)?;
             }
         }
-        self.end(&mut connections)
+        self.end(connections, said)
     }
 
     /// Watches what a segment hands on.
-    fn take(&mut self, connections: &mut Connections, segment: &Segment<'_>) -> io::Result<()> {
+    fn take(
+        &mut self,
+        connections: &mut Connections,
+        segment: &Segment<'_>,
+        said: &mut String,
+    ) -> io::Result<()> {
         let Sight::Taken { number, .. } = connections.take(&segment.head) else {
             return Ok(());
         };
-        for _ in self.watches.len() as u64..number {
-            let Ok(watch) = Watch::new(self.heap, self.limit) else {
-                return Err(io::Error::from(io::ErrorKind::OutOfMemory));
-            };
-            self.watches.push(watch)?;
-        }
+        self.open(number)?;
         for _ in 0..AMPLE {
             let Some(told) = connections.pull(segment) else {
                 break;
             };
-            self.tell(connections, told, segment.payload)?;
+            self.tell(connections, told, segment.payload, said)?;
+        }
+        Ok(())
+    }
+
+    /// There are watches of the connections with all numbers up to this one.
+    fn open(&mut self, number: u64) -> io::Result<()> {
+        for _ in self.watches.len() as u64..number {
+            match Watch::new(self.heap, self.limit) {
+                Ok(watch) => self.watches.push(watch)?,
+                Err(_) => return Err(io::Error::from(io::ErrorKind::OutOfMemory)),
+            }
         }
         Ok(())
     }
 
     /// Watches what the connections still have, and the messages that still wait.
-    fn end(&mut self, connections: &mut Connections) -> io::Result<()> {
+    fn end(&mut self, connections: &mut Connections, said: &mut String) -> io::Result<()> {
         for _ in 0..AMPLE {
             match connections.finish() {
-                Departure::Told(told) => self.tell(connections, told, &[])?,
-                Departure::Left(totals) => self.leave(totals.number)?,
+                Departure::Told(told) => self.tell(connections, told, &[], said)?,
+                Departure::Left(totals) => self.leave(totals.number, said)?,
                 Departure::Empty => break,
             }
         }
@@ -116,6 +179,7 @@ impl<A: Allocator + Copy> Watcher<A> {
         connections: &mut Connections,
         told: Told,
         payload: &[u8],
+        said: &mut String,
     ) -> io::Result<()> {
         let responses = told.way == Way::Responses;
         match told.step {
@@ -127,17 +191,17 @@ impl<A: Allocator + Copy> Watcher<A> {
             StreamStep::Payload { from, count } => {
                 let bytes = payload.get(from..).unwrap_or(&[]);
                 let bytes = bytes.get(..count).unwrap_or(&[]);
-                self.hear(told, self.time, bytes, from == 0)?;
+                self.hear(told, self.time, bytes, from == 0, said)?;
             }
             StreamStep::Held { .. } => {
                 let mut buffer = [0u8; 64];
                 let count = connections.read(told.way, &mut buffer);
                 let time = if responses { self.latest } else { self.time };
-                self.hear(told, time, &buffer[..count], false)?;
+                self.hear(told, time, &buffer[..count], false, said)?;
             }
             StreamStep::Gap { length } => {
                 write!(
-                    self.said,
+                    said,
                     "{} {} gap {length} at {}\n",
                     told.number,
                     side(responses),
@@ -145,13 +209,13 @@ impl<A: Allocator + Copy> Watcher<A> {
                 )?;
                 if let Some(watch) = watch_of(&mut self.watches, told.number) {
                     let paired = watch.gap(responses, length as u64);
-                    say(told.number, paired.as_ref(), &mut self.said)?;
+                    say(told.number, paired.as_ref(), said)?;
                 }
             }
             StreamStep::Ended | StreamStep::Reset => {
                 if let Some(watch) = watch_of(&mut self.watches, told.number) {
                     let paired = watch.end(responses);
-                    say(told.number, paired.as_ref(), &mut self.said)?;
+                    say(told.number, paired.as_ref(), said)?;
                 }
             }
             StreamStep::Done => {}
@@ -166,6 +230,7 @@ impl<A: Allocator + Copy> Watcher<A> {
         time: Option<u64>,
         bytes: &[u8],
         begins: bool,
+        said: &mut String,
     ) -> io::Result<()> {
         let Some(watch) = watch_of(&mut self.watches, told.number) else {
             return Ok(());
@@ -174,7 +239,7 @@ impl<A: Allocator + Copy> Watcher<A> {
         for _ in 0..AMPLE {
             let is_first = begins && rest.len() == bytes.len();
             let step = watch.take(told.way == Way::Responses, rest, time, is_first);
-            say(told.number, step.told.as_ref(), &mut self.said)?;
+            say(told.number, step.told.as_ref(), said)?;
             if step.is_done {
                 break;
             }
@@ -184,20 +249,20 @@ impl<A: Allocator + Copy> Watcher<A> {
     }
 
     /// Says what is left of a connection that is over.
-    fn leave(&mut self, number: u64) -> io::Result<()> {
+    fn leave(&mut self, number: u64, said: &mut String) -> io::Result<()> {
         let Some(watch) = watch_of(&mut self.watches, number) else {
             return Ok(());
         };
         for responses in [false, true] {
             let paired = watch.end(responses);
-            say(number, paired.as_ref(), &mut self.said)?;
+            say(number, paired.as_ref(), said)?;
         }
         for _ in 0..AMPLE {
             let paired = watch.finish();
             if paired.is_none() {
                 break;
             }
-            say(number, paired.as_ref(), &mut self.said)?;
+            say(number, paired.as_ref(), said)?;
         }
         Ok(())
     }

@@ -3,7 +3,6 @@
 use crate::reading::fold;
 use cqlp_facts::{Facts, FactsReader};
 use cqlp_note::Header;
-use std::alloc::Global;
 use std::io;
 
 /// What is said of the first bytes of a frame's body.
@@ -14,16 +13,15 @@ struct Known {
     facts: Facts,
 }
 
-/// A line for each number of bytes at which the body of a frame says something new, and for all of it; and whether something else is said of it in
-/// pieces.
-pub fn said_of_facts(alloc: Global, frame: &[u8]) -> io::Result<String> {
-    let mut said = String::new(alloc);
+/// Writes a line for each number of bytes at which the body of a frame says something new, and for all of it; and whether something else is
+/// said of it in pieces.
+pub fn put_growing(frame: &[u8], said: &mut String) -> io::Result<()> {
     let Some((head, body)) = frame.split_first_chunk::<9>() else {
-        return Ok(said);
+        return Ok(());
     };
     let Ok(header) = header_of(head) else {
         said.push_str("no header\n")?;
-        return Ok(said);
+        return Ok(());
     };
     let mut last = Facts::new();
     for size in 0..body.len() as u64 + 1 {
@@ -31,7 +29,7 @@ pub fn said_of_facts(alloc: Global, frame: &[u8]) -> io::Result<String> {
         let known = known_of(&header, front, front.len());
         if known.facts != last || front.len() == body.len() {
             write!(said, "{size}: before {}", known.before)?;
-            put_facts(&known.facts, &mut said)?;
+            put_facts(&known.facts, said)?;
             said.push('\n')?;
         }
         last = known.facts;
@@ -41,7 +39,7 @@ pub fn said_of_facts(alloc: Global, frame: &[u8]) -> io::Result<String> {
             write!(said, "differs in pieces of {size} bytes\n")?;
         }
     }
-    Ok(said)
+    Ok(())
 }
 
 /// The header that nine bytes are, of a frame that may be compressed.

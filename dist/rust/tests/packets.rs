@@ -1,0 +1,242 @@
+//! What is said of captures, of the segments in their packets, and of what streams tell of these: packets/said.txt, which is by a reading in
+//! Python (crates/cqlp_test_captures/expected.py). A line of packets/lines.txt is the name of a capture, or a name and its bytes in hexadecimal
+//! digits. A capture is read in one piece, in pieces of 1, 7 and 4,096 bytes, and one of at most 256 bytes in pieces of each size; after the word
+//! `small` with room for 64 bytes of a packet and two interfaces. After `streams` the streams of its segments are asked, of one piece.
+#![forbid(unsafe_code)]
+
+use cqlp::Global;
+use cqlp::capture::{
+    CaptureEnd, CaptureEvent, CaptureLimits, CaptureReader, CaptureStep, Control, Endpoint, LinkType, NoSegment, PacketHead, SectionForm,
+    Segment, Stream, StreamStep, read_segment,
+};
+use std::fmt::{self, Write};
+
+/// The least limit on a packet, and two interfaces.
+const SMALL: CaptureLimits = CaptureLimits { packet: 64, interfaces: 2 };
+
+/// A capture of no more bytes is read in pieces of each size.
+const SHORT: usize = 256;
+
+/// How many bytes a stream can hold that come early.
+const ROOM: usize = 65_536;
+
+/// A line, and what is said of its capture.
+struct Case {
+    name: String,
+    is_of_streams: bool,
+    limits: CaptureLimits,
+    file: Vec<u8>,
+    said: String,
+}
+
+fn cases() -> Vec<Case> {
+    let mut said = include_str!("packets/said.txt").split_inclusive('\n').peekable();
+    let of_line = |line: &str| {
+        let (is_of_streams, rest) = line.strip_prefix("streams ").map_or((false, line), |rest| (true, rest));
+        let (limits, rest) = rest.strip_prefix("small ").map_or((CaptureLimits::DEFAULT, rest), |rest| (SMALL, rest));
+        let (name, file) = rest.split_once('|').map_or_else(|| (rest, capture(rest)), |(name, digits)| (name.trim_end(), bytes_of(digits)));
+        let heading = if is_of_streams { format!("== streams {name}\n") } else { format!("== {name}\n") };
+        assert_eq!(said.next(), Some(&heading[..]));
+        let said = std::iter::from_fn(|| said.next_if(|line| !line.starts_with("== "))).collect();
+        Case { name: name.to_string(), is_of_streams, limits, file, said }
+    };
+    include_str!("packets/lines.txt").lines().map(of_line).collect()
+}
+
+fn capture(name: &str) -> Vec<u8> {
+    std::fs::read(format!("{}/tests/captures/{name}", env!("CARGO_MANIFEST_DIR"))).unwrap()
+}
+
+fn bytes_of(digits: &str) -> Vec<u8> {
+    digits.as_bytes().chunks(2).map(|pair| u8::from_str_radix(std::str::from_utf8(pair).unwrap(), 16).unwrap()).collect()
+}
+
+#[test]
+fn captures_and_their_segments() {
+    let mut count = 0;
+    for case in cases().iter().filter(|case| !case.is_of_streams) {
+        let most = if case.file.len() <= SHORT { case.file.len() } else { 1 };
+        for size in (1..=most).chain([7, 4_096, case.file.len()]) {
+            let said = said_in_pieces(case.limits, &case.file, size).unwrap();
+            assert_eq!(said, case.said, "{} in pieces of {size} bytes", case.name);
+        }
+        count += 1;
+    }
+    assert_eq!(count, 176);
+}
+
+#[test]
+fn streams_of_segments() {
+    let mut count = 0;
+    for case in cases().iter().filter(|case| case.is_of_streams) {
+        assert_eq!(said_of_streams(&case.file).unwrap(), case.said, "{}", case.name);
+        count += 1;
+    }
+    assert_eq!(count, 13);
+}
+
+// ---- captures
+
+/// A line for each event, with its offset, and how the file ends, where it comes in pieces of this size.
+fn said_in_pieces(limits: CaptureLimits, file: &[u8], size: usize) -> Result<String, fmt::Error> {
+    let mut reader = CaptureReader::new(Global, limits).unwrap();
+    let mut said = String::new();
+    let mut under_way = None;
+    for piece in file.chunks(size.max(1)) {
+        let mut rest = piece;
+        while let CaptureStep::Event { at, used, event } = reader.next(rest) {
+            put_event(at, &event, &mut under_way, &mut said)?;
+            rest = &rest[used..];
+        }
+    }
+    match reader.finish() {
+        CaptureEnd::Whole { bytes } => writeln!(said, "whole {bytes}")?,
+        CaptureEnd::Cut { at, bytes } => writeln!(said, "cut at {at} after {bytes}")?,
+        CaptureEnd::Refused(refusal) => writeln!(said, "{} {:?}", refusal.at, refusal.why)?,
+    }
+    Ok(said)
+}
+
+fn put_event(at: u64, event: &CaptureEvent<'_>, under_way: &mut Option<PacketHead>, said: &mut String) -> fmt::Result {
+    match event {
+        CaptureEvent::Section(SectionForm::Pcap(form)) => writeln!(said, "{at} section {:?} {:?}", form.order, form.fraction),
+        CaptureEvent::Section(SectionForm::Pcapng(order)) => writeln!(said, "{at} section {order:?} pcapng"),
+        CaptureEvent::Interface(head) => writeln!(said, "{at} interface {} link {} snap {}", head.number, head.link, head.snap_length),
+        CaptureEvent::Packet(head) => {
+            *under_way = Some(*head);
+            let time = head.time.map_or_else(|| "no time".to_string(), |time| format!("{time} ns"));
+            writeln!(said, "{at} packet of {} at {time} captured {} of {}", head.interface, head.captured, head.original)
+        }
+        CaptureEvent::Data(bytes) => {
+            writeln!(said, "{at} data {} sum {}", bytes.len(), fold(0, bytes))?;
+            put_segment(segment_of(under_way.as_ref().unwrap(), bytes), said)
+        }
+    }
+}
+
+/// Writes down the segment in a packet, or why there is none.
+fn put_segment(segment: Result<Segment<'_>, NoSegment>, said: &mut String) -> fmt::Result {
+    let segment = match segment {
+        Ok(segment) => segment,
+        Err(why) => return writeln!(said, "no segment {why:?}"),
+    };
+    let head = segment.head;
+    write!(said, "segment {:?} {} ", head.source.address, head.source.port)?;
+    write!(said, "{:?} {} ", head.destination.address, head.destination.port)?;
+    write!(said, "{} {} ", head.sequence, head.acknowledgement)?;
+    let flags = head.flags;
+    for (is_set, letter) in [(flags.syn, 'S'), (flags.fin, 'F'), (flags.rst, 'R'), (flags.ack, 'A')] {
+        said.push(if is_set { letter } else { '-' });
+    }
+    let (payload, sum) = (segment.payload.len(), fold(0, segment.payload));
+    writeln!(said, " payload {payload} at {} sum {sum} missing {}", segment.offset, segment.missing)
+}
+
+fn segment_of<'a>(head: &PacketHead, packet: &'a [u8]) -> Result<Segment<'a>, NoSegment> {
+    read_segment(LinkType::from_number(head.link)?, packet, head.original)
+}
+
+/// A number that tells bytes apart: each time 31 times the number before, and the next byte.
+fn fold(before: u32, bytes: &[u8]) -> u32 {
+    bytes.iter().fold(before, |sum, byte| sum.wrapping_mul(31).wrapping_add(u32::from(*byte)))
+}
+
+// ---- streams
+
+/// One direction of a connection, and what was told of it.
+struct Direction {
+    source: Endpoint,
+    destination: Endpoint,
+    stream: Stream,
+    /// How many bytes and positions it is past its beginning.
+    position: u64,
+    bytes: u64,
+    sum: u32,
+    said: String,
+}
+
+/// A line for each direction of a connection in a capture, in the order in which their first segments come.
+fn said_of_streams(file: &[u8]) -> Result<String, fmt::Error> {
+    let mut directions: Vec<Direction> = Vec::new();
+    for (head, packet) in packets_of(file) {
+        let Ok(segment) = segment_of(&head, &packet) else { continue };
+        let head = segment.head;
+        if !directions.iter().any(|direction| direction.is_from(&head.source, &head.destination)) {
+            directions.push(Direction::new(head.source, head.destination));
+        }
+        for direction in &mut directions {
+            if direction.is_from(&head.source, &head.destination) {
+                direction.take(&segment)?;
+            } else if direction.is_from(&head.destination, &head.source) && head.flags.ack {
+                direction.pull(&[], |stream| stream.acknowledge(head.acknowledgement))?;
+            }
+        }
+    }
+    let mut said = String::new();
+    for Direction { source, destination, bytes, sum, said: told, .. } in &directions {
+        writeln!(said, "{} {} {told}bytes {bytes} sum {sum}", source.port, destination.port)?;
+    }
+    Ok(said)
+}
+
+/// The packets of a capture up to its end, or to where it is refused.
+fn packets_of(file: &[u8]) -> Vec<(PacketHead, Vec<u8>)> {
+    let mut reader = CaptureReader::new(Global, CaptureLimits::DEFAULT).unwrap();
+    let mut packets: Vec<(PacketHead, Vec<u8>)> = Vec::new();
+    let mut rest = file;
+    while let CaptureStep::Event { used, event, .. } = reader.next(rest) {
+        match event {
+            CaptureEvent::Section(_) | CaptureEvent::Interface(_) => {}
+            CaptureEvent::Packet(head) => packets.push((head, Vec::new())),
+            CaptureEvent::Data(bytes) => packets.last_mut().unwrap().1.extend_from_slice(bytes),
+        }
+        rest = &rest[used..];
+    }
+    packets
+}
+
+impl Direction {
+    fn new(source: Endpoint, destination: Endpoint) -> Direction {
+        let stream = Stream::new(Global, ROOM).unwrap();
+        Direction { source, destination, stream, position: 0, bytes: 0, sum: 0, said: String::new() }
+    }
+
+    fn is_from(&self, source: &Endpoint, destination: &Endpoint) -> bool {
+        self.source == *source && self.destination == *destination
+    }
+
+    fn take(&mut self, segment: &Segment<'_>) -> fmt::Result {
+        let head = segment.head;
+        let missing = u32::try_from(segment.missing).unwrap();
+        let control = Control { sequence: head.sequence, syn: head.flags.syn, fin: head.flags.fin, rst: head.flags.rst, missing };
+        self.pull(segment.payload, |stream| stream.take(control, segment.payload))
+    }
+
+    /// Writes down all that a segment or an acknowledgement tells.
+    fn pull(&mut self, payload: &[u8], mut next: impl FnMut(&mut Stream) -> StreamStep) -> fmt::Result {
+        loop {
+            match next(&mut self.stream) {
+                StreamStep::Began { syn } => write!(self.said, "began {syn} ")?,
+                StreamStep::Payload { from, count } => self.add(&payload[from..from + count]),
+                StreamStep::Held { .. } => {
+                    let mut buffer = [0; 64];
+                    let count = self.stream.read_held(&mut buffer);
+                    self.add(&buffer[..count]);
+                }
+                StreamStep::Gap { length } => {
+                    write!(self.said, "gap {length} at {} ", self.position)?;
+                    self.position += length as u64;
+                }
+                StreamStep::Ended => self.said.push_str("ended "),
+                StreamStep::Reset => self.said.push_str("reset "),
+                StreamStep::Done => return Ok(()),
+            }
+        }
+    }
+
+    fn add(&mut self, bytes: &[u8]) {
+        self.sum = fold(self.sum, bytes);
+        self.bytes += bytes.len() as u64;
+        self.position += bytes.len() as u64;
+    }
+}
