@@ -1,8 +1,8 @@
 -- The items of cells, handed straight to a sink.
-use Rattle.std.specs.Prelude.{◌≡◌, ℕ, false, List, Option, Some, None, ⊤}
+use Rattle.std.specs.Prelude.{◌≡◌, ◌==◌, ℕ, false, List, Option, Some, None, ⊤}
 use Rattle.cqlp_note.specs.Limits.{Rules, with_lenient}
 use Rattle.cqlp_kind.specs.declared.kind.Kind.{Kind}
-use Rattle.cqlp_kind.specs.Scalars.{ScalarValue}
+use Rattle.cqlp_kind.specs.Scalars.{ScalarValue, allows_size}
 use Rattle.cqlp_kind.specs.CellStep.{CellEvent}
 use Rattle.cqlp_kind.specs.CellStep as cell
 use Rattle.cqlp_cell.specs.Fronts.{SaysScalar}
@@ -43,6 +43,11 @@ pub record SaysLeaf (l : Rules) (k : Kind) (room level : ℕ) (input : List ℕ)
   -- to a caller who is not lenient, too
   pub strictly : SaysScalar (with_lenient false l) k room input used value
   pub holds : Holds (cell_event row column (cell.Leaf level value))
+
+-- Each content of this kind has this many bytes, unless it is empty.
+abbrev pub IsWidth : Kind → Option ℕ → Type 0
+IsWidth k None = ⊤
+IsWidth k (Some width) = (n : ℕ) → allows_size k n ≡ (n == width)
 
 -- What became of an item: it was handed out as a scalar, and the sink has got it, or it failed there.
 abbrev pub HandsLeaf : Rules → Kind → (room level : ℕ) → List ℕ → (row column : ℕ) → (HasGot Failed : Event → Type 0)

@@ -5,7 +5,7 @@
 
 ghost use Rattle.std.specs.Prelude.{◌≡◌};
 ghost use Rattle.cqlp_note.specs.Limits.{rules_asked};
-ghost use Rattle.cqlp_decode.specs.Items.{HandsLeaf};
+ghost use Rattle.cqlp_decode.specs.Items.{HandsLeaf, IsWidth};
 ghost use Rattle.cqlp_decode.specs.Sinks.{Gets, Fails};
 
 use crate::page::CellCursor;
@@ -13,6 +13,7 @@ use crate::page_loop::Handed;
 use cqlp_cell::{DueItem, front_scalar};
 use cqlp_grammar::{Event, Sink, SinkFault};
 use cqlp_kind::Kind;
+use cqlp_kind::content::read_array;
 use cqlp_note::Asked;
 
 /// Hands the item at the front of the input to the sink, if it is a scalar and all its bytes are there.
@@ -70,6 +71,9 @@ pub fn hand_kind<S: Sink>(
         (λ e. Gets S.Sink sink.old due.at e sink.new)
         (λ e. Fails S.Sink sink.old due.at e sink.new) result }
 {
+    if !may_begin(kind, due.room, input) {
+        return Handed::Left;
+    }
     let Some(front) = front_scalar(limits, kind, due.room, input) else {
         return Handed::Left;
     };
@@ -85,5 +89,34 @@ pub fn hand_kind<S: Sink>(
     match sink.take(at, &event) {
         Ok(()) => Handed::Taken(front.used),
         Err(SinkFault) => Handed::Fault(front.used),
+    }
+}
+
+/// Whether a scalar of this kind may be at the front of the input, in a container with room for this many bytes.
+///
+/// Of a kind whose contents all have one length that length is compared once, and is known in what comes after: then
+/// `front_scalar`, which alone decides, has nothing left to ask of it.
+#[inline(always)]
+fn may_begin(kind: Kind, room: u64, input: &[u8]) -> bool {
+    let Some(width) = width_of(kind) else {
+        return true;
+    };
+    input.len() >= 4 + width as usize
+        && room >= 4 + u64::from(width)
+        && u32::from_be_bytes(read_array(input)) == width
+}
+
+/// How many bytes a content of this kind has, where each has as many.
+#[inline(always)]
+fn width_of(kind: Kind) -> Option<u32>
+    ensures { IsWidth kind result }
+{
+    match kind {
+        Kind::Bigint | Kind::Counter | Kind::Double | Kind::Time | Kind::Timestamp => Some(8),
+        Kind::Date | Kind::Float | Kind::Int => Some(4),
+        Kind::Smallint => Some(2),
+        Kind::Boolean | Kind::Tinyint => Some(1),
+        Kind::Timeuuid | Kind::Uuid => Some(16),
+        _ => None,
     }
 }

@@ -6,7 +6,8 @@
 //! where that does; and it reads a scalar by the very function by which `next` does, so that no rule stands here alone.
 
 ghost use Rattle.std.specs.Prelude.{◌≡◌, ◌*◌, Ok, Some};
-ghost use Rattle.cqlp_note.specs.Limits.{rules_asked};
+ghost use Rattle.cqlp_note.specs.Limits.{Rules, rules_asked};
+ghost use Rattle.cqlp_kind.specs.declared.kind.Kind.{Kind};
 ghost use Rattle.cqlp_note.specs.declared.refusal.Refusal.{Refusal};
 ghost use Rattle.cqlp_decode.specs.Cells.{DrainsCells, HandsFront, HasHanded, IsBare, StaysWithin};
 ghost use Rattle.cqlp_grammar.specs.Events.{event_of};
@@ -77,10 +78,10 @@ pub fn take_cells<S: Sink, A: Allocator>(
     let mut offset = progress.offset;
     let mut used = 0;
     'cells: loop {
+        let kind = page.kind(table);
         let Some(following) = page.next(table) else {
             break 'cells;
         };
-        let kind = page.kind(table);
         let room = stop - offset;
         match hand_cell(&limits, kind, room, page, offset, &input[used..], sink) {
             Handed::Left => break 'cells,
@@ -103,7 +104,7 @@ pub fn take_cells<S: Sink, A: Allocator>(
 }
 
 /// Hands the cell at the front of the input to the sink, if the loop takes it. It begins at an offset, and has room for
-/// this many bytes.
+/// this many bytes. Most cells are scalars, so these are asked for first.
 #[inline(always)]
 fn hand_cell<S: Sink>(
     limits: &Asked,
@@ -119,23 +120,34 @@ fn hand_cell<S: Sink>(
         (λ e. Gets S.Sink sink.old at e sink.new)
         (λ e. Fails S.Sink sink.old at e sink.new) result }
 {
-    let CellCursor { row, column, .. } = page;
-    if room < 4 || input.len() < 4 {
-        return Handed::Left;
+    let level = 0;
+    let due = DueItem {
+        at,
+        kind,
+        room,
+        level,
+    };
+    match hand_leaf(limits, due, page, input, sink) {
+        Handed::Left => hand_bare(room, page, at, input, sink),
+        Handed::Taken(used) => Handed::Taken(used),
+        Handed::Fault(used) => Handed::Fault(used),
     }
+}
+
+/// The same of a cell that is null or empty.
+#[inline(always)]
+fn hand_bare<S: Sink>(room: u64, page: CellCursor, at: u64, input: &[u8], sink: &mut S) -> Handed
+    ensures left { result ≡ Handed.Left → sink.new ≡ sink.old }
+    ensures hands { (l : Rules) (k : Kind) → HandsFront l k room input.now page.row page.column
+        (λ e. Gets S.Sink sink.old at e sink.new)
+        (λ e. Fails S.Sink sink.old at e sink.new) result }
+{
+    let CellCursor { row, column, .. } = page;
     let level = 0;
     match front_bare(room, input) {
         Some(Bare::Null) => hand(at, &Event::Null { row, column, level }, 4, sink),
         Some(Bare::Empty) => hand(at, &Event::Empty { row, column, level }, 4, sink),
-        None => {
-            let due = DueItem {
-                at,
-                kind,
-                room,
-                level,
-            };
-            hand_leaf(limits, due, page, input, sink)
-        }
+        None => Handed::Left,
     }
 }
 
