@@ -5,7 +5,8 @@ use cqlp::memory::Box as Boxed;
 use cqlp::{Global, Kind, OfStd};
 use std::time::{Duration, Instant};
 
-const TIMES: usize = 2_000_000;
+const TIMES: usize = 10_000;
+const RUNS: usize = 1_000;
 
 enum Hand {
     Int(i32),
@@ -117,10 +118,10 @@ fn shapes() -> Vec<Shape> {
     ]
 }
 
-/// The nanoseconds of one value: the best of nine runs of many hundreds of values.
+/// The nanoseconds of one value: the best of many runs, which are short, so that some are not cut off where other programs run beside them.
 fn once(mut write_hundred: impl FnMut()) -> f64 {
     let mut best = Duration::MAX;
-    for _ in 0..9 {
+    for _ in 0..RUNS {
         let start = Instant::now();
         (0..TIMES / 100).for_each(|_| write_hundred());
         best = best.min(start.elapsed());

@@ -3,6 +3,7 @@ pub mod Taking
 pub mod Options
 pub mod Bindings
 pub mod Few
+pub mod Lent
 pub mod Contents
 pub mod PartsTaken
 pub mod FramesTaken

@@ -1,6 +1,6 @@
 //! Fields in each notation, written.
 
-ghost use Rattle.std.specs.Prelude.{◌≡◌, ◌++◌, length};
+ghost use Rattle.std.specs.Prelude.{◌≡◌, ◌≤◌, ◌++◌, length};
 ghost use Rattle.std.specs.Int.{w8, w16, w32, to_be_bytes};
 ghost use Rattle.cqlp_note.specs.declared.field.Notation.TheVariants as notation;
 ghost use Rattle.cqlp_note.specs.Field as note;
@@ -83,6 +83,19 @@ impl<'a, W: Target> Staged<'a, W> {
     {
         self.put_count32(content.len());
         self.put(content);
+    }
+
+    /// Takes the bytes of a number, at most eight, after their length, in one step.
+    #[inline(always)]
+    pub fn put_number(&mut self, content: &[u8])
+        requires { length content.now ≤ 8 }
+        ensures { Puts self.old (to_be_bytes w32 (length content.now) ++ content.now) self.new }
+    {
+        let mut bytes = [0; 12];
+        let end = content.len() + 4;
+        bytes[..4].copy_from_slice(&content.len().to_be_bytes()[4..]);
+        bytes[4..end].copy_from_slice(content);
+        self.put(&bytes[..end]);
     }
 
     /// Takes \[bytes\], a null as the length -1.

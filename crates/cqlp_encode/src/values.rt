@@ -93,10 +93,10 @@ pub fn put_atom<W: Target>(out: &mut Staged<'_, W>, atom: &Atom)
     ensures { let v = Scalar_and (atom_of atom.now) NoValue in PutsWithin (values_size v) out.old (values_bytes v) out.new }
 {
     match atom.content() {
-        Content::One(bytes) => out.put_content(&bytes),
-        Content::Two(bytes) => out.put_content(&bytes),
-        Content::Four(bytes) => out.put_content(&bytes),
-        Content::Eight(bytes) => out.put_content(&bytes),
+        Content::One(bytes) => out.put_number(&bytes),
+        Content::Two(bytes) => out.put_number(&bytes),
+        Content::Four(bytes) => out.put_number(&bytes),
+        Content::Eight(bytes) => out.put_number(&bytes),
         Content::Lent(bytes) => out.put_content(bytes),
         Content::Decimal(scale, unscaled) => {
             out.put_count32(unscaled.len().saturating_add(scale.len()));

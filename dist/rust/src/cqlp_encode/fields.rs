@@ -67,6 +67,17 @@ impl<'a, W: Target> Staged<'a, W> {
         self.put(content);
     }
 
+    /// Takes the bytes of a number, at most eight, after their length, in one step.
+    #[inline(always)]
+    pub(crate) fn put_number(&mut self, content: &[u8])
+    {
+        let mut bytes = [0; 12];
+        let end = content.len() + 4;
+        bytes[..4].copy_from_slice(&content.len().to_be_bytes()[4..]);
+        bytes[4..end].copy_from_slice(content);
+        self.put(&bytes[..end]);
+    }
+
     /// Takes \[bytes\], a null as the length -1.
     pub fn put_bytes(&mut self, bytes: Option<&[u8]>)
     {

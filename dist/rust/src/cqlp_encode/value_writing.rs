@@ -7,9 +7,6 @@ use crate::cqlp_note::{Header, Target};
 use crate::cqlp_type::TypeTree;
 use crate::cqlp_value::{Atom, Content, Value, fitting_size};
 
-/// How many bytes of a content, at most, are copied behind its length.
-const FEW: usize = 28;
-
 error! {
 /// Why a value was not written, or not whole.
 #[derive(Clone, Copy, Debug, PartialEq, Eq)]
@@ -29,7 +26,9 @@ pub enum ValueError {
 /// Writes a value of this type, or of a cell without a type, as a \[bytes\] with its length, and answers how many bytes it has,
 /// the four of the length counted. Sections 3 and 6 of `native_protocol_v4.spec`. Each null has the length -1, and each true is 01.
 ///
-/// It takes no memory. Small values go to the target together, and a content longer than 256 bytes by a call of its own.
+/// It takes no memory. A number goes to the target with its length, by one call, and any other scalar but a decimal by two, of which the first is
+/// for its length: in front of a target whose calls cost much, as a socket, have a buffer. The parts of a collection, a tuple or a
+/// user-defined value go together, 256 bytes at a time, and a longer content by a call of its own.
 ///
 /// # Errors
 ///
@@ -79,34 +78,41 @@ pub(crate) fn offer_value<W: Target>(value: &Value, size: u32, before: u32, targ
 fn offer_atom<W: Target>(atom: &Atom, target: &mut W) -> u32
 {
     match atom.content() {
-        Content::One(bytes) => offer_bytes(&bytes, target),
-        Content::Two(bytes) => offer_bytes(&bytes, target),
-        Content::Four(bytes) => offer_bytes(&bytes, target),
-        Content::Eight(bytes) => offer_bytes(&bytes, target),
-        Content::Lent(bytes) => {
-            if bytes.len() <= FEW {
-                offer_bytes(bytes, target)
-            } else {
-                offer_long(atom, target)
-            }
-        }
-        Content::Decimal(_, _) => offer_long(atom, target),
+        Content::One(bytes) => offer_number(&bytes, target),
+        Content::Two(bytes) => offer_number(&bytes, target),
+        Content::Four(bytes) => offer_number(&bytes, target),
+        Content::Eight(bytes) => offer_number(&bytes, target),
+        Content::Lent(bytes) => offer_lent(bytes, target),
+        Content::Decimal(_, _) => offer_decimal(atom, target),
     }
 }
 
-/// The same of a content of few bytes.
+/// The same of the bytes of a number, which are at most eight.
 #[inline(always)]
-fn offer_bytes<W: Target>(content: &[u8], target: &mut W) -> u32
+fn offer_number<W: Target>(content: &[u8], target: &mut W) -> u32
 {
-    let mut bytes = [0; FEW + 4];
+    let mut bytes = [0; 12];
     let end = content.len() + 4;
     bytes[..4].copy_from_slice(&content.len().to_be_bytes()[4..]);
     bytes[4..end].copy_from_slice(content);
     offer_after(target, 0, &bytes[..end]) as u32
 }
 
-/// The same of a scalar of many bytes.
-fn offer_long<W: Target>(atom: &Atom, target: &mut W) -> u32
+/// The same of a content that is lent, which is not copied on its way: its length is offered first, by a call of its own.
+#[inline(always)]
+fn offer_lent<W: Target>(content: &[u8], target: &mut W) -> u32
+{
+    let len = (content.len() as u32).to_be_bytes();
+    let taken = offer_after(target, 0, &len);
+    if taken < 4 {
+        return taken as u32;
+    }
+    (4 + offer_after(target, 0, content)) as u32
+}
+
+/// The same of a decimal.
+#[inline(never)]
+fn offer_decimal<W: Target>(atom: &Atom, target: &mut W) -> u32
 {
     let mut out = Staged::new(target, 0);
     put_atom(&mut out, atom);
@@ -117,6 +123,7 @@ fn offer_long<W: Target>(atom: &Atom, target: &mut W) -> u32
 }
 
 /// The same of any value, of which the target may have the first bytes.
+#[inline(never)]
 fn offer_any<W: Target>(value: &Value, size: u32, before: u32, target: &mut W) -> u32
 {
     let mut out = Staged::new(target, u64::from(before));

@@ -1,6 +1,6 @@
 use Rattle.std.proofs.Common.{List, ℕ, take, drop, ap, ◌∙◌, arith}
 use Rattle.cqlp_encode.proofs.Few.{few_offered}
-use Rattle.cqlp_encode.proofs.value_writing.offer_bytes.Goals as goal
+use Rattle.cqlp_encode.proofs.value_writing.offer_number.Goals as goal
 
 pub returns : goal.returns
 returns g c =

@@ -4,7 +4,7 @@ use Rattle.cqlp_value.specs.Owned.{atom_of}
 use Rattle.cqlp_value.specs.Values.{NoValue, Scalar_and, values_bytes, values_size}
 use Rattle.cqlp_value.proofs.ValuesWritten.{written_size}
 use Rattle.cqlp_encode.proofs.FramesTaken.{value_sent, value_offered}
-use Rattle.cqlp_encode.proofs.value_writing.offer_long.Goals as goal
+use Rattle.cqlp_encode.proofs.value_writing.offer_decimal.Goals as goal
 
 pub overflow_cast-result : goal.overflow_cast-result
 overflow_cast-result g c =
