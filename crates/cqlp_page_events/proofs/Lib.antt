@@ -1,0 +1,9 @@
+mod Columns
+mod Rows
+mod Sizes
+mod Taking
+mod Steps
+mod Pieces
+mod Whole
+mod OneAnswer
+mod Built

@@ -1,0 +1,4 @@
+pub mod Places
+pub mod Cells
+pub mod Measures
+pub mod Laws

@@ -1,0 +1,18 @@
+//! Pages of the CQL native protocol v4, written of the events of their cells, some cells at a time.
+#![tactic(auto)]
+
+mod cells;
+mod column;
+mod error;
+mod head;
+pub mod laws;
+mod measure;
+mod memory;
+mod place;
+
+pub use cells::{PageCells, WrittenCells};
+pub use cqlp_build_cells::CellLimits;
+pub use error::{HeadError, PageCellError};
+pub use head::page_head;
+pub use measure::event_size;
+pub use place::PagePlace;

@@ -1,0 +1,64 @@
+//! Bytes that are written into memory.
+
+ghost use Rattle.std.specs.Prelude.{◌≡◌, Some, [], length, take};
+
+use cqlp_note::{IoFault, Target};
+use std::alloc::Global;
+
+/// Takes bytes behind those that it has. It fails where memory is refused.
+#[derive(Drop)]
+pub struct InMemory {
+    bytes: Vec<u8>,
+    /// How many calls found no memory, up to 2^64 - 1.
+    failures: u64,
+}
+
+impl InMemory {
+    /// With no bytes, for which it asks for no memory.
+    pub fn new(alloc: Global) -> InMemory
+        ensures { result.bytes.items ≡ [] }
+    {
+        InMemory {
+            bytes: Vec::new(alloc),
+            failures: 0,
+        }
+    }
+
+    /// How many bytes it has.
+    pub fn len(&self) -> usize
+        ensures { result ≡ length self.now.bytes.items }
+    {
+        self.bytes.len()
+    }
+
+    /// Keeps the first bytes, this many, if it has more.
+    pub fn truncate(&mut self, len: usize)
+        ensures { self.new.bytes.items ≡ take len self.old.bytes.items }
+    {
+        self.bytes.truncate(len);
+    }
+
+    /// The bytes.
+    pub fn into_bytes(self) -> Vec<u8>
+        ensures { result ≡ self.bytes }
+    {
+        let InMemory { bytes, failures: _ } = self;
+        bytes
+    }
+}
+
+impl Target for InMemory {
+    ghost contents = { λ target. Some target.bytes.items };
+
+    ghost failures = { λ target. target.failures };
+
+    fn write(&mut self, bytes: &[u8]) -> Result<usize, IoFault> {
+        match self.bytes.extend_from_slice(bytes) {
+            Ok(()) => Ok(bytes.len()),
+            Err(_) => {
+                self.failures = self.failures.saturating_add(1);
+                Err(IoFault)
+            }
+        }
+    }
+}
