@@ -14,7 +14,7 @@ struct Alone {
 }
 
 impl Sink for Alone {
-    #[inline]
+    #[inline(always)]
     fn take(&mut self, _at: u64, event: &Event<'_>) -> Result<(), SinkFault> {
         if matches!(event, Event::Leaf { .. } | Event::Null { .. } | Event::Empty { .. }) {
             self.cells += 1;
@@ -30,7 +30,7 @@ struct Each {
 }
 
 impl Each {
-    #[inline]
+    #[inline(always)]
     fn put(&mut self, column: u32, cell: Cell<'_>) -> Result<(), SinkFault> {
         if column == 0 && self.columns[0].len() == ROWS as usize {
             self.clear();
@@ -47,7 +47,7 @@ impl Each {
 }
 
 impl Sink for Each {
-    #[inline]
+    #[inline(always)]
     fn take(&mut self, _at: u64, event: &Event<'_>) -> Result<(), SinkFault> {
         match *event {
             Event::Leaf { column, scalar, .. } => self.put(column, Cell::Holds(scalar)),
@@ -65,6 +65,14 @@ struct Batches {
 }
 
 impl Batches {
+    /// Takes an event into the batch that is cleared. The event is a copy, so that it lies in memory only here.
+    #[cold]
+    #[inline(never)]
+    fn take_again(&mut self, event: Event<'_>) -> Result<(), SinkFault> {
+        self.clear();
+        self.batch.take(&event).map_err(|_| SinkFault)
+    }
+
     fn clear(&mut self) {
         self.cells += self.batch.columns().iter().map(Column::len).sum::<usize>();
         self.batch.clear();
@@ -72,16 +80,13 @@ impl Batches {
 }
 
 impl Sink for Batches {
-    #[inline]
+    #[inline(always)]
     fn take(&mut self, _at: u64, event: &Event<'_>) -> Result<(), SinkFault> {
-        if let Err(why) = self.batch.take(event) {
-            if why != TakeError::Full {
-                return Err(SinkFault);
-            }
-            self.clear();
-            return self.batch.take(event).map_err(|_| SinkFault);
+        match self.batch.take(event) {
+            Ok(()) => Ok(()),
+            Err(TakeError::Full) => self.take_again(*event),
+            Err(_) => Err(SinkFault),
         }
-        Ok(())
     }
 }
 

@@ -105,43 +105,40 @@ number_set (b ∷ bs) (suc i) d h =
     let g : d * 2 ^ (8 * suc i) ≡ 256 * (d * 2 ^ (8 * i)) = rw (next_bits i) (omega arith) in
     omega (arith, e, g)
 
--- what the bits of a byte are worth
-abbrev pub worths : List ℕ
-worths = 1 ∷ 2 ∷ 4 ∷ 8 ∷ 16 ∷ 32 ∷ 64 ∷ 128 ∷ []
-
-worth_at : (r : ℕ) → r < 8 → get_or worths r 0 ≡ 2 ^ r
-worth_at zero h = refl
-worth_at (suc zero) h = refl
-worth_at (suc (suc zero)) h = refl
-worth_at (suc (suc (suc zero))) h = refl
-worth_at (suc (suc (suc (suc zero)))) h = refl
-worth_at (suc (suc (suc (suc (suc zero))))) h = refl
-worth_at (suc (suc (suc (suc (suc (suc zero)))))) h = refl
-worth_at (suc (suc (suc (suc (suc (suc (suc zero))))))) h = refl
-worth_at (suc (suc (suc (suc (suc (suc (suc (suc r)))))))) h = absurd (omega (arith, h))
+-- what `1 << r` is in a byte
+pub shifted : (r : ℕ) → r < 8 → 1 * 2 ^ r % 2 ^ 8 ≡ 2 ^ r
+shifted zero h = refl
+shifted (suc zero) h = refl
+shifted (suc (suc zero)) h = refl
+shifted (suc (suc (suc zero))) h = refl
+shifted (suc (suc (suc (suc zero)))) h = refl
+shifted (suc (suc (suc (suc (suc zero))))) h = refl
+shifted (suc (suc (suc (suc (suc (suc zero)))))) h = refl
+shifted (suc (suc (suc (suc (suc (suc (suc zero))))))) h = refl
+shifted (suc (suc (suc (suc (suc (suc (suc (suc r)))))))) h = absurd (omega (arith, h))
 
 in_byte : (at : ℕ) → 8 * (at / 8) + at % 8 ≡ at
 in_byte at = omega arith
 
-pub bit_fits : (bytes : List ℕ) (at : ℕ) → number_of_bytes bytes < 2 ^ at → get_or bytes (at / 8) 0 + get_or worths (at % 8) 0 < 256
+pub bit_fits : (bytes : List ℕ) (at : ℕ) → number_of_bytes bytes < 2 ^ at → get_or bytes (at / 8) 0 + (1 * 2 ^ (at % 8) % 2 ^ 8) < 256
 bit_fits bytes at h =
     let P : ℕ → Type 0 = λ (x : ℕ). number_of_bytes bytes < 2 ^ x in
     let below : get_or bytes (at / 8) 0 < 2 ^ (at % 8) = byte_below bytes (at / 8) (at % 8) (subst P (sym (in_byte at)) h) in
     let small : at % 8 ≤ 7 = omega arith in
-    let e : get_or worths (at % 8) 0 ≡ 2 ^ (at % 8) = worth_at (at % 8) (omega arith) in
+    let e : (1 * 2 ^ (at % 8) % 2 ^ 8) ≡ 2 ^ (at % 8) = shifted (at % 8) (omega arith) in
     let most : 2 ^ (at % 8) ≤ 128 = pow_le (at % 8) 7 small in
     omega (arith, below, e, most)
 
 pub bit_added :
     (bytes : List ℕ) (at : ℕ) → at < 8 * length bytes
-    → number_of_bytes (set bytes (at / 8) (get_or bytes (at / 8) 0 + get_or worths (at % 8) 0)) ≡ number_of_bytes bytes + 2 ^ at
+    → number_of_bytes (set bytes (at / 8) (get_or bytes (at / 8) 0 + (1 * 2 ^ (at % 8) % 2 ^ 8))) ≡ number_of_bytes bytes + 2 ^ at
 bit_added bytes at h =
-    let e : get_or worths (at % 8) 0 ≡ 2 ^ (at % 8) = worth_at (at % 8) (omega arith) in
+    let e : (1 * 2 ^ (at % 8) % 2 ^ 8) ≡ 2 ^ (at % 8) = shifted (at % 8) (omega arith) in
     let within : at / 8 < length bytes = omega (arith, h) in
     let sums : 2 ^ (8 * (at / 8) + at % 8) ≡ 2 ^ (8 * (at / 8)) * 2 ^ (at % 8) = pow-add 2 (8 * (at / 8)) (at % 8) in
     let whole : 2 ^ (8 * (at / 8) + at % 8) ≡ 2 ^ at = ap (λ (x : ℕ). 2 ^ x) (in_byte at) in
-    let product : get_or worths (at % 8) 0 * 2 ^ (8 * (at / 8)) ≡ 2 ^ at = rw e (omega (arith, sums, whole)) in
-    omega (arith, number_set bytes (at / 8) (get_or worths (at % 8) 0) within, product)
+    let product : (1 * 2 ^ (at % 8) % 2 ^ 8) * 2 ^ (8 * (at / 8)) ≡ 2 ^ at = rw e (omega (arith, sums, whole)) in
+    omega (arith, number_set bytes (at / 8) (1 * 2 ^ (at % 8) % 2 ^ 8) within, product)
 
 -- ---- the bytes that have the bits
 

@@ -1,4 +1,5 @@
 pub mod Bits
+pub mod Bytes
 pub mod Layouts
 pub mod Cells
 pub mod Arrays

@@ -49,7 +49,7 @@ impl<A: Allocator> Bits<A> {
     }
 
     /// Adds a bit at the end.
-    #[inline]
+    #[inline(always)]
     pub fn push(&mut self, bit: bool)
         requires { length self.old.bits < self.old.room }
         ensures { self.new ≡ bits (self.old.bits ++ bit ∷ []) self.old.room }
@@ -75,22 +75,19 @@ impl<A: Allocator> Bits<A> {
 }
 
 /// Adds the bit behind so many, where the bytes have only zeros.
-#[inline]
+#[inline(always)]
 fn add_bit(bytes: &mut [u8], at: usize, bit: bool)
     requires room { at < 8 * length bytes.old }
     requires below { number_of_bytes bytes.old < 2 ^ at }
     ensures { number_of_bytes bytes.new ≡ number_of_bytes bytes.old + worth bit at }
 {
     if bit {
-        bytes[at / 8] += WORTH[at % 8];
+        bytes[at / 8] += 1 << (at % 8);
     }
 }
 
-/// What the bits of a byte are worth.
-const WORTH: [u8; 8] = [1, 2, 4, 8, 16, 32, 64, 128];
-
 /// Makes each byte a zero.
-fn fill_zeros(bytes: &mut [u8])
+pub(crate) fn fill_zeros(bytes: &mut [u8])
     ensures { bytes.new ≡ replicate (length bytes.old) 0 }
 {
     for byte in bytes.iter_mut() {

@@ -1,10 +1,11 @@
 //! Cells of columns.
 
-ghost use Rattle.std.specs.Prelude.{◌≡◌, ◌+◌, ◌≤◌, ◌++◌, length, reverse, vec_capacity};
+ghost use Rattle.std.specs.Prelude.{◌≡◌, ◌+◌, ◌≤◌, ◌++◌, length, reverse};
 ghost use Rattle.cqlp_kind.specs.Contents.{value_of};
 ghost use Rattle.cqlp_kind.specs.Scalars.{kind_of as kind_of_value};
 ghost use Rattle.cqlp_columns.specs.Cells.{cell_of, is_empty, is_valid, stored, truth};
 
+use crate::bytes::Bytes;
 use crate::layout::Layout;
 use cqlp_kind::{Kind, Scalar};
 use cqlp_note::Address;
@@ -120,10 +121,10 @@ fn decimal_len(unscaled: &[u8]) -> usize
 
 /// Adds the bytes that stand for a scalar, for which there is room.
 #[inline(always)]
-pub(crate) fn put_scalar<A: Allocator>(values: &mut Vec<u8, A>, scalar: &Scalar<'_>)
-    requires { length values.old.items + length (stored (value_of scalar.now)) ≤ vec_capacity values.old }
+pub(crate) fn put_scalar<A: Allocator>(values: &mut Bytes<A>, scalar: &Scalar<'_>)
+    requires { length values.old.items + length (stored (value_of scalar.now)) ≤ values.old.room }
     ensures items { values.new.items ≡ values.old.items ++ stored (value_of scalar.now) }
-    ensures capacity { vec_capacity values.old ≤ vec_capacity values.new }
+    ensures room { values.new.room ≡ values.old.room }
 {
     match *scalar {
         Scalar::Boolean(_) => {}
@@ -156,30 +157,30 @@ pub(crate) fn put_scalar<A: Allocator>(values: &mut Vec<u8, A>, scalar: &Scalar<
 
 /// Adds bytes, for which there is room.
 #[inline(always)]
-pub(crate) fn put<A: Allocator>(values: &mut Vec<u8, A>, bytes: &[u8])
-    requires { length values.old.items + length bytes.now ≤ vec_capacity values.old }
+pub(crate) fn put<A: Allocator>(values: &mut Bytes<A>, bytes: &[u8])
+    requires { length values.old.items + length bytes.now ≤ values.old.room }
     ensures items { values.new.items ≡ values.old.items ++ bytes.now }
-    ensures capacity { vec_capacity values.old ≤ vec_capacity values.new }
+    ensures room { values.new.room ≡ values.old.room }
 {
-    values.extend_from_slice(bytes).unwrap();
+    values.push(bytes);
 }
 
 /// Adds bytes.
 #[inline(always)]
-fn put_array<const N: usize, A: Allocator>(values: &mut Vec<u8, A>, bytes: [u8; N])
-    requires { length values.old.items + length bytes ≤ vec_capacity values.old }
+fn put_array<const N: usize, A: Allocator>(values: &mut Bytes<A>, bytes: [u8; N])
+    requires { length values.old.items + length bytes ≤ values.old.room }
     ensures items { values.new.items ≡ values.old.items ++ bytes.entry }
-    ensures capacity { vec_capacity values.old ≤ vec_capacity values.new }
+    ensures room { values.new.room ≡ values.old.room }
 {
     put(values, &bytes);
 }
 
 /// Adds bytes, the last of them first.
 #[inline(always)]
-fn put_reversed<const N: usize, A: Allocator>(values: &mut Vec<u8, A>, bytes: [u8; N])
-    requires { length values.old.items + length bytes ≤ vec_capacity values.old }
+fn put_reversed<const N: usize, A: Allocator>(values: &mut Bytes<A>, bytes: [u8; N])
+    requires { length values.old.items + length bytes ≤ values.old.room }
     ensures items { values.new.items ≡ values.old.items ++ reverse bytes.entry }
-    ensures capacity { vec_capacity values.old ≤ vec_capacity values.new }
+    ensures room { values.new.room ≡ values.old.room }
 {
     let mut turned = bytes;
     turned.reverse();

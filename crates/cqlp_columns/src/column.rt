@@ -8,6 +8,7 @@ ghost use Rattle.cqlp_columns.specs.Layouts.{layout_of};
 ghost use Rattle.cqlp_columns.specs.Cells.{Cell as CellValue, blank, cell_bits, cell_bytes, cell_of, is_of};
 
 use crate::bits::Bits;
+use crate::bytes::Bytes;
 use crate::cell::{Cell, is_empty, is_true, is_valid, kind_of, put_scalar, stored_len};
 use crate::layout::{Layout, layout_of};
 use cqlp_kind::Kind;
@@ -46,7 +47,7 @@ pub struct Column<A: Allocator = Global> {
     layout: Layout,
     rows: u32,
     size: usize,
-    values: Vec<u8, A>,
+    values: Bytes<A>,
     /// The values, where they are bits.
     truths: Bits<A>,
     offsets: Vec<u64, A>,
@@ -72,7 +73,7 @@ impl<A: Allocator> Model for Column<A> {
       empty = c.empty.bits;
     } };
 
-    ghost invariant = { λ c. (c.size ≤ vec_capacity c.values) × (c.rows + 1 ≤ vec_capacity c.offsets)
+    ghost invariant = { λ c. (c.size ≤ c.values.room) × (c.rows + 1 ≤ vec_capacity c.offsets)
         × (c.rows ≤ c.truths.room) × (c.rows ≤ c.valid.room) × (c.rows ≤ c.empty.room)
         × (length c.truths.bits ≤ length c.valid.bits) × (length c.empty.bits ≡ length c.valid.bits)
         × (length c.offsets.items ≤ length c.valid.bits + 1) };
@@ -120,7 +121,7 @@ impl<A: Allocator> Column<A> {
             layout,
             rows,
             size,
-            values: Vec::with_capacity(alloc.clone()?, size)?,
+            values: Bytes::new(alloc.clone()?, size)?,
             truths: Bits::new(alloc.clone()?, rows)?,
             offsets,
             valid: Bits::new(alloc.clone()?, rows)?,
@@ -148,7 +149,7 @@ impl<A: Allocator> Column<A> {
     {
         match self.layout {
             Layout::Bits => self.truths.as_slice(),
-            Layout::Fixed(_) | Layout::Variable => &self.values,
+            Layout::Fixed(_) | Layout::Variable => self.values.as_slice(),
         }
     }
 
@@ -196,7 +197,7 @@ impl<A: Allocator> Column<A> {
     }
 
     /// Whether more bytes than so many stand for a cell.
-    #[inline]
+    #[inline(always)]
     pub(crate) fn is_long(&self, cell: &Cell<'_>, content: u32) -> bool
         ensures { result ≡ is_long content (cell_of cell.now) self.now }
     {
@@ -204,7 +205,7 @@ impl<A: Allocator> Column<A> {
     }
 
     /// Whether a cell can be one of it.
-    #[inline]
+    #[inline(always)]
     pub(crate) fn is_of(&self, cell: &Cell<'_>) -> bool
         ensures { result ≡ is_of self.now.kind (cell_of cell.now) }
     {
@@ -216,7 +217,7 @@ impl<A: Allocator> Column<A> {
     /// # Errors
     ///
     /// `NotOfKind` for a scalar of another kind than the column's; else `Full` where there is no room for it. Nothing changes then.
-    #[inline]
+    #[inline(always)]
     pub fn take(&mut self, cell: &Cell<'_>) -> Result<(), Refusal>
         ensures answer { IsAnswer (refusal_of (cell_of cell.now) self.old) result }
         ensures taken { IsOk result → (cells : List CellValue) → HasCells cells self.old → HasCells (cells ++ cell_of cell.now ∷ []) self.new }
@@ -233,7 +234,7 @@ impl<A: Allocator> Column<A> {
     }
 
     /// Why it does not take a cell.
-    #[inline]
+    #[inline(always)]
     pub fn refusal(&self, cell: &Cell<'_>) -> Option<Refusal>
         ensures { result ≡ refusal_of (cell_of cell.now) self.now }
     {
@@ -248,7 +249,7 @@ impl<A: Allocator> Column<A> {
     }
 
     /// Whether there is room for a cell.
-    #[inline]
+    #[inline(always)]
     fn fits(&self, cell: &Cell<'_>) -> bool
         ensures { result ≡ fits (cell_of cell.now) self.now }
     {
@@ -258,14 +259,14 @@ impl<A: Allocator> Column<A> {
     }
 
     /// Adds a cell.
-    #[inline]
+    #[inline(always)]
     pub(crate) fn push(&mut self, cell: &Cell<'_>)
         requires { refusal_of (cell_of cell.now) self.old ≡ None }
         ensures { self.new ≡ with_cell (cell_of cell.now) self.old }
     {
         put_cell(&mut self.values, self.layout, cell);
-        put_bit(&mut self.truths, self.layout, cell);
-        put_offset(&mut self.offsets, self.layout, self.values.len() as u64);
+        let end = self.values.len() as u64;
+        put_beside(&mut self.truths, &mut self.offsets, self.layout, cell, end);
         self.valid.push(is_valid(self.layout, cell));
         self.empty.push(is_empty(cell));
     }
@@ -326,37 +327,36 @@ fn blank_len(layout: Layout) -> usize
 
 /// Adds the bytes in a cell's place, for which there is room.
 #[inline(always)]
-fn put_cell<A: Allocator>(values: &mut Vec<u8, A>, layout: Layout, cell: &Cell<'_>)
-    requires { length values.old.items + length (cell_bytes layout (cell_of cell.now)) ≤ vec_capacity values.old }
+fn put_cell<A: Allocator>(values: &mut Bytes<A>, layout: Layout, cell: &Cell<'_>)
+    requires { length values.old.items + length (cell_bytes layout (cell_of cell.now)) ≤ values.old.room }
     ensures items { values.new.items ≡ values.old.items ++ cell_bytes layout (cell_of cell.now) }
-    ensures capacity { vec_capacity values.old ≤ vec_capacity values.new }
+    ensures room { values.new.room ≡ values.old.room }
 {
     match *cell {
-        Cell::Null | Cell::Empty => put_zeros(values, blank_len(layout)),
+        Cell::Null | Cell::Empty => values.push_zeros(blank_len(layout)),
         Cell::Holds(ref scalar) => put_scalar(values, scalar),
     }
 }
 
-/// Adds zeros, for which there is room.
+/// Adds what a cell has beside its bytes: the bit in its place, where values are bits, or where it ends, where the layout has offsets.
 #[inline(always)]
-fn put_zeros<A: Allocator>(values: &mut Vec<u8, A>, count: usize)
-    requires { length values.old.items + count ≤ vec_capacity values.old }
-    ensures items { values.new.items ≡ values.old.items ++ replicate count 0 }
-    ensures capacity { vec_capacity values.old ≤ vec_capacity values.new }
-{
-    let end = values.len() + count;
-    values.resize(end, 0).unwrap();
-}
-
-/// Adds the bit in a cell's place, where values are bits.
-#[inline(always)]
-fn put_bit<A: Allocator>(truths: &mut Bits<A>, layout: Layout, cell: &Cell<'_>)
-    requires { length truths.old.bits < truths.old.room }
-    ensures { truths.new ≡ bits (truths.old.bits ++ cell_bits layout (cell_of cell.now)) truths.old.room }
+fn put_beside<A: Allocator>(
+    truths: &mut Bits<A>,
+    offsets: &mut Vec<u64, A>,
+    layout: Layout,
+    cell: &Cell<'_>,
+    end: u64,
+)
+    requires room { length truths.old.bits < truths.old.room }
+    requires place { length offsets.old.items < vec_capacity offsets.old }
+    ensures bits { truths.new ≡ bits (truths.old.bits ++ cell_bits layout (cell_of cell.now)) truths.old.room }
+    ensures items { offsets.new.items ≡ offsets.old.items ++ offset_in layout end }
+    ensures capacity { vec_capacity offsets.new ≡ vec_capacity offsets.old }
 {
     match layout {
         Layout::Bits => truths.push(is_true(cell)),
-        Layout::Fixed(_) | Layout::Variable => {}
+        Layout::Fixed(_) => {}
+        Layout::Variable => offsets.push_reserved(end),
     }
 }
 

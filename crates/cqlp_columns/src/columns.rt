@@ -125,7 +125,7 @@ impl<A: Allocator> Columns<A> {
     ///
     /// `Part`, `OutOfOrder`; where a row begins for which there is no room, `Full`; else `NotOfKind` or `TooLong`. Nothing changes then. In mid-row there is
     /// always room.
-    #[inline]
+    #[inline(always)]
     pub fn take(&mut self, event: &Event<'_>) -> Result<(), TakeError>
         ensures answer { IsAnswerOf (refusal_to (found_in (event_of event.now)) self.old) result }
         ensures taken { IsOk result → (kinds : List OneKind) (es : List Told) → HasTaken self.old.limits kinds es self.old
@@ -140,7 +140,7 @@ impl<A: Allocator> Columns<A> {
     }
 
     /// Takes the next cell.
-    #[inline]
+    #[inline(always)]
     fn put(&mut self, column: usize, cell: &Cell<'_>) -> Result<(), TakeError>
         ensures answer { IsAnswerOf (fault_at column (cell_of cell.now) self.old) result }
         ensures taken { IsOk result → self.new ≡ with_cell_at column (cell_of cell.now) self.old }
@@ -157,7 +157,7 @@ impl<A: Allocator> Columns<A> {
     }
 
     /// Why a cell of a column is not taken.
-    #[inline]
+    #[inline(always)]
     fn fault(&self, column: usize, cell: &Cell<'_>) -> Option<TakeError>
         ensures { result ≡ fault_at column (cell_of cell.now) self.now }
     {
@@ -233,7 +233,7 @@ fn has_room<A: Allocator>(columns: &[Column<A>], limits: BatchLimits) -> bool
 }
 
 /// Why the column of a number does not take a cell.
-#[inline]
+#[inline(always)]
 fn fault_among<A: Allocator>(
     columns: &[Column<A>],
     limits: BatchLimits,
@@ -250,7 +250,7 @@ fn fault_among<A: Allocator>(
 }
 
 /// Why a column does not take a cell, where there is room.
-#[inline]
+#[inline(always)]
 fn fault_in<A: Allocator>(
     column: &Column<A>,
     limits: BatchLimits,
@@ -268,7 +268,7 @@ fn fault_in<A: Allocator>(
 }
 
 /// Adds a cell to the column of a number, which takes it.
-#[inline]
+#[inline(always)]
 fn put_in<A: Allocator>(columns: &mut [Column<A>], column: usize, cell: &Cell<'_>)
     requires there { column < length columns.old }
     requires takes { refusal_among column (cell_of cell.now) columns.old ≡ None }

@@ -2,6 +2,7 @@
 #![tactic(auto)]
 
 mod bits;
+mod bytes;
 mod cell;
 mod column;
 mod columns;

@@ -28,7 +28,7 @@ impl<A: Allocator> Bits<A> {
     }
 
     /// Adds a bit at the end.
-    #[inline]
+    #[inline(always)]
     pub(crate) fn push(&mut self, bit: bool)
     {
         add_bit(self.bytes.as_mut_slice(), self.len, bit);
@@ -50,19 +50,16 @@ impl<A: Allocator> Bits<A> {
 }
 
 /// Adds the bit behind so many, where the bytes have only zeros.
-#[inline]
+#[inline(always)]
 fn add_bit(bytes: &mut [u8], at: usize, bit: bool)
 {
     if bit {
-        bytes[at / 8] += WORTH[at % 8];
+        bytes[at / 8] += 1 << (at % 8);
     }
 }
 
-/// What the bits of a byte are worth.
-const WORTH: [u8; 8] = [1, 2, 4, 8, 16, 32, 64, 128];
-
 /// Makes each byte a zero.
-fn fill_zeros(bytes: &mut [u8])
+pub(crate) fn fill_zeros(bytes: &mut [u8])
 {
     for byte in bytes.iter_mut() {
         *byte = 0;

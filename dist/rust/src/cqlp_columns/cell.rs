@@ -1,7 +1,7 @@
 // Written by dist/erase from crates/cqlp_columns/src/cell.rt.
 //! Cells of columns.
 
-use crate::kit_std::prelude::{Vec};
+use crate::cqlp_columns::bytes::Bytes;
 use crate::cqlp_columns::layout::Layout;
 use crate::cqlp_kind::{Kind, Scalar};
 use crate::cqlp_note::Address;
@@ -110,7 +110,7 @@ fn decimal_len(unscaled: &[u8]) -> usize
 
 /// Adds the bytes that stand for a scalar, for which there is room.
 #[inline(always)]
-pub(crate) fn put_scalar<A: Allocator>(values: &mut Vec<u8, A>, scalar: &Scalar<'_>)
+pub(crate) fn put_scalar<A: Allocator>(values: &mut Bytes<A>, scalar: &Scalar<'_>)
 {
     match *scalar {
         Scalar::Boolean(_) => {}
@@ -143,21 +143,21 @@ pub(crate) fn put_scalar<A: Allocator>(values: &mut Vec<u8, A>, scalar: &Scalar<
 
 /// Adds bytes, for which there is room.
 #[inline(always)]
-pub(crate) fn put<A: Allocator>(values: &mut Vec<u8, A>, bytes: &[u8])
+pub(crate) fn put<A: Allocator>(values: &mut Bytes<A>, bytes: &[u8])
 {
-    values.extend_from_slice(bytes).unwrap();
+    values.push(bytes);
 }
 
 /// Adds bytes.
 #[inline(always)]
-fn put_array<const N: usize, A: Allocator>(values: &mut Vec<u8, A>, bytes: [u8; N])
+fn put_array<const N: usize, A: Allocator>(values: &mut Bytes<A>, bytes: [u8; N])
 {
     put(values, &bytes);
 }
 
 /// Adds bytes, the last of them first.
 #[inline(always)]
-fn put_reversed<const N: usize, A: Allocator>(values: &mut Vec<u8, A>, bytes: [u8; N])
+fn put_reversed<const N: usize, A: Allocator>(values: &mut Bytes<A>, bytes: [u8; N])
 {
     let mut turned = bytes;
     turned.reverse();

@@ -3,6 +3,7 @@
 
 use crate::kit_std::prelude::{Clone, Vec};
 use crate::cqlp_columns::bits::Bits;
+use crate::cqlp_columns::bytes::Bytes;
 use crate::cqlp_columns::cell::{Cell, is_empty, is_true, is_valid, kind_of, put_scalar, stored_len};
 use crate::cqlp_columns::layout::{Layout, layout_of};
 use crate::cqlp_kind::Kind;
@@ -42,7 +43,7 @@ pub struct Column<A: Allocator = Global> {
     layout: Layout,
     rows: u32,
     size: usize,
-    values: Vec<u8, A>,
+    values: Bytes<A>,
     /// The values, where they are bits.
     truths: Bits<A>,
     offsets: Vec<u64, A>,
@@ -88,7 +89,7 @@ impl<A: Allocator> Column<A> {
             layout,
             rows,
             size,
-            values: Vec::with_capacity(alloc.clone()?, size)?,
+            values: Bytes::new(alloc.clone()?, size)?,
             truths: Bits::new(alloc.clone()?, rows)?,
             offsets,
             valid: Bits::new(alloc.clone()?, rows)?,
@@ -113,7 +114,7 @@ impl<A: Allocator> Column<A> {
     {
         match self.layout {
             Layout::Bits => self.truths.as_slice(),
-            Layout::Fixed(_) | Layout::Variable => &self.values,
+            Layout::Fixed(_) | Layout::Variable => self.values.as_slice(),
         }
     }
 
@@ -155,14 +156,14 @@ impl<A: Allocator> Column<A> {
     }
 
     /// Whether more bytes than so many stand for a cell.
-    #[inline]
+    #[inline(always)]
     pub(crate) fn is_long(&self, cell: &Cell<'_>, content: u32) -> bool
     {
         cell_len(self.layout, cell) > content as usize
     }
 
     /// Whether a cell can be one of it.
-    #[inline]
+    #[inline(always)]
     pub(crate) fn is_of(&self, cell: &Cell<'_>) -> bool
     {
         is_of(self.kind, cell)
@@ -173,7 +174,7 @@ impl<A: Allocator> Column<A> {
     /// # Errors
     ///
     /// `NotOfKind` for a scalar of another kind than the column's; else `Full` where there is no room for it. Nothing changes then.
-    #[inline]
+    #[inline(always)]
     pub fn take(&mut self, cell: &Cell<'_>) -> Result<(), Refusal>
     {
         match self.refusal(cell) {
@@ -186,7 +187,7 @@ impl<A: Allocator> Column<A> {
     }
 
     /// Why it does not take a cell.
-    #[inline]
+    #[inline(always)]
     pub fn refusal(&self, cell: &Cell<'_>) -> Option<Refusal>
     {
         if !is_of(self.kind, cell) {
@@ -200,7 +201,7 @@ impl<A: Allocator> Column<A> {
     }
 
     /// Whether there is room for a cell.
-    #[inline]
+    #[inline(always)]
     fn fits(&self, cell: &Cell<'_>) -> bool
     {
         self.valid.len() < self.rows as usize
@@ -209,12 +210,12 @@ impl<A: Allocator> Column<A> {
     }
 
     /// Adds a cell.
-    #[inline]
+    #[inline(always)]
     pub(crate) fn push(&mut self, cell: &Cell<'_>)
     {
         put_cell(&mut self.values, self.layout, cell);
-        put_bit(&mut self.truths, self.layout, cell);
-        put_offset(&mut self.offsets, self.layout, self.values.len() as u64);
+        let end = self.values.len() as u64;
+        put_beside(&mut self.truths, &mut self.offsets, self.layout, cell, end);
         self.valid.push(is_valid(self.layout, cell));
         self.empty.push(is_empty(cell));
     }
@@ -270,29 +271,28 @@ fn blank_len(layout: Layout) -> usize
 
 /// Adds the bytes in a cell's place, for which there is room.
 #[inline(always)]
-fn put_cell<A: Allocator>(values: &mut Vec<u8, A>, layout: Layout, cell: &Cell<'_>)
+fn put_cell<A: Allocator>(values: &mut Bytes<A>, layout: Layout, cell: &Cell<'_>)
 {
     match *cell {
-        Cell::Null | Cell::Empty => put_zeros(values, blank_len(layout)),
+        Cell::Null | Cell::Empty => values.push_zeros(blank_len(layout)),
         Cell::Holds(ref scalar) => put_scalar(values, scalar),
     }
 }
 
-/// Adds zeros, for which there is room.
+/// Adds what a cell has beside its bytes: the bit in its place, where values are bits, or where it ends, where the layout has offsets.
 #[inline(always)]
-fn put_zeros<A: Allocator>(values: &mut Vec<u8, A>, count: usize)
-{
-    let end = values.len() + count;
-    values.resize(end, 0).unwrap();
-}
-
-/// Adds the bit in a cell's place, where values are bits.
-#[inline(always)]
-fn put_bit<A: Allocator>(truths: &mut Bits<A>, layout: Layout, cell: &Cell<'_>)
+fn put_beside<A: Allocator>(
+    truths: &mut Bits<A>,
+    offsets: &mut Vec<u64, A>,
+    layout: Layout,
+    cell: &Cell<'_>,
+    end: u64,
+)
 {
     match layout {
         Layout::Bits => truths.push(is_true(cell)),
-        Layout::Fixed(_) | Layout::Variable => {}
+        Layout::Fixed(_) => {}
+        Layout::Variable => offsets.push_reserved(end),
     }
 }
 

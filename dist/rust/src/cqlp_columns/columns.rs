@@ -101,7 +101,7 @@ impl<A: Allocator> Columns<A> {
     ///
     /// `Part`, `OutOfOrder`; where a row begins for which there is no room, `Full`; else `NotOfKind` or `TooLong`. Nothing changes then. In mid-row there is
     /// always room.
-    #[inline]
+    #[inline(always)]
     pub fn take(&mut self, event: &Event<'_>) -> Result<(), TakeError>
     {
         match found_in(event) {
@@ -112,7 +112,7 @@ impl<A: Allocator> Columns<A> {
     }
 
     /// Takes the next cell.
-    #[inline]
+    #[inline(always)]
     fn put(&mut self, column: usize, cell: &Cell<'_>) -> Result<(), TakeError>
     {
         match self.fault(column, cell) {
@@ -126,7 +126,7 @@ impl<A: Allocator> Columns<A> {
     }
 
     /// Why a cell of a column is not taken.
-    #[inline]
+    #[inline(always)]
     fn fault(&self, column: usize, cell: &Cell<'_>) -> Option<TakeError>
     {
         if column != self.next {
@@ -195,7 +195,7 @@ fn has_room<A: Allocator>(columns: &[Column<A>], limits: BatchLimits) -> bool
 }
 
 /// Why the column of a number does not take a cell.
-#[inline]
+#[inline(always)]
 fn fault_among<A: Allocator>(
     columns: &[Column<A>],
     limits: BatchLimits,
@@ -211,7 +211,7 @@ fn fault_among<A: Allocator>(
 }
 
 /// Why a column does not take a cell, where there is room.
-#[inline]
+#[inline(always)]
 fn fault_in<A: Allocator>(
     column: &Column<A>,
     limits: BatchLimits,
@@ -228,7 +228,7 @@ fn fault_in<A: Allocator>(
 }
 
 /// Adds a cell to the column of a number, which takes it.
-#[inline]
+#[inline(always)]
 fn put_in<A: Allocator>(columns: &mut [Column<A>], column: usize, cell: &Cell<'_>)
 {
     columns[column].push(cell);

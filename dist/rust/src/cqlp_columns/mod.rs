@@ -2,6 +2,7 @@
 //! Columns of a page, in the layout of Apache Arrow.
 
 mod bits;
+mod bytes;
 mod cell;
 mod column;
 mod columns;

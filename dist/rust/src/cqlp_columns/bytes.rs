@@ -1,0 +1,59 @@
+// Written by dist/erase from crates/cqlp_columns/src/bytes.rt.
+//! Bytes in a row.
+
+use crate::kit_std::prelude::{Vec};
+use crate::cqlp_columns::bits::fill_zeros;
+use crate::kit_std::alloc::{AllocError, Allocator};
+
+/// Bytes in memory that is taken once.
+pub(crate) struct Bytes<A: Allocator> {
+    /// The bytes, and after them zeros or what is left of others before them, in all of the room, so that more are written over these at once.
+    memory: Vec<u8, A>,
+    len: usize,
+}
+
+impl<A: Allocator> Bytes<A> {
+    /// With room for so many. This is the one call that takes memory.
+    pub fn new(alloc: A, room: usize) -> Result<Self, AllocError>
+    {
+        let mut memory = Vec::with_capacity(alloc, room)?;
+        memory.resize(room, 0).unwrap();
+        Ok(Bytes { memory, len: 0 })
+    }
+
+    /// How many there are.
+    #[inline(always)]
+    pub fn len(&self) -> usize
+    {
+        self.len
+    }
+
+    /// The bytes.
+    pub fn as_slice(&self) -> &[u8]
+    {
+        &self.memory[..self.len]
+    }
+
+    /// Adds bytes at the end.
+    #[inline(always)]
+    pub(crate) fn push(&mut self, more: &[u8])
+    {
+        let end = self.len + more.len();
+        self.memory.slice_mut(self.len..end).copy_from_slice(more);
+        self.len = end;
+    }
+
+    /// Adds this many zeros at the end.
+    pub(crate) fn push_zeros(&mut self, count: usize)
+    {
+        let end = self.len + count;
+        fill_zeros(self.memory.slice_mut(self.len..end));
+        self.len = end;
+    }
+
+    /// Removes all bytes, and keeps the memory.
+    pub fn clear(&mut self)
+    {
+        self.len = 0;
+    }
+}
