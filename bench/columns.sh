@@ -1,6 +1,6 @@
 #!/usr/bin/env bash
-# Counts, by valgrind, the instructions of one cell of a page that pages.py makes: of the decoder alone, with a column for each, and with batches. They are
-# what a longer page costs more than a shorter one, for each cell that it has more. The program is columns/, which cargo compiles over dist/rust.
+# Counts, by valgrind, the instructions of one cell of a page that pages.py makes: of the decoder alone, with a column for each, with batches, and read as a
+# page. They are what a longer page costs more than a shorter one, for each cell that it has more. The program is columns/, which cargo compiles over dist/rust.
 set -euo pipefail
 
 here=$(dirname -- "$(readlink -f -- "${BASH_SOURCE[0]}")")
@@ -20,7 +20,7 @@ count() {
 rows=(columns 50 150 rows 3000 9000 kinds 500 1500)
 for ((k = 0; k < ${#rows[@]}; k += 3)); do
     page=${rows[k]}
-    for way in alone each batches; do
+    for way in alone each batches pages; do
         { count "$page" "$way" "${rows[k + 1]}"; count "$page" "$way" "${rows[k + 2]}"; } | xargs |
             awk -v name="$page, $way" '{ printf "%s: %.0f instructions a cell\n", name, ($4 - $2) / ($3 - $1) }'
     done

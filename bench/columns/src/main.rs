@@ -1,6 +1,7 @@
-//! Puts the cells of a page on standard input into columns: `columns rows|columns|kinds alone|each|batches`. The page is one of pages.py; `alone` counts its
-//! cells, `each` gives them to the `Column` of their column, and `batches` gives the events to `Columns`. It writes how many cells there were.
-use cqlp::columns::{BatchLimits, Cell, Column, Columns, TakeError};
+//! Puts the cells of a page on standard input into columns: `columns rows|columns|kinds alone|each|batches|pages`. The page is one of pages.py; `alone` counts
+//! its cells, `each` gives them to the `Column` of their column, `batches` gives the events to `Columns`, and `pages` reads them by `PageColumns`. It writes how
+//! many cells there were.
+use cqlp::columns::{BatchLimits, Cell, Column, Columns, PageColumns, Stop, TakeError};
 use cqlp::{Decoder, Event, Global, Kind, Limits, Sink, SinkFault, Step};
 use std::io::Read;
 
@@ -90,6 +91,39 @@ impl Sink for Batches {
     }
 }
 
+/// Takes each event.
+struct Rest;
+
+impl Sink for Rest {
+    fn take(&mut self, _at: u64, _event: &Event<'_>) -> Result<(), SinkFault> {
+        Ok(())
+    }
+}
+
+/// Reads the events of a stream into columns, and counts the cells.
+fn read(stream: &[u8], kinds: &[Kind]) -> usize {
+    let mut decoder = Decoder::new(Global, Limits::DEFAULT).unwrap();
+    let mut page = PageColumns::new(Columns::new(Global, LIMITS, kinds).unwrap(), Rest);
+    let mut cells = 0;
+    for piece in stream.chunks(PIECE) {
+        let mut rest = piece;
+        loop {
+            let filled = page.read(&mut decoder, rest);
+            rest = &rest[filled.used..];
+            match filled.stop {
+                Stop::More => break,
+                Stop::Other => {}
+                Stop::Full => {
+                    cells += page.columns.columns().iter().map(Column::len).sum::<usize>();
+                    page.columns.clear();
+                }
+                stop => panic!("{stop:?}"),
+            }
+        }
+    }
+    cells + page.columns.columns().iter().map(Column::len).sum::<usize>()
+}
+
 /// Hands the events of a stream to a sink.
 fn hand<S: Sink>(stream: &[u8], sink: &mut S) {
     let mut decoder = Decoder::new(Global, Limits::DEFAULT).unwrap();
@@ -140,6 +174,7 @@ fn main() {
             sink.clear();
             sink.cells
         }
+        "pages" => read(&stream, &kinds),
         _ => {
             let mut sink = Batches { batch: Columns::new(Global, LIMITS, &kinds).unwrap(), cells: 0 };
             hand(&stream, &mut sink);

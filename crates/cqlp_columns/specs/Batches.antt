@@ -81,6 +81,10 @@ rows_in (a ∷ b ∷ cols) = rows_in (b ∷ cols)
 abbrev pub has_room : BatchLimits → List Column → Bool
 has_room l cols = list_all (room_in l.rows l.bytes) cols
 
+-- A row begins next, for which there is no room.
+abbrev pub is_full : Batch → Bool
+is_full b = (b.next == 0) && not (has_room b.limits b.columns)
+
 -- A column has the room that the limits give it.
 abbrev pub IsSized : BatchLimits → Column → Type 0
 IsSized l a = (a.rows ≡ l.rows) × (a.size ≡ l.bytes + l.content)

@@ -5,7 +5,7 @@ ghost use Rattle.std.specs.List.{list_all};
 ghost use Rattle.cqlp_grammar.specs.Events.{Event as Told, event_of};
 ghost use Rattle.cqlp_kind.specs.declared.kind.Kind.{Kind as OneKind};
 ghost use Rattle.cqlp_columns.specs.Batches.{HasTaken, IsAnswerOf, IsMade, cleared, empty_column, empty_columns, fault_among, fault_at, fault_in};
-ghost use Rattle.cqlp_columns.specs.Batches.{has_layout, has_room, next_after, refusal_among, refusal_of_kinds};
+ghost use Rattle.cqlp_columns.specs.Batches.{has_layout, has_room, is_full, next_after, refusal_among, refusal_of_kinds};
 ghost use Rattle.cqlp_columns.specs.Batches.{refusal_to, rows_in, with_cell_at, with_cell_in};
 ghost use Rattle.cqlp_columns.specs.Cells.{cell_of};
 ghost use Rattle.cqlp_columns.specs.Findings.{found_in};
@@ -117,6 +117,14 @@ impl<A: Allocator> Columns<A> {
             None => 0,
             Some(column) => column.len(),
         }
+    }
+
+    /// Whether a row begins next for which there is no room, so that no cell is taken before the batch is cleared.
+    #[inline]
+    pub fn is_full(&self) -> bool
+        ensures { result ≡ is_full self.now }
+    {
+        self.next == 0 && !has_room(&self.columns, self.limits)
     }
 
     /// Takes the next event of a page. Events that are not of cells change nothing.

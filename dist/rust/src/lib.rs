@@ -210,6 +210,7 @@ mod cqlp_json;
 mod cqlp_kind;
 mod cqlp_message;
 mod cqlp_note;
+mod cqlp_page_columns;
 mod cqlp_read;
 mod cqlp_reassembly;
 mod cqlp_render;
@@ -241,6 +242,7 @@ pub use kit_std::alloc::Global;
 /// Columns of pages, in the layout of Apache Arrow.
 pub mod columns {
     pub use crate::cqlp_columns::{BatchLimits, Cell, Column, Columns, Layout, MakeError, Refusal, TakeError, layout_of};
+    pub use crate::cqlp_page_columns::{Filled, PageColumns, Stop, Went};
 }
 
 /// Values of frames, and what writes them.

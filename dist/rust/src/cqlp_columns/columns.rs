@@ -95,6 +95,13 @@ impl<A: Allocator> Columns<A> {
         }
     }
 
+    /// Whether a row begins next for which there is no room, so that no cell is taken before the batch is cleared.
+    #[inline]
+    pub fn is_full(&self) -> bool
+    {
+        self.next == 0 && !has_room(&self.columns, self.limits)
+    }
+
     /// Takes the next event of a page. Events that are not of cells change nothing.
     ///
     /// # Errors

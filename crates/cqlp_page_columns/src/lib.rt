@@ -1,0 +1,8 @@
+//! Pages read as columns.
+#![tactic(auto)]
+
+mod filled;
+mod page_columns;
+
+pub use filled::{Filled, Stop};
+pub use page_columns::{PageColumns, Went};
