@@ -80,18 +80,23 @@ static CLAIMS: [&str; 54] = [
 
 /// How many requests a decoder makes that is asked for all events of a stream in pieces, where none after those of `new` is
 /// granted.
-fn requests_of(alloc: Global, stream: &[u8]) -> Result<u64, Fail> {
+fn requests_of(alloc: Global, stream: &[u8]) -> u64 {
     let heap = Rationed::new(alloc, Refusals::From(REQUESTS + 1));
-    let mut decoder = Decoder::new(&heap, LIMITS)?;
-    let mut reader = Pieces::new(stream, [11, 3, 7]);
-    run(&mut decoder, &mut reader, &mut Takes::new(1_000), u64::MAX);
-    Ok(heap.requests())
+    ask_for_all(&heap, stream);
+    heap.requests()
+}
+
+fn ask_for_all(heap: &Rationed<Global>, stream: &[u8]) {
+    if let Ok(mut decoder) = Decoder::new(heap, LIMITS) {
+        let mut reader = Pieces::new(stream, [11, 3, 7]);
+        run(&mut decoder, &mut reader, &mut Takes::new(1_000), u64::MAX);
+    }
 }
 
 /// The same, of what digits spell.
 fn requests(alloc: Global, words: &str) -> Result<u64, Fail> {
     let stream = bytes_of(alloc, words)?;
-    requests_of(alloc, &stream)
+    Ok(requests_of(alloc, &stream))
 }
 
 #[test]

@@ -2,24 +2,12 @@
 #![tactic(auto)]
 
 #[cfg(test)]
-mod cells;
-#[cfg(test)]
 mod claims;
-#[cfg(test)]
-mod client;
 #[cfg(test)]
 mod fields;
 #[cfg(test)]
 mod fronts;
 #[cfg(test)]
-mod headers;
-#[cfg(test)]
 mod memory;
 #[cfg(test)]
 mod runs;
-#[cfg(test)]
-mod server;
-#[cfg(test)]
-mod types;
-#[cfg(test)]
-mod versions;

@@ -248,15 +248,3 @@ fn memory_is_missing_just_where_it_was_refused(rt: HostRuntime) -> Result<(), Fa
     assert_eq!(rt; wrong_calls(&heap, &frame), 0);
     Ok(())
 }
-
-#[test]
-fn slots_out_of_range(rt: HostRuntime) -> Result<(), Fail> {
-    let mut refused = true;
-    for slots in [0, 32_769, u16::MAX] {
-        refused = refused
-            && matches!(Client::new(rt.alloc(), slots), Err(SlotsOrMemory::BadSlots))
-            && matches!(Server::new(rt.alloc(), slots), Err(SlotsOrMemory::BadSlots));
-    }
-    assert!(rt; refused);
-    Ok(())
-}

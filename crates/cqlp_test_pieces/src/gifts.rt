@@ -42,8 +42,7 @@ fn give_types<'a>(
     given: Option<&str>,
 ) -> io::Result<()> {
     if let Some(digits) = given {
-        let table = table(alloc, tables, digits)?;
-        let _ = decoder.give(table);
+        let _ = decoder.give(table(alloc, tables, digits)?);
     }
     Ok(())
 }
@@ -64,15 +63,21 @@ pub fn exchange<'a>(
     let Some(digits) = piece.strip_prefix("give") else {
         return Ok(false);
     };
-    let table = table(rt.alloc(), heap, digits)?;
-    print_given(rt, decoder, table)?;
+    print_given(rt, decoder, table(rt.alloc(), heap, digits)?)?;
     Ok(true)
 }
 
 /// Takes back the table that a decoder holds, and prints how many types came.
 fn print_taken(rt: &HostRuntime, decoder: &mut Decoder<&LocalHeap>) -> io::Result<()> {
-    let roots = decoder.take_given().map(|table| table.roots());
-    println!(rt; "taken {roots:?}")
+    println!(rt; "taken {:?}", roots_of(decoder.take_given()))
+}
+
+/// How many types a table has that came back.
+fn roots_of(table: Option<TypeTable<&LocalHeap>>) -> Option<u32> {
+    match table {
+        Some(table) => Some(table.roots()),
+        None => None,
+    }
 }
 
 /// Gives a decoder a table, and prints how many types came back, or why it was not taken.
@@ -81,14 +86,10 @@ fn print_given<'a>(
     decoder: &mut Decoder<&'a LocalHeap>,
     table: TypeTable<&'a LocalHeap>,
 ) -> io::Result<()> {
-    let refused = match decoder.give(table) {
-        Ok(before) => {
-            let roots = before.map(|table| table.roots());
-            return println!(rt; "given {roots:?}");
-        }
-        Err(error) => (error.why, error.table.len()),
-    };
-    println!(rt; "{:?} {}", refused.0, refused.1)
+    match decoder.give(table) {
+        Ok(before) => println!(rt; "given {:?}", roots_of(before)),
+        Err(error) => println!(rt; "{:?} {}", error.why, error.table.len()),
+    }
 }
 
 /// The types of the last metadata of a stream, as far as it goes.

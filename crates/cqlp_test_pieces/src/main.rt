@@ -38,6 +38,7 @@ fn execute(rt: &HostRuntime, line: &str) -> io::Result<()> {
         return memory::print_answers(rt, script.limits);
     }
     script.room = memory::taken(rt.alloc(), script.limits)?;
+    script.is_alone = !pieces.contains('|');
     if script.shows == Shows::Skips {
         return skips::print_in_pieces(rt, &script, pieces);
     }
@@ -48,9 +49,20 @@ fn execute(rt: &HostRuntime, line: &str) -> io::Result<()> {
 fn print_pieces(rt: &HostRuntime, script: &Script<'_>, pieces: &str) -> io::Result<()> {
     let tables = LocalHeap::new(rt.alloc(), AMPLE)?;
     let heap = LocalHeap::new(rt.alloc(), script.room)?;
-    let mut decoder = gifts::decoder_with(rt.alloc(), &heap, &tables, script)?;
+    print_in(rt, script, pieces, &heap, &tables)
+}
+
+/// The same of a decoder in this memory.
+fn print_in<'a>(
+    rt: &HostRuntime,
+    script: &Script<'_>,
+    pieces: &str,
+    heap: &'a LocalHeap,
+    tables: &'a LocalHeap,
+) -> io::Result<()> {
+    let mut decoder = gifts::decoder_with(rt.alloc(), heap, tables, script)?;
     let mut said = Report::new(rt.alloc(), script.shows);
-    print_each(rt, script, pieces, &tables, &mut decoder, &mut said)
+    print_each(rt, script, pieces, tables, &mut decoder, &mut said)
 }
 
 fn print_each<'a>(
@@ -61,60 +73,43 @@ fn print_each<'a>(
     decoder: &mut Decoder<&'a LocalHeap>,
     said: &mut Report,
 ) -> io::Result<()> {
-    let is_alone = !pieces.contains('|');
     for piece in pieces.split('|') {
         if !gifts::exchange(rt, tables, decoder, piece)? {
-            let bytes = take_repeatedly(rt.alloc(), decoder, piece, said)?;
-            print_piece(rt, script, decoder, &bytes, is_alone, said)?;
+            print_piece(rt, script, decoder, piece, said)?;
         }
     }
     Ok(())
 }
 
-/// Writes down what a decoder says of a piece that comes once, or as often as it says, and answers its bytes.
-fn take_repeatedly(
-    alloc: Global,
+/// Prints what a decoder says of a piece that comes once, or as often as it says, and where it would say something else of one that is
+/// alone.
+fn print_piece(
+    rt: &HostRuntime,
+    script: &Script<'_>,
     decoder: &mut Decoder<&LocalHeap>,
     piece: &str,
     said: &mut Report,
-) -> io::Result<Vec<u8>> {
+) -> io::Result<()> {
     let (times, digits) = match piece.split_once(" times ") {
         Some((times, digits)) => (number_of(times.trim()), digits),
         None => (1, piece),
     };
-    let bytes = bytes_of(alloc, digits)?;
-    match take_times(decoder, &bytes, times, said) {
-        Ok(()) => Ok(bytes),
-        Err(error) => Err(error),
-    }
+    let bytes = bytes_of(rt.alloc(), digits)?;
+    print_times(rt, script, decoder, (&bytes, times), said)
 }
 
-fn take_times(
+fn print_times(
+    rt: &HostRuntime,
+    script: &Script<'_>,
     decoder: &mut Decoder<&LocalHeap>,
-    bytes: &[u8],
-    times: u32,
+    (bytes, times): (&[u8], u32),
     said: &mut Report,
 ) -> io::Result<()> {
     for _ in 0..times {
         take(decoder, bytes, said)?;
     }
-    Ok(())
-}
-
-/// Prints what a decoder has said of a piece, and where it would say something else of one that is alone.
-fn print_piece(
-    rt: &HostRuntime,
-    script: &Script<'_>,
-    decoder: &Decoder<&LocalHeap>,
-    bytes: &[u8],
-    is_alone: bool,
-    said: &mut Report,
-) -> io::Result<()> {
     print_said(rt, said, decoder)?;
-    if is_alone && bytes.len() > 1 {
-        ways::in_pieces(rt, script, bytes)?;
-    }
-    Ok(())
+    ways::in_pieces(rt, script, bytes)
 }
 
 /// Prints what a decoder has said since the last time, and then how the stream ends here.

@@ -12,7 +12,11 @@ const AMPLE: usize = 1 << 24;
 /// The bytes of memory that a decoder takes.
 pub fn taken(alloc: Global, limits: Limits) -> io::Result<usize> {
     let heap = LocalHeap::new(alloc, AMPLE)?;
-    let _decoder = crate::reading::decoder(&heap, limits, false)?;
+    taken_of(&heap, limits)
+}
+
+fn taken_of(heap: &LocalHeap, limits: Limits) -> io::Result<usize> {
+    let _decoder = crate::reading::decoder(heap, limits, false)?;
     Ok(heap.used())
 }
 

@@ -30,6 +30,13 @@ impl Report {
         }
     }
 
+    /// As if nothing had been said.
+    fn clear(&mut self) {
+        self.lines.clear();
+        self.events = 0;
+        self.bytes = 0;
+    }
+
     pub fn is(&self, other: &Report) -> bool {
         self.events == other.events
             && self.bytes == other.bytes
@@ -101,30 +108,70 @@ pub fn take(
     Ok(true)
 }
 
-/// What is said of a stream that comes in pieces: a first of this size, and all others of another.
-pub fn said_in_pieces(
+/// A way of reading a stream once more.
+#[derive(Clone, Copy)]
+pub enum Way {
+    /// In a first piece of one size, and all others of another.
+    Pieces(usize, usize),
+    /// Whole, by a decoder that begins anew after this many bytes of it. It is given again what it was given.
+    Anew(usize),
+}
+
+/// What is said of a stream that is read in this way.
+pub fn said(alloc: Global, script: &Script<'_>, stream: &[u8], way: Way) -> io::Result<Report> {
+    let mut said = Report::new(alloc, script.shows);
+    match put_said(alloc, script, stream, way, &mut said) {
+        Ok(()) => Ok(said),
+        Err(error) => Err(error),
+    }
+}
+
+fn put_said(
     alloc: Global,
     script: &Script<'_>,
     stream: &[u8],
-    sizes: (usize, usize),
-) -> io::Result<Report> {
+    way: Way,
+    said: &mut Report,
+) -> io::Result<()> {
     let tables = LocalHeap::new(alloc, AMPLE)?;
     let heap = LocalHeap::new(alloc, script.room)?;
-    let mut decoder = decoder_with(alloc, &heap, &tables, script)?;
-    let mut said = Report::new(alloc, script.shows);
-    match take_pieces(&mut decoder, stream, sizes, &mut said) {
-        Ok(()) => Ok(said),
-        Err(error) => Err(error),
+    let memory = (&heap, &tables);
+    put_in(alloc, script, memory, stream, way, said)
+}
+
+/// The same of a decoder in this memory.
+fn put_in<'a>(
+    alloc: Global,
+    script: &Script<'_>,
+    (heap, tables): (&'a LocalHeap, &'a LocalHeap),
+    stream: &[u8],
+    way: Way,
+    said: &mut Report,
+) -> io::Result<()> {
+    let mut decoder = decoder_with(alloc, heap, tables, script)?;
+    take_all(&mut decoder, stream, way, said)
+}
+
+fn take_all(
+    decoder: &mut Decoder<&LocalHeap>,
+    stream: &[u8],
+    way: Way,
+    said: &mut Report,
+) -> io::Result<()> {
+    match way {
+        Way::Pieces(first, others) => take_pieces(decoder, stream, first, others, said),
+        Way::Anew(front) => take_anew(decoder, stream, front, said),
     }
 }
 
 fn take_pieces(
     decoder: &mut Decoder<&LocalHeap>,
     stream: &[u8],
-    sizes: (usize, usize),
+    first: usize,
+    others: usize,
     said: &mut Report,
 ) -> io::Result<()> {
-    let (mut size, other) = sizes;
+    let mut size = first;
     let mut rest = stream;
     for _ in 0..=stream.len() {
         let (piece, after) = rest.split_at(size.min(rest.len()));
@@ -132,43 +179,22 @@ fn take_pieces(
             break;
         }
         rest = after;
-        size = other;
+        size = others;
     }
     Ok(())
 }
 
-/// What is said of a stream by a decoder that begins anew after this many bytes of it. It is given again what it was given.
-pub fn said_anew(
-    alloc: Global,
-    script: &Script<'_>,
+fn take_anew(
+    decoder: &mut Decoder<&LocalHeap>,
     stream: &[u8],
     front: usize,
-) -> io::Result<Report> {
-    let tables = LocalHeap::new(alloc, AMPLE)?;
-    let heap = LocalHeap::new(alloc, script.room)?;
-    let mut decoder = decoder_with(alloc, &heap, &tables, script)?;
-    let before = stream.split_at(front.min(stream.len())).0;
-    match said_next(alloc, &mut decoder, script.shows, before) {
-        Ok(_) => {
-            begin_anew(&mut decoder);
-            said_next(alloc, &mut decoder, script.shows, stream)
-        }
-        Err(error) => Err(error),
-    }
-}
-
-/// What is said of one more piece.
-fn said_next(
-    alloc: Global,
-    decoder: &mut Decoder<&LocalHeap>,
-    shows: Shows,
-    piece: &[u8],
-) -> io::Result<Report> {
-    let mut said = Report::new(alloc, shows);
-    match take(decoder, piece, &mut said) {
-        Ok(_) => Ok(said),
-        Err(error) => Err(error),
-    }
+    said: &mut Report,
+) -> io::Result<()> {
+    take(decoder, stream.get(..front).unwrap_or(stream), said)?;
+    begin_anew(decoder);
+    said.clear();
+    take(decoder, stream, said)?;
+    Ok(())
 }
 
 fn begin_anew(decoder: &mut Decoder<&LocalHeap>) {

@@ -39,6 +39,8 @@ pub struct Script<'a> {
     pub given: Option<&'a str>,
     /// The bytes of memory that a decoder takes.
     pub room: usize,
+    /// Whether the stream comes in one piece, and so is read in other ways too.
+    pub is_alone: bool,
 }
 
 impl<'a> Script<'a> {
@@ -49,6 +51,7 @@ impl<'a> Script<'a> {
             shows: Shows::Events,
             given: None,
             room: 0,
+            is_alone: false,
         };
         for word in words.split_whitespace() {
             match word.split_once('=') {

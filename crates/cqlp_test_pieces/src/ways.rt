@@ -1,13 +1,16 @@
 //! Streams in pieces, and streams that begin anew. Prints where they say something else than in one.
 
-use crate::reading::{Report, said_anew, said_in_pieces};
+use crate::reading::{Report, Way, said};
 use crate::script::{Script, Shows};
 use std::io;
 
 /// In pieces of each size, in two pieces cut at each place, and whole after the decoder has begun anew at each place; where
-/// events are counted, byte by byte and in pieces of 3 bytes after one of 11, alone.
+/// events are counted, byte by byte and in pieces of 3 bytes after one of 11, alone. Only a stream that comes in one piece, of several bytes.
 pub fn in_pieces(rt: &HostRuntime, script: &Script<'_>, stream: &[u8]) -> io::Result<()> {
-    let whole = said_in_pieces(rt.alloc(), script, stream, (stream.len(), 1))?;
+    if !script.is_alone || stream.len() <= 1 {
+        return Ok(());
+    }
+    let whole = said(rt.alloc(), script, stream, Way::Pieces(stream.len(), 1))?;
     compare(rt, script, stream, &whole)
 }
 
@@ -15,44 +18,34 @@ fn compare(rt: &HostRuntime, script: &Script<'_>, stream: &[u8], whole: &Report)
     match script.shows {
         Shows::Calls | Shows::Memory | Shows::Skips => Ok(()),
         Shows::Counts => {
-            in_these_pieces(rt, script, stream, whole, (1, 1))?;
-            in_these_pieces(rt, script, stream, whole, (11, 3))
+            in_way(rt, script, stream, whole, Way::Pieces(1, 1))?;
+            in_way(rt, script, stream, whole, Way::Pieces(11, 3))
         }
         Shows::Events => {
-            for size in 1..stream.len() {
-                in_these_pieces(rt, script, stream, whole, (size, size))?;
-                in_these_pieces(rt, script, stream, whole, (size, stream.len()))?;
-                anew(rt, script, stream, whole, size)?;
+            for size in 1..=stream.len() {
+                in_way(rt, script, stream, whole, Way::Pieces(size, size))?;
+                in_way(rt, script, stream, whole, Way::Pieces(size, stream.len()))?;
+                in_way(rt, script, stream, whole, Way::Anew(size))?;
             }
-            anew(rt, script, stream, whole, stream.len())
+            Ok(())
         }
     }
 }
 
-fn in_these_pieces(
+fn in_way(
     rt: &HostRuntime,
     script: &Script<'_>,
     stream: &[u8],
     whole: &Report,
-    sizes: (usize, usize),
+    way: Way,
 ) -> io::Result<()> {
-    let is_same = said_in_pieces(rt.alloc(), script, stream, sizes)?.is(whole);
-    if !is_same {
-        println!(rt; "differs in pieces of {sizes:?} bytes")?;
+    if said(rt.alloc(), script, stream, way)?.is(whole) {
+        return Ok(());
     }
-    Ok(())
-}
-
-fn anew(
-    rt: &HostRuntime,
-    script: &Script<'_>,
-    stream: &[u8],
-    whole: &Report,
-    front: usize,
-) -> io::Result<()> {
-    let is_same = said_anew(rt.alloc(), script, stream, front)?.is(whole);
-    if !is_same {
-        println!(rt; "differs anew after {front} bytes")?;
+    match way {
+        Way::Pieces(first, others) => {
+            println!(rt; "differs in pieces of {first} and {others} bytes")
+        }
+        Way::Anew(front) => println!(rt; "differs anew after {front} bytes"),
     }
-    Ok(())
 }
