@@ -60,7 +60,8 @@
  *   points to as much as its type and the number after it say, aligned for its type, and no two that are given to one call
  *   overlap.
  * - A handle is CQLP_NO_DECODER_YET before cqlp_new or cqlp_new_lenient, CQLP_NO_CLIENT_YET before cqlp_client_new, CQLP_NO_SERVER_YET before
- *   cqlp_server_new, and CQLP_NO_TYPES_YET before cqlp_types_of and cqlp_take_given. Nothing but these calls writes or copies it from then on until it is freed, and it is not given to another call
+ *   cqlp_server_new, CQLP_NO_TYPES_YET before cqlp_types_of and cqlp_take_given, and CQLP_NO_COLUMNS_YET before
+ *   cqlp_columns_new. Nothing but these calls writes or copies it from then on until it is freed, and it is not given to another call
  *   of this library while one runs on it.
  * - The array of events and the other structs that calls write are memory that may be written; what was in them does not
  *   matter, but it must have been set once (zeros will do).
@@ -140,6 +141,12 @@ extern "C" {
 #define CQLP_TOO_MANY_BYTES 42       /* the contents have more than 268435456 bytes */
 #define CQLP_LEFT_OVER 43            /* there are bytes behind the contents of the events */
 #define CQLP_NO_SUCH_FRAME 44        /* no frame has these events */
+
+#define CQLP_TOO_MANY_COLUMNS 60     /* there are more columns than the limits say */
+#define CQLP_BAD_KIND 61             /* no kind has this number */
+#define CQLP_UNSUPPORTED 62          /* values of the kind have items */
+#define CQLP_NO_COLUMNS 63           /* the handle has no columns */
+#define CQLP_NO_COLUMN 64            /* there is no column of this number */
 
 /* Why a batch of events ends. */
 #define CQLP_STOP_MORE 0             /* all of the input was used, and more is wanted */
@@ -462,6 +469,34 @@ typedef struct cqlp_types {
 
 #define CQLP_NO_TYPES_YET {0, NULL}
 
+/* Columns for a page's rows, or none. The members are the library's own. */
+typedef struct cqlp_columns {
+  uint64_t live;
+  void *place;
+} cqlp_columns;
+
+#define CQLP_NO_COLUMNS_YET {0, NULL}
+
+/* How large a batch of rows may be; 16 bytes. */
+typedef struct cqlp_batch_limits {
+  uint32_t columns; /* how many columns */
+  uint32_t rows;    /* how many rows */
+  uint32_t bytes;   /* with how many bytes of values in a column no further row begins; those of its last row come on top of it */
+  uint32_t content; /* how many bytes one value may have */
+} cqlp_batch_limits;
+
+/* The arrays of a column, in the layout of Apache Arrow; 64 bytes. A bit of an array of bits is the least of its byte first. */
+typedef struct cqlp_column {
+  const uint8_t *values;   /* the values, one after the other, zeros where a cell has none: numbers with their lowest byte first; of booleans a bit each */
+  const uint64_t *offsets; /* where each value begins among these bytes, and where the last one ends */
+  const uint8_t *validity; /* a bit for each cell: whether it has a value */
+  const uint8_t *empties;  /* a bit for each cell: whether it has a value of no bytes, which among values of a fixed length has no other place */
+  size_t size;             /* how many bytes of values there are */
+  size_t bounds;           /* how many offsets there are: one more than cells, or 0 where all values have the same length */
+  size_t cells;            /* how many cells there are; where a row is under way the first columns have one more than the last */
+  uint8_t kind;            /* of which kind they are: a number CQLP_KIND_.. */
+} cqlp_column;
+
 /* A client's core, or none: which requests are open on one connection. The members are the library's own. */
 typedef struct cqlp_client {
   uint64_t live;
@@ -592,6 +627,34 @@ uint32_t cqlp_take_given(cqlp_decoder *decoder, cqlp_types *types);
 /* Frees the table, and what memory the handle has where it gave its table away, and leaves a handle that has none.
  * Answers CQLP_DONE, or CQLP_NO_TYPES where there was nothing, which does nothing. */
 uint32_t cqlp_types_free(cqlp_types *types);
+
+/* Makes columns without rows in a handle that has none, one for each of `count` kinds, which are numbers CQLP_KIND_... All of its memory is asked
+ * for here: for each column `bytes` and `content`, 8 bytes for each row and one more, and three bits for each row.
+ * Answers CQLP_DONE; else the handle is as it was, and the first of these that is so: CQLP_IN_USE, CQLP_TOO_MANY_COLUMNS, CQLP_BAD_KIND,
+ * CQLP_UNSUPPORTED, CQLP_NO_MEMORY. (Without memory for the kinds it is CQLP_NO_MEMORY before CQLP_BAD_KIND.) */
+uint32_t cqlp_columns_new(const cqlp_batch_limits *limits, const uint8_t *kinds, size_t count, cqlp_columns *columns);
+
+/* Reads on, as cqlp_next does, with cells of a page put into the columns: those that come in their order, of their column's kind, whole and not
+ * longer than `content`. It stops, and says so in the batch,
+ * - at the first event that is none of these, which it puts into `event`, as cqlp_next would: `events` is 1 then, and `stop` CQLP_STOP_FULL;
+ * - where the columns are full, so that no further row begins: `events` is 0, and `stop` CQLP_STOP_FULL. Take the arrays by cqlp_columns_get and
+ *   call cqlp_columns_clear. Columns that are full already use no byte;
+ * - where more is wanted, CQLP_STOP_MORE, or where the stream is refused, CQLP_STOP_REFUSED: `events` is 0.
+ * `event` stays as it was where `events` is 0. It asks for no memory. Calls of cqlp_next and of this one may take turns.
+ * Answers CQLP_DONE; else nothing changes: CQLP_NO_DECODER, or CQLP_NO_COLUMNS. */
+uint32_t cqlp_columns_next(cqlp_decoder *decoder, cqlp_columns *columns, const uint8_t *input, size_t length, cqlp_event *event, cqlp_batch *batch);
+
+/* Tells where the arrays of a column lie, the first of number 0. They stay as they are until the next call on the handle but this one.
+ * Answers CQLP_DONE; else `view` is as it was: CQLP_NO_COLUMNS, or CQLP_NO_COLUMN. */
+uint32_t cqlp_columns_get(cqlp_columns *columns, size_t column, cqlp_column *view);
+
+/* Removes all rows, also one that is under way, and keeps the memory.
+ * Answers CQLP_DONE, or CQLP_NO_COLUMNS. */
+uint32_t cqlp_columns_clear(cqlp_columns *columns);
+
+/* Frees the columns, and leaves a handle that has none, in which others may be made.
+ * Answers CQLP_DONE, or CQLP_NO_COLUMNS where there were none, which does nothing. */
+uint32_t cqlp_columns_free(cqlp_columns *columns);
 
 /* Makes a client's core in a handle that has none, of a connection on which nothing was sent yet. `slots` is how many requests
  * may be open at a time; their stream ids are those below it. All of its memory is asked for here.

@@ -540,6 +540,16 @@ const (
 	CodeLeftOver Code = 43
 	// CodeNoSuchFrame: no frame has these events.
 	CodeNoSuchFrame Code = 44
+	// CodeTooManyColumns: there are more columns than the limits say.
+	CodeTooManyColumns Code = 60
+	// CodeBadKind: no kind has this number.
+	CodeBadKind Code = 61
+	// CodeUnsupported: values of the kind have items.
+	CodeUnsupported Code = 62
+	// CodeNoColumns: the handle has no columns.
+	CodeNoColumns Code = 63
+	// CodeNoColumn: there is no column of this number.
+	CodeNoColumn Code = 64
 )
 
 // Error is its name, as BadPhase.

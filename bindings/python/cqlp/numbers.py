@@ -336,3 +336,8 @@ class Code(IntEnum):
     TOO_MANY_BYTES = 42
     LEFT_OVER = 43
     NO_SUCH_FRAME = 44
+    TOO_MANY_COLUMNS = 60
+    BAD_KIND = 61
+    UNSUPPORTED = 62
+    NO_COLUMNS = 63
+    NO_COLUMN = 64

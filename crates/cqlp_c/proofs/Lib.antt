@@ -1,5 +1,7 @@
+pub mod ArraysHeld
 pub mod Beginning
 pub mod Checked
+pub mod ColumnsFilled
 pub mod Cored
 pub mod Cores
 pub mod Crosses
@@ -10,6 +12,7 @@ pub mod Gathering
 pub mod Giving
 pub mod Handed
 pub mod HandedBack
+pub mod KindsNumbered
 pub mod Made
 pub mod Nexted
 pub mod OneBatch

@@ -1,6 +1,7 @@
 pub mod Batches
 pub mod Checks
 pub mod Clients
+pub mod Columns
 pub mod Cores
 pub mod Course
 pub mod Encoding

@@ -120,7 +120,7 @@ fn put_step(slot: &mut CqlpEvent, at: u64, event: &Event<'_>, bytes: &[u8], take
 }
 
 /// Puts where the content of an event lies in the decoder that holds it.
-fn put_gathered(slot: &mut CqlpEvent, decoder: &Decoder<Global>)
+pub(crate) fn put_gathered(slot: &mut CqlpEvent, decoder: &Decoder<Global>)
     ensures { PutsGathered (buffer_in decoder.now) slot.old slot.new }
 {
     slot.content = decoder.held_address(slot.scale_len());

@@ -100,6 +100,13 @@ impl CqlpBegun {
         }
     }
 
+    /// Goes on to the frame under way after an event that C was told.
+    pub fn go_on(&mut self, told: &CqlpEvent)
+        ensures { self.new ≡ specs.begun_after self.old told.now }
+    {
+        *self = self.after(told);
+    }
+
     /// The frame under way after an event.
     fn after(self, event: &CqlpEvent) -> CqlpBegun
         ensures { result ≡ specs.begun_after self event.now }

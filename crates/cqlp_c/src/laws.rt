@@ -6,10 +6,12 @@ ghost use Rattle.cqlp_c.specs.Laws.{IsOneAnswerOfClientNew, IsOneAnswerOfNext, I
 ghost use Rattle.cqlp_c.specs.EncodeLaws.{IsOneAnswerOfEncode, WrittenHasHeader, WrittenIsTold};
 ghost use Rattle.cqlp_c.specs.Stretched.{FinishEndsThere, IsOneAnswerOfSkip, IsOneAnswerOverSkips, NewBegins, NextReadsOn, SkipGivesUp};
 ghost use Rattle.cqlp_c.specs.contracts.client.CqlpClient as client;
+ghost use Rattle.cqlp_c.specs.contracts.columns.CqlpColumns as columns;
 ghost use Rattle.cqlp_c.specs.contracts.handle.CqlpDecoder as decoder;
 ghost use Rattle.cqlp_c.specs.contracts.server.CqlpServer as server;
 
 use crate::client::CqlpClient;
+use crate::columns::CqlpColumns;
 use crate::handle::CqlpDecoder;
 use crate::server::CqlpServer;
 use std::marker::Send;
@@ -89,10 +91,12 @@ pub fn written_events_are_read()
 pub fn handles_cross()
     ensures decoder { IsSend decoder.the_row }
     ensures client { IsSend client.the_row }
+    ensures columns { IsSend columns.the_row }
     ensures server { IsSend server.the_row }
 {
     crosses::<CqlpDecoder>();
     crosses::<CqlpClient>();
+    crosses::<CqlpColumns>();
     crosses::<CqlpServer>();
 }
 

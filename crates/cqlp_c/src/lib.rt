@@ -4,6 +4,7 @@
 mod batch;
 mod check;
 mod client;
+mod columns;
 mod course;
 mod encode;
 mod event;
@@ -26,6 +27,10 @@ pub use check::cqlp_check;
 pub use client::{
     CqlpClient, CqlpCore, cqlp_client_begin, cqlp_client_cancel, cqlp_client_free, cqlp_client_new,
     cqlp_client_phase, cqlp_client_reply,
+};
+pub use columns::{
+    CqlpArrays, CqlpBatchLimits, CqlpColumn, CqlpColumns, cqlp_columns_clear, cqlp_columns_free,
+    cqlp_columns_get, cqlp_columns_new, cqlp_columns_next,
 };
 pub use course::{CqlpBegun, CqlpCourse, CqlpSkipped};
 pub use encode::{CqlpEncoded, cqlp_encode};

@@ -101,6 +101,19 @@ pub const LEFT_OVER: u32 = 43;
 
 pub const NO_SUCH_FRAME: u32 = 44;
 
+// ---- codes of columns
+
+/// There are more columns than the limits say.
+pub const TOO_MANY_COLUMNS: u32 = 60;
+/// No kind has this number.
+pub const BAD_KIND: u32 = 61;
+/// Values of the kind have items.
+pub const UNSUPPORTED: u32 = 62;
+/// A handle has no columns.
+pub const NO_COLUMNS: u32 = 63;
+/// There is no column of this number.
+pub const NO_COLUMN: u32 = 64;
+
 // ---- why a batch of events ends
 
 pub const STOP_MORE: u8 = 0;

@@ -9,7 +9,7 @@ use cqlp_read::read_value;
 use cqlp_test_fakes::Narrow;
 use cqlp_type::TypeTree;
 use cqlp_value::Value;
-use std::alloc::{AllocError, Global};
+use std::alloc::Global;
 use std::io;
 
 /// How many bytes of [`query`] come before the value that is bound.
@@ -31,11 +31,12 @@ pub fn show(rt: &HostRuntime, line: &str) -> io::Result<()> {
         of: words.option(),
         value: words.read(),
     };
-    words.end()?;
-    print_bound(rt, line, &typed)
+    print_bound(rt, &words, line, &typed)
 }
 
-fn print_bound(rt: &HostRuntime, line: &str, typed: &Typed) -> io::Result<()> {
+/// The same, once the words are read.
+fn print_bound(rt: &HostRuntime, words: &Words<'_>, line: &str, typed: &Typed) -> io::Result<()> {
+    words.end()?;
     match bind_value(rt.alloc(), &typed.value, typed.of.as_ref()) {
         Ok(bound) => print_query(rt, line, typed, &query(rt.alloc(), bound)),
         Err(error) => println!(rt; "{line}: {error:?}"),
@@ -58,7 +59,7 @@ fn print_read(
         "{line}: decoded {}, read {}, raw {}, by cell {}",
         build_again(rt.alloc(), query, bytes) == Again::Same,
         is_read(rt.alloc(), typed, own),
-        is_raw(rt.alloc(), typed, own)?,
+        is_raw(rt.alloc(), typed, own),
         is_by_cell(rt.alloc(), typed, own)
     )?;
     print_bytes(rt, own)
@@ -73,12 +74,12 @@ fn is_read(alloc: Global, typed: &Typed, own: &[u8]) -> bool {
 }
 
 /// Whether these are the last bytes of a page with the cell that is made of the value.
-fn is_raw(alloc: Global, typed: &Typed, own: &[u8]) -> Result<bool, AllocError> {
+fn is_raw(alloc: Global, typed: &Typed, own: &[u8]) -> bool {
     let mut cells = Vec::new(alloc);
     if let Ok(raw) = raw_value(alloc, &typed.value, typed.of.as_ref()) {
-        cells.push(raw)?;
+        let _ = cells.push(raw);
     }
-    Ok(write(alloc, &page(cells)).bytes.ends_with(own))
+    write(alloc, &page(cells)).bytes.ends_with(own)
 }
 
 /// Whether these are the last bytes of a page whose writer is given the value; true of a value without a type.
@@ -91,11 +92,15 @@ fn is_by_cell(alloc: Global, typed: &Typed, own: &[u8]) -> bool {
     };
     let frame = page(Vec::new(alloc));
     let mut target = Narrow::new(alloc, usize::MAX, PIECE);
-    let Ok(mut writer) = PageWriter::begin(&frame, len, &mut target) else {
-        return false;
-    };
-    let is_put = writer.cell_as(&typed.value, tree, &mut target).is_ok() && writer.finish().is_ok();
-    is_put && target.text().ends_with(own)
+    is_put(&frame, len, &typed.value, tree, &mut target) && target.text().ends_with(own)
+}
+
+/// Whether a value is written as the one cell of a page.
+fn is_put(page: &Frame, len: u32, value: &Value, tree: &TypeTree, target: &mut Narrow) -> bool {
+    match PageWriter::begin(page, len, target) {
+        Ok(mut writer) => { writer.cell_as(value, tree, target).is_ok() && writer.finish().is_ok() }
+        Err(_) => false,
+    }
 }
 
 /// A QUERY without text, with this one value.

@@ -1,11 +1,9 @@
 //! Frames that are built again, of the events of their bytes.
 
-use crate::shown::LIMITS;
+use crate::shown::{LIMITS, tell_events};
 use cqlp_build::{BuildError, BuildLimits, FrameBuilder};
-use cqlp_decode::{Decoder, run};
 use cqlp_grammar::{Event, Sink, SinkFault};
 use cqlp_message::Frame;
-use cqlp_test_fakes::Pieces;
 use std::alloc::Global;
 
 /// How much of a frame may be held.
@@ -39,7 +37,7 @@ impl Again {
 /// Builds frames, and says of the last one, or of what was refused, whether it is the one that is wanted.
 #[derive(Drop)]
 struct Builds<'a> {
-    builder: FrameBuilder,
+    builder: &'a mut FrameBuilder,
     wanted: &'a Frame,
     again: Again,
 }
@@ -78,19 +76,12 @@ impl Sink for Builds<'_> {
 
 /// What becomes of a frame whose events are read of these bytes.
 pub fn build_again(alloc: Global, frame: &Frame, bytes: &[u8]) -> Again {
+    let mut builder = FrameBuilder::new(alloc, ROOM);
     let mut sink = Builds {
-        builder: FrameBuilder::new(alloc, ROOM),
+        builder: &mut builder,
         wanted: frame,
         again: Again::None,
     };
-    match Decoder::new(alloc, LIMITS) {
-        Ok(mut decoder) => read(&mut decoder, &mut sink, bytes),
-        Err(_) => Again::None,
-    }
-}
-
-fn read(decoder: &mut Decoder<Global>, sink: &mut Builds<'_>, bytes: &[u8]) -> Again {
-    let mut reader = Pieces::new(bytes, [usize::MAX; 3]);
-    run(decoder, &mut reader, sink, u64::MAX);
+    tell_events(alloc, LIMITS, bytes, &mut sink);
     sink.again
 }

@@ -98,10 +98,23 @@ fn print_plan(
 ) -> io::Result<()> {
     words.end()?;
     println!(rt; "== cells | {line}")?;
-    let mut socket = Stops::socket(rt.alloc(), room, 0);
-    print_calls(rt, plan, &mut socket)?;
-    print_bytes(rt, socket.inner.text())?;
+    print_socket(rt, room, plan)?;
     print_rests(rt, plan)
+}
+
+/// Prints what each call answers where a socket takes so many bytes, and the bytes that came.
+fn print_socket(rt: &HostRuntime, room: usize, plan: &Plan<'_>) -> io::Result<()> {
+    let mut socket = Stops::socket(rt.alloc(), room, 0);
+    print_answers(rt, plan, &mut socket)
+}
+
+fn print_answers(
+    rt: &HostRuntime,
+    plan: &Plan<'_>,
+    socket: &mut OfSocket<Stops>,
+) -> io::Result<()> {
+    print_calls(rt, plan, socket)?;
+    print_bytes(rt, socket.inner.text())
 }
 
 fn print_calls(rt: &HostRuntime, plan: &Plan<'_>, socket: &mut OfSocket<Stops>) -> io::Result<()> {

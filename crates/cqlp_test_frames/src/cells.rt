@@ -1,14 +1,13 @@
 //! Cells that are built again, of their events.
 
-use crate::shown::LIMITS;
+use crate::shown::{LIMITS, tell_events};
 use crate::words::Words;
 use cqlp_build_cells::{CellBuilder, CellLimits, ends_cell};
-use cqlp_decode::{Decoder, run};
 use cqlp_grammar::{Event, Sink, SinkFault};
-use cqlp_message::{Frame, Message, Spec};
-use cqlp_test_fakes::Pieces;
+use cqlp_message::{Frame, Message, Rows, Spec};
 use cqlp_type::TypeTree;
 use cqlp_value::{Scalar, Value};
+use std::alloc::Global;
 use std::io;
 
 /// How much of a cell may be held.
@@ -20,7 +19,7 @@ const ROOM: CellLimits = CellLimits {
 /// Builds the cells of a page, each of its column's type, as long as they are those that are wanted.
 #[derive(Drop)]
 struct Cells<'a> {
-    builder: CellBuilder,
+    builder: &'a mut CellBuilder,
     columns: &'a [Spec],
     wanted: &'a [Value],
     /// How many were built.
@@ -58,20 +57,25 @@ impl Sink for Cells<'_> {
 
 /// Prints how many cells of a page are built again of the events of its bytes, from the first one on; of another frame nothing.
 pub fn print_again(rt: &HostRuntime, frame: &Frame, bytes: &[u8]) -> io::Result<()> {
-    let Message::Rows(page) = &frame.message else {
-        return Ok(());
-    };
+    match &frame.message {
+        Message::Rows(page) => {
+            let again = count_again(rt.alloc(), page, bytes);
+            println!(rt; "{again} of {} cells built again", page.cells.len())
+        }
+        _ => Ok(()),
+    }
+}
+
+fn count_again(alloc: Global, page: &Rows, bytes: &[u8]) -> usize {
+    let mut builder = CellBuilder::new(alloc, ROOM);
     let mut sink = Cells {
-        builder: CellBuilder::new(rt.alloc(), ROOM),
+        builder: &mut builder,
         columns: page.meta.specs.as_deref().unwrap_or(&[]),
         wanted: &page.cells,
         again: 0,
     };
-    if let Ok(mut decoder) = Decoder::new(rt.alloc(), LIMITS) {
-        let mut reader = Pieces::new(bytes, [usize::MAX; 3]);
-        run(&mut decoder, &mut reader, &mut sink, u64::MAX);
-    }
-    println!(rt; "{} of {} cells built again", sink.again, page.cells.len())
+    tell_events(alloc, LIMITS, bytes, &mut sink);
+    sink.again
 }
 
 /// Prints what a builder answers between cells to the end of a value, then to a part of a scalar, to a text of three bytes, to an int and
@@ -83,28 +87,46 @@ pub fn show(rt: &HostRuntime, line: &str) -> io::Result<()> {
         bytes: words.read(),
     };
     let tree: TypeTree = words.read();
-    words.end()?;
     let mut builder = CellBuilder::new(rt.alloc(), limits);
-    println!(rt;
-        "{line}: {:?}, {:?}, {:?}, {:?}, {:?}, {:?}",
-        builder.take(&Event::Leave { level: 0, items: 0 }),
-        builder.take(&Event::Part {
+    print_answers(rt, &words, line, &mut builder, &tree)
+}
+
+/// The same, once the words are read.
+fn print_answers(
+    rt: &HostRuntime,
+    words: &Words<'_>,
+    line: &str,
+    builder: &mut CellBuilder,
+    tree: &TypeTree,
+) -> io::Result<()> {
+    words.end()?;
+    print!(rt; "{line}: ")?;
+    for event in &tried() {
+        print!(rt; "{:?}, ", builder.take(event))?;
+    }
+    println!(rt; "{:?}", builder.finish(Some(tree)))
+}
+
+/// The end of a value, a part of a scalar, a text of three bytes, and an int twice.
+fn tried() -> [Event<'static>; 5] {
+    [
+        Event::Leave { level: 0, items: 0 },
+        Event::Part {
             row: 0,
             column: 0,
             level: 0,
             offset: 0,
             bytes: &[7],
-            last: true
-        }),
-        builder.take(&leaf(Scalar::Varchar("abc"))),
-        builder.take(&leaf(Scalar::Int(7))),
-        builder.take(&leaf(Scalar::Int(7))),
-        builder.finish(Some(&tree))
-    )
+            last: true,
+        },
+        leaf(Scalar::Varchar("abc")),
+        leaf(Scalar::Int(7)),
+        leaf(Scalar::Int(7)),
+    ]
 }
 
 /// An event of a cell that is this scalar.
-fn leaf(scalar: Scalar<'_>) -> Event<'_> {
+fn leaf(scalar: Scalar<'static>) -> Event<'static> {
     Event::Leaf {
         row: 0,
         column: 0,

@@ -4,8 +4,8 @@
 //! `--sum` asks for the number of the events alone, and `--cut` for a target that fails after ten bytes. A line `type |` has a type, a line
 //! `value |` a type or `-`, and a value, a line `cells |` a page that is written cell by cell, a line `lent |` one whose cells are lent
 //! twice, and a line `bind |` a type or `-`, and a value that is bound. A line `cell |` has the limits of a builder of cells, and a type. A line
-//! `page |` has those of a builder of frames, and a page. A line `read |` or `write |` has what each call of a socket makes.
-//! A line without `|` is a heading.
+//! `page |` has those of a builder of frames, and a page, a line `pieces |` a page that is written again in pieces. A line `read |` or
+//! `write |` has what each call of a socket makes. A line without `|` is a heading.
 #![tactic(auto)]
 
 mod bound;
@@ -15,6 +15,7 @@ mod cells;
 mod frames;
 mod lent;
 mod pages;
+mod pieces;
 mod requests;
 mod responses;
 mod results;
@@ -47,6 +48,7 @@ fn execute(rt: &HostRuntime, line: &str) -> io::Result<()> {
         Some(("cell", words)) => cells::show(rt, words),
         Some(("lent", words)) => lent::show(rt, words),
         Some(("page", words)) => pages::show(rt, words),
+        Some(("pieces", words)) => pieces::show(rt, words),
         Some(("bind", words)) => bound::show(rt, words),
         Some(("read", words)) => sockets::show_reads(rt, words),
         Some(("write", words)) => sockets::show_writes(rt, words),

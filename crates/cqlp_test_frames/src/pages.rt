@@ -1,13 +1,11 @@
 //! What a builder answers to pages within limits, in parts, and without some cells.
 
-use crate::shown::{LIMITS, write};
+use crate::shown::{LIMITS, tell_events, write};
 use crate::words::Words;
 use cqlp_build::{BuildError, BuildLimits, FrameBuilder};
-use cqlp_decode::{Decoder, run};
 use cqlp_grammar::{Event, Sink, SinkFault};
 use cqlp_message::Frame;
 use cqlp_note::Limits;
-use cqlp_test_fakes::Pieces;
 use std::alloc::Global;
 use std::io;
 
@@ -23,14 +21,14 @@ struct Asked {
 
 /// Takes events until one is refused.
 #[derive(Drop)]
-struct Taken {
-    builder: FrameBuilder,
+struct Taken<'a> {
+    builder: &'a mut FrameBuilder,
     left_out: Option<u32>,
     /// How many bytes a frame has after its last field, or why there is none.
     answer: Option<Result<u32, BuildError>>,
 }
 
-impl Sink for Taken {
+impl Sink for Taken<'_> {
     ghost View = { Unit {0} };
 
     ghost view = { λ _. tt };
@@ -101,15 +99,13 @@ fn print_answer(
 
 /// What is answered to the events of these bytes, if all of them are read.
 fn answer(alloc: Global, asked: Asked, bytes: &[u8]) -> Option<Result<u32, BuildError>> {
+    let mut builder = FrameBuilder::new(alloc, asked.held);
     let mut sink = Taken {
-        builder: FrameBuilder::new(alloc, asked.held),
+        builder: &mut builder,
         left_out: asked.left_out,
         answer: None,
     };
-    if let Ok(mut decoder) = Decoder::new(alloc, limits(asked.part)) {
-        let mut reader = Pieces::new(bytes, [usize::MAX; 3]);
-        run(&mut decoder, &mut reader, &mut sink, u64::MAX);
-    }
+    tell_events(alloc, limits(asked.part), bytes, &mut sink);
     sink.answer
 }
 

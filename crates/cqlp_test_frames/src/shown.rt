@@ -2,7 +2,7 @@
 
 use crate::stops::{Stops, is_told};
 use crate::{built, cells};
-use cqlp_decode::{Decoder, Outcome, run};
+use cqlp_decode::{Decoder, Outcome, Sink, run};
 use cqlp_encode::{EncodeError, encode, encode_from};
 use cqlp_message::Frame;
 use cqlp_note::{Limits, OfStd};
@@ -130,19 +130,33 @@ fn print_read(rt: &HostRuntime, text: &[u8], outcome: Outcome) -> io::Result<()>
     print_verdict(rt, outcome)
 }
 
-/// Prints how many events these bytes have, and the verdict.
-fn print_count(rt: &HostRuntime, bytes: &[u8]) -> io::Result<()> {
-    match Decoder::new(rt.alloc(), LIMITS) {
-        Ok(mut decoder) => print_number(rt, &mut decoder, bytes),
-        Err(_) => Err(io::Error::from(io::ErrorKind::OutOfMemory)),
+/// Tells a sink the events of these bytes; how the reading ends, if there is memory for it.
+pub fn tell_events<S: Sink>(
+    alloc: Global,
+    limits: Limits,
+    bytes: &[u8],
+    sink: &mut S,
+) -> Option<Outcome> {
+    match Decoder::new(alloc, limits) {
+        Ok(mut decoder) => {
+            let mut reader = Pieces::new(bytes, [usize::MAX; 3]);
+            Some(run(&mut decoder, &mut reader, sink, u64::MAX))
+        }
+        Err(_) => None,
     }
 }
 
-fn print_number(rt: &HostRuntime, decoder: &mut Decoder<Global>, bytes: &[u8]) -> io::Result<()> {
-    let mut reader = Pieces::new(bytes, [usize::MAX; 3]);
+/// Prints how many events these bytes have, and the verdict.
+fn print_count(rt: &HostRuntime, bytes: &[u8]) -> io::Result<()> {
     let mut sink = Takes::new(usize::MAX);
-    let outcome = run(decoder, &mut reader, &mut sink, u64::MAX);
-    println!(rt; "{} events", sink.taken())?;
+    match tell_events(rt.alloc(), LIMITS, bytes, &mut sink) {
+        Some(outcome) => print_number(rt, sink.taken(), outcome),
+        None => Err(io::Error::from(io::ErrorKind::OutOfMemory)),
+    }
+}
+
+fn print_number(rt: &HostRuntime, events: usize, outcome: Outcome) -> io::Result<()> {
+    println!(rt; "{events} events")?;
     print_verdict(rt, outcome)
 }
 

@@ -33,8 +33,10 @@ impl Scripted<'_> {
         }
         let mut words = Words::new(self.alloc, self.word);
         let bytes = words.bytes();
-        words.end()?;
-        Ok(bytes)
+        match words.end() {
+            Ok(()) => Ok(bytes),
+            Err(error) => Err(error),
+        }
     }
 }
 
@@ -70,15 +72,19 @@ pub fn show_reads(rt: &HostRuntime, line: &str) -> io::Result<()> {
             alloc: rt.alloc(),
             word,
         };
-        let mut buffer = [0; 4];
-        let answer = Source::read(&mut socket, &mut buffer);
-        print!(rt;
-            "{answer:?} {} {} {:?} ",
-            socket.failures, socket.reads, socket.cause
-        )?;
-        print_bytes(rt, &buffer)?;
+        show_read(rt, &mut socket)?;
     }
     Ok(())
+}
+
+fn show_read(rt: &HostRuntime, socket: &mut OfSocket<Scripted<'_>>) -> io::Result<()> {
+    let mut buffer = [0; 4];
+    let answer = Source::read(socket, &mut buffer);
+    print!(rt;
+        "{answer:?} {} {} {:?} ",
+        socket.failures, socket.reads, socket.cause
+    )?;
+    print_bytes(rt, &buffer)
 }
 
 /// Makes a write of four bytes to one socket for each word, and prints what it answers, how many failed, and the cause.
@@ -93,8 +99,12 @@ pub fn show_writes(rt: &HostRuntime, line: &str) -> io::Result<()> {
             alloc: rt.alloc(),
             word,
         };
-        let answer = Target::write(&mut socket, b"abcd");
-        println!(rt; "{answer:?} {} {:?}", socket.failures, socket.cause)?;
+        show_write(rt, &mut socket)?;
     }
     Ok(())
+}
+
+fn show_write(rt: &HostRuntime, socket: &mut OfSocket<Scripted<'_>>) -> io::Result<()> {
+    let answer = Target::write(socket, b"abcd");
+    println!(rt; "{answer:?} {} {:?}", socket.failures, socket.cause)
 }

@@ -162,3 +162,35 @@ pub unsafe extern "C" fn cqlp_encode(
     let (events, contents, bytes) = unsafe { (slice(events, count), slice(contents, length), slice_mut(bytes, room)) };
     crate::cqlp_c::cqlp_encode(Global, events, contents, bytes, encoded)
 }
+
+#[unsafe(no_mangle)]
+pub unsafe extern "C" fn cqlp_columns_new(limits: &CqlpBatchLimits, kinds: *const u8, count: usize, columns: &mut CqlpColumns) -> u32 {
+    crate::cqlp_c::cqlp_columns_new(Global, limits, unsafe { slice(kinds, count) }, columns)
+}
+
+#[unsafe(no_mangle)]
+pub unsafe extern "C" fn cqlp_columns_next(
+    decoder: &mut CqlpDecoder,
+    columns: &mut CqlpColumns,
+    input: *const u8,
+    length: usize,
+    event: &mut CqlpEvent,
+    batch: &mut CqlpBatch,
+) -> u32 {
+    crate::cqlp_c::cqlp_columns_next(Global, decoder, columns, unsafe { slice(input, length) }, event, batch)
+}
+
+#[unsafe(no_mangle)]
+pub extern "C" fn cqlp_columns_get(columns: &mut CqlpColumns, column: usize, view: &mut CqlpColumn) -> u32 {
+    crate::cqlp_c::cqlp_columns_get(Global, columns, column, view)
+}
+
+#[unsafe(no_mangle)]
+pub extern "C" fn cqlp_columns_clear(columns: &mut CqlpColumns) -> u32 {
+    crate::cqlp_c::cqlp_columns_clear(Global, columns)
+}
+
+#[unsafe(no_mangle)]
+pub extern "C" fn cqlp_columns_free(columns: &mut CqlpColumns) -> u32 {
+    crate::cqlp_c::cqlp_columns_free(Global, columns)
+}

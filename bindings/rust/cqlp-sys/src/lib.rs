@@ -40,6 +40,16 @@ pub const CQLP_TOO_MANY_BYTES: u32 = 42;
 pub const CQLP_LEFT_OVER: u32 = 43;
 /// No frame has these events.
 pub const CQLP_NO_SUCH_FRAME: u32 = 44;
+/// There are more columns than the limits say.
+pub const CQLP_TOO_MANY_COLUMNS: u32 = 60;
+/// No kind has this number.
+pub const CQLP_BAD_KIND: u32 = 61;
+/// Values of the kind have items.
+pub const CQLP_UNSUPPORTED: u32 = 62;
+/// The handle has no columns.
+pub const CQLP_NO_COLUMNS: u32 = 63;
+/// There is no column of this number.
+pub const CQLP_NO_COLUMN: u32 = 64;
 
 /// All of the input was used, and more is wanted.
 pub const CQLP_STOP_MORE: u8 = 0;

@@ -343,5 +343,15 @@ numbers! {
         TooManyBytes = cqlp_sys::CQLP_TOO_MANY_BYTES, "TooManyBytes";
         /// One event is of another field than is due, or does not agree with what comes before it, or some are missing, or a text is too long.
         NoSuchFrame = cqlp_sys::CQLP_NO_SUCH_FRAME, "NoSuchFrame";
+        /// There are more columns than the limits say.
+        TooManyColumns = cqlp_sys::CQLP_TOO_MANY_COLUMNS, "TooManyColumns";
+        /// No kind has this number.
+        BadKind = cqlp_sys::CQLP_BAD_KIND, "BadKind";
+        /// Values of the kind have items.
+        Unsupported = cqlp_sys::CQLP_UNSUPPORTED, "Unsupported";
+        /// The handle has no columns.
+        NoColumns = cqlp_sys::CQLP_NO_COLUMNS, "NoColumns";
+        /// There is no column of this number.
+        NoColumn = cqlp_sys::CQLP_NO_COLUMN, "NoColumn";
     }
 }
