@@ -17,6 +17,7 @@ pub mod Made
 pub mod Nexted
 pub mod OneBatch
 pub mod OneEncoded
+pub mod OneFill
 pub mod OneVerdict
 pub mod Places
 pub mod Placing

@@ -2,6 +2,7 @@ pub mod Batches
 pub mod Checks
 pub mod Clients
 pub mod Columns
+pub mod ColumnsLaws
 pub mod Cores
 pub mod Course
 pub mod Encoding

@@ -3,6 +3,7 @@
 ghost use Rattle.std.specs.Thread.{IsSend};
 ghost use Rattle.cqlp_c.specs.Laws.{ContentsLieThere, EventsArePushed, FramesAreHeard, IsOneAnswerOfCheck};
 ghost use Rattle.cqlp_c.specs.Laws.{IsOneAnswerOfClientNew, IsOneAnswerOfNext, IsOneAnswerOfServerNew};
+ghost use Rattle.cqlp_c.specs.ColumnsLaws.{IsOneAnswerOfColumns};
 ghost use Rattle.cqlp_c.specs.EncodeLaws.{IsOneAnswerOfEncode, WrittenHasHeader, WrittenIsTold};
 ghost use Rattle.cqlp_c.specs.Stretched.{FinishEndsThere, IsOneAnswerOfSkip, IsOneAnswerOverSkips, NewBegins, NextReadsOn, SkipGivesUp};
 ghost use Rattle.cqlp_c.specs.contracts.client.CqlpClient as client;
@@ -85,6 +86,12 @@ pub fn one_answer_of_encode()
 pub fn written_events_are_read()
     ensures header { WrittenHasHeader }
     ensures told { WrittenIsTold }
+{}
+
+/// At one place of a stream of which nothing was refused, over the same input and with columns that have the same cells, `cqlp_columns_next` has one answer:
+/// one batch, one event, up to where a content lies, and the same columns after it.
+pub fn one_answer_of_columns()
+    ensures { IsOneAnswerOfColumns }
 {}
 
 /// What a handle owns is the same to every thread, so a handle may go from one to another between two calls.

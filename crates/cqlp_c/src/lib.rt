@@ -42,8 +42,9 @@ pub use handle::{
 pub use header::{CqlpHeader, cqlp_write_header};
 pub use laws::{
     calls_read_stretches, contents_lie_there, events_are_pushed, frames_are_heard,
-    one_answer_of_check, one_answer_of_client_new, one_answer_of_encode, one_answer_of_next,
-    one_answer_of_server_new, one_answer_of_skip, one_answer_over_skips, written_events_are_read,
+    one_answer_of_check, one_answer_of_client_new, one_answer_of_columns, one_answer_of_encode,
+    one_answer_of_next, one_answer_of_server_new, one_answer_of_skip, one_answer_over_skips,
+    written_events_are_read,
 };
 pub use server::{
     CqlpServer, CqlpService, cqlp_server_accept, cqlp_server_answer, cqlp_server_event,
