@@ -44,6 +44,10 @@ def main():
     timed("a plain loop over the cells", plain, data)
     timed("rows", lambda data: sum(1 for _ in cqlp.rows(data)), data)
     timed("columns", lambda data: sum(page.count for page in cqlp.columns(data)), data)
+    try:
+        timed("arrays", lambda data: sum(batch.count for batch in cqlp.arrays(data)), data)
+    except cqlp.BadCall as error:
+        print("  python, arrays: %s" % error)
     timed("frames", lambda data: sum(len(frame.message.rows) for frame in cqlp.frames(data)), data)
     began = time.process_time()
     events = sum(1 for _ in cqlp.events(data))

@@ -105,6 +105,26 @@ func BenchmarkNext(b *testing.B) {
 	})
 }
 
+// BenchmarkColumns counts the rows of batches.
+func BenchmarkColumns(b *testing.B) {
+	each(b, func(b *testing.B, kind string, stream []byte) (rows int) {
+		r, err := NewColumnReader(bytes.NewReader(stream), DefaultLimits(), DefaultBatchLimits())
+		if err != nil {
+			b.Fatal(err)
+		}
+		defer r.Close()
+		for r.Next() {
+			rows += r.Rows()
+		}
+		if err := r.Err(); err == CodeUnsupported {
+			b.Skip(kind, " have items")
+		} else if err != nil {
+			b.Fatal(err)
+		}
+		return rows
+	})
+}
+
 // BenchmarkScan puts the values of each row into variables.
 func BenchmarkScan(b *testing.B) {
 	var id int32

@@ -182,6 +182,8 @@ type Decoder struct {
 	piece, copied []byte
 	// the memory of Next for the bytes that it used
 	owned []byte
+	// how many columns there are, where columns are filled
+	width int
 }
 
 // NewDecoder makes a decoder at the start of a stream. All of its memory in C is asked for here, and given back by Close.
@@ -251,6 +253,17 @@ func (d *Decoder) ended(left int) error {
 	return nil
 }
 
+// full says whether the columns are to be taken: since no further row begins, or before a refusal is told.
+func (d *Decoder) full() bool {
+	switch d.box.batch.stop {
+	case C.CQLP_STOP_FULL:
+		return true
+	case C.CQLP_STOP_REFUSED:
+		return C.cqlp_box_rows(d.box, C.size_t(d.width)) > 0
+	}
+	return false
+}
+
 // Next gives the next event of the stream, of which p has the bytes after those used so far, and says how many bytes of p were used:
 // the next call takes those after them, p[n:]. The error is ErrMore where all of p was used and no event is due, a *Refusal after the
 // last event of a stream that is refused, at every call before a Skip, and ErrClosed after Close.
@@ -280,7 +293,8 @@ func (d *Decoder) Next(p []byte) (event Event, n int, err error) {
 	return event, n, nil
 }
 
-// take is one call of the library: how many bytes were used.
+// take is one call of the library: how many bytes were used. It puts so many events at most; 0 of them stands for a call that fills the columns, and
+// puts the event that they do not take.
 func (d *Decoder) take(p []byte, most int) int {
 	var first *C.uint8_t
 	if len(p) > 0 {
@@ -289,7 +303,11 @@ func (d *Decoder) take(p []byte, most int) int {
 	if most > room {
 		most = room
 	}
-	C.cqlp_box_next(d.box, first, C.size_t(len(p)), C.size_t(most))
+	if most == 0 {
+		C.cqlp_box_fill(d.box, first, C.size_t(len(p)))
+	} else {
+		C.cqlp_box_next(d.box, first, C.size_t(len(p)), C.size_t(most))
+	}
 	d.next, d.count = 0, int(d.box.batch.events)
 	d.piece = p
 	return int(d.box.batch.used)

@@ -67,6 +67,38 @@ func ExampleRowReader_Scan() {
 	// cqlp: column 1: map does not go into string
 }
 
+func ExampleColumnReader() {
+	columns, err := cqlp.NewColumnReader(pages(), cqlp.DefaultLimits(), cqlp.BatchLimits{Rows: 2, Memory: 1 << 20})
+	if err != nil {
+		log.Fatal(err)
+	}
+	defer columns.Close()
+	for columns.Next() {
+		fmt.Println(columns.Page().Number, columns.First(), columns.Rows())
+		for _, column := range columns.Columns() {
+			switch column.Kind {
+			case cqlp.KindInt:
+				fmt.Println(column.Column.Name, column.Int32s())
+			case cqlp.KindBigint:
+				fmt.Println(column.Column.Name, column.Int64s())
+			case cqlp.KindVarchar:
+				fmt.Printf("%s %s %d\n", column.Column.Name, column.Values, column.Offsets)
+			}
+		}
+	}
+	fmt.Println(columns.Err()) // of the page with lists and maps
+	// Output:
+	// 1 0 2
+	// column0 [0 1]
+	// column1 [0 1000003]
+	// column2 00000000000000000000000000000001 [0 16 32]
+	// 1 2 1
+	// column0 [2]
+	// column1 [2000006]
+	// column2 0000000000000002 [0 16]
+	// cqlp: Unsupported
+}
+
 func ExampleFrames() {
 	stream, err := cqlp.AppendMessage(nil, 3, &cqlp.Query{Query: "SELECT a FROM k.t", Parameters: cqlp.Parameters{Consistency: cqlp.ConsistencyQuorum}})
 	if err != nil {

@@ -33,7 +33,13 @@ type Reader struct {
 	typing *Types
 	// what the source answered last
 	err error
+	// how many events a call puts, and whether it fills the columns instead
+	room    int
+	filling bool
 }
+
+// errFull says that the columns have rows that are to be taken before anything else.
+var errFull = errors.New("cqlp: the columns are full")
 
 // NewReader makes a decoder for what is read. Close frees it, and does not close the io.Reader.
 func NewReader(source io.Reader, limits Limits) (*Reader, error) {
@@ -50,7 +56,7 @@ func newReader(source io.Reader, limits Limits, newDecoder func(Limits) (*Decode
 	if err != nil {
 		return nil, err
 	}
-	return &Reader{decoder: decoder, source: source, buffer: make([]byte, space), due: headerLength}, nil
+	return &Reader{decoder: decoder, source: source, buffer: make([]byte, space), due: headerLength, room: room}, nil
 }
 
 // Next gives the next event. After the last one the error is io.EOF where the stream is whole, a *Cut where it is cut, and a *Refusal
@@ -87,6 +93,8 @@ func (r *Reader) fill() error {
 			return r.began()
 		}
 		switch err := d.ended(len(r.rest)); {
+		case r.filling && d.full():
+			return errFull
 		case err == nil:
 		case !errors.Is(err, ErrMore):
 			if err := r.pass(err); err != nil {
@@ -106,7 +114,11 @@ func (r *Reader) advance() {
 	if int64(len(piece)) > r.due {
 		piece = piece[:r.due]
 	}
-	n := r.decoder.take(piece, room)
+	most := r.room
+	if r.filling {
+		most = 0
+	}
+	n := r.decoder.take(piece, most)
 	r.rest = r.rest[n:]
 	r.due -= int64(n)
 	r.endPassing()

@@ -1,12 +1,13 @@
 """cqlp: the CQL binary protocol, version 4 (native_protocol_v4.spec of Apache Cassandra), read as events.
 
-`rows(source)` gives the rows of a stream's pages, `columns(source)` their columns, numbers as arrays, `frames(source)` the frames, each
-message a dataclass of `cqlp.messages`, `events(source)` the events, `check(data)` the verdict, and `encode(events)` writes a frame of its
+`rows(source)` gives the rows of a stream's pages, `columns(source)` their columns, numbers as arrays, `arrays(source)` batches of rows in the
+layout of Apache Arrow, `frames(source)` the frames, each message a dataclass of `cqlp.messages`, `events(source)` the events, `check(data)` the verdict, and `encode(events)` writes a frame of its
 events. A `Decoder` takes the pieces of a stream as they come, a `Client` pairs replies with requests, a `Server` knows which requests it has
 not answered. All stand on the proved library libcqlp, whose interface is include/cqlp.h.
 """
 
 from . import messages
+from ._arrays import ArrayBatch, CellTooLong, ColumnArray, arrays
 from ._client import Client, Reply, Ticket
 from ._columns import PageColumns, Series, columns
 from ._core import event_header, header, version_error
@@ -39,15 +40,19 @@ from .numbers import (
 
 __all__ = [
     "Answered",
+    "ArrayBatch",
+    "arrays",
     "BadCall",
     "BadEvent",
     "BadLimits",
     "BatchType",
+    "CellTooLong",
     "check",
     "Client",
     "Closed",
     "Code",
     "Column",
+    "ColumnArray",
     "columns",
     "Consistency",
     "Cut",

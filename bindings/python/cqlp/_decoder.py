@@ -355,7 +355,12 @@ class Decoder:
         if code:
             _must_be_done(code)
         stop = batch.stop
-        return batch.used, stop, (batch.at, _REASONS[batch.reason]) if stop == _REFUSED else None
+        return batch.used, stop, self._refusal(batch) if stop == _REFUSED else None
+
+    @staticmethod
+    def _refusal(batch: _native.Batch) -> Tuple[int, Any]:
+        """The offset and the reason of the refusal that ended a batch."""
+        return batch.at, _REASONS[batch.reason]
 
     def _copied(self, data: bytes, base: int) -> List[Tuple[Record, bytes]]:
         """The events that were put, with copies of their contents."""

@@ -21,7 +21,7 @@ class Limits(ctypes.Structure):
 
 
 class Handle(ctypes.Structure):
-    """That of a core, or of a table of types."""
+    """That of a core, of a table of types, or of columns."""
 
     _fields_ = [("live", c_uint64), ("place", c_void_p)]
 
@@ -87,6 +87,23 @@ class Encoded(ctypes.Structure):
     _fields_ = [("length", c_size_t), ("event", c_size_t)]
 
 
+class BatchLimits(ctypes.Structure):
+    _fields_ = [("columns", c_uint32), ("rows", c_uint32), ("bytes", c_uint32), ("content", c_uint32)]
+
+
+class Column(ctypes.Structure):
+    _fields_ = [
+        ("values", c_void_p),
+        ("offsets", c_void_p),
+        ("validity", c_void_p),
+        ("empties", c_void_p),
+        ("size", c_size_t),
+        ("bounds", c_size_t),
+        ("cells", c_size_t),
+        ("kind", c_uint8),
+    ]
+
+
 # The members of an event, in the order of Event: many are read at once.
 RECORD = struct.Struct("@QPNqIIIi16sBBBBBBB0Q")
 if RECORD.size != ctypes.sizeof(Event):
@@ -132,6 +149,11 @@ for name, result, arguments in (
     ("cqlp_types_of", c_uint32, [POINTER(DecoderHandle), POINTER(Handle)]),
     ("cqlp_give", c_uint32, [POINTER(DecoderHandle), POINTER(Handle)]),
     ("cqlp_types_free", c_uint32, [POINTER(Handle)]),
+    ("cqlp_columns_new", c_uint32, [POINTER(BatchLimits), c_char_p, c_size_t, POINTER(Handle)]),
+    ("cqlp_columns_next", c_uint32, [POINTER(DecoderHandle), POINTER(Handle), c_void_p, c_size_t, POINTER(Event), POINTER(Batch)]),
+    ("cqlp_columns_get", c_uint32, [POINTER(Handle), c_size_t, POINTER(Column)]),
+    ("cqlp_columns_clear", c_uint32, [POINTER(Handle)]),
+    ("cqlp_columns_free", c_uint32, [POINTER(Handle)]),
     ("cqlp_client_new", c_uint32, [c_uint32, POINTER(Handle)]),
     ("cqlp_client_begin", c_uint32, [POINTER(Handle), c_uint8, c_uint64, POINTER(Ticket)]),
     ("cqlp_client_reply", c_uint32, [POINTER(Handle), POINTER(Event), POINTER(Reply)]),

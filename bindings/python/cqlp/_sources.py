@@ -4,7 +4,7 @@ import io
 import os
 from typing import Any, BinaryIO, Callable, Iterator, Optional, Sequence, Tuple, Union
 
-from ._decoder import Cut, Decoder, Limits, Placed, Record, Refusal, Refused, Skip, event_of
+from ._decoder import Cut, Decoder, Limits, Placed, Record, Refusal, Refused, Skip, Verdict, event_of
 from ._events import Event
 from .numbers import End
 
@@ -97,7 +97,10 @@ def batches(
             read += len(data)
             if progress:
                 progress(read, total)
-        verdict = decoder.finish()
+        _must_be_whole(decoder.finish())
+
+
+def _must_be_whole(verdict: Verdict) -> None:
     if verdict.end == End.CUT:
         raise Cut(verdict.at, verdict.bytes)
 

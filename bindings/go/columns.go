@@ -1,0 +1,424 @@
+package cqlp
+
+// #include "box.h"
+import "C"
+
+import (
+	"encoding/binary"
+	"errors"
+	"fmt"
+	"io"
+	"math"
+	"runtime"
+	"unsafe"
+)
+
+// A CellTooLong says that a value of a page is longer than its array may hold.
+type CellTooLong struct {
+	// Row and Column count from 0 within the page.
+	Row, Column uint32
+}
+
+func (e *CellTooLong) Error() string {
+	return fmt.Sprintf("cqlp: the value in row %d, column %d is longer than the arrays may hold", e.Row, e.Column)
+}
+
+// ErrUntold says that a table types a page of which nobody told the columns: set Types.Columns.
+var ErrUntold = errors.New("cqlp: the columns of the page are not told")
+
+// BatchLimits say how large the batches of a ColumnReader are, and what they hold.
+type BatchLimits struct {
+	// Rows bounds the rows of a batch.
+	Rows int
+	// Memory bounds the bytes of all arrays together. Where columns are many or values long, a batch has fewer rows.
+	Memory int
+}
+
+// DefaultBatchLimits are 8192 rows, and 64 MiB of memory.
+func DefaultBatchLimits() BatchLimits { return BatchLimits{Rows: 8192, Memory: 1 << 26} }
+
+// A ColumnArray has the values of a column of a batch, in the layout of Apache Arrow. Its slices lie in memory of C, and live until the next call
+// of the ColumnReader.
+type ColumnArray struct {
+	// Column is what is told of the column; its name is empty where nothing is.
+	Column Column
+	// Kind is that of the values: KindRaw where they are not read by their type.
+	Kind Kind
+	// Cells is how many there are.
+	Cells int
+	// Values are the values, one after the other, zeros where a cell has none: of booleans a bit each, the least of a byte first; numbers with
+	// their lowest byte first; of UUIDs 16 bytes; of other kinds the bytes between the offsets. A date is the days from 1970 and 2^31 to them.
+	Values []byte
+	// Offsets say, of values without a fixed length, where each begins in Values, and where the last one ends.
+	Offsets []uint64
+	// Valid has a bit for each cell, set where it has a value, the least of a byte first. Bits behind the last count for nothing.
+	Valid []byte
+	// Empty has a bit for each cell, set where it has a value of no bytes; of values of a fixed length such a cell is not set in Valid.
+	Empty []byte
+}
+
+func bitOf(bits []byte, i int) bool { return bits[i/8]>>(i%8)&1 != 0 }
+
+// IsValid says whether a cell has a value.
+func (a *ColumnArray) IsValid(i int) bool { return bitOf(a.Valid, i) }
+
+// IsEmpty says whether a cell has a value of no bytes.
+func (a *ColumnArray) IsEmpty(i int) bool { return bitOf(a.Empty, i) }
+
+// Bool is the value of a cell of booleans.
+func (a *ColumnArray) Bool(i int) bool { return bitOf(a.Values, i) }
+
+// Bytes is the value of a cell of UUIDs, or of values without a fixed length.
+func (a *ColumnArray) Bytes(i int) []byte {
+	if a.Offsets == nil {
+		return a.Values[16*i : 16*i+16 : 16*i+16]
+	}
+	return a.Values[a.Offsets[i]:a.Offsets[i+1]:a.Offsets[i+1]]
+}
+
+// Int8s are the values of a column of tinyints, and nil of another kind.
+func (a *ColumnArray) Int8s() []int8 {
+	return numbers(a, func(b []byte) int8 { return int8(b[0]) }, KindTinyint)
+}
+
+// Int16s are the values of a column of smallints, and nil of another kind.
+func (a *ColumnArray) Int16s() []int16 {
+	return numbers(a, func(b []byte) int16 { return int16(binary.LittleEndian.Uint16(b)) }, KindSmallint)
+}
+
+// Int32s are the values of a column of ints, and nil of another kind.
+func (a *ColumnArray) Int32s() []int32 {
+	return numbers(a, func(b []byte) int32 { return int32(binary.LittleEndian.Uint32(b)) }, KindInt)
+}
+
+// Uint32s are the values of a column of dates, and nil of another kind.
+func (a *ColumnArray) Uint32s() []uint32 { return numbers(a, binary.LittleEndian.Uint32, KindDate) }
+
+// Int64s are the values of a column of bigints, counters, timestamps or times, and nil of another kind.
+func (a *ColumnArray) Int64s() []int64 {
+	get := func(b []byte) int64 { return int64(binary.LittleEndian.Uint64(b)) }
+	return numbers(a, get, KindBigint, KindCounter, KindTimestamp, KindTime)
+}
+
+// Float32s are the values of a column of floats, and nil of another kind.
+func (a *ColumnArray) Float32s() []float32 {
+	return numbers(a, func(b []byte) float32 { return math.Float32frombits(binary.LittleEndian.Uint32(b)) }, KindFloat)
+}
+
+// Float64s are the values of a column of doubles, and nil of another kind.
+func (a *ColumnArray) Float64s() []float64 {
+	return numbers(a, func(b []byte) float64 { return math.Float64frombits(binary.LittleEndian.Uint64(b)) }, KindDouble)
+}
+
+// littleEndian says whether this machine has the lowest byte of a number first, as the arrays do.
+var littleEndian = func() bool { n := uint16(1); return *(*byte)(unsafe.Pointer(&n)) == 1 }()
+
+// numbers are the values of a column of one of these kinds: its memory where this machine reads them there, else copies.
+func numbers[T any](a *ColumnArray, get func([]byte) T, kinds ...Kind) []T {
+	is := false
+	for _, kind := range kinds {
+		is = is || kind == a.Kind
+	}
+	if !is {
+		return nil
+	}
+	if a.Cells == 0 {
+		return []T{}
+	}
+	var zero T
+	size, first := unsafe.Sizeof(zero), unsafe.Pointer(&a.Values[0])
+	if littleEndian && uintptr(first)%size == 0 {
+		return unsafe.Slice((*T)(first), a.Cells)
+	}
+	found := make([]T, a.Cells)
+	for i := range found {
+		found[i] = get(a.Values[uintptr(i)*size:])
+	}
+	return found
+}
+
+// A ColumnReader gives the rows of the pages that an io.Reader reads in batches, column by column, in the layout of Apache Arrow. Of frames that
+// are no page it tells nothing. A page with a column of lists, sets, maps, tuples or UDTs ends it with CodeUnsupported, one with more columns than
+// Limits.Entries with CodeTooManyColumns: read them by a RowReader. A part of a value, where Limits.Parts is set, is a *CellTooLong.
+//
+//	for columns.Next() {
+//		for _, id := range columns.Columns()[0].Int32s() {
+//			sum += int64(id)
+//		}
+//	}
+//	return columns.Err()
+//
+// Skip and Types are those of the Reader: where a frame is passed over, the page within it ends. A page that a Types types is read by its Columns.
+type ColumnReader struct {
+	Reader
+
+	parser parser
+	limits Limits
+	batch  BatchLimits
+	// what the arrays that are there were made for
+	kinds []byte
+	sizes C.cqlp_batch_limits
+	// whether a page is under way, and what is told of the last one
+	within bool
+	page   Page
+	told   []Column
+	// how many rows of the page came before the batch, and which they are
+	first int
+	// the arrays of the batch, which are lent till the next call
+	arrays []ColumnArray
+	count  int
+}
+
+// NewColumnReader makes a decoder for what is read. Close frees it, and does not close the io.Reader.
+func NewColumnReader(source io.Reader, limits Limits, batch BatchLimits) (*ColumnReader, error) {
+	if batch.Rows < 1 || batch.Memory < 1 {
+		return nil, &LimitError{"batch"}
+	}
+	reader, err := NewReader(source, limits)
+	if err != nil {
+		return nil, err
+	}
+	r := &ColumnReader{Reader: *reader, limits: limits, batch: batch}
+	r.room = 1
+	r.parser.reader = &r.Reader
+	return r, nil
+}
+
+// Next goes on to the next batch, of this page or of the next, and says whether there is one. A page has a batch at least, also where it has
+// no rows.
+func (r *ColumnReader) Next() bool {
+	r.first += r.count
+	r.count, r.arrays = 0, r.arrays[:0]
+	r.clear()
+	for r.within || r.begins() {
+		if r.goOn() {
+			return true
+		}
+	}
+	return false
+}
+
+// Columns are the arrays of the batch, one for each column of its page. They live until the next call.
+func (r *ColumnReader) Columns() []ColumnArray { return r.arrays }
+
+// Rows is how many rows the batch has, and First which row of its page is the first of them, counted from 0.
+func (r *ColumnReader) Rows() int  { return r.count }
+func (r *ColumnReader) First() int { return r.first }
+
+// Page tells of the page of the batch.
+func (r *ColumnReader) Page() Page { return r.page }
+
+// Err is what ended the batches, or nil where it is the end of the stream: a *Refusal, a *Cut, or the error of the io.Reader.
+func (r *ColumnReader) Err() error {
+	if err := r.parser.failed; err != io.EOF && err != errPassed {
+		return err
+	}
+	return nil
+}
+
+// Close frees the arrays and the decoder; a second time does nothing.
+func (r *ColumnReader) Close() error {
+	r.within, r.filling, r.arrays, r.count = false, false, nil, 0
+	return r.Reader.Close()
+}
+
+// clear removes the rows that were lent.
+func (r *ColumnReader) clear() {
+	if box := r.decoder.box; box != nil {
+		C.cqlp_columns_clear(&box.columns)
+	}
+	runtime.KeepAlive(r.decoder)
+}
+
+// begins reads on up to the rows of the next page.
+func (r *ColumnReader) begins() bool {
+	p := &r.parser
+	for {
+		head, err := p.begin()
+		if err != nil {
+			return false
+		}
+		if head.Opcode == OpcodeResult && r.beginPage(head) {
+			return p.failed == nil
+		}
+		p.end()
+	}
+}
+
+func (r *ColumnReader) beginPage(head Event) bool {
+	p := &r.parser
+	p.front(head)
+	if ResultKind(p.number(FieldResultKind)) != ResultRows {
+		return false
+	}
+	metadata := p.metadata()
+	count := p.int(FieldRows)
+	if p.failed != nil {
+		return false
+	}
+	r.page, r.first = Page{head.At, int16(head.Extra), r.page.Number + 1, metadata, count}, 0
+	r.within = true
+	if metadata.Width > 0 {
+		if err := r.make(uint64(head.Number)); err != nil {
+			p.failed, r.within = err, false
+			return true
+		}
+		r.filling = true
+	}
+	return true
+}
+
+// make makes arrays for the page, whose body has so many bytes. Those that are there are used again where they are as large.
+func (r *ColumnReader) make(body uint64) error {
+	defer runtime.KeepAlive(r.decoder)
+	width := r.page.Metadata.Width
+	if uint32(width) > r.limits.Entries {
+		return CodeTooManyColumns
+	}
+	kinds, err := r.kindsOf()
+	if err != nil {
+		return err
+	}
+	box, sizes := r.decoder.box, r.sizesFor(uint64(width), body)
+	there := r.sizes
+	if string(kinds) == string(r.kinds) && there.rows >= sizes.rows && there.bytes >= sizes.bytes && there.content >= sizes.content {
+		C.cqlp_columns_clear(&box.columns)
+		return nil
+	}
+	C.cqlp_columns_free(&box.columns)
+	r.kinds, r.sizes = nil, C.cqlp_batch_limits{}
+	if err := done(C.cqlp_columns_new(&sizes, (*C.uint8_t)(unsafe.Pointer(&kinds[0])), C.size_t(width), &box.columns)); err != nil {
+		return err
+	}
+	r.kinds, r.sizes, r.decoder.width = kinds, sizes, len(kinds)
+	return nil
+}
+
+// kindsOf are the kinds by which the cells of the page are read.
+func (r *ColumnReader) kindsOf() ([]byte, error) {
+	page := &r.page.Metadata
+	kinds := make([]byte, page.Width)
+	for i := range kinds {
+		kinds[i] = byte(KindRaw)
+	}
+	r.told = page.Columns
+	if page.Flags&4 != 0 && r.typing != nil {
+		switch r.told = r.typing.Columns; {
+		case len(r.told) == 0:
+			return nil, ErrUntold
+		case len(r.told) != len(kinds): // then the table does not type the page
+			r.told = nil
+		}
+	}
+	if r.limits.Types {
+		for i := range r.told {
+			kinds[i] = byte(r.told[i].Type.Kind)
+		}
+	}
+	return kinds, nil
+}
+
+// sizesFor is such that all arrays together have no more than the memory, and none has more than the page needs: of each column a quarter is for
+// one value at most, a half for the rows.
+func (r *ColumnReader) sizesFor(width, body uint64) C.cqlp_batch_limits {
+	share := uint64(r.batch.Memory) / width
+	rows := least(uint64(r.batch.Rows), share/18, uint64(r.page.Count), 1<<24)
+	bytes := least(64*uint64(r.batch.Rows), share/4, body)
+	content := least(uint64(r.limits.Cell), share/4, body)
+	return C.cqlp_batch_limits{
+		columns: C.uint32_t(width),
+		rows:    C.uint32_t(greatest(rows, 1)),
+		bytes:   C.uint32_t(greatest(bytes, 1)),
+		content: C.uint32_t(greatest(content, 16)),
+	}
+}
+
+func least(first uint64, others ...uint64) uint64 {
+	for _, n := range others {
+		if n < first {
+			first = n
+		}
+	}
+	return first
+}
+
+func greatest(a, b uint64) uint64 {
+	if a > b {
+		return a
+	}
+	return b
+}
+
+// goOn reads on within a page, and says whether there is a batch.
+func (r *ColumnReader) goOn() bool {
+	p := &r.parser
+	if !r.filling {
+		p.end()
+		r.within = false
+		return p.failed == nil
+	}
+	err := r.fill()
+	r.lend()
+	if err == errFull {
+		return true
+	}
+	r.filling, r.within = false, false
+	if err != nil {
+		p.failed = err
+		return r.count > 0
+	}
+	p.failed = r.next(&p.event)
+	switch {
+	case p.failed != nil:
+	case p.event.Tag == TagEnd:
+		return r.count > 0 || r.first == 0
+	case p.event.Tag == TagFrame:
+		p.failed = errPassed
+	default:
+		p.failed = &CellTooLong{p.event.Row, p.event.Column}
+	}
+	return r.count > 0
+}
+
+// lend gives out the whole rows that came.
+func (r *ColumnReader) lend() {
+	defer runtime.KeepAlive(r.decoder)
+	r.arrays, r.count = r.arrays[:0], 0
+	if r.decoder.box == nil {
+		return
+	}
+	box := r.decoder.box
+	r.count = int(C.cqlp_box_rows(box, C.size_t(len(r.kinds))))
+	for i := range r.kinds {
+		C.cqlp_columns_get(&box.columns, C.size_t(i), &box.column)
+		found := arrayOf(&box.column, r.count)
+		if i < len(r.told) {
+			found.Column = r.told[i]
+		}
+		r.arrays = append(r.arrays, found)
+	}
+}
+
+func bytesOf(first *C.uint8_t, length int) []byte {
+	if length == 0 {
+		return []byte{}
+	}
+	return unsafe.Slice((*byte)(unsafe.Pointer(first)), length)
+}
+
+// arrayOf has the first cells of a column.
+func arrayOf(native *C.cqlp_column, cells int) ColumnArray {
+	a := ColumnArray{Kind: Kind(native.kind), Cells: cells}
+	bits, size := (cells+7)/8, int(native.size)
+	switch {
+	case native.bounds > 0:
+		a.Offsets = unsafe.Slice((*uint64)(unsafe.Pointer(native.offsets)), cells+1)
+		size = int(a.Offsets[cells])
+	case a.Kind == KindBoolean:
+		size = bits
+	case native.cells > 0:
+		size = size / int(native.cells) * cells
+	}
+	a.Values, a.Valid, a.Empty = bytesOf(native.values, size), bytesOf(native.validity, bits), bytesOf(native.empties, bits)
+	return a
+}

@@ -1,0 +1,357 @@
+"""Pages as arrays in the layout of Apache Arrow, batch by batch, in the memory of the library until they are copied out of it."""
+
+import ctypes
+import sys
+from array import array
+from dataclasses import dataclass
+from typing import Any, Dict, Iterator, List, NamedTuple, Optional, Tuple, Union
+
+from . import _native
+from ._decoder import BadCall, Decoder, Error, Limits, Refusal, Refused, Skip, _address, _must_be_done, event_of
+from ._events import Event
+from ._pages import _NO_METADATA, _ROWS_RESULT, Column, Types, _Metadata
+from ._sources import Progress, Source, _must_be_whole, _pieces, _pieces_of_frames
+from .numbers import Code, Field, Kind, Stop, Tag
+
+# The kinds whose values are numbers in their array, and the code of its items.
+_CODES: Dict[int, str] = {
+    Kind.TINYINT: "b",
+    Kind.SMALLINT: "h",
+    Kind.INT: "i",
+    Kind.BIGINT: "q",
+    Kind.COUNTER: "q",
+    Kind.TIMESTAMP: "q",
+    Kind.TIME: "q",
+    Kind.DATE: "I",
+    Kind.FLOAT: "f",
+    Kind.DOUBLE: "d",
+}
+_FULL, _REFUSED = int(Stop.FULL), int(Stop.REFUSED)
+_LEAF, _PART, _END = int(Tag.LEAF), int(Tag.PART), int(Tag.END)
+
+
+class CellTooLong(Error, ValueError):
+    """A value of a page is longer than its arrays may hold: that of the row and the column counted from 0."""
+
+    def __init__(self, row: int, column: int) -> None:
+        super().__init__("the value in row %d, column %d is longer than the arrays may hold" % (row, column))
+        self.row = row
+        self.column = column
+
+
+class ColumnArray(NamedTuple):
+    """The values of a column of a batch, in the layout of Apache Arrow."""
+
+    column: Optional[Column]
+    """What is told of the column, if anything is."""
+    kind: Union[Kind, int]
+    """Of which kind the values are: RAW where they are not read by their type."""
+    cells: int
+    """How many cells there are."""
+    values: bytes
+    """The values, one after the other, zeros where a cell has none: of booleans a bit each, the least of a byte first; numbers with their lowest
+    byte first; of uuids 16 bytes; of other kinds the bytes between the offsets. A date is the days from 1970 and 2^31 to them."""
+    offsets: Optional[memoryview]
+    """Of values without a fixed length, where each begins in `values`, and where the last one ends: 64-bit integers, one more than cells."""
+    validity: Optional[bytes]
+    """A bit for each cell, set where it has a value, the least of a byte first. None where all have one."""
+    empties: Optional[bytes]
+    """A bit for each cell, set where it has a value of no bytes. None where none has. Of values of a fixed length such a cell has no value in
+    `validity`."""
+
+    def numbers(self) -> memoryview:
+        """The values of a kind that has numbers, as this machine has them, over the same memory where its bytes are in this order."""
+        code = _CODES.get(self.kind)
+        if code is None:
+            raise TypeError("the values of this column are no numbers")
+        if sys.byteorder == "little":
+            return memoryview(self.values).cast(code)
+        found = array(code, self.values)
+        found.byteswap()
+        return memoryview(found)
+
+    def numpy(self) -> Any:
+        """The numbers as an array of NumPy, over the same memory where `numbers` is. NumPy has to be there."""
+        numbers = self.numbers()
+        import numpy
+
+        return numpy.asarray(numbers)
+
+
+@dataclass(frozen=True)
+class ArrayBatch:
+    """Rows of a page, one after the other, column by column."""
+
+    arrays: Tuple[ColumnArray, ...]
+    """One for each column of the page."""
+    count: int
+    """How many rows it has; each array has as many cells."""
+    first: int
+    """Which row of the page is its first, counted from 0."""
+    page: int
+    """Which page of the stream they are of, counted from 0."""
+    rows: int
+    """How many rows the page says that it has."""
+    paging_state: Optional[bytes]
+    """Where the result goes on after the page, or None where this is its last one."""
+
+    def __getitem__(self, name: str) -> ColumnArray:
+        """The array of the first column of this name."""
+        for found in self.arrays:
+            if found.column is not None and found.column.name == name:
+                return found
+        raise KeyError(name)
+
+
+class _Arrays:
+    """The columns that the library fills, in a handle."""
+
+    def __init__(self, limits: Limits, rows: int, memory: int) -> None:
+        self.limits = limits
+        self.rows = rows
+        self.memory = memory
+        self.handle = _native.Handle(0, None)
+        self.kinds: Tuple[int, ...] = ()
+        self.sizes = (0, 0, 0)
+
+    def begin(self, kinds: Tuple[int, ...], rows: int, body: int) -> None:
+        """Makes columns without rows for a page with values of these kinds, with so many rows and in a body of so many bytes. Those that
+        are there are used again where they are as large."""
+        sizes = self.sizes_for(len(kinds), rows, body)
+        if self.handle.live and self.kinds == kinds and all(there >= wanted for there, wanted in zip(self.sizes, sizes)):
+            _native.library.cqlp_columns_clear(self.handle)
+            return
+        self.close()
+        limits = _native.BatchLimits(len(kinds), *sizes)
+        code = _native.library.cqlp_columns_new(limits, bytes(kinds), len(kinds), self.handle)
+        if code == Code.UNSUPPORTED:
+            raise BadCall(code)
+        _must_be_done(code)
+        self.kinds, self.sizes = kinds, sizes
+
+    def sizes_for(self, width: int, rows: int, body: int) -> Tuple[int, int, int]:
+        """How many rows, how many bytes of values before the last row, and how many bytes of one value, such that all columns together have no
+        more than the memory, and none has more than the page needs."""
+        share = self.memory // width
+        most = min(self.rows, share // 2 // 9)
+        content = min(self.limits.cell, share // 4, body)
+        return max(1, min(most, rows)), max(1, min(64 * self.rows, share // 4, body)), max(16, content)
+
+    def take(self, columns: Tuple[Column, ...]) -> List[ColumnArray]:
+        """The whole rows that came, and no row from then on."""
+        found = [self.native(at) for at in range(len(self.kinds))]
+        count = found[-1].cells
+        arrays = [_array_of(one, columns[at] if columns else None, count) for at, one in enumerate(found)]
+        _native.library.cqlp_columns_clear(self.handle)
+        return arrays
+
+    def native(self, at: int) -> _native.Column:
+        found = _native.Column()
+        _native.library.cqlp_columns_get(self.handle, at, found)
+        return found
+
+    def close(self) -> None:
+        _native.library.cqlp_columns_free(self.handle)
+
+    def __enter__(self) -> "_Arrays":
+        return self
+
+    def __exit__(self, *_: object) -> None:
+        self.close()
+
+    def __del__(self, _free: Any = _native.library.cqlp_columns_free) -> None:
+        if hasattr(self, "handle"):
+            _free(self.handle)
+
+
+def _array_of(native: _native.Column, column: Optional[Column], count: int) -> ColumnArray:
+    """A copy of the first cells of a column."""
+    offsets, size = None, native.size
+    if native.bounds:
+        offsets = memoryview(ctypes.string_at(native.offsets, 8 * (count + 1))).cast("q")
+        size = offsets[count]
+    elif native.kind != Kind.BOOLEAN:
+        size = size // native.cells * count if native.cells else 0
+    values = _bits(native.values, count) if native.kind == Kind.BOOLEAN else _copied(native.values, size)
+    validity, empties = _bits(native.validity, count), _bits(native.empties, count)
+    return ColumnArray(
+        column,
+        _KINDS.get(native.kind, native.kind),
+        count,
+        values,
+        offsets,
+        None if validity == _all(count) else validity,
+        empties if empties.strip(b"\0") else None,
+    )
+
+
+_KINDS = {int(kind): kind for kind in Kind}
+
+
+def _copied(place: Optional[int], size: int) -> bytes:
+    return ctypes.string_at(place, size) if place and size else b""
+
+
+def _bits(place: Optional[int], count: int) -> bytes:
+    """So many bits, and zeros behind the last."""
+    found = _copied(place, (count + 7) // 8)
+    return found[:-1] + bytes([found[-1] & (1 << count % 8) - 1]) if count % 8 else found
+
+
+def _all(count: int) -> bytes:
+    """So many bits that are set, and zeros behind the last."""
+    return b"\xff" * (count // 8) + (bytes([(1 << count % 8) - 1]) if count % 8 else b"")
+
+
+class _Page(NamedTuple):
+    """What is told of the page under way."""
+
+    columns: Tuple[Column, ...]
+    number: int
+    rows: int
+    paging_state: Optional[bytes]
+
+
+class _Reader:
+    """Reads the frames of one stream, the cells of pages into arrays, and each other event alone."""
+
+    def __init__(self, decoder: Decoder, arrays: _Arrays, given: Optional[Tuple[Column, ...]]) -> None:
+        self.decoder = decoder
+        self.arrays = arrays
+        self.given = given
+        self.metadata = _Metadata()
+        self.page: Optional[_Page] = None
+        self.pages = self.first = self.body = 0
+        self.event, self.batch = _native.Event(), _native.Batch()
+
+    def read(self, place: int, length: int, skip: Optional[Skip]) -> Iterator[ArrayBatch]:
+        """The batches that a piece ends. Where the stream is refused, the rows before that place come first."""
+        used, stop = 0, _FULL
+        while stop == _FULL:
+            self.call(place + used, length - used)
+            used, stop = used + self.batch.used, self.batch.stop
+            if self.batch.events:
+                yield from self.take()
+            elif stop == _FULL:
+                yield from self.rest()
+            elif stop == _REFUSED:
+                refusal = self.decoder._refusal(self.batch)
+                yield from self.rest()
+                self.pass_over(refusal, skip)
+                stop = _FULL
+
+    def call(self, place: int, length: int) -> None:
+        """One call of the library: within a page it fills the arrays, else it puts one event."""
+        decoder, event, batch = self.decoder._handle, self.event, self.batch
+        if self.page is None:
+            code = _native.library.cqlp_next(decoder, place, length, ctypes.addressof(event), 1, batch)
+        else:
+            code = _native.library.cqlp_columns_next(decoder, self.arrays.handle, place, length, event, batch)
+        if code:
+            _must_be_done(code)
+
+    def take(self) -> Iterator[ArrayBatch]:
+        """Takes an event that is none of the arrays'."""
+        tag, field = self.event.tag, self.event.field
+        if self.page is not None:
+            if _LEAF <= tag <= _PART:
+                raise CellTooLong(self.event.row, self.event.column)
+            if tag == _END:
+                yield from self.rest(True)
+                self.page = None
+        elif tag == Tag.FRAME:
+            self.metadata, self.body = _Metadata(), self.event.number
+        elif field == Field.ROWS and self.metadata.kind == _ROWS_RESULT:
+            yield from self.begin(self.event.number)
+        elif not _LEAF <= tag <= _END:
+            self.metadata.add(self.whole_event())
+
+    def whole_event(self) -> Event:
+        content = ctypes.string_at(self.event.content, self.event.length) if self.event.length else b""
+        return event_of(_native.RECORD.unpack_from(self.event), content)
+
+    def begin(self, rows: int) -> Iterator[ArrayBatch]:
+        """Begins a page. One without columns has no rows to come."""
+        metadata, columns, typed = self.metadata, tuple(self.metadata.columns), self.arrays.limits.types
+        if self.given and metadata.flags & _NO_METADATA and metadata.width == len(self.given):
+            columns = self.given
+        page, self.first = _Page(columns, self.pages, rows, metadata.state), 0
+        self.pages += 1
+        if not metadata.width:
+            yield ArrayBatch((), 0, 0, page.number, rows, page.paging_state)
+            return
+        if metadata.width > self.arrays.limits.entries:
+            raise BadCall(Code.TOO_MANY_COLUMNS)
+        kinds = tuple(int(one.type.kind) for one in columns) if typed and columns else (int(Kind.RAW),) * metadata.width
+        self.arrays.begin(kinds, rows, self.body)
+        self.page = page
+
+    def rest(self, last: bool = False) -> Iterator[ArrayBatch]:
+        """The whole rows that came of the page under way; at its end also none, where it has none."""
+        if self.page is None:
+            return
+        page, arrays = self.page, self.arrays.take(self.page.columns)
+        count, first = arrays[-1].cells, self.first
+        self.first += count
+        if count or last and not first:
+            yield ArrayBatch(tuple(arrays), count, first, page.number, page.rows, page.paging_state)
+
+    def pass_over(self, refusal: Tuple[int, Any], skip: Optional[Skip]) -> None:
+        """Goes on with the next frame after a refusal, where that is asked for and can be done."""
+        if skip is None:
+            raise Refused(*refusal, [])
+        with self.decoder._lock:
+            code, skipped = self.decoder._skip()
+        if code:
+            raise Refused(*refusal, [])
+        self.page = None
+        skip(skipped)
+
+
+def _places(source: Source, piece: int, of_frames: bool) -> Iterator[Tuple[int, int, Optional[int]]]:
+    """Where the pieces of a source lie, until the next is asked for, each with its length and the bytes of the whole."""
+    if isinstance(source, bytes) and not of_frames:
+        base, total = _address(source), len(source)
+        for at in range(0, total, piece):
+            yield base + at, min(piece, total - at), total
+        return
+    pieces = _pieces(source, piece)
+    for data, length in _pieces_of_frames(pieces) if of_frames else pieces:
+        yield _address(data), len(data), length
+
+
+def arrays(
+    source: Source,
+    limits: Limits = Limits(),
+    *,
+    rows: int = 8192,
+    memory: int = 1 << 26,
+    piece: int = 1 << 18,
+    progress: Optional[Progress] = None,
+    types: Optional[Types] = None,
+    skip: Optional[Skip] = None,
+) -> Iterator[ArrayBatch]:
+    """The rows of all pages of a stream as arrays in the layout of Apache Arrow, in batches of at most this many rows. A page has a batch at
+    least, also where it has no rows. Each batch is a copy, and lives on.
+
+    The library's own arrays have no more than `memory` bytes, and what `Limits` say comes beside them. A batch is shorter where its columns are many or its values
+    long. A value for which there is no room even so, longer than a quarter of a column's share of the memory, raises CellTooLong, and so does a
+    part, where `limits.parts` is set. A page with a column of lists, sets, maps, tuples or udts raises BadCall with UNSUPPORTED, one
+    with more columns than `limits.entries` BadCall with TOO_MANY_COLUMNS: `columns` and `rows` read them.
+
+    Where the stream is refused or cut, Refused or Cut is raised after the last row before that place. `types` and `skip` are as in `Pages`.
+    """
+    if rows < 1 or memory < 1:
+        raise ValueError("rows and memory are over 0")
+    read = 0
+    with Decoder(limits, room=1) as decoder, _Arrays(limits, min(rows, 1 << 24), memory) as held:
+        reader = _Reader(decoder, held, types.columns if types else None)
+        for place, length, total in _places(source, piece, types is not None):
+            if types:
+                types._give(decoder)
+            yield from reader.read(place, length, skip)
+            read += length
+            if progress:
+                progress(read, total)
+        yield from reader.rest()
+        _must_be_whole(decoder.finish())

@@ -1,0 +1,316 @@
+"""Arrays have what rows have, wherever a stream is cut into pieces."""
+
+import gc
+import struct
+import sys
+import tracemalloc
+import types
+import unittest
+from ipaddress import ip_address
+from typing import Any, List, Tuple
+from unittest import mock
+from uuid import UUID
+
+import cqlp
+from cqlp import Code, Kind
+from cqlp._values import LEAVES
+
+from .streams import BINDINGS, streams
+from .test_cells import told
+from .test_pages import INT, NOTHING, NULL, SCALARS, VARCHAR, cell, list_of, made, page
+
+BOOLEAN = b"\0\4"
+ITEMS = {Kind.LIST, Kind.MAP, Kind.SET, Kind.TUPLE, Kind.UDT}
+TEXTS, BYTES = (Kind.ASCII, Kind.VARCHAR), (Kind.BLOB, Kind.CUSTOM, Kind.RAW)
+
+
+def bit(bits: Any, at: int, otherwise: bool) -> bool:
+    return otherwise if bits is None else bool(bits[at // 8] >> at % 8 & 1)
+
+
+def leaf(kind: Any, number: int, content: bytes, extra: int = 0, octets: bytes = b"") -> Any:
+    return LEAVES[int(kind)](number, content, extra, octets)
+
+
+def value(of: cqlp.ColumnArray, at: int) -> Any:
+    """What `rows` has of a value that is there."""
+    if of.kind == Kind.BOOLEAN:
+        return bit(of.values, at, False)
+    if of.kind in (Kind.UUID, Kind.TIMEUUID):
+        return UUID(bytes=of.values[16 * at : 16 * at + 16])
+    if of.offsets is None:
+        number = of.numbers()[at]
+        return number if isinstance(number, float) else leaf(of.kind, number, b"")
+    content = of.values[of.offsets[at] : of.offsets[at + 1]]
+    if of.kind == Kind.INET:
+        return ip_address(content)
+    if of.kind == Kind.DECIMAL:
+        scale = int.from_bytes(content[:4], "big", signed=True)
+        return leaf(of.kind, 0, content[4:], scale)
+    return leaf(of.kind, 0, content)
+
+
+def values(of: cqlp.ColumnArray) -> List[Any]:
+    """What `rows` has of the column."""
+    found: List[Any] = []
+    for at in range(of.cells):
+        if bit(of.empties, at, False):
+            found.append("" if of.kind in TEXTS else b"" if of.kind in BYTES else cqlp.EMPTY)
+        else:
+            found.append(value(of, at) if bit(of.validity, at, True) else None)
+    return found
+
+
+def read(data: Any, limits: cqlp.Limits = cqlp.Limits(), **words: Any) -> Tuple[List[cqlp.ArrayBatch], Any]:
+    batches = []
+    try:
+        for found in cqlp.arrays(data, limits, **words):
+            batches.append(found)
+    except (cqlp.Refused, cqlp.Cut) as error:
+        return batches, str(error)
+    return batches, None
+
+
+def read_rows(data: bytes, limits: cqlp.Limits = cqlp.Limits(), **words: Any) -> Tuple[List[Any], Any]:
+    rows: List[Any] = []
+    try:
+        for row in cqlp.rows(data, limits, **words):
+            rows.append(row)
+    except (cqlp.Refused, cqlp.Cut) as error:
+        return rows, str(error)
+    return rows, None
+
+
+def rows_of(batches: List[cqlp.ArrayBatch]) -> List[Any]:
+    return [row for batch in batches for row in zip(*map(values, batch.arrays))]
+
+
+def has_items(data: bytes, limits: cqlp.Limits) -> bool:
+    """Whether a page of a stream has a column that arrays do not have."""
+    try:
+        for found in cqlp.Pages(data, limits):
+            if any(column.type.kind in ITEMS for column in found.columns) and limits.types:
+                return True
+    except cqlp.Error:
+        pass
+    return False
+
+
+#: 1, "abc", true; null, empty, empty; empty, null, false
+SMALL = page([INT, VARCHAR, BOOLEAN], [[cell(b"\0\0\0\1"), cell(b"abc"), cell(b"\1")], [NULL, NOTHING, NOTHING], [NOTHING, NULL, cell(b"\0")]])
+
+
+class Arrays(unittest.TestCase):
+    def holds(self, batches: List[cqlp.ArrayBatch], rows: int) -> None:
+        """What is true of all batches."""
+        page, next_row = -1, 0
+        for batch in batches:
+            self.assertTrue(batch.count <= rows and batch.page in (page, page + 1))
+            next_row = next_row if batch.page == page else 0
+            self.assertEqual(batch.first, next_row)
+            self.assertTrue(batch.count or not batch.first)
+            page, next_row = batch.page, next_row + batch.count
+            for one in batch.arrays:
+                self.assertEqual(one.cells, batch.count)
+                for bits in (one.validity, one.empties):
+                    self.assertTrue(bits is None or len(bits) == (one.cells + 7) // 8)
+                    self.assertFalse(bits is not None and one.cells % 8 and bits[-1] >> one.cells % 8)
+                if one.offsets is not None:
+                    self.assertEqual((len(one.offsets), one.offsets[0], one.offsets[-1]), (one.cells + 1, 0, len(one.values)))
+
+    def agrees(self, data: bytes, limits: cqlp.Limits = cqlp.Limits(), pieces: Tuple[int, ...] = (1 << 20,), rows: Tuple[int, ...] = (3, 16384)) -> None:
+        wanted, ending = read_rows(data, limits)
+        for most in rows:
+            for piece in pieces:
+                batches, end = read(data, limits, piece=piece, rows=most)
+                self.holds(batches, most)
+                self.assertEqual(told(rows_of(batches)), told(wanted))
+                self.assertEqual(end, ending)
+
+    def test_each_cut_of_a_page(self) -> None:
+        whole = read(SMALL)[0]
+        for rows in (1, 2, 3):
+            for size in range(1, len(SMALL) + 1):
+                batches, end = read(SMALL, piece=size, rows=rows)
+                self.holds(batches, rows)
+                self.assertEqual((rows_of(batches), end), (rows_of(whole), None))
+            for length in range(len(SMALL)):
+                self.agrees(SMALL[:length], rows=(rows,))
+        self.assertEqual(len(read(SMALL, rows=2)[0]), 2)
+
+    def test_arrays_of_a_page(self) -> None:
+        (batch,) = cqlp.arrays(SMALL)
+        self.assertEqual((batch.count, batch.first, batch.page, batch.rows, batch.paging_state), (3, 0, 0, 3, None))
+        a, b, c = batch.arrays
+        self.assertEqual((a.kind, a.values, a.offsets, a.validity, a.empties), (Kind.INT, b"\1" + bytes(11), None, b"\1", b"\4"))
+        self.assertEqual(list(a.numbers()), [1, 0, 0])
+        self.assertEqual((b.kind, b.values, list(b.offsets or ()), b.validity, b.empties), (Kind.VARCHAR, b"abc", [0, 3, 3, 3], b"\3", b"\2"))
+        self.assertEqual((c.kind, c.values, c.offsets, c.validity, c.empties), (Kind.BOOLEAN, b"\1", None, b"\5", b"\2"))
+        self.assertIs(batch["c1"], b)
+        self.assertRaises(KeyError, lambda: batch["c3"])
+        self.assertRaises(TypeError, b.numbers)
+        self.assertRaises(TypeError, c.numpy)
+
+    def test_streams(self) -> None:
+        for stream in streams():
+            with self.subTest(stream.name):
+                if has_items(stream.bytes, stream.limits):
+                    with self.assertRaises(cqlp.BadCall) as raised:
+                        list(cqlp.arrays(stream.bytes, stream.limits))
+                    self.assertEqual(raised.exception.code, Code.UNSUPPORTED)
+                elif not stream.limits.parts:
+                    self.agrees(stream.bytes, stream.limits, (1, 7, 1 << 20))
+
+    def test_streams_with_a_byte_changed(self) -> None:
+        for stream in streams():
+            for at in range(0, len(stream.bytes), 11):
+                data = bytearray(stream.bytes)
+                data[at] ^= 1 << at % 8
+                if stream.limits.parts or has_items(bytes(data), stream.limits):
+                    continue
+                try:
+                    self.agrees(bytes(data), stream.limits, rows=(16384,))
+                except cqlp.BadCall as error:
+                    self.assertEqual(error.code, Code.TOO_MANY_COLUMNS)
+
+    def test_pages_of_the_benchmarks(self) -> None:
+        for words in (("rows", "300"), ("rows", "bare", "300"), ("columns", "5"), ("kinds", "200")):
+            data = made(*words)
+            self.agrees(data, pieces=(1000, 65536), rows=(7, 300, 16384))
+            self.agrees(data, cqlp.Limits(types=False))
+            self.agrees(data[:-1])
+            self.agrees(data + SMALL + data)
+
+    def test_scalars(self) -> None:
+        for id, content, _ in SCALARS:
+            option = struct.pack(">H", id)
+            for limits in (cqlp.Limits(), cqlp.Limits(types=False)):
+                self.agrees(page([option], [[cell(content)], [NULL], [NOTHING]] * 50), limits, (1, 65536), (1, 8, 16384))
+                self.agrees(page([option], [[cell(content)]] * 3), limits)
+
+    def test_floats_keep_their_bits(self) -> None:
+        bits = (0, 1 << 63, 0x7FF0 << 48, 0x7FF0 << 48 | 1, 0x7FF8 << 48 | 5, 0xFFF8 << 48, 1, 0x3FF0 << 48)
+        (batch,) = cqlp.arrays(page([b"\0\7"], [[cell(struct.pack(">Q", one))] for one in bits]))
+        self.assertEqual(struct.unpack("=8Q", batch.arrays[0].numbers().tobytes()), bits)
+
+    def test_pages_without_rows_and_without_columns(self) -> None:
+        none = page([INT, VARCHAR], [])
+        batches, _ = read(none + SMALL + none)
+        self.assertEqual([(one.page, one.count, len(one.arrays)) for one in batches], [(0, 0, 2), (1, 3, 3), (2, 0, 2)])
+        self.assertEqual([list(one.offsets or ()) for one in batches[0].arrays], [[], [0]])
+        for end in range(len(none)):
+            self.assertEqual(read(none[:end], piece=1)[0], [])
+        body = struct.pack(">iii", 2, 6, 0) + cell(b"st") + struct.pack(">i", 9)
+        bare = struct.pack(">BBhBi", 0x84, 0, 0, 8, len(body)) + body
+        (batch,) = cqlp.arrays(bare)
+        self.assertEqual(batch, cqlp.ArrayBatch((), 0, 0, 0, 9, b"st"))
+
+    def test_batches_that_are_full(self) -> None:
+        """By rows, by bytes of values, and a page whose last row fills one."""
+        data = page([INT, VARCHAR], [[cell(struct.pack(">i", at)), cell(b"x" * at)] for at in range(40)])
+        self.agrees(data, rows=(1, 7, 8, 20, 39, 40, 41))
+        self.assertEqual([one.count for one in read(data, rows=20)[0]], [20, 20])
+        batches, end = read(data, memory=1000)
+        self.assertTrue(len(batches) > 1 and end is None)
+        self.assertEqual(rows_of(batches), list(cqlp.rows(data)))
+
+    def test_a_value_that_is_too_long(self) -> None:
+        data = page([INT, VARCHAR], [[NULL, cell(b"x" * 100)], [NULL, cell(b"x" * 126)]])
+        for piece in (1, 65536):
+            self.assertEqual(rows_of(read(data, memory=1008, piece=piece)[0]), list(cqlp.rows(data)))
+            with self.assertRaises(cqlp.CellTooLong) as raised:
+                list(cqlp.arrays(data, memory=1000, piece=piece))
+            self.assertEqual((raised.exception.row, raised.exception.column), (1, 1))
+        self.assertRaises(cqlp.CellTooLong, list, cqlp.arrays(made("blobs", "1"), cqlp.Limits(cell=4096, parts=True)))
+
+    def test_what_arrays_do_not_have(self) -> None:
+        of_items = page([b"\0\x20" + INT], [[list_of(cell(b"\0\0\0\1"))]])
+        with self.assertRaises(cqlp.BadCall) as raised:
+            list(cqlp.arrays(SMALL + of_items))
+        self.assertEqual(raised.exception.code, Code.UNSUPPORTED)
+        self.agrees(of_items, cqlp.Limits(types=False))
+        for words in ({"rows": 0}, {"memory": 0}):
+            self.assertRaises(ValueError, list, cqlp.arrays(SMALL, **words))
+        self.assertRaises(cqlp.BadLimits, list, cqlp.arrays(SMALL, cqlp.Limits(cell=1)))
+
+    def test_a_number_of_columns_that_lies_takes_no_memory(self) -> None:
+        body = struct.pack(">iiii", 2, 4, 0x7FFFFFFF, 1)
+        data = struct.pack(">BBhBi", 0x84, 0, 0, 8, 1 << 28) + body
+        tracemalloc.start()
+        with self.assertRaises(cqlp.BadCall) as raised:
+            list(cqlp.arrays(data))
+        self.assertLess(tracemalloc.get_traced_memory()[1], 2_000_000)
+        tracemalloc.stop()
+        self.assertEqual(raised.exception.code, Code.TOO_MANY_COLUMNS)
+
+    def test_frames_that_are_passed_over(self) -> None:
+        bad = bytearray(made("rows", "50"))
+        bad[-21] = 0xFF  # the last letter of a text
+        data = SMALL + bytes(bad) + SMALL
+        for piece in (1, 100, 65536):
+            wanted: List[cqlp.Skipped] = []
+            rows, end = read_rows(data, skip=wanted.append, piece=piece)
+            self.assertTrue(end is None and len(wanted) == 1)
+            for most in (1, 7, 16384):
+                passed: List[cqlp.Skipped] = []
+                batches, end = read(data, skip=passed.append, piece=piece, rows=most)
+                self.assertEqual((rows_of(batches), end, passed), (rows, None, wanted))
+        self.agrees(data)
+
+    def test_pages_without_metadata(self) -> None:
+        whole = made("rows", "20")
+        body = struct.pack(">iii", 2, 4, 4) + whole[-20 * 45 - 4 :]
+        bare = struct.pack(">BBhBi", 0x84, 0, 0, 8, len(body)) + body
+        self.agrees(bare)
+        with cqlp.Types(whole) as types_of_page:
+            rows = list(cqlp.rows(bare * 3 + SMALL, types=types_of_page))
+            for piece in (1, 100, 65536):
+                batches, _ = read(bare * 3 + SMALL, types=types_of_page, piece=piece)
+                self.assertEqual(rows_of(batches), rows)
+            self.assertEqual([column.kind for column in batches[0].arrays], [Kind.INT, Kind.BIGINT, Kind.VARCHAR, Kind.BOOLEAN])
+            self.assertEqual(list(batches[2]["column0"].numbers()), list(range(20)))
+
+    def test_sources(self) -> None:
+        wanted = rows_of(read(SMALL * 3)[0])
+        for source in (bytearray(SMALL * 3), memoryview(SMALL * 3)):
+            self.assertEqual(rows_of(read(source, piece=5)[0]), wanted)
+        told_of: List[Any] = []
+        list(cqlp.arrays(SMALL, piece=50, progress=lambda *one: told_of.append(one)))
+        self.assertEqual(told_of, [(50, len(SMALL)), (len(SMALL), len(SMALL))])
+
+    def test_a_batch_lives_on(self) -> None:
+        data = made("rows", "100")
+        batches = list(cqlp.arrays(data, rows=10))
+        gc.collect()
+        self.assertEqual(rows_of(batches), list(cqlp.rows(data)))
+
+    def test_it_holds_nothing_when_it_is_let_go(self) -> None:
+        data = made("kinds", "20") + SMALL
+
+        def once() -> None:
+            for part in range(41):
+                read(data[: len(data) * part // 40], rows=3)
+                next(cqlp.arrays(data, rows=3), None)
+
+        once()
+        gc.collect()
+        tracemalloc.start()
+        once()
+        gc.collect()
+        before = tracemalloc.get_traced_memory()[0]
+        for _ in range(5):
+            once()
+        gc.collect()
+        after = tracemalloc.get_traced_memory()[0]
+        tracemalloc.stop()
+        self.assertLess(after - before, 20_000)
+
+    def test_numpy(self) -> None:
+        """Where NumPy is not there, that it is asked for an array over the numbers."""
+        batch = next(cqlp.arrays(BINDINGS / "pages.bin"))
+        try:
+            import numpy
+        except ImportError:
+            numpy = types.SimpleNamespace(asarray=lambda view: view)
+        with mock.patch.dict(sys.modules, {"numpy": numpy}):
+            self.assertEqual(list(batch["column0"].numpy()), [0, 1, 2])
