@@ -1,9 +1,9 @@
 //! A streaming codec of the CQL binary protocol, version 4 (`native_protocol_v4.spec` of Apache Cassandra), without compression.
 //!
 //! A [`Decoder`] reads frames from pieces of any size, one [`Event`] at a time, and holds no more than its [`Limits`] say,
-//! whatever lengths and counts a peer sends. [`frame`] has values of frames and what writes them, [`session`] the cores of a
-//! client and of a server, which pair replies with requests, [`text`] the text of events and of pages, and [`capture`] readers of packet
-//! captures.
+//! whatever lengths and counts a peer sends. [`frame`] has values of frames, what builds them of events and what writes them,
+//! [`cells`] the same of the cells of pages, [`session`] the cores of a client and of a server, which pair replies with requests, [`text`]
+//! the text of events and of pages, and [`capture`] readers of packet captures. A [`SkippingDecoder`] reads on after a frame that is refused.
 //!
 //! # What is promised
 //!
@@ -200,9 +200,12 @@ mod kit_std;
 struct Readme;
 
 mod checked;
+mod cqlp_build;
+mod cqlp_build_cells;
 mod cqlp_capture;
 mod cqlp_cell;
 mod cqlp_columns;
+mod cqlp_compose;
 mod cqlp_decode;
 mod cqlp_encode;
 mod cqlp_grammar;
@@ -211,11 +214,16 @@ mod cqlp_kind;
 mod cqlp_message;
 mod cqlp_note;
 mod cqlp_page_columns;
+mod cqlp_page_events;
+mod cqlp_page_writing;
 mod cqlp_read;
 mod cqlp_reassembly;
 mod cqlp_render;
 mod cqlp_segment;
 mod cqlp_session;
+mod cqlp_skip;
+#[cfg(feature = "std")]
+mod cqlp_sockets;
 mod cqlp_tables;
 mod cqlp_text;
 mod cqlp_type;
@@ -235,6 +243,9 @@ pub use cqlp_note::{
 };
 #[cfg(feature = "std")]
 pub use cqlp_note::OfStd;
+#[cfg(feature = "std")]
+pub use cqlp_sockets::{Cause, OfSocket};
+pub use cqlp_skip::{Fed, NotSkippable, SkippingDecoder, Skipped};
 pub use cqlp_type::TypeTable;
 pub use cqlp_type_tables::{TableError, table_of, table_of_specs};
 pub use kit_std::alloc::Global;
@@ -245,13 +256,98 @@ pub mod columns {
     pub use crate::cqlp_page_columns::{Filled, PageColumns, Stop, Went};
 }
 
-/// Values of frames, and what writes them.
+/// Cells of pages, whose values are built of their events, and which are written of their events.
+///
+/// A [`CellBuilder`](cells::CellBuilder) makes the [`Value`](frame::Value) of a cell, so that a page of any size is read, altered and written
+/// by a [`PageWriter`](frame::PageWriter) cell by cell. [`PageCells`](cells::PageCells) writes the next cells of a page of their events, and
+/// behind what [`page_head`](cells::page_head) answers they are the whole frame. Of a page that was read, here with its rows in two
+/// pieces:
+///
+/// ```
+/// use cqlp::cells::{CellLimits, PageCells, PagePlace, event_size, page_head};
+/// use cqlp::frame::{Frame, Message, Metadata, Rows, Spec, TypeTree};
+/// use cqlp::{Event, Global, Kind, Scalar};
+///
+/// let spec = |name: &str, kind| Spec { table: None, name: name.to_string().into(), tree: TypeTree::Plain(kind) };
+/// let table = ("shop".to_string().into(), "item".to_string().into());
+/// let specs = vec![spec("id", Kind::Int), spec("name", Kind::Varchar)].into();
+/// let meta = Metadata { flags: 1, columns: 2, paging: None, table: Some(table), specs: Some(specs) };
+/// let frame = Frame::plain(7, Message::Rows(Rows { meta, rows: 2, cells: vec![].into() }));
+///
+/// let leaf = |row, column, scalar| Event::Leaf { row, column, level: 0, scalar };
+/// let rows = [
+///     [leaf(0, 0, Scalar::Int(1)), leaf(0, 1, Scalar::Varchar("spade"))],
+///     [leaf(1, 0, Scalar::Int(2)), Event::Null { row: 1, column: 1, level: 0 }],
+/// ];
+///
+/// // The header says how long the cells are, so that is known before the first of them.
+/// let len = rows.iter().flatten().map(event_size).sum::<u64>() as u32;
+/// let mut place = PagePlace::start(&frame, len)?;
+/// let mut bytes = page_head(Global, &frame, len)?.into_std();
+/// for row in &rows {
+///     let mut cells = PageCells::new(Global, &frame, place, CellLimits { events: 100, bytes: 1_000 });
+///     for event in row {
+///         cells.take(event)?;
+///     }
+///     let written = cells.finish()?;
+///     bytes.extend(&written.bytes);
+///     place = written.place;
+/// }
+/// assert!(place.is_done(&frame));
+/// assert_eq!(bytes[5..9], (bytes.len() as u32 - 9).to_be_bytes());
+/// # Ok::<(), Box<dyn std::error::Error>>(())
+/// ```
+pub mod cells {
+    pub use crate::cqlp_build_cells::{CellBuilder, CellError, CellLimits, ends_cell};
+    pub use crate::cqlp_page_events::{HeadError, PageCellError, PageCells, PagePlace, WrittenCells, event_size, page_head};
+}
+
+/// Values of frames, what builds them of their events, and what writes them.
+///
+/// A [`FrameBuilder`](frame::FrameBuilder) takes the events that a decoder says, and makes the value of each frame, which may be altered and
+/// written by [`encode`](frame::encode) again. A [`Composer`](frame::Composer) makes the bytes of one frame of its events, and needs no value:
+///
+/// ```
+/// use cqlp::frame::{BuildLimits, Composer, FrameBuilder, Message, encode};
+/// use cqlp::{Decoder, Event, Field, Global, Header, Limits, OfStd, Opcode, Scalar, Step};
+///
+/// let limits = BuildLimits { fields: 1_000, depth: 10, bytes: 100_000 };
+/// let mut composer = Composer::new(Global, limits);
+/// composer.take(&Event::Frame(Header { response: false, flags: 0, stream: 1, opcode: Opcode::Query, length: 0 }))?;
+/// composer.take(&Event::Text { field: Field::Query, text: "SELECT now() FROM system.local" })?;
+/// composer.take(&Event::Short { field: Field::Consistency, value: 1 })?;
+/// composer.take(&Event::Byte { field: Field::QueryFlags, value: 0 })?;
+/// let bytes = composer.write(Global)?;
+///
+/// // Under another stream id, and of another consistency.
+/// let (mut decoder, mut builder) = (Decoder::new(Global, Limits::DEFAULT)?, FrameBuilder::new(Global, limits));
+/// let (mut rest, mut sent) = (&bytes[..], OfStd::new(Vec::new()));
+/// while let Step::Event { used, event, .. } = decoder.next(rest) {
+///     rest = &rest[used..];
+///     if let Some(mut built) = builder.take(&event)? {
+///         built.frame.stream = 7;
+///         if let Message::Query { params, .. } = &mut built.frame.message {
+///             params.consistency = 4;
+///         }
+///         encode(&built.frame, &mut sent)?;
+///     }
+/// }
+/// let mut wanted = bytes.to_vec();
+/// wanted[3] = 7;
+/// wanted[9 + 4 + 30 + 1] = 4;
+/// assert_eq!(sent.into_inner(), wanted);
+/// # Ok::<(), Box<dyn std::error::Error>>(())
+/// ```
 pub mod frame {
+    pub use crate::checked::encode_rows;
+    pub use crate::cqlp_build::{BuildError, BuildLimits, BuiltFrame, FrameBuilder};
+    pub use crate::cqlp_compose::Composer;
     pub use crate::cqlp_encode::{BindError, EncodeError, PageError, PageWriter, ValueError, bind_value, encode, encode_from, raw_value, write_value};
     pub use crate::cqlp_message::{
         BatchEntry, ErrorExtra, Frame, Message, Metadata, OwnedBound, PartRef, Prepared, QueryParams, Rows, SchemaChange,
         SchemaOptions, ServerEvent, Spec, TakesParts, Unfit,
     };
+    pub use crate::cqlp_page_writing::LentError;
     pub use crate::cqlp_read::{ReadError, read_value};
     pub use crate::cqlp_type::{TreeCheck, TypeTree, check_type, type_len};
     pub use crate::cqlp_value::{Atom, Content, Value, content_len, fits, fitting_size, value_len, value_size};

@@ -1,7 +1,7 @@
 //! Readers and writers of std's, as sources and targets.
 #![forbid(unsafe_code)]
 
-use cqlp::{OfStd, Source, Target};
+use cqlp::{Cause, OfSocket, OfStd, Source, Target};
 use std::io::{self, ErrorKind, Read, Write};
 
 /// What a reader or a writer makes of one call.
@@ -88,4 +88,25 @@ fn bytes_go_from_memory_to_memory() {
     }
     assert_eq!(writer.into_inner(), b"abcde");
     assert!(reader.into_inner().is_empty());
+}
+
+/// A socket keeps why the last call failed that did: of a length and an outcome, after a read and after a write.
+#[test]
+fn sockets_keep_the_cause() {
+    for (len, outcome, of_read, of_write) in [
+        (8, Scripted::Bytes(3), None, None),
+        (0, Scripted::Bytes(0), None, None),
+        (8, Scripted::Bytes(0), None, Some(Cause::TookNothing)),
+        (8, Scripted::Fault(ErrorKind::WouldBlock), Some(Cause::WouldBlock), Some(Cause::WouldBlock)),
+        (8, Scripted::Fault(ErrorKind::Interrupted), Some(Cause::Interrupted), Some(Cause::Interrupted)),
+        (8, Scripted::Fault(ErrorKind::BrokenPipe), Some(Cause::Failed), Some(Cause::Failed)),
+    ] {
+        let socket = || OfSocket::new(Recorder { outcome, calls: 0, asked: 0 });
+        let (mut reader, mut writer) = (socket(), socket());
+        let (read, written) = (Source::read(&mut reader, &mut [0; 8][..len]), Target::write(&mut writer, &b"abcdefgh"[..len]));
+        assert_eq!((reader.cause, writer.cause), (of_read, of_write));
+        assert_eq!((reader.failures, writer.failures), (of_read.is_some().into(), of_write.is_some().into()));
+        assert!(read.is_err() <= of_read.is_some() && written.is_err() <= of_write.is_some());
+        assert_eq!((reader.into_inner().calls, writer.into_inner().calls), (1, 1));
+    }
 }

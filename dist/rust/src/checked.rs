@@ -1,7 +1,10 @@
 //! Calls whose sources ask something of their caller, in a form that asks nothing. Written by hand, and not proved.
 use crate::cqlp_kind::{Kind, Scalar, scalar};
-use crate::cqlp_note::{Header, Reason, Refusal};
+use crate::cqlp_message::Frame;
+use crate::cqlp_note::{Header, Reason, Refusal, Target};
+use crate::cqlp_page_writing::{LentError, encode_page};
 use crate::cqlp_reassembly::Stream;
+use crate::cqlp_value::Value;
 use crate::kit_std::alloc::Allocator;
 
 impl Header {
@@ -59,4 +62,32 @@ impl<A: Allocator> Stream<A> {
         self.read(&mut bytes[..count]);
         count
     }
+}
+
+/// Writes a page whose rows the caller holds, and answers how many bytes its frame has: what [`encode`](crate::frame::encode) writes of the
+/// `frame` that holds their cells, which this one does not. It takes no memory. Section 4.2.5.2 of `native_protocol_v4.spec`.
+///
+/// ```
+/// use cqlp::OfStd;
+/// use cqlp::frame::{Atom, Frame, Message, Metadata, Rows, Value, encode_rows};
+///
+/// let meta = Metadata { flags: 4, columns: 2, paging: None, table: None, specs: None };
+/// let frame = Frame::plain(1, Message::Rows(Rows { meta, rows: 3, cells: vec![].into() }));
+/// let raw = |byte| Value::Leaf(Atom::Raw(vec![byte].into()));
+/// let rows: Vec<Vec<Value>> = (0..3).map(|row| vec![raw(row), Value::Null]).collect();
+///
+/// let mut target = OfStd::new(Vec::new());
+/// let written = encode_rows(&frame, &rows, &mut target)?;
+/// assert_eq!(target.into_inner().len(), written as usize);
+/// # Ok::<(), cqlp::frame::LentError>(())
+/// ```
+///
+/// # Errors
+///
+/// [`LentError::Unfit`] where the frame is no page, or none whose rows and cells these are, before anything is written.
+/// [`LentError::Changed`] where `as_ref` lends other cells the second time. [`LentError::Write`] at the first call of the target that fails
+/// or takes nothing.
+pub fn encode_rows<R: AsRef<[Value]>, W: Target>(frame: &Frame, rows: &[R], target: &mut W) -> Result<u32, LentError> {
+    let cells = || rows.iter().flat_map(|row| row.as_ref());
+    encode_page(frame, cells(), cells(), target)
 }

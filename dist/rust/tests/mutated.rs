@@ -6,38 +6,9 @@
 mod common;
 
 use common::cores::{Caller, Responder};
-use common::{Numbers, count, said, streams};
+use common::{Numbers, count, limits, mutated, said, streams};
 use cqlp::text::{Ending, ending_line, render_events, render_rows};
 use cqlp::{Decoder, Event, Global, Header, Limits, OfStd, Outcome, Sink, SinkFault, run};
-
-fn mutated(numbers: &mut Numbers, bases: &[Vec<u8>]) -> Vec<u8> {
-    let mut stream = Vec::new();
-    for _ in 0..numbers.one_of(&[1, 1, 1, 2, 3]) {
-        stream.extend(&bases[numbers.below(bases.len())]);
-    }
-    for _ in 0..numbers.one_of(&[0, 1, 1, 2, 3, 8]) {
-        if !stream.is_empty() {
-            let place = numbers.below(stream.len());
-            let any = numbers.below(256) as u8;
-            stream[place] = numbers.one_of(&[0, 1, 2, 4, 0x7f, 0x80, 0xff, 0xfe, any]);
-        }
-    }
-    if numbers.below(5) == 0 {
-        stream.truncate(numbers.below(stream.len() + 1));
-    }
-    stream
-}
-
-fn limits(numbers: &mut Numbers) -> Limits {
-    Limits {
-        text: numbers.one_of(&[32, 64, 1000, 1 << 20]),
-        cell: numbers.one_of(&[32, 64, 1000, 1 << 20]),
-        entries: numbers.one_of(&[1, 8, 4096]),
-        depth: numbers.one_of(&[1, 3, 16, 64]),
-        types: numbers.below(5) > 0,
-        parts: numbers.below(5) == 0,
-    }
-}
 
 /// Pieces of a stream, each of at most this many bytes.
 fn pieces<'a>(numbers: &mut Numbers, mut rest: &'a [u8], most: usize) -> Vec<&'a [u8]> {

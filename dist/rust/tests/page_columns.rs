@@ -50,13 +50,16 @@ fn reader(kinds: &[Kind], room: usize) -> PageColumns<Others> {
     PageColumns::new(Columns::new(Global, LIMITS, kinds).unwrap(), Others { words: Vec::new(), room })
 }
 
+/// The values, the offsets and the bits of a column.
+type Arrays = (Vec<u8>, Vec<u64>, Vec<u8>, Vec<u8>);
+
 /// The arrays of the columns, and where they were full.
-fn arrays(columns: &Columns) -> Vec<(Vec<u8>, Vec<u64>, Vec<u8>, Vec<u8>)> {
+fn arrays(columns: &Columns) -> Vec<Arrays> {
     columns.columns().iter().map(|c| (c.values().to_vec(), c.offsets().to_vec(), c.validity().to_vec(), c.empties().to_vec())).collect()
 }
 
 /// All batches of the pieces, the rest last, and the other events.
-fn read(pieces: &[&[u8]]) -> (Vec<Vec<(Vec<u8>, Vec<u64>, Vec<u8>, Vec<u8>)>>, Vec<String>) {
+fn read(pieces: &[&[u8]]) -> (Vec<Vec<Arrays>>, Vec<String>) {
     let mut decoder = Decoder::new(Global, Limits::DEFAULT).unwrap();
     let (mut page, mut batches) = (reader(&KINDS, usize::MAX), Vec::new());
     for piece in pieces {

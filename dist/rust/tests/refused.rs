@@ -2,10 +2,14 @@
 //! made until then is given back.
 
 use cqlp::capture::{CaptureEnd, CaptureLimits, CaptureReader, CaptureStep, Control, Stream, StreamStep};
+use cqlp::cells::{CellError, CellLimits, PageCellError, PageCells, PagePlace};
 use cqlp::columns::{BatchLimits, Columns, MakeError, TakeError};
-use cqlp::frame::{Atom, BindError, Frame, OwnedBound, ReadError, Spec, TypeTree, Value, bind_value, raw_value, read_value};
+use cqlp::frame::{
+    Atom, BindError, BuildError, BuildLimits, Composer, Frame, FrameBuilder, Message, Metadata, OwnedBound, ReadError, Rows, Spec, TypeTree, Value, bind_value,
+    raw_value, read_value,
+};
 use cqlp::memory::{AllocError, Box, String, Vec};
-use cqlp::{Event, Global, Kind, Limits, Scalar, TableError, table_of, table_of_specs};
+use cqlp::{Event, Field, Global, Header, Kind, Limits, Opcode, Scalar, TableError, table_of, table_of_specs};
 use std::alloc::{GlobalAlloc, Layout, System};
 use std::cell::Cell;
 use std::ptr::null_mut;
@@ -254,5 +258,56 @@ fn columns() {
             columns.clear();
         }
         Answer::Granted
+    });
+}
+
+/// The events of a query with a text, under a header that says how long it is.
+fn query() -> [Event<'static>; 5] {
+    [
+        Event::Frame(Header { response: false, flags: 0, stream: 0, opcode: Opcode::Query, length: 8 }),
+        Event::Text { field: Field::Query, text: "x" },
+        Event::Short { field: Field::Consistency, value: 1 },
+        Event::Byte { field: Field::QueryFlags, value: 0 },
+        Event::End { extra: 0 },
+    ]
+}
+
+const BUILD: BuildLimits = BuildLimits { fields: 10, depth: 1, bytes: 10 };
+
+/// A frame that is built, and one that is composed: what holds the events, and the text, which the frame has then; and the bytes.
+#[test]
+fn frames_of_events() {
+    finds_just_what_is_there(2, || {
+        let mut builder = FrameBuilder::new(Global, BUILD);
+        match query().iter().try_fold(None, |_, event| builder.take(event)) {
+            Ok(Some(_)) => Answer::Granted,
+            Err(BuildError::NoMemory) => Answer::NoMemory,
+            _ => Answer::Other,
+        }
+    });
+    finds_just_what_is_there(3, || {
+        let mut composer = Composer::new(Global, BUILD);
+        match query().iter().try_for_each(|event| composer.take(event)).and_then(|()| composer.write(Global)) {
+            Ok(bytes) if bytes.len() == 17 => Answer::Granted,
+            Err(BuildError::NoMemory) => Answer::NoMemory,
+            _ => Answer::Other,
+        }
+    });
+}
+
+/// The cell of a page, of its events: what holds them, the text, and the bytes.
+#[test]
+fn cells_of_events() {
+    let meta = Metadata { flags: 4, columns: 1, paging: None, table: None, specs: None };
+    let frame = Frame::plain(0, Message::Rows(Rows { meta, rows: 1, cells: Vec::new(Global) }));
+    let place = PagePlace::start(&frame, 5).unwrap();
+    finds_just_what_is_there(3, || {
+        let mut cells = PageCells::new(Global, &frame, place, CellLimits { events: 1, bytes: 1 });
+        let taken = cells.take(&Event::Leaf { row: 0, column: 0, level: 0, scalar: Scalar::Raw(b"x") });
+        match taken.and_then(|()| cells.finish()) {
+            Ok(written) if written.bytes.len() == 5 => Answer::Granted,
+            Err(PageCellError::Cell(CellError::NoMemory)) => Answer::NoMemory,
+            _ => Answer::Other,
+        }
     });
 }

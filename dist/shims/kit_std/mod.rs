@@ -16,6 +16,7 @@ macro_rules! shown_as_target {
 pub mod alloc;
 pub mod boxed;
 pub mod clone;
+pub mod collections;
 pub mod simd;
 pub mod string;
 pub mod vec;

@@ -10,6 +10,11 @@ pub struct String<A: Allocator = Global> {
 }
 
 impl<A: Allocator> String<A> {
+    /// With no text and no memory.
+    pub fn new(alloc: A) -> Self {
+        String { text: ::alloc::string::String::new(), alloc }
+    }
+
     /// A copy of a text.
     pub fn from_str(alloc: A, text: &str) -> Result<Self, AllocError> {
         let mut made = ::alloc::string::String::new();

@@ -101,3 +101,34 @@ impl Numbers {
         all[self.below(all.len())]
     }
 }
+
+/// Some of these streams one after the other, of which some bytes are changed, and which may be cut.
+pub fn mutated(numbers: &mut Numbers, bases: &[Vec<u8>]) -> Vec<u8> {
+    let mut stream = Vec::new();
+    for _ in 0..numbers.one_of(&[1, 1, 1, 2, 3]) {
+        stream.extend(&bases[numbers.below(bases.len())]);
+    }
+    for _ in 0..numbers.one_of(&[0, 1, 1, 2, 3, 8]) {
+        if !stream.is_empty() {
+            let place = numbers.below(stream.len());
+            let any = numbers.below(256) as u8;
+            stream[place] = numbers.one_of(&[0, 1, 2, 4, 0x7f, 0x80, 0xff, 0xfe, any]);
+        }
+    }
+    if numbers.below(5) == 0 {
+        stream.truncate(numbers.below(stream.len() + 1));
+    }
+    stream
+}
+
+/// Limits of any size.
+pub fn limits(numbers: &mut Numbers) -> Limits {
+    Limits {
+        text: numbers.one_of(&[32, 64, 1000, 1 << 20]),
+        cell: numbers.one_of(&[32, 64, 1000, 1 << 20]),
+        entries: numbers.one_of(&[1, 8, 4096]),
+        depth: numbers.one_of(&[1, 3, 16, 64]),
+        types: numbers.below(5) > 0,
+        parts: numbers.below(5) == 0,
+    }
+}

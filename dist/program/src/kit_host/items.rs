@@ -23,10 +23,6 @@ impl<T, A: Allocator> Vec<T, A> {
         self.items.swap_remove(at)
     }
 
-    pub fn truncate(&mut self, len: usize) {
-        self.items.truncate(len);
-    }
-
     pub fn try_reserve_exact(&mut self, more: usize) -> Result<(), AllocError> {
         self.items.try_reserve_exact(more).map_err(|_| AllocError)
     }

@@ -15,10 +15,6 @@ impl<A: Allocator> FromUtf8Error<A> {
 }
 
 impl<A: Allocator> String<A> {
-    pub fn new(alloc: A) -> Self {
-        String { text: std::string::String::new(), alloc }
-    }
-
     pub fn from_utf8(bytes: Vec<u8, A>) -> Result<Self, FromUtf8Error<A>> {
         let alloc = bytes.alloc;
         match std::string::String::from_utf8(bytes.items) {

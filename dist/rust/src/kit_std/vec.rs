@@ -60,6 +60,11 @@ impl<T, A: Allocator> Vec<T, A> {
         self.items.clear();
     }
 
+    /// Takes the items after this many away, and keeps the memory.
+    pub fn truncate(&mut self, len: usize) {
+        self.items.truncate(len);
+    }
+
     /// How many items it has memory for.
     pub fn capacity(&self) -> usize {
         self.items.capacity()

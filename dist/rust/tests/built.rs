@@ -1,0 +1,128 @@
+//! Frames that are built of the events of worked and of changed streams, altered, written and read again, and the same that are composed.
+//! CQLP_STREAMS is how many changed streams there are, 3,000 where it is not set.
+#![forbid(unsafe_code)]
+
+mod common;
+
+use common::{Numbers, count, limits, mutated, streams};
+use cqlp::frame::{BuildError, BuildLimits, BuiltFrame, Composer, Frame, FrameBuilder, encode};
+use cqlp::{Decoder, Event, Field, Global, Header, Kind, Limits, OfStd, Opcode, Scalar, Step};
+
+const ALL: BuildLimits = BuildLimits { fields: 1 << 24, depth: 64, bytes: 1 << 28 };
+
+/// A frame that was read: its events in words, what was built of them, and what was composed.
+struct Seen {
+    events: Vec<String>,
+    built: BuiltFrame,
+    composed: Vec<u8>,
+}
+
+/// The frames of a stream up to its first fault.
+fn frames(limits: Limits, stream: &[u8]) -> Vec<Seen> {
+    let (mut decoder, mut builder) = (Decoder::new(Global, limits).unwrap(), FrameBuilder::new(Global, ALL));
+    let (mut seen, mut rest, mut events, mut composer) = (Vec::new(), stream, Vec::new(), Composer::new(Global, ALL));
+    while let Step::Event { used, event, .. } = decoder.next(rest) {
+        rest = &rest[used..];
+        events.push(format!("{event:?}"));
+        composer.take(&event).unwrap();
+        let built = builder.take(&event).unwrap();
+        assert_eq!((built.is_some(), builder.is_between()), (matches!(event, Event::End { .. }), built.is_some()));
+        if let Some(built) = built {
+            let composed = std::mem::replace(&mut composer, Composer::new(Global, ALL)).write(Global).unwrap().into_std();
+            seen.push(Seen { events: std::mem::take(&mut events), built, composed });
+        }
+    }
+    seen
+}
+
+fn encoded(frame: &Frame) -> Vec<u8> {
+    let mut target = OfStd::new(Vec::new());
+    encode(frame, &mut target).unwrap();
+    target.into_inner()
+}
+
+/// Each frame of a stream is written as it was composed, with the events that it was built of but for the bytes after its last field, and
+/// altered with just that alteration. How many there were.
+fn come_back(limits: Limits, stream: &[u8]) -> usize {
+    let limits = Limits { types: true, parts: false, ..limits };
+    let seen = frames(limits, stream);
+    let count = seen.len();
+    for Seen { events, built: BuiltFrame { mut frame, extra }, composed } in seen {
+        let bytes = encoded(&frame);
+        assert_eq!(bytes, composed);
+        let [again] = &frames(limits, &bytes)[..] else { panic!("{bytes:02x?}") };
+        assert_eq!((&again.built.frame, again.built.extra), (&frame, 0));
+        let same = if extra == 0 { 0..events.len() } else { 1..events.len() - 1 };
+        assert_eq!(again.events[same.clone()], events[same]);
+        frame.stream ^= 0x1234;
+        let mut altered = bytes;
+        altered[2] ^= 0x12;
+        altered[3] ^= 0x34;
+        assert_eq!(encoded(&frame), altered);
+    }
+    count
+}
+
+#[test]
+fn worked_streams() {
+    let count: usize = streams().iter().map(|stream| come_back(stream.limits, &stream.bytes)).sum();
+    assert!(count >= 80, "{count}");
+}
+
+#[test]
+fn changed_streams() {
+    let bases: Vec<Vec<u8>> = streams().into_iter().map(|stream| stream.bytes).filter(|bytes| bytes.len() < 2_000).collect();
+    let mut numbers = Numbers::new();
+    let frames: usize = (0..count()).map(|_| come_back(limits(&mut numbers), &mutated(&mut numbers, &bases))).sum();
+    assert!(frames as u64 > count() / 4, "{frames}");
+}
+
+fn header(opcode: Opcode, response: bool, length: u32) -> Event<'static> {
+    Event::Frame(Header { response, flags: 0, stream: 0, opcode, length })
+}
+
+/// What a builder within these limits says of each of some events.
+fn said(limits: BuildLimits, events: &[Event<'_>]) -> Vec<Option<BuildError>> {
+    let mut builder = FrameBuilder::new(Global, limits);
+    events.iter().map(|event| builder.take(event).err()).collect()
+}
+
+const TEXT: Event<'static> = Event::Text { field: Field::Query, text: "x" };
+
+#[test]
+fn events_of_another_place() {
+    let (options, end) = (header(Opcode::Options, false, 0), Event::End { extra: 0 });
+    assert_eq!(said(ALL, &[TEXT, end, options, options, end]), [Some(BuildError::Misplaced), Some(BuildError::Misplaced), None, Some(BuildError::Misplaced), None]);
+    for (opcode, response, length) in [(Opcode::Options, true, 0), (Opcode::Options, false, 1), (Opcode::Query, false, 0), (Opcode::Ready, false, 0)] {
+        assert_eq!(said(ALL, &[header(opcode, response, length), end]), [None, Some(BuildError::NoFrame)]);
+    }
+    assert_eq!(said(ALL, &[options, TEXT, end]), [None, None, Some(BuildError::NoFrame)]);
+    let part = Event::Part { row: 0, column: 0, level: 0, offset: 0, bytes: b"x", last: true };
+    assert_eq!(said(ALL, &[options, part, end]), [None, Some(BuildError::Unbuilt), None]);
+}
+
+#[test]
+fn limits_of_a_frame() {
+    let limits = BuildLimits { fields: 3, depth: 2, bytes: 2 };
+    let begin = header(Opcode::Query, false, 0);
+    let (list, int) = (Event::TypeNode(Kind::List), Event::TypeNode(Kind::Int));
+    let blob = Event::Leaf { row: 0, column: 0, level: 0, scalar: Scalar::Blob(b"abc") };
+    assert_eq!(said(limits, &[begin, TEXT, TEXT, TEXT]), [None, None, None, Some(BuildError::TooManyBytes)]);
+    assert_eq!(said(limits, &[begin, int, int, int, int]), [None, None, None, None, Some(BuildError::TooManyFields)]);
+    assert_eq!(said(limits, &[begin, list, list, int]), [None, None, None, Some(BuildError::TooDeep)]);
+    assert_eq!(said(limits, &[begin, blob]), [None, Some(BuildError::TooManyBytes)]);
+}
+
+/// A frame that is given up leaves nothing; one that is closed has the length of its fields, whatever its header says.
+#[test]
+fn frames_given_up_and_closed() {
+    let mut builder = FrameBuilder::new(Global, ALL);
+    assert_eq!(builder.close(), Err(BuildError::Misplaced));
+    for event in [header(Opcode::Query, false, 9), TEXT] {
+        assert_eq!(builder.take(&event), Ok(None));
+    }
+    builder.clear();
+    assert!(builder.is_between());
+    assert_eq!(builder.take(&header(Opcode::Options, false, 9)), Ok(None));
+    assert_eq!(encoded(&builder.close().unwrap()), [4, 0, 0, 0, 5, 0, 0, 0, 0]);
+}
