@@ -279,7 +279,7 @@ func (r *ColumnReader) make(body uint64) error {
 	if err != nil {
 		return err
 	}
-	box, sizes := r.decoder.box, r.sizesFor(uint64(width), body)
+	box, sizes := r.decoder.box, r.sizesFor(kinds, body)
 	there := r.sizes
 	if string(kinds) == string(r.kinds) && there.rows >= sizes.rows && there.bytes >= sizes.bytes && there.content >= sizes.content {
 		C.cqlp_columns_clear(&box.columns)
@@ -318,19 +318,33 @@ func (r *ColumnReader) kindsOf() ([]byte, error) {
 	return kinds, nil
 }
 
-// sizesFor is such that all arrays together have no more than the memory, and none has more than the page needs: of each column a quarter is for
-// one value at most, a half for the rows.
-func (r *ColumnReader) sizesFor(width, body uint64) C.cqlp_batch_limits {
-	share := uint64(r.batch.Memory) / width
-	rows := least(uint64(r.batch.Rows), share/18, uint64(r.page.Count), 1<<24)
-	bytes := least(64*uint64(r.batch.Rows), share/4, body)
-	content := least(uint64(r.limits.Cell), share/4, body)
-	return C.cqlp_batch_limits{
-		columns: C.uint32_t(width),
-		rows:    C.uint32_t(greatest(rows, 1)),
-		bytes:   C.uint32_t(greatest(bytes, 1)),
-		content: C.uint32_t(greatest(content, 16)),
+// sizesFor is such that all arrays together have no more than the memory, and none has more than the page needs: values of a fixed length have 16
+// bytes at most.
+func (r *ColumnReader) sizesFor(kinds []byte, body uint64) C.cqlp_batch_limits {
+	share := uint64(r.batch.Memory) / uint64(len(kinds))
+	rows := greatest(least(uint64(r.batch.Rows), share/32, uint64(r.page.Count), 1<<24), 1)
+	bytes, content := 16*rows, uint64(16)
+	if !areFixed(kinds) {
+		bytes = greatest(least(64*uint64(r.batch.Rows), share/4, body), 1)
+		content = greatest(least(uint64(r.limits.Cell), share/4, body), 16)
 	}
+	return C.cqlp_batch_limits{
+		columns: C.uint32_t(len(kinds)),
+		rows:    C.uint32_t(rows),
+		bytes:   C.uint32_t(bytes),
+		content: C.uint32_t(content),
+	}
+}
+
+// areFixed says whether all values of these kinds have a fixed length.
+func areFixed(kinds []byte) bool {
+	for _, kind := range kinds {
+		switch Kind(kind) {
+		case KindCustom, KindASCII, KindBlob, KindDecimal, KindVarchar, KindVarint, KindInet, KindRaw:
+			return false
+		}
+	}
+	return true
 }
 
 func least(first uint64, others ...uint64) uint64 {

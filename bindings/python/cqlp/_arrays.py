@@ -4,10 +4,11 @@ import ctypes
 import sys
 from array import array
 from dataclasses import dataclass
+from functools import lru_cache
 from typing import Any, Dict, Iterator, List, NamedTuple, Optional, Tuple, Union
 
 from . import _native
-from ._decoder import BadCall, Decoder, Error, Limits, Refusal, Refused, Skip, _address, _must_be_done, event_of
+from ._decoder import _KINDS, BadCall, Decoder, Error, Limits, Refusal, Refused, Skip, _address, _must_be_done, event_of
 from ._events import Event
 from ._pages import _NO_METADATA, _ROWS_RESULT, Column, Types, _Metadata
 from ._sources import Progress, Source, _must_be_whole, _pieces, _pieces_of_frames
@@ -26,6 +27,7 @@ _CODES: Dict[int, str] = {
     Kind.FLOAT: "f",
     Kind.DOUBLE: "d",
 }
+_FIXED = {int(kind) for kind in (*_CODES, Kind.BOOLEAN, Kind.UUID, Kind.TIMEUUID)}
 _FULL, _REFUSED = int(Stop.FULL), int(Stop.REFUSED)
 _LEAF, _PART, _END = int(Tag.LEAF), int(Tag.PART), int(Tag.END)
 
@@ -111,13 +113,14 @@ class _Arrays:
         self.rows = rows
         self.memory = memory
         self.handle = _native.Handle(0, None)
+        self.native = _native.Column()
         self.kinds: Tuple[int, ...] = ()
         self.sizes = (0, 0, 0)
 
     def begin(self, kinds: Tuple[int, ...], rows: int, body: int) -> None:
         """Makes columns without rows for a page with values of these kinds, with so many rows and in a body of so many bytes. Those that
         are there are used again where they are as large."""
-        sizes = self.sizes_for(len(kinds), rows, body)
+        sizes = self.sizes_for(kinds, rows, body)
         if self.handle.live and self.kinds == kinds and all(there >= wanted for there, wanted in zip(self.sizes, sizes)):
             _native.library.cqlp_columns_clear(self.handle)
             return
@@ -129,26 +132,27 @@ class _Arrays:
         _must_be_done(code)
         self.kinds, self.sizes = kinds, sizes
 
-    def sizes_for(self, width: int, rows: int, body: int) -> Tuple[int, int, int]:
+    def sizes_for(self, kinds: Tuple[int, ...], rows: int, body: int) -> Tuple[int, int, int]:
         """How many rows, how many bytes of values before the last row, and how many bytes of one value, such that all columns together have no
-        more than the memory, and none has more than the page needs."""
-        share = self.memory // width
-        most = min(self.rows, share // 2 // 9)
-        content = min(self.limits.cell, share // 4, body)
-        return max(1, min(most, rows)), max(1, min(64 * self.rows, share // 4, body)), max(16, content)
+        more than the memory, and none has more than the page needs: values of a fixed length have 16 bytes at most."""
+        share = self.memory // len(kinds)
+        most = max(1, min(self.rows, share // 32, rows))
+        if _FIXED.issuperset(kinds):
+            return most, 16 * most, 16
+        return most, max(1, min(64 * self.rows, share // 4, body)), max(16, min(self.limits.cell, share // 4, body))
 
     def take(self, columns: Tuple[Column, ...]) -> List[ColumnArray]:
         """The whole rows that came, and no row from then on."""
-        found = [self.native(at) for at in range(len(self.kinds))]
-        count = found[-1].cells
-        arrays = [_array_of(one, columns[at] if columns else None, count) for at, one in enumerate(found)]
+        width = len(self.kinds)
+        count = self.view(width - 1)[6]
+        arrays = [_array_of(self.view(at), columns[at] if columns else None, count) for at in range(width)]
         _native.library.cqlp_columns_clear(self.handle)
         return arrays
 
-    def native(self, at: int) -> _native.Column:
-        found = _native.Column()
-        _native.library.cqlp_columns_get(self.handle, at, found)
-        return found
+    def view(self, at: int) -> Tuple[Any, ...]:
+        """Where the arrays of a column lie."""
+        _native.library.cqlp_columns_get(self.handle, at, self.native)
+        return _native.VIEW.unpack_from(self.native)
 
     def close(self) -> None:
         _native.library.cqlp_columns_free(self.handle)
@@ -164,43 +168,45 @@ class _Arrays:
             _free(self.handle)
 
 
-def _array_of(native: _native.Column, column: Optional[Column], count: int) -> ColumnArray:
+def _array_of(view: Tuple[Any, ...], column: Optional[Column], count: int) -> ColumnArray:
     """A copy of the first cells of a column."""
-    offsets, size = None, native.size
-    if native.bounds:
-        offsets = memoryview(ctypes.string_at(native.offsets, 8 * (count + 1))).cast("q")
+    place, ends, valid, empty, size, bounds, cells, kind = view
+    offsets = None
+    if bounds:
+        offsets = memoryview(ctypes.string_at(ends, 8 * (count + 1))).cast("q")
         size = offsets[count]
-    elif native.kind != Kind.BOOLEAN:
-        size = size // native.cells * count if native.cells else 0
-    values = _bits(native.values, count) if native.kind == Kind.BOOLEAN else _copied(native.values, size)
-    validity, empties = _bits(native.validity, count), _bits(native.empties, count)
+    elif cells and kind != _BOOLEAN:
+        size = size // cells * count
+    values = _bits(place, count) if kind == _BOOLEAN else _copied(place, size)
+    validity, empties = _bits(valid, count), _bits(empty, count)
     return ColumnArray(
         column,
-        _KINDS.get(native.kind, native.kind),
+        _KINDS[kind],
         count,
         values,
         offsets,
-        None if validity == _all(count) else validity,
-        empties if empties.strip(b"\0") else None,
+        None if validity == _repeated(True, count) else validity,
+        None if empties == _repeated(False, count) else empties,
     )
 
 
-_KINDS = {int(kind): kind for kind in Kind}
+_BOOLEAN = int(Kind.BOOLEAN)
 
 
-def _copied(place: Optional[int], size: int) -> bytes:
-    return ctypes.string_at(place, size) if place and size else b""
+def _copied(place: int, size: int) -> bytes:
+    return ctypes.string_at(place, size) if size else b""
 
 
-def _bits(place: Optional[int], count: int) -> bytes:
+def _bits(place: int, count: int) -> bytes:
     """So many bits, and zeros behind the last."""
     found = _copied(place, (count + 7) // 8)
     return found[:-1] + bytes([found[-1] & (1 << count % 8) - 1]) if count % 8 else found
 
 
-def _all(count: int) -> bytes:
-    """So many bits that are set, and zeros behind the last."""
-    return b"\xff" * (count // 8) + (bytes([(1 << count % 8) - 1]) if count % 8 else b"")
+@lru_cache(maxsize=8)
+def _repeated(bit: bool, count: int) -> bytes:
+    """So many bits that are all this one, and zeros behind the last."""
+    return ((1 << count) - 1 if bit else 0).to_bytes((count + 7) // 8, "little")
 
 
 class _Page(NamedTuple):

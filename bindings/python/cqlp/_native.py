@@ -108,6 +108,8 @@ class Column(ctypes.Structure):
 RECORD = struct.Struct("@QPNqIIIi16sBBBBBBB0Q")
 if RECORD.size != ctypes.sizeof(Event):
     raise ImportError("cqlp: an event has another size here")
+# The members of a column, in the order of Column.
+VIEW = struct.Struct("@PPPPNNNB0Q")
 
 
 def compiled(name: str) -> Any:
