@@ -20,14 +20,14 @@ WRITES = 20
 
 
 def spent(command, given=None):
-    """The milliseconds of the processor that a command takes, and the KiB that it had in memory at most."""
+    """The milliseconds of the processor that a command takes."""
     with open(given or os.devnull, 'rb') as stream, open(os.devnull, 'wb') as out:
         child = subprocess.Popen(command, stdin=stream, stdout=out, stderr=out)
         _, status, used = os.wait4(child.pid, 0)
     child.returncode = os.waitstatus_to_exitcode(status)
     if child.returncode:
         sys.exit(f'{command}: status {child.returncode}')
-    return (used.ru_utime + used.ru_stime) * 1e3, used.ru_maxrss
+    return (used.ru_utime + used.ru_stime) * 1e3
 
 
 def least(rounds, tasks):
@@ -95,30 +95,30 @@ class Programs:
 def read_tables(programs, pages, rounds):
     table('`check`', 'by hand', '`cqlp check`', 'ratio')
     for name in ('rows', 'collections', 'columns', 'blobs'):
-        times = least(rounds, [lambda: spent([programs.check, pages[name]])[0], lambda: spent([programs.cqlp, 'check', pages[name]])[0]])
+        times = least(rounds, [lambda: spent([programs.check, pages[name]]), lambda: spent([programs.cqlp, 'check', pages[name]])])
         tell(name, times)
     table('batches from C', '`cqlp check`', '256 events', '64 events', 'ratio of 256', 'ratio of 64')
     for name in ('rows', 'collections', 'columns'):
-        batch = [programs.batches and (lambda room=room: spent([programs.batches, room], pages[name])[0]) for room in ('256', '64')]
-        tell(name, least(rounds, [lambda: spent([programs.cqlp, 'check', '-'], pages[name])[0], *batch]))
+        batch = [programs.batches and (lambda room=room: spent([programs.batches, room], pages[name])) for room in ('256', '64')]
+        tell(name, least(rounds, [lambda: spent([programs.cqlp, 'check', '-'], pages[name]), *batch]))
 
 
 def text_table(programs, pages, rounds):
     table('text', 'by hand', '`cqlp`', 'ratio')
     for command in ('show', 'rows'):
         for name in ('rows', 'collections', 'columns', 'kinds'):
-            times = least(rounds, [lambda: spent([it, command, pages[name]])[0] for it in (programs.text, programs.cqlp)])
+            times = least(rounds, [lambda it=it: spent([it, command, pages[name]]) for it in (programs.text, programs.cqlp)])
             tell(f'`{command}` {name}', times)
 
 
 def once(program, programs, page, how):
     """The milliseconds of one writing of a page: a part of what many writings take more than one."""
-    one, many = (spent([program], programs.task(f'{page} {times} {how}'.strip()))[0] for times in (1, 1 + WRITES))
+    one, many = (spent([program], programs.task(f'{page} {times} {how}'.strip())) for times in (1, 1 + WRITES))
     return (many - one) / WRITES
 
 
 def encode_table(programs, rounds):
-    table('writing', 'by hand, checked', 'by hand, trusting', '`encode`', 'cell by cell', 'trusting', '`encode`', 'cell by cell')
+    table('writing', 'by hand, checked', 'trusting', '`encode`', 'cell by cell', 'ratio, trusting', 'ratio, `encode`', 'ratio, cell by cell')
     for page in ('rows 1000000', 'collections 200000', 'columns 5000', 'blobs 96'):
         ways = ((programs.encode, 'checked'), (programs.encode, ''), (programs.pages, ''), (programs.pages, 'cells'))
         tell(page, least(rounds, [lambda it=it: once(it[0], programs, page, it[1]) for it in ways]))
@@ -127,8 +127,7 @@ def encode_table(programs, rounds):
 def start_line(programs, rounds):
     frame = programs.room / 'options'
     frame.write_bytes(OPTIONS)
-    runs = [spent([programs.cqlp, 'show', '-'], frame) for _ in range(rounds)]
-    print(f'\n`cqlp show -` of nine bytes: {min(it[0] for it in runs):.2f} ms, {max(it[1] for it in runs) / 1024:.1f} MiB')
+    print(f"\n`cqlp show -` of nine bytes: {min(spent([programs.cqlp, 'show', '-'], frame) for _ in range(rounds)):.2f} ms")
 
 
 def main(rounds=15):
