@@ -25,7 +25,7 @@ use Rattle.std.proofs.lemmas.List.{map-append}
 use Rattle.cqlp_build_cells.specs.declared.step.Step.{Step}
 use Rattle.cqlp_build.specs.Held.{IsSound, TakesStep, first_fault, left}
 use Rattle.cqlp_build.specs.Productions.{BuildsCell, Gathers, ends_at_last, fault_of}
-use Rattle.cqlp_build.proofs.Several.{both, join}
+use Rattle.cqlp_build_cells.proofs.Steps.{both, join}
 use Rattle.cqlp_build.proofs.Steps.{no_memory}
 
 -- ---- where a cell ends

@@ -12,8 +12,8 @@ use Rattle.cqlp_message.specs.Owned.{metadata_of, spec_of}
 use Rattle.cqlp_message.proofs.PageWalks.{how_many-columns, how_many-raw}
 use Rattle.cqlp_message.specs.declared.response.Metadata.{Metadata as OwnedMetadata}
 use Rattle.cqlp_message.specs.declared.response.Spec.{Spec as OwnedSpec}
-use Rattle.cqlp_build_cells.specs.Said.{IsReadable}
-use Rattle.cqlp_build.proofs.Several.{both, join}
+use Rattle.cqlp_read.specs.Fronts.{IsReadable}
+use Rattle.cqlp_build_cells.proofs.Steps.{both, join}
 use Rattle.cqlp_kind.specs.declared.kind.Kind.TheVariants as kind
 use Rattle.cqlp_kind.specs.Types.{NoMore, Type_and, how_many}
 use Rattle.cqlp_grammar.specs.Productions.{raw_types}

@@ -22,7 +22,7 @@ use Rattle.cqlp_build.specs.declared.error.BuildError.{BuildError}
 use Rattle.cqlp_build.specs.declared.error.BuildError.TheVariants as error
 use Rattle.cqlp_build.specs.Held.{Builds, IsRefused, IsSound, left}
 use Rattle.cqlp_build.specs.Told.{told}
-use Rattle.cqlp_build.proofs.Several.{both, join}
+use Rattle.cqlp_build_cells.proofs.Steps.{both, join}
 use Rattle.cqlp_build.proofs.FrameViews.{body_of, body_told, frame_said, left_none}
 use Rattle.cqlp_build.proofs.Steps.{AreNone}
 

@@ -17,7 +17,7 @@ use Rattle.cqlp_build.specs.Building.{BeginsWith}
 use Rattle.cqlp_build.specs.Held.{Builds}
 use Rattle.cqlp_build.specs.Productions.{BuildsMessage, IsOf}
 use Rattle.cqlp_build.specs.Told.{payload_parts, told}
-use Rattle.cqlp_build.proofs.Several.{both, join}
+use Rattle.cqlp_build_cells.proofs.Steps.{both, join}
 use Rattle.cqlp_build.proofs.Steps.{as_builds, told_four, ◌then◌}
 
 abbrev Announced : Type 0

@@ -23,7 +23,7 @@ use Rattle.cqlp_build.specs.declared.item.Item.TheVariants as item
 use Rattle.cqlp_build.specs.Building.{HaveNoParts, is_inner, is_unbuilt}
 use Rattle.cqlp_build.specs.Held.{left, told_by}
 use Rattle.cqlp_build.specs.Told.{part_told, told}
-use Rattle.cqlp_build.proofs.Several.{both, join}
+use Rattle.cqlp_build_cells.proofs.Steps.{both, join}
 
 -- ---- without offsets
 

@@ -16,7 +16,7 @@ use Rattle.cqlp_build.specs.Held.{Builds, any}
 use Rattle.cqlp_build.specs.Productions.{BuildsMessage, IsOf}
 use Rattle.cqlp_build.specs.Told.{told}
 use Rattle.cqlp_build.proofs.Optional.{all_true}
-use Rattle.cqlp_build.proofs.Several.{both, join}
+use Rattle.cqlp_build_cells.proofs.Steps.{both, join}
 use Rattle.cqlp_build.proofs.Steps.{as_builds, pair_builds, told_four, ◌then◌}
 
 -- ---- what a message of an opcode is

@@ -19,7 +19,7 @@ use Rattle.cqlp_build.specs.Told.{told}
 use Rattle.cqlp_build.specs.Types.{are_built_columns, are_built_if, is_built_metadata, is_built_statement, is_built_type, names_count, type_told}
 use Rattle.cqlp_build.proofs.Counted.{told_many}
 use Rattle.cqlp_build.proofs.Optional.{nothing_builds}
-use Rattle.cqlp_build.proofs.Several.{both, join}
+use Rattle.cqlp_build_cells.proofs.Steps.{both, join}
 use Rattle.cqlp_build.proofs.Steps.{as_builds, pair_builds, told_append, ◌then◌}
 
 all_both : {A : Type 0} (p q : A → Bool) (xs : List A) → list_all (λ x. p x && q x) xs ≡ true → (list_all p xs ≡ true) × (list_all q xs ≡ true)

@@ -19,7 +19,7 @@ use Rattle.cqlp_build.specs.Told.{told}
 use Rattle.cqlp_build.specs.Types.{is_built_metadata}
 use Rattle.cqlp_build.proofs.MetadataParts.{IsMetadata}
 use Rattle.cqlp_build.proofs.Rows.{BuildsRows}
-use Rattle.cqlp_build.proofs.Several.{both, join}
+use Rattle.cqlp_build_cells.proofs.Steps.{both, join}
 use Rattle.cqlp_build.proofs.Steps.{after_builds, as_builds, told_append}
 
 abbrev page_from : Metadata × (ℕ × List Values) → Page

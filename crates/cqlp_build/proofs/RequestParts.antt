@@ -13,7 +13,7 @@ use Rattle.cqlp_build.specs.declared.held.Held.{Held}
 use Rattle.cqlp_build.specs.Held.{Builds, any}
 use Rattle.cqlp_build.specs.Told.{told}
 use Rattle.cqlp_build.proofs.Optional.{none_builds, some_builds}
-use Rattle.cqlp_build.proofs.Several.{both, join}
+use Rattle.cqlp_build_cells.proofs.Steps.{both, join}
 use Rattle.cqlp_build.proofs.Steps.{pair_builds, as_builds, told_five, ◌then◌}
 
 abbrev Values : Type 0

@@ -17,7 +17,7 @@ use Rattle.cqlp_build.specs.Productions.{BuildsMessage, IsOf, IsPage, cells_part
 use Rattle.cqlp_build.specs.Told.{told}
 use Rattle.cqlp_build.specs.Types.{is_built_statement}
 use Rattle.cqlp_build.proofs.MetadataParts.{IsStatement}
-use Rattle.cqlp_build.proofs.Several.{both, join}
+use Rattle.cqlp_build_cells.proofs.Steps.{both, join}
 use Rattle.cqlp_build.proofs.Steps.{AreNone}
 
 abbrev kind_event : ℤ → Event

@@ -14,7 +14,7 @@ use Rattle.cqlp_build.specs.declared.held.Fault.{Fault}
 use Rattle.cqlp_build.specs.Held.{Builds, IsSound, left}
 use Rattle.cqlp_build.specs.Productions.{BuildsCell, BuildsRow, column_type}
 use Rattle.cqlp_build.specs.Told.{told}
-use Rattle.cqlp_build.proofs.Several.{both, join}
+use Rattle.cqlp_build_cells.proofs.Steps.{both, join}
 use Rattle.cqlp_build.proofs.Steps.{as_builds, other_value, stuck, told_append, ◌then◌}
 
 -- a cell of each of these columns, the first of which has this number

@@ -6,15 +6,8 @@ use Rattle.cqlp_build.specs.declared.held.Held.{Held}
 use Rattle.cqlp_build.specs.declared.held.Fault.TheVariants as fault
 use Rattle.cqlp_grammar.specs.Events.{Event}
 use Rattle.cqlp_build.specs.Held.{Builds, Many, left}
+use Rattle.cqlp_build_cells.proofs.Steps.{both, join}
 use Rattle.cqlp_build.proofs.Steps.{stuck, other_value}
-
-pub both : (a b : Bool) → (a && b) ≡ true → (a ≡ true) × (b ≡ true)
-both true b e = (refl, e)
-both false b e = absurd cc
-
-pub join : (a b : Bool) → a ≡ true → b ≡ true → (a && b) ≡ true
-join true b d e = e
-join false b d e = absurd cc
 
 module _ {A : Type 0} (told : A → List Event) (t : A → Bool) where
   nil_only : (old : Held) (b : List A) (rest : List Event) → Many t 0 b → left old ≡ flat_map told b ++ rest → (b ≡ []) × (rest ≡ left old)
@@ -86,10 +79,6 @@ module _ {A : Type 0} (told : A → List Event) (t : A → Bool) where
   -- a fault ends it
   pub remains_stuck : (n : ℕ) (start now : Held) (i : ℕ) (xs ys : List A) (f : _) → i ≤ n → now.fault ≡ Some f → Remains n start now i xs → Builds (flat_map told) (Many t n) ys start now
   remains_stuck n start now i xs ys f l e r = other_value ys f e (r.remains (n - i) [] now (omega arith) (stuck [] f e))
-
-pub some_of : {F : Type 0} (o : Option F) → is_some o ≡ true → (f : F) × (o ≡ Some f)
-some_of (Some f) e = (f, refl)
-some_of None e = absurd cc
 
 pub none_of : {F : Type 0} (o : Option F) → is_some o ≡ false → o ≡ None
 none_of None e = refl

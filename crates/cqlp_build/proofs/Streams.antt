@@ -13,7 +13,7 @@ use Rattle.cqlp_build.specs.declared.builder.BuildLimits.{BuildLimits}
 use Rattle.cqlp_build.specs.Building.{BuilderState, CanBeBuilt, TakesEvent, empty, is_end, is_inner, with_event}
 use Rattle.cqlp_build.specs.Laws.{Answer, AreFirstOf, AreTaken, IsCut, NoneRefused, StreamIsBuilt, frames_given, told_all}
 use Rattle.cqlp_build.proofs.FrameViews.{body_inner, body_of, frame_said}
-use Rattle.cqlp_build.proofs.Several.{both}
+use Rattle.cqlp_build_cells.proofs.Steps.{both}
 
 -- ---- one event
 

@@ -26,7 +26,7 @@ use Rattle.cqlp_build.specs.declared.held.Held.{Held}
 use Rattle.cqlp_build.specs.declared.held.Fault.TheVariants as fault
 use Rattle.cqlp_build.specs.Held.{Builds, HoldsNoMore, IsRefused, IsSound, Many, TakesKind, any, first_fault, left}
 use Rattle.cqlp_build.specs.Types.{IsOfKind, Wraps, beside, field_told, is_built_field, is_built_type, list_of, map_of, names_count, set_of, told_after_kind, type_told}
-use Rattle.cqlp_build.proofs.Several.{both, join}
+use Rattle.cqlp_build_cells.proofs.Steps.{both, join}
 use Rattle.cqlp_build.proofs.Steps.{AreNone, as_builds, no_memory, pair_builds, ◌then◌}
 
 -- ---- one type

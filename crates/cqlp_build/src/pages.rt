@@ -10,7 +10,7 @@ ghost use Rattle.cqlp_message.specs.Owned.{metadata_of, page_of};
 ghost use Rattle.cqlp_build.specs.Held.{Builds, IsSound};
 ghost use Rattle.cqlp_build.specs.Productions.{AreCells, AreReadable, BuildsCell, BuildsRow, Gathers, IsPage, cells_parts, column_type, fault_of};
 ghost use Rattle.cqlp_build.specs.Told.{told};
-ghost use Rattle.cqlp_build_cells.specs.Said.{IsReadable};
+ghost use Rattle.cqlp_read.specs.Fronts.{IsReadable};
 
 use crate::held::{Fault, Held};
 use cqlp_build_cells::{CellError, ends};

@@ -15,15 +15,14 @@ use Rattle.cqlp_cell.specs.Sizes.{is_counted}
 use Rattle.cqlp_type.specs.declared.tree.TypeTree.{TypeTree, List as ListTree, Set as SetTree, Map as MapTree, Tuple as TupleTree, Udt as UdtTree}
 use Rattle.cqlp_type.specs.Trees.{kind_in, types_in}
 use Rattle.cqlp_type.specs.TypeTrees.{head_of, inner_of, tree_of}
+use Rattle.cqlp_value.specs.declared.value.Value as value
 use Rattle.cqlp_value.specs.declared.value.Value.{Value, List as ListValue, Map as MapValue, Set as SetValue, Tuple as TupleValue, Udt as UdtValue}
 use Rattle.cqlp_value.specs.Measures.{listed_pairs, listed_values, types_by}
 use Rattle.cqlp_value.specs.Owned.{value_and, value_of}
 use Rattle.cqlp_value.specs.Values.{Values, NoValue, Null_and, Empty_and, Scalar_and, Counted_and, Fields_and, values_in, values_fit, type_copies, has_fields}
 use Rattle.cqlp_value.proofs.OwnedLists.{many_values, list_is, set_is, map_is, tuple_is, udt_is}
-use Rattle.cqlp_value.proofs.ReadBack.{values_in_after}
 use Rattle.cqlp_value.proofs.ValueFits.{tuple_types, udt_types}
 use Rattle.cqlp_value.proofs.ValuesWritten.{is_the_kind, kind_is}
-use Rattle.cqlp_build_cells.proofs.Types.{and_others}
 use Rattle.cqlp_build_cells.specs.declared.held.Held.{Held}
 use Rattle.cqlp_build_cells.specs.declared.held.Fault.TheVariants as fault
 use Rattle.cqlp_build_cells.specs.declared.step.Step.{Step}
@@ -126,7 +125,14 @@ twos k j inner other zero = refl
 twos k j inner other (suc n) = omega (arith, twos k j inner other n)
 
 one_more : (v : Value) (vs : Values) → values_in (value_and v vs) ≡ suc (values_in vs)
-one_more v vs = omega (arith, many_values (v ∷ []), ap values_in (and_others v NoValue vs), values_in_after (value_of v) vs)
+one_more value.Null vs = refl
+one_more value.Empty vs = refl
+one_more (value.Leaf a) vs = refl
+one_more (value.List' shape items) vs = refl
+one_more (value.Map' shape pairs) vs = refl
+one_more (value.Set' shape items) vs = refl
+one_more (value.Tuple' shape items) vs = refl
+one_more (value.Udt' shape items) vs = refl
 
 pairs_many : (xs : List (Value × Value)) → values_in (listed_pairs xs) ≡ length xs + length xs
 pairs_many [] = refl

@@ -1,6 +1,5 @@
 pub mod Steps
 pub mod Said
-pub mod Types
 pub mod Several
 pub mod Fields
 pub mod Inside

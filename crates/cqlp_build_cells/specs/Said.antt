@@ -1,12 +1,7 @@
 -- What is told of values, wherever their bytes lie, where each scalar comes whole.
-use Rattle.std.specs.Prelude.{◌≡◌, ℕ, ◌+◌, ◌++◌, ◌⊎◌, true, List, [], ◌∷◌, drop, take}
-use Rattle.cqlp_kind.specs.declared.kind.Kind.TheVariants as kind
+use Rattle.std.specs.Prelude.{◌≡◌, ℕ, ◌+◌, ◌++◌, true, List, [], ◌∷◌, drop, take}
 use Rattle.cqlp_kind.specs.Types.{Types, Type_and, how_many, first_types}
 use Rattle.cqlp_kind.specs.CellStep.{CellEvent, Leaf, Null, Empty, Enter, Leave}
-use Rattle.cqlp_type.specs.Trees.{are_trees}
-use Rattle.cqlp_type.specs.TypeTrees.{tree_of}
-use Rattle.cqlp_type.specs.declared.tree.TypeTree.{TypeTree}
-use Rattle.cqlp_type.specs.declared.tree.TypeTree.TheVariants as tree
 use Rattle.cqlp_value.specs.Values.{Values, Null_and, Empty_and, Scalar_and, Counted_and, Fields_and, values_in, type_copies, values_fit}
 
 -- the events of values of these types at this level, as `values_items` without offsets and without parts
@@ -44,7 +39,3 @@ AreFirst ts vs = Fit (first_types (values_in vs) ts) vs
 -- values of these types, this many times over, and the end of the value around them
 abbrev pub counted_said : (level : ℕ) → Types → (n : ℕ) → Values → List CellEvent
 counted_said level ts n vs = values_said (level + 1) (type_copies n ts) vs ++ Leave level n ∷ []
-
--- a type that is formed, or that of a cell without a type
-abbrev pub IsReadable : TypeTree → Type 0
-IsReadable t = (are_trees (tree_of t) ≡ true) ⊎ (t ≡ tree.Plain kind.Raw)

@@ -9,7 +9,7 @@ ghost use Rattle.cqlp_value.specs.Owned.{cell_type};
 ghost use Rattle.cqlp_build_cells.specs.Building as told;
 ghost use Rattle.cqlp_build_cells.specs.Building.{Finishes, FinishesAs, TakesEvent, empty, is_whole, state};
 ghost use Rattle.cqlp_build_cells.specs.Held.{left};
-ghost use Rattle.cqlp_build_cells.specs.Said.{IsReadable};
+ghost use Rattle.cqlp_read.specs.Fronts.{IsReadable};
 
 use crate::error::CellError;
 use crate::held::{Fault, Held};

@@ -11,7 +11,8 @@ ghost use Rattle.cqlp_value.specs.Owned.{atom_of, value_of};
 ghost use Rattle.cqlp_value.specs.Values.{Scalar_and, NoValue as none_after, type_copies};
 ghost use Rattle.cqlp_build_cells.specs.declared.held.Fault.TheVariants as fault;
 ghost use Rattle.cqlp_build_cells.specs.Held.{Builds, HoldsNoMore, first_fault};
-ghost use Rattle.cqlp_build_cells.specs.Said.{AreFirst, Fit, IsFirst, IsReadable, counted_said, fields_said, said_inside, values_said};
+ghost use Rattle.cqlp_read.specs.Fronts.{IsReadable};
+ghost use Rattle.cqlp_build_cells.specs.Said.{AreFirst, Fit, IsFirst, counted_said, fields_said, said_inside, values_said};
 
 use crate::held::{Fault, Held};
 use crate::step::Step;

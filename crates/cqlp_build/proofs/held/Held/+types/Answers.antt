@@ -7,7 +7,8 @@ use Rattle.cqlp_type.specs.TypeTrees.{tree_of}
 use Rattle.cqlp_build.specs.declared.held.Held.{Held}
 use Rattle.cqlp_build.specs.Held.{Builds}
 use Rattle.cqlp_build.specs.Types.{IsOfKind, field_told, is_built_field, is_built_type, told_after_kind, type_told}
-use Rattle.cqlp_build.proofs.Several.{remains_more, remains_none, remains_stuck, some_of}
+use Rattle.cqlp_build_cells.proofs.Steps.{some_of}
+use Rattle.cqlp_build.proofs.Several.{remains_more, remains_none, remains_stuck}
 use Rattle.cqlp_build.proofs.Steps.{with_flag}
 use Rattle.cqlp_build.proofs.TypeParts.{custom_builds, field_builds, list_builds, map_builds, no_tree, of_kind, plain_builds, set_builds, tree_builds, tuple_builds, tuple_tree, udt_builds, udt_tree, without_parameters, wrapped}
 use Rattle.cqlp_build.proofs.held.Held.+types.Goals as goal

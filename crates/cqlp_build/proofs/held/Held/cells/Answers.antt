@@ -6,7 +6,8 @@ use Rattle.cqlp_message.specs.Owned.{metadata_of}
 use Rattle.cqlp_build.proofs.Columns.{column_count}
 use Rattle.cqlp_build.proofs.PageParts.{cells_made, no_cells}
 use Rattle.cqlp_build.proofs.Rows.{RowsRemain, rows_begin, rows_end, rows_go, rows_stuck}
-use Rattle.cqlp_build.proofs.Several.{none_of, some_of}
+use Rattle.cqlp_build_cells.proofs.Steps.{some_of}
+use Rattle.cqlp_build.proofs.Several.{none_of}
 use Rattle.cqlp_build.proofs.Steps.{stuck}
 use Rattle.cqlp_build.proofs.held.Held.cells.Goals as goal
 

@@ -2,7 +2,8 @@ use Rattle.std.proofs.Common.{◌≡◌, ◌+◌, [], ◌∷◌, ◌++◌, arith
 use Rattle.std.proofs.lemmas.List.{map-append}
 use Rattle.std.proofs.lemmas.Grind.{common_steps}
 use Rattle.cqlp_build.specs.Told.{told}
-use Rattle.cqlp_build.proofs.Several.{remains_all, remains_more, remains_none, remains_stuck, some_of}
+use Rattle.cqlp_build_cells.proofs.Steps.{some_of}
+use Rattle.cqlp_build.proofs.Several.{remains_all, remains_more, remains_none, remains_stuck}
 use Rattle.cqlp_build.proofs.held.Held.many.Goals as goal
 
 pub loop-init : goal.loop-init

@@ -3,7 +3,7 @@ use Rattle.cqlp_message.specs.Owned.{metadata_of}
 use Rattle.cqlp_build.specs.Types.{is_built_metadata}
 use Rattle.cqlp_build.proofs.Columns.{readable}
 use Rattle.cqlp_build.proofs.PageParts.{page_made}
-use Rattle.cqlp_build.proofs.Several.{both}
+use Rattle.cqlp_build_cells.proofs.Steps.{both}
 use Rattle.cqlp_build.proofs.held.Held.page.Goals as goal
 
 pub cells-cells-requires : goal.cells-cells-requires

@@ -10,7 +10,8 @@ use Rattle.cqlp_build.specs.declared.held.Held.{Held}
 use Rattle.cqlp_build.specs.Held.{first_fault}
 use Rattle.cqlp_build.proofs.Columns.{column_count}
 use Rattle.cqlp_build.proofs.Rows.{row_begins, row_ends, row_goes, row_stops}
-use Rattle.cqlp_build.proofs.Several.{none_of, some_of}
+use Rattle.cqlp_build_cells.proofs.Steps.{some_of}
+use Rattle.cqlp_build.proofs.Several.{none_of}
 use Rattle.cqlp_build.proofs.Steps.{no_memory}
 use Rattle.cqlp_build.proofs.held.Held.row.Goals as goal
 

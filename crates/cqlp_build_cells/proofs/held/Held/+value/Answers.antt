@@ -13,6 +13,8 @@ use Rattle.cqlp_type.specs.TypeTrees.{head_of, inner_of, tree_of}
 use Rattle.cqlp_value.specs.Measures.{listed_pairs, listed_values, types_by}
 use Rattle.cqlp_value.specs.Owned.{atom_of, value_of}
 use Rattle.cqlp_value.proofs.ReadBack.{with_others}
+use Rattle.cqlp_read.proofs.Progress.{pairs_snoc, values_snoc}
+use Rattle.cqlp_read.proofs.Steps.{field_readable, keys_readable, list_readable, plain_readable, set_readable, tuple_readable, type_readable, udt_readable, values_readable}
 use Rattle.cqlp_build_cells.specs.declared.held.Held.{Held}
 use Rattle.cqlp_build_cells.specs.declared.step.Step.TheVariants as step
 use Rattle.cqlp_build_cells.specs.Held.{Builds, any}
@@ -21,7 +23,6 @@ use Rattle.cqlp_build_cells.proofs.Fields.{first_end, first_more, first_over, fi
 use Rattle.cqlp_build_cells.proofs.Inside.{empty_inside, null_inside, scalar_inside, value_built}
 use Rattle.cqlp_build_cells.proofs.Several.{both_built, counted_built, counted_stuck, remains_more, remains_none, remains_stuck}
 use Rattle.cqlp_build_cells.proofs.Steps.{some_of}
-use Rattle.cqlp_build_cells.proofs.Types.{field_readable, keys_readable, list_readable, pairs_snoc, plain_readable, set_readable, tuple_readable, type_readable, udt_readable, values_readable, values_snoc}
 use Rattle.cqlp_build_cells.proofs.held.Held.+value.Goals as goal
 
 pub value-returns-in-Some-Null-clause-is : goal.value-returns-in-Some-Null-clause-is
