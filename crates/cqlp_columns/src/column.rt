@@ -56,8 +56,9 @@ pub struct Column<A: Allocator = Global> {
 }
 
 impl<A: Allocator> Model for Column<A> {
-    ghost use Rattle.std.specs.Prelude.{◌≡◌, ◌+◌, ◌≤◌, length, vec_capacity};
+    ghost use Rattle.std.specs.Prelude.{◌≡◌, ◌+◌, ◌≤◌, Some, length, vec_capacity};
     ghost use Rattle.cqlp_columns.specs.Arrays.{Column};
+    ghost use Rattle.cqlp_columns.specs.Layouts.{layout_of};
 
     ghost Value = { Column };
 
@@ -76,7 +77,7 @@ impl<A: Allocator> Model for Column<A> {
     ghost invariant = { λ c. (c.size ≤ c.values.room) × (c.rows + 1 ≤ vec_capacity c.offsets)
         × (c.rows ≤ c.truths.room) × (c.rows ≤ c.valid.room) × (c.rows ≤ c.empty.room)
         × (length c.truths.bits ≤ length c.valid.bits) × (length c.empty.bits ≡ length c.valid.bits)
-        × (length c.offsets.items ≤ length c.valid.bits + 1) };
+        × (length c.offsets.items ≤ length c.valid.bits + 1) × (layout_of c.kind ≡ Some c.layout) };
 }
 
 impl<A: Allocator> Column<A> {
@@ -112,6 +113,7 @@ impl<A: Allocator> Column<A> {
     ) -> Result<Self, AllocError>
     where
         A: Clone,
+        requires { layout_of kind ≡ Some layout }
         ensures { IfOk result (λ column. column ≡ column_of kind layout rows size []) }
     {
         let mut offsets = Vec::with_capacity(alloc.clone()?, rows as usize + 1)?;
@@ -258,16 +260,28 @@ impl<A: Allocator> Column<A> {
             && cell_len(self.layout, cell) <= self.size - self.values.len()
     }
 
+    /// How its values lie in memory, asked of its kind: where the kind is known, nothing is left to ask.
+    #[inline(always)]
+    fn layout_of_kind(&self) -> Layout
+        ensures { result ≡ self.now.layout }
+    {
+        match layout_of(self.kind) {
+            Some(layout) => layout,
+            None => self.layout,
+        }
+    }
+
     /// Adds a cell.
     #[inline(always)]
     pub(crate) fn push(&mut self, cell: &Cell<'_>)
         requires { refusal_of (cell_of cell.now) self.old ≡ None }
         ensures { self.new ≡ with_cell (cell_of cell.now) self.old }
     {
-        put_cell(&mut self.values, self.layout, cell);
+        let layout = self.layout_of_kind();
+        put_cell(&mut self.values, layout, cell);
         let end = self.values.len() as u64;
-        put_beside(&mut self.truths, &mut self.offsets, self.layout, cell, end);
-        self.valid.push(is_valid(self.layout, cell));
+        put_beside(&mut self.truths, &mut self.offsets, layout, cell, end);
+        self.valid.push(is_valid(layout, cell));
         self.empty.push(is_empty(cell));
     }
 

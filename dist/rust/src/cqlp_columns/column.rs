@@ -209,14 +209,25 @@ impl<A: Allocator> Column<A> {
             && cell_len(self.layout, cell) <= self.size - self.values.len()
     }
 
+    /// How its values lie in memory, asked of its kind: where the kind is known, nothing is left to ask.
+    #[inline(always)]
+    fn layout_of_kind(&self) -> Layout
+    {
+        match layout_of(self.kind) {
+            Some(layout) => layout,
+            None => self.layout,
+        }
+    }
+
     /// Adds a cell.
     #[inline(always)]
     pub(crate) fn push(&mut self, cell: &Cell<'_>)
     {
-        put_cell(&mut self.values, self.layout, cell);
+        let layout = self.layout_of_kind();
+        put_cell(&mut self.values, layout, cell);
         let end = self.values.len() as u64;
-        put_beside(&mut self.truths, &mut self.offsets, self.layout, cell, end);
-        self.valid.push(is_valid(self.layout, cell));
+        put_beside(&mut self.truths, &mut self.offsets, layout, cell, end);
+        self.valid.push(is_valid(layout, cell));
         self.empty.push(is_empty(cell));
     }
 
