@@ -1,6 +1,7 @@
 //! A column of a batch.
 
-ghost use Rattle.std.specs.Prelude.{◌≡◌, ◌==◌, ◌+◌, ◌<◌, ◌≤◌, ◌++◌, ◌∷◌, [], List, length, replicate, vec_capacity, Err, IfOk, IsOk, None, OnErr, OnOk, Some};
+ghost use Rattle.std.specs.Prelude.{◌≡◌, ◌==◌, ◌+◌, ◌<◌, ◌≤◌, ◌++◌, ◌∷◌, [], List, length, replicate, vec_capacity};
+ghost use Rattle.std.specs.Prelude.{Err, IfOk, IsOk, None, OnErr, OnOk, Some};
 ghost use Rattle.cqlp_kind.specs.Types.{is_kind};
 ghost use Rattle.cqlp_columns.specs.Arrays.{AreBytesOf, HasCells, IsAnswer, column_of, fits, is_long, offset_in, refusal_of, room_in, with_cell};
 ghost use Rattle.cqlp_columns.specs.Bits.{Spells, bits};
