@@ -1,6 +1,6 @@
 -- What was read into columns so far.
-use Rattle.std.proofs.Common.{◌≡◌, ℕ, ◌+◌, ◌-◌, ◌<◌, ◌≤◌, List, [], ◌∷◌, ◌++◌, length, take, drop, refl, sym, ap, subst, ◌∙◌, append_assoc, inl, inr, arith}
-use Rattle.std.specs.Prelude.{Bool, true, false, Option, Some, None}
+use Rattle.std.proofs.Common.{◌≡◌, ℕ, ◌+◌, ◌≤◌, List, [], ◌∷◌, ◌++◌, length, take, drop, refl, sym, ap, subst, ◌∙◌, append_assoc, inl, inr, arith}
+use Rattle.std.specs.Prelude.{false, Option, Some, None}
 use Rattle.std.proofs.lemmas.List.{append-nil, length-drop, length-append, nil_from_length, take-append-drop, length-take-le}
 use Rattle.cqlp_note.specs.declared.refusal.Refusal.{Refusal}
 use Rattle.cqlp_cell.specs.Reading.{AreBytes, length_under, seen_under}
@@ -11,7 +11,7 @@ use Rattle.cqlp_decode.specs.Progress.{StreamState, Pending, Kept, Skipped, Valu
 use Rattle.cqlp_decode.specs.Streams.{AfterBy, AfterGifts, LeadsAfter, Refuses, Stands}
 use Rattle.cqlp_decode.specs.Sinks.{Gets, Fails}
 use Rattle.cqlp_decode.specs.Cells.{Item, TakesItems, GetsAll, HandsOut, FailsAfter, bytes_of, told_of}
-use Rattle.cqlp_decode.proofs.Gets.{take_two, refuses_new}
+use Rattle.cqlp_decode.proofs.Gets.{take_two}
 use Rattle.cqlp_decode.proofs.Taken.{takes_stands, takes_within, told_append}
 use Rattle.cqlp_columns.specs.Batches.{Batch, is_full}
 use Rattle.cqlp_columns.specs.Findings.{found_in}
@@ -19,8 +19,6 @@ use Rattle.cqlp_page_columns.specs.Sorting.{TakesCell, SortsTo, IsOver, takes}
 use Rattle.cqlp_page_columns.specs.Filling.{TakesCells, Fills, EndsAtEvent, IsRead, stopped_at}
 use Rattle.cqlp_page_columns.specs.declared.page_columns.Went.{Went}
 use Rattle.cqlp_page_columns.specs.declared.page_columns.Went.TheVariants as went
-use Rattle.cqlp_page_columns.specs.declared.filled.Filled.{Filled}
-use Rattle.cqlp_page_columns.specs.declared.filled.Stop.TheVariants as stop
 
 -- ---- cells
 

@@ -1,6 +1,5 @@
 -- What a call makes of the input, into columns and the sink beside them.
-use Rattle.std.specs.Prelude.{◌≡◌, ℕ, Bool, true, false, ◌+◌, ◌≤◌, ◌++◌, List, [], ◌∷◌, length, take, Some, None, ◌⊎◌}
-use Rattle.cqlp_note.specs.declared.refusal.Refusal.{Refusal}
+use Rattle.std.specs.Prelude.{◌≡◌, ℕ, true, false, ◌++◌, List, [], ◌∷◌, length, take, Some, None, ◌⊎◌}
 use Rattle.cqlp_note.specs.Limits.{Rules}
 use Rattle.cqlp_decode.specs.Reading.{Event, Gifts, Place, Reads, Says, Waits, start_with}
 use Rattle.cqlp_decode.specs.Progress.{StreamState, IsHeld}

@@ -1,8 +1,6 @@
-use Rattle.std.proofs.Common.{◌≡◌, ℕ, ◌+◌, ◌≤◌, ◌++◌, length, drop, take, refl, sym, ap, subst, ◌∙◌, arith}
-use Rattle.std.specs.Prelude.{Option, Some, None}
+use Rattle.std.proofs.Common.{◌+◌, ◌≤◌, ◌++◌, length, drop, take, refl, sym, subst, ◌∙◌, arith}
 use Rattle.std.proofs.lemmas.List.{length-drop, length-take-le, take_all}
 use Rattle.cqlp_note.specs.Limits.{Rules}
-use Rattle.cqlp_note.specs.declared.refusal.Refusal.{Refusal}
 use Rattle.cqlp_grammar.specs.Events.{event_of}
 use Rattle.cqlp_decode.specs.Streams.{state}
 use Rattle.cqlp_decode.proofs.Leads.{repeated}
