@@ -1,6 +1,7 @@
 -- A level is the innermost value of a reader.
 use Rattle.std.proofs.Common.{◌≡◌, ℕ, suc, ◌-◌, ◌<◌, Bool, true, false, List, [], ◌∷◌, length, Option, Some, None, refl, sym, ap, subst, ◌∙◌, arith}
-use Rattle.std.specs.Prelude.{◌==◌, ◌+◌}
+use Rattle.std.specs.Prelude.{◌==◌, ◌+◌, ◌++◌}
+use Rattle.std.proofs.lemmas.List.{length-append}
 use Rattle.cqlp_kind.specs.declared.kind.Kind.{Kind}
 use Rattle.cqlp_kind.specs.declared.node.Node.{Node}
 use Rattle.cqlp_cell.specs.declared.open_values.Order.{Order}
@@ -17,6 +18,8 @@ use Rattle.cqlp_cell.specs.OpenValues.{last_open, with_last}
 use Rattle.cqlp_cell.specs.Progress.{CellState, Stands, after_item, after_item_by, close_if, due_of, is_over, over_by, state_after}
 use Rattle.cqlp_cell.specs.Whole.{IsDue}
 use Rattle.cqlp_cell.specs.Levels.{IsInLevel, NextFits, due_at, due_element, due_if, element_if, level_by, level_in, level_of, passed, passed_element, with_level}
+use Rattle.cqlp_cell.specs.Reading.{entered}
+use Rattle.cqlp_cell.proofs.Nesting.{last_is as last_of}
 use Rattle.cqlp_cell.proofs.Opened.{has_next, node_there, value_last}
 
 -- ---- the last of open values
@@ -79,7 +82,7 @@ module _ (nodes : List Node) (d : CellState) (l : Level) (here : IsInLevel d l) 
   last_is : last_open (with_last l.value d.open_values) ≡ Some l.value
   last_is = last_with d.open_values l.value here.some
 
-  due_here : due_of (with_level d l) ≡ close_if (is_over l.value l.offset) l.value
+  pub due_here : due_of (with_level d l) ≡ close_if (is_over l.value l.offset) l.value
   due_here = rw (here.items, last_is) refl
 
   pub next_fits : Stands nodes (with_level d l) → is_over l.value l.offset ≡ false → NextFits nodes l
@@ -123,3 +126,25 @@ element_due nodes l k e is = element_due_by nodes l k e is (l.value.left == 0) �
 
 pub element_passed : (nodes : List Node) (l : Level) (used : ℕ) → l.value.order ≡ order.Elements → passed_element l used ≡ passed nodes l used
 element_passed nodes l used e = ap (λ (k : Order). record l { value = after_item_by nodes l.value k; offset = l.offset + used }) (sym e)
+
+-- ---- a value that is opened, and one that is left
+
+pub level_entered : (d : CellState) (o : OpenValue) → d.arrived ≡ arrived.Nothing → d.next ≡ next.Items → level_of (entered d o) ≡ Some (record { value = o; level = length d.open_values + 1; offset = d.offset })
+level_entered d o fresh items = rw (fresh, items, last_of d.open_values o, length-append d.open_values (o ∷ [])) refl
+
+-- the only value that is open, with another in its place
+pub with_only : (os : List OpenValue) (o : OpenValue) → length os ≡ 1 → with_last o os ≡ o ∷ []
+with_only [] o one = absurd (omega (arith, one))
+with_only (x ∷ []) o one = refl
+with_only (x ∷ y ∷ os) o one = absurd (omega (arith, one))
+
+-- ---- the items of a map
+
+pub pair_due : (nodes : List Node) (l : Level) (k : Kind) (t : DueItem) → is_over l.value l.offset ≡ false → k ≡ (node_at nodes l.value.node).kind → Some t ≡ element_if l k false → due_at nodes l ≡ Some t
+pair_due nodes l k t more is e = rw more (sym (rw is at e))
+
+pub key_passed : (nodes : List Node) (l : Level) (used : ℕ) → l.value.order ≡ order.Keys → (passed nodes l used).value ≡ record l.value { order = order.Values; node = l.value.other; other = l.value.node; left = l.value.left - 1 }
+key_passed nodes l used e = ap (λ (k : Order). after_item_by nodes l.value k) e
+
+pub value_passed : (nodes : List Node) (l : Level) (used : ℕ) → l.value.order ≡ order.Values → (passed nodes l used).value ≡ record l.value { order = order.Keys; node = l.value.other; other = l.value.node }
+value_passed nodes l used e = ap (λ (k : Order). after_item_by nodes l.value k) e

@@ -1,5 +1,5 @@
 -- An item that lies whole at the front of the input.
-use Rattle.std.proofs.Common.{◌≡◌, ℕ, ◌+◌, ◌-◌, ◌^◌, ◌<◌, ◌≤◌, false, List, [], ◌∷◌, ◌++◌, length, take, drop, refl, ap, ◌∙◌, arith}
+use Rattle.std.proofs.Common.{◌≡◌, ℕ, ◌+◌, ◌-◌, ◌^◌, ◌<◌, ◌≤◌, false, true, Some, List, [], ◌∷◌, ◌++◌, length, take, drop, refl, ap, ◌∙◌, arith}
 use Rattle.std.specs.Int.{w32, from_be_bytes}
 use Rattle.std.proofs.lemmas.List.{length-append, length-drop, length-take-le, take_all}
 use Rattle.cqlp_note.specs.declared.head.ContentForm.TheVariants as form
@@ -23,12 +23,16 @@ use Rattle.cqlp_cell.specs.declared.progress.Arrived.TheVariants as arrived
 use Rattle.cqlp_cell.specs.Fronts.{SaysScalar}
 use Rattle.cqlp_cell.specs.Items.{event_at}
 use Rattle.cqlp_cell.specs.Numbers.{IsCounted}
-use Rattle.cqlp_cell.specs.OpenValues.{but_last}
-use Rattle.cqlp_cell.specs.Progress.{CellState, place, due_value, open_after, state_after, rest_of, due_of, Stands}
+use Rattle.cqlp_cell.specs.OpenValues.{but_last, with_last}
+use Rattle.cqlp_cell.specs.Progress.{CellState, place, due_value, open_after, state_after, rest_of, due_of, is_over, Stands}
 use Rattle.cqlp_cell.specs.Coming.{inner_of, room_of}
 use Rattle.cqlp_cell.specs.Reading.{step_says, sized_of, Decided, Hands, EntersCounted, EntersFields}
 use Rattle.cqlp_cell.specs.Pushing.{done_by, is_done}
-use Rattle.cqlp_cell.specs.Whole.{IsWhole}
+use Rattle.cqlp_cell.specs.Whole.{IsWhole, Leaves}
+use Rattle.cqlp_cell.specs.declared.level.Level.{Level}
+use Rattle.cqlp_cell.specs.declared.whole.BarePart.TheVariants as bare
+use Rattle.cqlp_cell.specs.Levels.{IsInLevel, with_level}
+use Rattle.cqlp_cell.proofs.Levels.{due_here, with_only}
 use Rattle.cqlp_cell.proofs.Opened.{value_next}
 use Rattle.cqlp_cell.proofs.Coming.{value_due}
 use Rattle.cqlp_cell.proofs.Handing.{moved_stands}
@@ -121,6 +125,17 @@ module _ (nodes : List Node) (d : CellState) (input : List ℕ) (used : ℕ) (v 
 pub leave_whole : (nodes : List Node) (d : CellState) (o : OpenValue) (input : List ℕ) (new : CellState) (level : ℕ) → Stands nodes d → due_of d ≡ due.Close o → d.arrived ≡ arrived.Nothing → o.stop ≤ d.offset → new ≡ record d { open_values = but_last d.open_values } → level ≡ length (but_last d.open_values)
     → IsWhole nodes d input d.offset 0 (outline.Leave level o.items) new
 leave_whole nodes d o input new level stands now fresh le goes at = whole nodes d input d.offset 0 (outline.Leave level o.items) new fresh (λ p idle _. close_hands nodes d o p input stands now idle new level fresh le goes at)
+
+-- the same of the cell itself, whose level is in a caller's hands
+pub left_whole : (nodes : List Node) (d : CellState) (l : Level) → IsInLevel d l → length d.open_values ≡ 1 → is_over l.value l.offset ≡ true → l.value.stop ≤ l.offset → Stands nodes (with_level d l)
+    → Leaves nodes (with_level d l) (Some (record { at = l.offset; used = 0; part = bare.Leave 0 l.value.items })) (record d { offset = l.offset; open_values = [] })
+left_whole nodes d l here one over le stands =
+    let only = with_only d.open_values l.value one in
+    let now : due_of (with_level d l) ≡ due.Close l.value = rw over at (due_here nodes d l here) in
+    let new : CellState = record d { offset = l.offset; open_values = [] } in
+    let goes : new ≡ record (with_level d l) { open_values = but_last (with_last l.value d.open_values) } = rw only refl in
+    let at : 0 ≡ length (but_last (with_last l.value d.open_values)) = rw only refl in
+    (λ input. leave_whole nodes (with_level d l) l.value input new 0 stands now here.fresh le goes at, rw here.items refl)
 
 -- ---- a value without a content, or the beginning of one with items
 

@@ -1,10 +1,12 @@
 -- The innermost value that is open, in a caller's hands.
 use Rattle.std.specs.Prelude.{◌≡◌, ℕ, ◌+◌, ◌-◌, ◌<◌, ◌≤◌, Bool, true, false, List, length, Option, Some, None, IsSome, slice_get}
-use Rattle.std.specs.Prelude.{◌==◌}
+use Rattle.std.specs.Prelude.{◌==◌, ⊤}
 use Rattle.cqlp_kind.specs.declared.kind.Kind.{Kind}
 use Rattle.cqlp_kind.specs.declared.node.Node.{Node}
 use Rattle.cqlp_type.specs.Forests.{node_at}
 use Rattle.cqlp_cell.specs.declared.level.Level.{Level}
+use Rattle.cqlp_cell.specs.declared.level.PairKinds.{PairKinds}
+use Rattle.cqlp_cell.specs.declared.open_values.Order.TheVariants as order
 use Rattle.cqlp_cell.specs.declared.open_values.OpenValue.{OpenValue}
 use Rattle.cqlp_cell.specs.declared.progress.NextInCell.{NextInCell}
 use Rattle.cqlp_cell.specs.declared.progress.NextInCell.TheVariants as next
@@ -76,3 +78,15 @@ due_element l k = element_if l k (l.value.left == 0)
 -- a list or a set after its next item, which takes this many bytes
 abbrev pub passed_element : Level → (used : ℕ) → Level
 passed_element l used = record l { value = record l.value { left = l.value.left - 1 }; offset = l.offset + used }
+
+-- ---- the items of a map
+
+-- The next item is a key of a map, whose keys and values are of these kinds.
+pub record IsPair (nodes : List Node) (l : Level) (key value : Kind) : Type 0 where
+  pub at_key : l.value.order ≡ order.Keys
+  pub of_key : key ≡ (node_at nodes l.value.node).kind
+  pub of_value : value ≡ (node_at nodes l.value.other).kind
+
+abbrev pub ArePair : List Node → Level → Option PairKinds → Type 0
+ArePair nodes l None = ⊤
+ArePair nodes l (Some p) = IsPair nodes l p.key p.value

@@ -1,5 +1,5 @@
 -- Items that lie whole at the front of the input.
-use Rattle.std.specs.Prelude.{◌≡◌, ℕ, List, [], length, Option, Some, None}
+use Rattle.std.specs.Prelude.{◌≡◌, ℕ, true, List, [], length, Option, Some, None}
 use Rattle.cqlp_note.specs.Partial.{FieldState}
 use Rattle.cqlp_kind.specs.declared.node.Node.{Node}
 use Rattle.cqlp_cell.specs.declared.advance.CellOutline.{CellOutline}
@@ -10,10 +10,13 @@ use Rattle.cqlp_cell.specs.declared.progress.NextInCell.TheVariants as next
 use Rattle.cqlp_cell.specs.declared.progress.Arrived.TheVariants as arrived
 use Rattle.cqlp_cell.specs.declared.whole.DueItem.{DueItem}
 use Rattle.cqlp_cell.specs.declared.whole.BareItem.{BareItem}
+use Rattle.cqlp_cell.specs.declared.whole.Entered.{Entered}
 use Rattle.cqlp_cell.specs.declared.whole.BarePart.{BarePart}
 use Rattle.cqlp_cell.specs.declared.whole.BarePart.TheVariants as bare
 use Rattle.cqlp_cell.specs.Progress.{CellState, due_of, due_value}
 use Rattle.cqlp_cell.specs.Coming.{room_of}
+use Rattle.cqlp_cell.specs.Levels.{level_of}
+use Rattle.cqlp_cell.specs.Pushing.{is_done}
 use Rattle.cqlp_cell.specs.Reading.{Joined, Moves}
 
 abbrev pub outline_of : BarePart → CellOutline
@@ -45,3 +48,15 @@ pub record IsDue (nodes : List Node) (d : CellState) (t : DueItem) : Type 0 wher
 abbrev pub TakesBare : List Node → CellState → List ℕ → Option BareItem → CellState → Type 0
 TakesBare nodes old input None new = new ≡ old
 TakesBare nodes old input (Some t) new = IsWhole nodes old input t.at t.used (outline_of t.part) new
+
+-- What is next is the beginning of a list, a set or a map, and the reading stands in it from now on; or nothing is done.
+abbrev pub Enters : List Node → CellState → List ℕ → Option Entered → CellState → Type 0
+Enters nodes old input None new = new ≡ old
+Enters nodes old input (Some t) new =
+    IsWhole nodes old input t.item.at t.item.used (outline_of t.item.part) new × (level_of new ≡ Some t.level)
+
+-- What is next is the end of the cell, which takes no byte; or nothing is done.
+abbrev pub Leaves : List Node → CellState → Option BareItem → CellState → Type 0
+Leaves nodes old None new = new ≡ old
+Leaves nodes old (Some t) new =
+    ((input : List ℕ) → IsWhole nodes old input t.at t.used (outline_of t.part) new) × (is_done new ≡ true)

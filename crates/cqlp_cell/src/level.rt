@@ -1,9 +1,10 @@
 //! The innermost value that is open, in a caller's hands.
 
-ghost use Rattle.std.specs.Prelude.{◌≡◌, ◌+◌, ◌^◌, ◌<◌, ◌≤◌, ◌↔◌, IsTrue, false};
+ghost use Rattle.std.specs.Prelude.{◌≡◌, ◌+◌, ◌^◌, ◌<◌, ◌≤◌, ◌↔◌, IsTrue, List, false};
+ghost use Rattle.cqlp_kind.specs.declared.node.Node.{Node};
 ghost use Rattle.cqlp_cell.specs.declared.open_values.Order.TheVariants as order;
 ghost use Rattle.cqlp_cell.specs.Progress.{HasNext, is_over};
-ghost use Rattle.cqlp_cell.specs.Levels.{NextFits, due_at, due_element, passed, passed_element};
+ghost use Rattle.cqlp_cell.specs.Levels.{ArePair, NextFits, due_at, due_element, element_if, passed, passed_element};
 
 use crate::open_values::{OpenValue, Order};
 use crate::whole::DueItem;
@@ -20,6 +21,13 @@ pub struct Level {
     pub(crate) level: u32,
     /// The offset of what is read next.
     pub(crate) offset: u64,
+}
+
+/// The kinds of the keys and of the values of a map.
+#[derive(Clone, Copy)]
+pub struct PairKinds {
+    pub key: Kind,
+    pub value: Kind,
 }
 
 impl Level {
@@ -88,6 +96,73 @@ impl Level {
         ensures { self.new ≡ passed table.now.nodes self.old used }
     {
         self.value.pass_item(table);
+        self.offset += used as u64;
+    }
+
+    /// The kinds of the keys and of the values of a map whose key is next; `None` of another value.
+    #[tactic(auto, unfolding(cqlp_type::specs::Forests::node_at))]
+    #[inline(always)]
+    pub fn pair_kinds<A: Allocator>(&self, table: &TypeTable<A>) -> Option<PairKinds>
+        ensures { ArePair table.now.nodes self.now result }
+    {
+        let Order::Keys = self.value.order else {
+            return None;
+        };
+        let Some(key) = table.node(self.value.node) else {
+            return None;
+        };
+        let Some(value) = table.node(self.value.other) else {
+            return None;
+        };
+        Some(PairKinds {
+            key: key.kind,
+            value: value.kind,
+        })
+    }
+
+    /// The next item of a map, which is of this kind.
+    #[inline(always)]
+    pub fn due_in_pair(&self, kind: Kind) -> DueItem
+        requires { self.now.offset ≤ self.now.value.stop }
+        ensures { Some result ≡ element_if self.now kind false }
+    {
+        DueItem {
+            at: self.offset,
+            kind,
+            room: self.value.stop - self.offset,
+            level: self.level,
+        }
+    }
+
+    /// Whether a pair of a map is left whose key is next.
+    #[inline(always)]
+    pub fn has_key(&self) -> bool
+        ensures { IsTrue result ↔ ((self.now.value.order ≡ order.Keys) × (0 < self.now.value.left)) }
+    {
+        matches!(self.value.order, Order::Keys) && self.value.left > 0
+    }
+
+    /// Goes on after a key of a map, which takes this many bytes.
+    #[inline(always)]
+    pub fn pass_key(&mut self, used: usize)
+        requires key { self.old.value.order ≡ order.Keys }
+        requires next { 0 < self.old.value.left }
+        requires place { self.old.offset + used < 2 ^ 64 }
+        ensures { (nodes : List Node) → self.new ≡ passed nodes self.old used }
+    {
+        self.value.switch_type(Order::Values);
+        self.value.left -= 1;
+        self.offset += used as u64;
+    }
+
+    /// Goes on after a value of a map, which takes this many bytes.
+    #[inline(always)]
+    pub fn pass_value(&mut self, used: usize)
+        requires key { self.old.value.order ≡ order.Values }
+        requires place { self.old.offset + used < 2 ^ 64 }
+        ensures { (nodes : List Node) → self.new ≡ passed nodes self.old used }
+    {
+        self.value.switch_type(Order::Keys);
         self.offset += used as u64;
     }
 }

@@ -19,6 +19,6 @@ mod whole;
 pub use advance::{CellAdvance, CellOutline};
 pub use front::{FrontScalar, front_scalar};
 pub use item::{CellItem, CellPush};
-pub use level::Level;
+pub use level::{Level, PairKinds};
 pub use reader::CellReader;
-pub use whole::{BareItem, BarePart, DueItem};
+pub use whole::{BareItem, BarePart, DueItem, Entered};

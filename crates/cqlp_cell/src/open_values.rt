@@ -83,6 +83,7 @@ impl<A: Allocator> OpenValues<A> {
         self.values.capacity()
     }
 
+    #[inline]
     pub(crate) fn clear(&mut self)
         ensures { self.new ≡ record { open_values = []; room = self.old.room } }
     {

@@ -140,6 +140,7 @@ impl<A: Allocator> CellProgress<A> {
     }
 
     /// Ends the cell.
+    #[inline(always)]
     pub(crate) fn end(&mut self)
         ensures state { state_of self.new ≡ ended (state_of self.old) }
         ensures room { self.new.open_values.room ≡ self.old.open_values.room }
@@ -242,7 +243,7 @@ impl OpenValue {
 
     /// Goes on with the other of a map's types.
     #[inline(always)]
-    fn switch_type(&mut self, order: Order)
+    pub(crate) fn switch_type(&mut self, order: Order)
         ensures { self.new ≡ record self.old { order = order; node = self.old.other; other = self.old.node } }
     {
         let node = self.node;

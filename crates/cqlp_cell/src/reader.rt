@@ -1,6 +1,6 @@
 //! A cell out of pieces of any size.
 
-ghost use Rattle.std.specs.Prelude.{◌≡◌, ℕ, ◌+◌, ◌^◌, ◌<◌, ◌≤◌, List, true, false, length, IfOk};
+ghost use Rattle.std.specs.Prelude.{◌≡◌, ℕ, ◌+◌, ◌^◌, ◌<◌, ◌≤◌, List, None, true, false, length, IfOk};
 ghost use Rattle.std.specs.Borrow.{sem};
 ghost use Rattle.cqlp_note.specs.Limits.{rules_of, rules_asked};
 
@@ -9,7 +9,7 @@ use crate::item::CellPush;
 use crate::level::Level;
 use crate::open_values::OpenValues;
 use crate::progress::{Arrived, CellProgress, NextInCell};
-use crate::whole::BareItem;
+use crate::whole::{BareItem, Entered};
 use cqlp_note::{Asked, Limits, NoMemory, Partial};
 use cqlp_type::TypeTable;
 use std::alloc::{Allocator, Global};
@@ -38,8 +38,8 @@ impl<A: Allocator> CellReader<A> {
     ghost use Rattle.cqlp_kind.specs.declared.node.Node.{Node};
     ghost use Rattle.cqlp_cell.specs.Reading.{Answers, Empties, HaveCome, Joined, Moves};
     ghost use Rattle.cqlp_cell.specs.Pushing.{Continues, Pushes, Uses, begun, is_done, new_reader};
-    ghost use Rattle.cqlp_cell.specs.Levels.{level_of, with_level};
-    ghost use Rattle.cqlp_cell.specs.Whole.{TakesBare};
+    ghost use Rattle.cqlp_cell.specs.Levels.{IsInLevel, level_of, with_level};
+    ghost use Rattle.cqlp_cell.specs.Whole.{Enters, Leaves, TakesBare};
 
     /// With room for the nesting that the limits allow. Parts have at least one byte.
     pub fn new(alloc: A, limits: &Limits) -> Result<Self, NoMemory>
@@ -67,6 +67,7 @@ impl<A: Allocator> CellReader<A> {
     }
 
     /// Begins a cell of the type at this node, or of none, at an offset in a container that ends at another.
+    #[inline(always)]
     pub fn begin(&mut self, node: Option<u32>, at: u64, end: u64)
         requires idle { is_under_way self.old ≡ false }
         requires place { at ≤ end }
@@ -102,6 +103,7 @@ impl<A: Allocator> CellReader<A> {
     }
 
     /// The offset of what is read next.
+    #[inline(always)]
     pub fn offset(&self) -> u64
         ensures { result ≡ self.now.offset }
     {
@@ -110,6 +112,7 @@ impl<A: Allocator> CellReader<A> {
     }
 
     /// Ends the cell that is under way, whole or not, if there is one.
+    #[inline(always)]
     pub fn stop(&mut self)
         ensures { self.new ≡ ended self.old }
     {
@@ -171,6 +174,27 @@ impl<A: Allocator> CellReader<A> {
         ensures { TakesBare table.now.nodes self.old input.now result self.new }
     {
         self.progress.take_bare(table, input)
+    }
+
+    /// Goes on inside the list, the set or the map that is next of the cell under way, where `advance` would do so out of
+    /// the input alone, and its length and its count lie in it; else it does nothing.
+    #[inline(always)]
+    pub fn enter(&mut self, table: &TypeTable<A>, input: &[u8]) -> Option<Entered>
+        requires { Stands table.now.nodes self.old }
+        ensures { Enters table.now.nodes self.old input.now result self.new }
+    {
+        self.progress.enter_value(table, input)
+    }
+
+    /// Goes on where a level stands, and leaves the value that it is, where that is the cell itself and at its end.
+    #[inline(always)]
+    pub fn leave(&mut self, level: Level) -> Option<BareItem>
+        requires { IsInLevel self.old level }
+        ensures leaves { (nodes : List Node) → Stands nodes (with_level self.old level)
+            → Leaves nodes (with_level self.old level) result self.new }
+        ensures left { result ≡ None → self.new ≡ with_level self.old level }
+    {
+        self.progress.leave_value(level)
     }
 
     /// Takes the next bytes of the cell that is under way. A content that lies whole in them is lent from them.

@@ -1,6 +1,6 @@
 //! The steps of reading a cell.
 
-ghost use Rattle.std.specs.Prelude.{◌≡◌, ◌≢◌, ◌+◌, ◌-◌, ◌<◌, ◌≤◌, ◌^◌, ◌++◌, List, [], length, drop, true, false};
+ghost use Rattle.std.specs.Prelude.{◌≡◌, ◌≢◌, ◌+◌, ◌-◌, ◌<◌, ◌≤◌, ◌^◌, ◌++◌, List, [], length, drop, true, false, Some};
 ghost use Rattle.cqlp_cell.specs.declared.size.Sized.TheVariants as size;
 ghost use Rattle.cqlp_cell.specs.declared.progress.CellDue.TheVariants as due;
 ghost use Rattle.cqlp_cell.specs.declared.progress.NextInCell.TheVariants as next;
@@ -10,6 +10,7 @@ ghost use Rattle.cqlp_cell.specs.Numbers.{IsCounting};
 ghost use Rattle.cqlp_cell.specs.Sizes.{is_counted};
 ghost use Rattle.cqlp_cell.specs.Progress.{Stands, due_of, due_value, ended, has_further, state_after, state_of};
 ghost use Rattle.cqlp_cell.specs.Coming.{room_of};
+ghost use Rattle.cqlp_cell.specs.Levels.{level_of};
 ghost use Rattle.cqlp_cell.specs.Reading.{Answers, Closes, Decided, Empties, EntersCounted, EntersFields, InnerStands};
 ghost use Rattle.cqlp_cell.specs.Reading.{IsFurtherUnder, IsLengthUnder, IsPartUnder, Joined, Reads, Sizes, Steps};
 ghost use Rattle.cqlp_cell.specs.Reading.{inner_order as order_inside, next_after};
@@ -17,6 +18,7 @@ ghost use Rattle.cqlp_cell.specs.Reading.{inner_order as order_inside, next_afte
 use crate::advance::{CellAdvance, CellOutline};
 use crate::content::kind_read;
 use crate::gather::{empty, gather, lend_bytes};
+use crate::level::Level;
 use crate::number::{Number, take_number};
 use crate::open_values::{OpenValue, Order};
 use crate::progress::{Arrived, CellDue, CellProgress, DueValue, NextInCell};
@@ -209,21 +211,52 @@ impl<A: Allocator> CellProgress<A> {
         ensures limits { self.new.limits ≡ self.old.limits }
     {
         let level = self.open_values.len();
+        self.open_counted(value, len, count, table);
+        CellOutline::Enter {
+            level,
+            kind: value.kind,
+            items: count,
+        }
+    }
+
+    /// The same, and says where it stands in it.
+    #[inline(always)]
+    pub(crate) fn open_counted(
+        &mut self,
+        value: DueValue,
+        len: u32,
+        count: u32,
+        table: &TypeTable<A>,
+    ) -> Level
+        requires stands { Stands table.now.nodes (state_of self.old) }
+        requires due { due_of (state_of self.old) ≡ due.Value }
+        requires value { value ≡ due_value table.now.nodes (state_of self.old) }
+        requires decided { Decided table.now.nodes (state_of self.old) len (size.Counted len) }
+        requires levels { self.old.open_values.room ≡ self.old.limits.depth }
+        requires count { 4 ≤ len }
+        ensures enters { EntersCounted table.now.nodes (state_of self.old) len count (state_of self.new) }
+        ensures level { level_of (state_of self.new) ≡ Some result }
+        ensures room { self.new.open_values.room ≡ self.old.open_values.room }
+        ensures limits { self.new.limits ≡ self.old.limits }
+    {
         let stop = self.offset + 4 + u64::from(len);
         let (order, other) = inner_order(value, table);
         self.pass(8, table);
-        self.open_values.push(OpenValue {
+        let offset = self.offset;
+        let value = OpenValue {
             order,
             node: value.inner,
             other,
             left: count,
             items: count,
             stop,
-        });
-        CellOutline::Enter {
+        };
+        self.open_values.push(value);
+        let level = self.open_values.len();
+        Level {
+            value,
             level,
-            kind: value.kind,
-            items: count,
+            offset,
         }
     }
 
@@ -546,6 +579,7 @@ fn next_part(last: bool, offset: u32, total: u32) -> NextInCell
 }
 
 /// How the items of a list, a set or a map follow one another, and the node of a map's second type.
+#[inline(always)]
 fn inner_order<A: Allocator>(value: DueValue, table: &TypeTable<A>) -> (Order, u32)
     requires { InnerStands table.now.nodes value }
     ensures { result ≡ order_inside table.now.nodes value }

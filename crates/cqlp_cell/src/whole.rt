@@ -1,6 +1,7 @@
 //! Items that lie whole at the front of the input.
 
-ghost use Rattle.std.specs.Prelude.{◌≡◌, ◌≤◌, length, take};
+ghost use Rattle.std.specs.Prelude.{◌≡◌, ◌≤◌, List, None, length, take};
+ghost use Rattle.cqlp_kind.specs.declared.node.Node.{Node};
 ghost use Rattle.std.specs.Int.{w32, from_be_bytes};
 ghost use Rattle.cqlp_cell.specs.declared.size.Sized.TheVariants as size;
 ghost use Rattle.cqlp_cell.specs.declared.progress.CellDue.TheVariants as due;
@@ -8,8 +9,8 @@ ghost use Rattle.cqlp_cell.specs.declared.progress.Arrived.TheVariants as arrive
 ghost use Rattle.cqlp_cell.specs.Coming.{room_of};
 ghost use Rattle.cqlp_cell.specs.Reading.{Decided};
 ghost use Rattle.cqlp_cell.specs.Progress.{Stands, due_of, due_value, state_of};
-ghost use Rattle.cqlp_cell.specs.Levels.{level_of, with_level};
-ghost use Rattle.cqlp_cell.specs.Whole.{TakesBare};
+ghost use Rattle.cqlp_cell.specs.Levels.{IsInLevel, level_of, with_level};
+ghost use Rattle.cqlp_cell.specs.Whole.{Enters, Leaves, TakesBare};
 
 use crate::level::Level;
 use crate::progress::{Arrived, CellDue, CellProgress, DueValue, NextInCell};
@@ -49,6 +50,13 @@ pub enum BarePart {
     Enter { level: u32, kind: Kind, items: u32 },
     /// The end of such a value.
     Leave { level: u32, items: u32 },
+}
+
+/// The beginning of a list, a set or a map, and where the reading stands in it.
+#[derive(Clone, Copy)]
+pub struct Entered {
+    pub item: BareItem,
+    pub level: Level,
 }
 
 impl<A: Allocator> CellProgress<A> {
@@ -210,5 +218,97 @@ impl<A: Allocator> CellProgress<A> {
                 items: count,
             },
         })
+    }
+
+    /// Goes on inside the list, the set or the map that is next, where its length and its count are lawful and lie in the
+    /// input.
+    #[inline(always)]
+    pub(crate) fn enter_value(&mut self, table: &TypeTable<A>, input: &[u8]) -> Option<Entered>
+        requires stands { Stands table.now.nodes (state_of self.old) }
+        requires levels { self.old.open_values.room ≡ self.old.limits.depth }
+        ensures enters { Enters table.now.nodes (state_of self.old) input.now result (state_of self.new) }
+        ensures room { self.new.open_values.room ≡ self.old.open_values.room }
+        ensures limits { self.new.limits ≡ self.old.limits }
+    {
+        let Arrived::Nothing = self.arrived else {
+            return None;
+        };
+        let CellDue::Value = self.due() else {
+            return None;
+        };
+        let value = self.value(table);
+        let room = value.stop - self.offset;
+        if room < 4 || input.len() < 8 {
+            return None;
+        }
+        let len = u32::from_be_bytes(read_array(input));
+        let Sized::Counted(len) = size_up(&self.limits, value.kind, room, len) else {
+            return None;
+        };
+        self.enter_sized(value, len, table, input)
+    }
+
+    /// The same of a list, a set or a map of this many bytes.
+    #[inline(always)]
+    fn enter_sized(
+        &mut self,
+        value: DueValue,
+        len: u32,
+        table: &TypeTable<A>,
+        input: &[u8],
+    ) -> Option<Entered>
+        requires stands { Stands table.now.nodes (state_of self.old) }
+        requires fresh { self.old.arrived ≡ arrived.Nothing }
+        requires due { due_of (state_of self.old) ≡ due.Value }
+        requires value { value ≡ due_value table.now.nodes (state_of self.old) }
+        requires decided { Decided table.now.nodes (state_of self.old) len (size.Counted len) }
+        requires room { 4 ≤ room_of table.now.nodes (state_of self.old) }
+        requires within { 8 ≤ length input.now }
+        requires length { len ≡ from_be_bytes w32 (take 4 input.now) }
+        requires levels { self.old.open_values.room ≡ self.old.limits.depth }
+        ensures enters { Enters table.now.nodes (state_of self.old) input.now result (state_of self.new) }
+        ensures room { self.new.open_values.room ≡ self.old.open_values.room }
+        ensures limits { self.new.limits ≡ self.old.limits }
+    {
+        let at = self.offset;
+        let around = self.open_values.len();
+        let count = u32::from_be_bytes(read_array(&input[4..]));
+        if len < 4 || count > i32::MAX as u32 {
+            return None;
+        }
+        let level = self.open_counted(value, len, count, table);
+        let part = BarePart::Enter {
+            level: around,
+            kind: value.kind,
+            items: count,
+        };
+        Some(Entered {
+            item: BareItem { at, used: 8, part },
+            level,
+        })
+    }
+
+    /// Goes on where a level stands, and leaves the value that it is, where that is the cell itself and at its end.
+    #[inline(always)]
+    pub(crate) fn leave_value(&mut self, level: Level) -> Option<BareItem>
+        requires { IsInLevel (state_of self.old) level }
+        ensures leaves { (nodes : List Node) → Stands nodes (with_level (state_of self.old) level)
+            → Leaves nodes (with_level (state_of self.old) level) result (state_of self.new) }
+        ensures left { result ≡ None → state_of self.new ≡ with_level (state_of self.old) level }
+        ensures room { self.new.open_values.room ≡ self.old.open_values.room }
+        ensures limits { self.new.limits ≡ self.old.limits }
+    {
+        let at = level.offset;
+        if level.level > 1 || !level.value.is_over(at) || at < level.value.stop {
+            self.set_level(level);
+            return None;
+        }
+        self.offset = at;
+        self.open_values.clear();
+        let part = BarePart::Leave {
+            level: 0,
+            items: level.value.items,
+        };
+        Some(BareItem { at, used: 0, part })
     }
 }

@@ -1,5 +1,5 @@
 -- What always holds of a reader.
-use Rattle.std.proofs.Common.{◌≡◌, ℕ, List, [], ◌∷◌, ◌++◌, length, append_assoc}
+use Rattle.std.proofs.Common.{ℕ, List, ◌++◌, append_assoc}
 use Rattle.std.proofs.lemmas.List.{append-nil}
 use Rattle.cqlp_note.specs.Reader.{Reader, Gives, Refuses, Takes, Idles}
 use Rattle.cqlp_note.specs.Field.{FieldValue, FieldReader}

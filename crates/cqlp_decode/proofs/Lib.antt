@@ -14,5 +14,7 @@ pub mod Gets
 pub mod Taken
 pub mod PageLoop
 pub mod ItemLoop
+pub mod Pairs
+pub mod Lists
 pub mod FieldLoop
 pub mod Gathering

@@ -6,7 +6,10 @@ use Rattle.cqlp_kind.specs.Scalars.{ScalarValue, allows_size}
 use Rattle.cqlp_kind.specs.CellStep.{CellEvent}
 use Rattle.cqlp_kind.specs.CellStep as cell
 use Rattle.cqlp_cell.specs.Fronts.{SaysScalar}
-use Rattle.cqlp_cell.specs.Levels.{with_level}
+use Rattle.cqlp_cell.specs.Levels.{level_of, with_level}
+use Rattle.cqlp_cell.specs.Progress.{CellState}
+use Rattle.cqlp_cell.specs.declared.whole.BareItem.{BareItem}
+use Rattle.cqlp_cell.specs.declared.whole.Entered.{Entered}
 use Rattle.cqlp_cell.specs.declared.level.Level.{Level}
 use Rattle.cqlp_cell.specs.declared.whole.BarePart.{BarePart}
 use Rattle.cqlp_cell.specs.declared.whole.BarePart.TheVariants as bare
@@ -91,3 +94,22 @@ StaysIn page (Some t) now = t.over ≡ false → now ≡ stage.InCell page
 abbrev pub IsIn : Option CellCursor → StreamStage → Type 0
 IsIn None now = ⊤
 IsIn (Some page) now = now ≡ stage.InCell page
+
+-- ---- cells with a count
+
+-- What is next is the beginning of a list, a set or a map that a cell is, or nothing is done.
+abbrev pub TakesEntry : StreamState → List ℕ → (row column : ℕ) → Option Entered → StreamState → Type 0
+TakesEntry old input row column None new = new ≡ old
+TakesEntry old input row column (Some t) new =
+    TakesItem old input t.item.at t.item.used (part_told row column t.item.part) new
+
+-- the reading of the cell stands in this level, if there is one
+abbrev pub StandsIn : Option Entered → CellState → Type 0
+StandsIn None d = ⊤
+StandsIn (Some t) d = level_of d ≡ Some t.level
+
+-- What is next is the end of the cell, which takes no byte, or nothing is done.
+abbrev pub LeavesCell : StreamState → (row column : ℕ) → Option BareItem → StreamState → Type 0
+LeavesCell old row column None new = new ≡ old
+LeavesCell old row column (Some t) new =
+    (input : List ℕ) → TakesItem old input t.at t.used (part_told row column t.part) new

@@ -518,6 +518,11 @@ IsNoPage (stage.BeforeCell p) = ⊥
 IsNoPage (stage.InCell p) = ⊥
 IsNoPage t = ⊤
 
+-- no cell is due that is not begun
+abbrev pub IsNoCellDue : StreamStage → Type 0
+IsNoCellDue (stage.BeforeCell p) = ⊥
+IsNoCellDue t = ⊤
+
 -- a refusal ends a page, and leaves a given table in use
 abbrev pub EndsPage : EventAdvance → (old new : StreamProgress) → Type 0
 EndsPage (advance.Refused r) old new = IsNoPage new.stage × (new.given_use ≡ old.given_use)

@@ -19,6 +19,7 @@ use crate::advance::{EventAdvance, EventOutline, ScalarCell};
 use crate::field_loop::take_fields;
 use crate::given::{GiveError, GiveReason, GivenUse};
 use crate::item_loop::take_items;
+use crate::list_loop::take_lists;
 use crate::page_loop::take_cells;
 use crate::parts::Parts;
 use crate::progress::{StreamProgress, StreamStage};
@@ -415,11 +416,81 @@ impl<A: Allocator> Decoder<A> {
         if !self.progress.is_in_page() {
             return Ok(0);
         }
-        let used = match take_cells(&mut self.progress, &self.parts, input, sink) {
+        let mut used = match self.take_scalars(input, sink) {
             Ok(used) => used,
             Err(fault) => return Err(fault),
         };
-        let more = match take_items(&mut self.progress, &mut self.parts, &input[used..], sink) {
+        'turns: loop {
+            let more = match self.take_turn(&input[used..], sink) {
+                Ok(more) => more,
+                Err(fault) => {
+                    let used = used + fault.used;
+                    return Err(FaultAfter { used });
+                }
+            };
+            used += more;
+            if more == 0 || !self.progress.is_cell_due() {
+                return Ok(used);
+            }
+        }
+    }
+
+    /// Hands cells to the sink that are scalars, null or empty.
+    #[inline]
+    fn take_scalars<S: Sink>(&mut self, input: &[u8], sink: &mut S) -> Result<usize, FaultAfter>
+        ensures stays { StaysWithin (state self.old) input.now result (state self.new) }
+        ensures refused { (r : Refusal) → (state self.old).refusal ≡ Some r
+            → (state self.new ≡ state self.old) × (sink.new ≡ sink.old) × (result ≡ Ok 0) }
+        ensures drains { DrainsCells (Gets S.Sink) (Fails S.Sink) (state self.old) input.now result (state self.new)
+            sink.old sink.new }
+    {
+        take_cells(&mut self.progress, &self.parts, input, sink)
+    }
+
+    /// Hands cells to the sink that have items, and the items of the cell under way.
+    #[inline]
+    fn take_nested<S: Sink>(&mut self, input: &[u8], sink: &mut S) -> Result<usize, FaultAfter>
+        ensures stays { StaysWithin (state self.old) input.now result (state self.new) }
+        ensures refused { (r : Refusal) → (state self.old).refusal ≡ Some r
+            → (state self.new ≡ state self.old) × (sink.new ≡ sink.old) × (result ≡ Ok 0) }
+        ensures drains { DrainsCells (Gets S.Sink) (Fails S.Sink) (state self.old) input.now result (state self.new)
+            sink.old sink.new }
+    {
+        let due = self.progress.due_cell();
+        let used = match take_lists(&mut self.progress, &mut self.parts, input, sink) {
+            Ok(used) => used,
+            Err(fault) => return Err(fault),
+        };
+        // Where the first cell was left unfinished, those after it are likely to be like it: then one loop goes over all.
+        let counted = self.progress.is_in(due);
+        let rest = &input[used..];
+        let more = match take_items(&mut self.progress, &mut self.parts, counted, rest, sink) {
+            Ok(more) => more,
+            Err(fault) => {
+                let used = used + fault.used;
+                return Err(FaultAfter { used });
+            }
+        };
+        Ok(used + more)
+    }
+
+    /// The same, and then cells that are scalars.
+    #[inline]
+    fn take_turn<S: Sink>(&mut self, input: &[u8], sink: &mut S) -> Result<usize, FaultAfter>
+        ensures stays { StaysWithin (state self.old) input.now result (state self.new) }
+        ensures refused { (r : Refusal) → (state self.old).refusal ≡ Some r
+            → (state self.new ≡ state self.old) × (sink.new ≡ sink.old) × (result ≡ Ok 0) }
+        ensures drains { DrainsCells (Gets S.Sink) (Fails S.Sink) (state self.old) input.now result (state self.new)
+            sink.old sink.new }
+    {
+        let used = match self.take_nested(input, sink) {
+            Ok(used) => used,
+            Err(fault) => return Err(fault),
+        };
+        if used == 0 || !self.progress.is_cell_due() {
+            return Ok(used);
+        }
+        let more = match self.take_scalars(&input[used..], sink) {
             Ok(more) => more,
             Err(fault) => {
                 let used = used + fault.used;

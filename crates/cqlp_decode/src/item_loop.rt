@@ -17,6 +17,7 @@ ghost use Rattle.cqlp_decode.specs.Sinks.{Gets, Fails};
 ghost use Rattle.cqlp_decode.specs.Progress.{IsConsistent, IsLawful, nodes_of, parts_state, state_of, state_with};
 
 use crate::leaf::{hand_kind, hand_leaf};
+use crate::list_loop::is_counted;
 use crate::page::{CellCursor, page_table};
 use crate::page_loop::Handed;
 use crate::parts::Parts;
@@ -43,10 +44,11 @@ pub struct ItemsHanded {
 }
 
 /// Hands the items of cells to the sink, as far as the loop takes them, and answers how many bytes of the input they
-/// take.
+/// take. It begins cells that have fields, and those that have a count if `counted` says so.
 pub fn take_items<S: Sink, A: Allocator>(
     progress: &mut StreamProgress,
     parts: &mut Parts<A>,
+    counted: bool,
     input: &[u8],
     sink: &mut S,
 ) -> Result<usize, FaultAfter>
@@ -62,7 +64,7 @@ pub fn take_items<S: Sink, A: Allocator>(
     if parts.partial.held() > 0 || progress.refusal.is_some() {
         return Ok(0);
     }
-    let Some(first) = progress.enter_cell(parts) else {
+    let Some(first) = progress.enter_cell(parts, counted) else {
         return Ok(0);
     };
     let mut page = first;
@@ -84,7 +86,7 @@ pub fn take_items<S: Sink, A: Allocator>(
             }
         }
         if taken.over {
-            let Some(following) = progress.enter_cell(parts) else {
+            let Some(following) = progress.enter_cell(parts, counted) else {
                 return Ok(used);
             };
             page = following;
@@ -94,7 +96,11 @@ pub fn take_items<S: Sink, A: Allocator>(
 
 /// Hands a part without a content to the sink.
 #[inline(always)]
-fn hand_part<S: Sink>(page: CellCursor, item: BareItem, sink: &mut S) -> Result<(), SinkFault>
+pub(crate) fn hand_part<S: Sink>(
+    page: CellCursor,
+    item: BareItem,
+    sink: &mut S,
+) -> Result<(), SinkFault>
     ensures ok { OnOk result (Gets S.Sink sink.old item.at (part_told page.row page.column item.part) sink.new) }
     ensures err { OnErr result (Fails S.Sink sink.old item.at (part_told page.row page.column item.part) sink.new) }
 {
@@ -118,9 +124,14 @@ fn hand_part<S: Sink>(page: CellCursor, item: BareItem, sink: &mut S) -> Result<
 }
 
 impl StreamProgress {
-    /// The cell that is under way. One that is due begins, if its values have items.
+    /// The cell that is under way. One that is due begins, if its values have items; one that has a count only if
+    /// `counted` says so.
     #[inline(always)]
-    fn enter_cell<A: Allocator>(&mut self, parts: &mut Parts<A>) -> Option<CellCursor>
+    fn enter_cell<A: Allocator>(
+        &mut self,
+        parts: &mut Parts<A>,
+        counted: bool,
+    ) -> Option<CellCursor>
         requires lawful { IsLawful self.old parts.old }
         requires unrefused { self.old.refusal ≡ None }
         ensures lawful { IsLawful self.new parts.new }
@@ -131,7 +142,8 @@ impl StreamProgress {
             StreamStage::InCell(page) => Some(page),
             StreamStage::BeforeCell(page) => {
                 let table = page_table(page.columns, &parts.table, &parts.given);
-                if page.kind(table).is_scalar() {
+                let kind = page.kind(table);
+                if kind.is_scalar() || (is_counted(kind) && !counted) {
                     return None;
                 }
                 self.begin_cell(page, &mut parts.cells);
@@ -166,64 +178,92 @@ impl StreamProgress {
         ensures drains { DrainsItems (Gets S.Sink) (Fails S.Sink) (state_with self.now parts.old) input.now result
             (state_with self.now parts.new) sink.old sink.new }
     {
-        if let Some(first) = parts.cells.level() {
-            let table = page_table(page.columns, &parts.table, &parts.given);
-            let mut level = first;
-            if level.is_list() {
-                if let Some(due) = level.due_item(table) {
-                    let handed = self.hand_list(parts, due.kind, &mut level, page, input, sink);
-                    parts.cells.set_level(level);
-                    return handed;
-                }
-            }
-        }
-        self.hand_scalars(parts, page, input, sink)
-    }
-
-    /// The same of any value, whose items may be of many kinds.
-    #[inline(always)]
-    fn hand_scalars<S: Sink, A: Allocator>(
-        &self,
-        parts: &mut Parts<A>,
-        page: CellCursor,
-        input: &[u8],
-        sink: &mut S,
-    ) -> ItemsHanded
-        requires lawful { IsLawful self.now parts.old }
-        requires here { self.now.stage ≡ stage.InCell page }
-        requires unrefused { self.now.refusal ≡ None }
-        requires empty { parts.old.partial.content ≡ [] }
-        ensures lawful { IsLawful self.now parts.new }
-        ensures empty { parts.new.partial.content ≡ [] }
-        ensures given { (state_with self.now parts.new).given ≡ (state_with self.now parts.old).given }
-        ensures within { UsesWithin (state_with self.now parts.old) input.now (Ok result.used)
-            (state_with self.now parts.new) }
-        ensures drains { DrainsItems (Gets S.Sink) (Fails S.Sink) (state_with self.now parts.old) input.now result
-            (state_with self.now parts.new) sink.old sink.new }
-    {
         let Some(first) = parts.cells.level() else {
             return ItemsHanded {
                 used: 0,
                 failed: false,
             };
         };
+        let mut level = first;
+        let handed = self.hand_inside(parts, &mut level, page, input, sink);
+        parts.cells.set_level(level);
+        handed
+    }
+
+    /// The same of the innermost value in the caller's hands.
+    #[inline(always)]
+    pub(crate) fn hand_inside<S: Sink, A: Allocator>(
+        &self,
+        parts: &Parts<A>,
+        level: &mut Level,
+        page: CellCursor,
+        input: &[u8],
+        sink: &mut S,
+    ) -> ItemsHanded
+        requires lawful { IsConsistent self.now (at_level (parts_state parts.now) level.old) }
+        requires inside { IsInLevel parts.now.cells level.old }
+        requires here { self.now.stage ≡ stage.InCell page }
+        requires unrefused { self.now.refusal ≡ None }
+        requires empty { parts.now.partial.content ≡ [] }
+        ensures lawful { IsConsistent self.now (at_level (parts_state parts.now) level.new) }
+        ensures inside { IsInLevel parts.now.cells level.new }
+        ensures within { UsesWithin (state_of self.now (at_level (parts_state parts.now) level.old)) input.now
+            (Ok result.used) (state_of self.now (at_level (parts_state parts.now) level.new)) }
+        ensures drains { DrainsItems (Gets S.Sink) (Fails S.Sink) (state_of self.now (at_level (parts_state parts.now) level.old)) input.now
+            result (state_of self.now (at_level (parts_state parts.now) level.new)) sink.old sink.new }
+    {
+        let table = page_table(page.columns, &parts.table, &parts.given);
+        if !level.is_list() {
+            return self.hand_scalars(parts, level, page, input, sink);
+        }
+        let Some(due) = level.due_item(table) else {
+            return ItemsHanded {
+                used: 0,
+                failed: false,
+            };
+        };
+        self.hand_list(parts, due.kind, level, page, input, sink)
+    }
+
+    /// The same of any value, whose items may be of many kinds.
+    #[inline(always)]
+    fn hand_scalars<S: Sink, A: Allocator>(
+        &self,
+        parts: &Parts<A>,
+        level: &mut Level,
+        page: CellCursor,
+        input: &[u8],
+        sink: &mut S,
+    ) -> ItemsHanded
+        requires lawful { IsConsistent self.now (at_level (parts_state parts.now) level.old) }
+        requires inside { IsInLevel parts.now.cells level.old }
+        requires here { self.now.stage ≡ stage.InCell page }
+        requires unrefused { self.now.refusal ≡ None }
+        requires empty { parts.now.partial.content ≡ [] }
+        ensures lawful { IsConsistent self.now (at_level (parts_state parts.now) level.new) }
+        ensures inside { IsInLevel parts.now.cells level.new }
+        ensures within { UsesWithin (state_of self.now (at_level (parts_state parts.now) level.old)) input.now
+            (Ok result.used) (state_of self.now (at_level (parts_state parts.now) level.new)) }
+        ensures drains { DrainsItems (Gets S.Sink) (Fails S.Sink) (state_of self.now (at_level (parts_state parts.now) level.old)) input.now
+            result (state_of self.now (at_level (parts_state parts.now) level.new)) sink.old sink.new }
+    {
         let table = page_table(page.columns, &parts.table, &parts.given);
         let limits = self.limits;
-        let mut level = first;
+        let mut here = *level;
         let mut used = 0;
         'scalars: loop {
-            let Some(due) = level.due_item(table) else {
+            let Some(due) = here.due_item(table) else {
                 break 'scalars;
             };
             match hand_leaf(&limits, due, page, &input[used..], sink) {
                 Handed::Left => break 'scalars,
                 Handed::Taken(taken) => {
-                    level.pass(taken, table);
+                    here.pass(taken, table);
                     used += taken;
                 }
                 Handed::Fault(taken) => {
-                    level.pass(taken, table);
-                    parts.cells.set_level(level);
+                    here.pass(taken, table);
+                    *level = here;
                     return ItemsHanded {
                         used: used + taken,
                         failed: true,
@@ -231,7 +271,7 @@ impl StreamProgress {
                 }
             }
         }
-        parts.cells.set_level(level);
+        *level = here;
         ItemsHanded {
             used,
             failed: false,
@@ -257,6 +297,7 @@ impl StreamProgress {
         requires unrefused { self.now.refusal ≡ None }
         requires empty { parts.now.partial.content ≡ [] }
         ensures lawful { IsConsistent self.now (at_level (parts_state parts.now) level.new) }
+        ensures inside { IsInLevel parts.now.cells level.new }
         ensures within { UsesWithin (state_of self.now (at_level (parts_state parts.now) level.old)) input.now
             (Ok result.used) (state_of self.now (at_level (parts_state parts.now) level.new)) }
         ensures drains { DrainsItems (Gets S.Sink) (Fails S.Sink) (state_of self.now (at_level (parts_state parts.now) level.old)) input.now
@@ -311,6 +352,7 @@ impl StreamProgress {
         requires unrefused { self.now.refusal ≡ None }
         requires empty { parts.now.partial.content ≡ [] }
         ensures lawful { IsConsistent self.now (at_level (parts_state parts.now) level.new) }
+        ensures inside { IsInLevel parts.now.cells level.new }
         ensures within { UsesWithin (state_of self.now (at_level (parts_state parts.now) level.old)) input.now
             (Ok result.used) (state_of self.now (at_level (parts_state parts.now) level.new)) }
         ensures drains { DrainsItems (Gets S.Sink) (Fails S.Sink) (state_of self.now (at_level (parts_state parts.now) level.old)) input.now

@@ -7,6 +7,7 @@ mod field_loop;
 mod given;
 mod item_loop;
 mod leaf;
+mod list_loop;
 mod metadata;
 mod page;
 mod page_loop;

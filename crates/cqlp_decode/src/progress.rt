@@ -5,6 +5,7 @@ ghost use Rattle.std.specs.Prelude.{[], IsFalse, IsTrue, None, Some, false, leng
 ghost use Rattle.cqlp_note.specs.Limits.{limit_of, rules_asked};
 ghost use Rattle.cqlp_note.specs.declared.refusal.Refusal.{Refusal as Refusing};
 ghost use Rattle.cqlp_decode.specs.Progress.{came_of};
+ghost use Rattle.cqlp_decode.specs.declared.page.CellCursor.{CellCursor as Cursor};
 
 use crate::advance::{EventAdvance, EventOutline, ScalarCell};
 use crate::given::GivenUse;
@@ -69,7 +70,7 @@ impl StreamProgress {
     ghost use Rattle.cqlp_grammar.specs.Upcoming.{room_after};
     ghost use Rattle.cqlp_decode.specs.declared.progress.StreamStage.TheVariants as stage;
     ghost use Rattle.cqlp_decode.specs.Progress.{Advances, EndsPage, GoesOn, GoesOnAfter, HasCome, LeavesTypes, Moves, MovesIdle, Takes};
-    ghost use Rattle.cqlp_decode.specs.Progress.{HasParts, HasRoom, HoldsGiven, IsConsistent, IsFresh, IsLawful, IsNoPage, PartsState};
+    ghost use Rattle.cqlp_decode.specs.Progress.{HasParts, HasRoom, HoldsGiven, IsConsistent, IsFresh, IsLawful, IsNoCellDue, IsNoPage, PartsState};
     ghost use Rattle.cqlp_decode.specs.Progress.{IsAsked, IsAt, IsBounded, IsWanted, asked};
     ghost use Rattle.cqlp_decode.specs.Progress.{first_state, refusal_in, rest_of, state_of, state_with, symbols_at};
     ghost use Rattle.cqlp_decode.specs.Pages.{IsPage, cells_after, ended_use, given_of, node_by};
@@ -164,6 +165,36 @@ impl StreamProgress {
             self.stage,
             StreamStage::BeforeCell(_) | StreamStage::InCell(_)
         )
+    }
+
+    /// Whether a cell is due that is not begun.
+    #[inline(always)]
+    pub fn is_cell_due(&self) -> bool
+        ensures { IsFalse result ↔ IsNoCellDue self.now.stage }
+    {
+        matches!(self.stage, StreamStage::BeforeCell(_))
+    }
+
+    /// The cell that is due and not begun, if there is one.
+    #[inline(always)]
+    pub fn due_cell(&self) -> Option<CellCursor>
+        ensures { (p : Cursor) → result ≡ Some p → self.now.stage ≡ stage.BeforeCell p }
+    {
+        match self.stage {
+            StreamStage::BeforeCell(page) => Some(page),
+            _ => None,
+        }
+    }
+
+    /// Whether the cell under way is of the row and the column of this one.
+    #[inline(always)]
+    pub fn is_in(&self, cell: Option<CellCursor>) -> bool {
+        match (cell, self.stage) {
+            (Some(cell), StreamStage::InCell(page)) => {
+                cell.row == page.row && cell.column == page.column
+            }
+            _ => false,
+        }
     }
 
     /// The next step, where there was no refusal.
@@ -425,6 +456,7 @@ impl StreamProgress {
     }
 
     /// Goes on after a cell: with the next cell of its page, or with what is due next in the message.
+    #[inline(always)]
     fn after_cell<A: Allocator>(&mut self, page: CellCursor, table: &TypeTable<A>)
         requires page { IsPage table.now.nodes self.old.limits.depth page }
         ensures goes_on { GoesOn self.old self.new page table.now.nodes (cells_after table.now.nodes page) }
@@ -437,6 +469,7 @@ impl StreamProgress {
     }
 
     /// Begins the cell of a page that is due.
+    #[inline(always)]
     pub fn begin_cell<A: Allocator>(&mut self, page: CellCursor, cells: &mut CellReader<A>)
         requires idle { is_under_way cells.old ≡ false }
         requires inside { self.old.offset ≤ self.old.stop }
@@ -548,6 +581,7 @@ impl StreamProgress {
     }
 
     /// Goes on after a cell that is whole.
+    #[inline(always)]
     pub fn end_cell<A: Allocator>(
         &mut self,
         page: CellCursor,

@@ -18,6 +18,13 @@ pub struct Level {
     pub(crate) offset: u64,
 }
 
+/// The kinds of the keys and of the values of a map.
+#[derive(Clone, Copy)]
+pub struct PairKinds {
+    pub key: Kind,
+    pub value: Kind,
+}
+
 impl Level {
     /// The next item, if there is one.
     #[inline(always)]
@@ -71,6 +78,61 @@ impl Level {
     pub(crate) fn pass<A: Allocator>(&mut self, used: usize, table: &TypeTable<A>)
     {
         self.value.pass_item(table);
+        self.offset += used as u64;
+    }
+
+    /// The kinds of the keys and of the values of a map whose key is next; `None` of another value.
+    #[inline(always)]
+    pub fn pair_kinds<A: Allocator>(&self, table: &TypeTable<A>) -> Option<PairKinds>
+    {
+        let Order::Keys = self.value.order else {
+            return None;
+        };
+        let Some(key) = table.node(self.value.node) else {
+            return None;
+        };
+        let Some(value) = table.node(self.value.other) else {
+            return None;
+        };
+        Some(PairKinds {
+            key: key.kind,
+            value: value.kind,
+        })
+    }
+
+    /// The next item of a map, which is of this kind.
+    #[inline(always)]
+    pub(crate) fn due_in_pair(&self, kind: Kind) -> DueItem
+    {
+        DueItem {
+            at: self.offset,
+            kind,
+            room: self.value.stop - self.offset,
+            level: self.level,
+        }
+    }
+
+    /// Whether a pair of a map is left whose key is next.
+    #[inline(always)]
+    pub fn has_key(&self) -> bool
+    {
+        matches!(self.value.order, Order::Keys) && self.value.left > 0
+    }
+
+    /// Goes on after a key of a map, which takes this many bytes.
+    #[inline(always)]
+    pub(crate) fn pass_key(&mut self, used: usize)
+    {
+        self.value.switch_type(Order::Values);
+        self.value.left -= 1;
+        self.offset += used as u64;
+    }
+
+    /// Goes on after a value of a map, which takes this many bytes.
+    #[inline(always)]
+    pub(crate) fn pass_value(&mut self, used: usize)
+    {
+        self.value.switch_type(Order::Keys);
         self.offset += used as u64;
     }
 }

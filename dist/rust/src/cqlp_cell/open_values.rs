@@ -63,6 +63,7 @@ impl<A: Allocator> OpenValues<A> {
         self.values.capacity()
     }
 
+    #[inline]
     pub(crate) fn clear(&mut self)
     {
         self.values.clear();

@@ -119,6 +119,7 @@ impl<A: Allocator> CellProgress<A> {
     }
 
     /// Ends the cell.
+    #[inline(always)]
     pub(crate) fn end(&mut self)
     {
         self.next = NextInCell::Nothing;
@@ -205,7 +206,7 @@ impl OpenValue {
 
     /// Goes on with the other of a map's types.
     #[inline(always)]
-    fn switch_type(&mut self, order: Order)
+    pub(crate) fn switch_type(&mut self, order: Order)
     {
         let node = self.node;
         self.order = order;

@@ -6,7 +6,7 @@ use crate::cqlp_cell::item::CellPush;
 use crate::cqlp_cell::level::Level;
 use crate::cqlp_cell::open_values::OpenValues;
 use crate::cqlp_cell::progress::{Arrived, CellProgress, NextInCell};
-use crate::cqlp_cell::whole::BareItem;
+use crate::cqlp_cell::whole::{BareItem, Entered};
 use crate::cqlp_note::{Asked, Limits, NoMemory, Partial};
 use crate::cqlp_type::TypeTable;
 use crate::kit_std::alloc::{Allocator, Global};
@@ -40,6 +40,7 @@ impl<A: Allocator> CellReader<A> {
     }
 
     /// Begins a cell of the type at this node, or of none, at an offset in a container that ends at another.
+    #[inline(always)]
     pub(crate) fn begin(&mut self, node: Option<u32>, at: u64, end: u64)
     {
         self.progress.offset = at;
@@ -68,6 +69,7 @@ impl<A: Allocator> CellReader<A> {
     }
 
     /// The offset of what is read next.
+    #[inline(always)]
     pub fn offset(&self) -> u64
     {
         let progress = &self.progress;
@@ -75,6 +77,7 @@ impl<A: Allocator> CellReader<A> {
     }
 
     /// Ends the cell that is under way, whole or not, if there is one.
+    #[inline(always)]
     pub fn stop(&mut self)
     {
         self.progress.end();
@@ -123,6 +126,21 @@ impl<A: Allocator> CellReader<A> {
     pub(crate) fn take_bare(&mut self, table: &TypeTable<A>, input: &[u8]) -> Option<BareItem>
     {
         self.progress.take_bare(table, input)
+    }
+
+    /// Goes on inside the list, the set or the map that is next of the cell under way, where `advance` would do so out of
+    /// the input alone, and its length and its count lie in it; else it does nothing.
+    #[inline(always)]
+    pub(crate) fn enter(&mut self, table: &TypeTable<A>, input: &[u8]) -> Option<Entered>
+    {
+        self.progress.enter_value(table, input)
+    }
+
+    /// Goes on where a level stands, and leaves the value that it is, where that is the cell itself and at its end.
+    #[inline(always)]
+    pub(crate) fn leave(&mut self, level: Level) -> Option<BareItem>
+    {
+        self.progress.leave_value(level)
     }
 
     /// Takes the next bytes of the cell that is under way. A content that lies whole in them is lent from them.

@@ -4,6 +4,7 @@
 use crate::cqlp_cell::advance::{CellAdvance, CellOutline};
 use crate::cqlp_cell::content::kind_read;
 use crate::cqlp_cell::gather::{empty, gather, lend_bytes};
+use crate::cqlp_cell::level::Level;
 use crate::cqlp_cell::number::{Number, take_number};
 use crate::cqlp_cell::open_values::{OpenValue, Order};
 use crate::cqlp_cell::progress::{Arrived, CellDue, CellProgress, DueValue, NextInCell};
@@ -144,21 +145,42 @@ impl<A: Allocator> CellProgress<A> {
     ) -> CellOutline
     {
         let level = self.open_values.len();
+        self.open_counted(value, len, count, table);
+        CellOutline::Enter {
+            level,
+            kind: value.kind,
+            items: count,
+        }
+    }
+
+    /// The same, and says where it stands in it.
+    #[inline(always)]
+    pub(crate) fn open_counted(
+        &mut self,
+        value: DueValue,
+        len: u32,
+        count: u32,
+        table: &TypeTable<A>,
+    ) -> Level
+    {
         let stop = self.offset + 4 + u64::from(len);
         let (order, other) = inner_order(value, table);
         self.pass(8, table);
-        self.open_values.push(OpenValue {
+        let offset = self.offset;
+        let value = OpenValue {
             order,
             node: value.inner,
             other,
             left: count,
             items: count,
             stop,
-        });
-        CellOutline::Enter {
+        };
+        self.open_values.push(value);
+        let level = self.open_values.len();
+        Level {
+            value,
             level,
-            kind: value.kind,
-            items: count,
+            offset,
         }
     }
 
@@ -396,6 +418,7 @@ fn next_part(last: bool, offset: u32, total: u32) -> NextInCell
 }
 
 /// How the items of a list, a set or a map follow one another, and the node of a map's second type.
+#[inline(always)]
 fn inner_order<A: Allocator>(value: DueValue, table: &TypeTable<A>) -> (Order, u32)
 {
     match value.kind {

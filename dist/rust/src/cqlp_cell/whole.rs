@@ -41,6 +41,13 @@ pub enum BarePart {
     Leave { level: u32, items: u32 },
 }
 
+/// The beginning of a list, a set or a map, and where the reading stands in it.
+#[derive(Clone, Copy)]
+pub struct Entered {
+    pub item: BareItem,
+    pub level: Level,
+}
+
 impl<A: Allocator> CellProgress<A> {
     /// The innermost value that is open, where what is read next stands in it and nothing of that has come.
     #[inline(always)]
@@ -172,5 +179,74 @@ impl<A: Allocator> CellProgress<A> {
                 items: count,
             },
         })
+    }
+
+    /// Goes on inside the list, the set or the map that is next, where its length and its count are lawful and lie in the
+    /// input.
+    #[inline(always)]
+    pub(crate) fn enter_value(&mut self, table: &TypeTable<A>, input: &[u8]) -> Option<Entered>
+    {
+        let Arrived::Nothing = self.arrived else {
+            return None;
+        };
+        let CellDue::Value = self.due() else {
+            return None;
+        };
+        let value = self.value(table);
+        let room = value.stop - self.offset;
+        if room < 4 || input.len() < 8 {
+            return None;
+        }
+        let len = u32::from_be_bytes(read_array(input));
+        let Sized::Counted(len) = size_up(&self.limits, value.kind, room, len) else {
+            return None;
+        };
+        self.enter_sized(value, len, table, input)
+    }
+
+    /// The same of a list, a set or a map of this many bytes.
+    #[inline(always)]
+    fn enter_sized(
+        &mut self,
+        value: DueValue,
+        len: u32,
+        table: &TypeTable<A>,
+        input: &[u8],
+    ) -> Option<Entered>
+    {
+        let at = self.offset;
+        let around = self.open_values.len();
+        let count = u32::from_be_bytes(read_array(&input[4..]));
+        if len < 4 || count > i32::MAX as u32 {
+            return None;
+        }
+        let level = self.open_counted(value, len, count, table);
+        let part = BarePart::Enter {
+            level: around,
+            kind: value.kind,
+            items: count,
+        };
+        Some(Entered {
+            item: BareItem { at, used: 8, part },
+            level,
+        })
+    }
+
+    /// Goes on where a level stands, and leaves the value that it is, where that is the cell itself and at its end.
+    #[inline(always)]
+    pub(crate) fn leave_value(&mut self, level: Level) -> Option<BareItem>
+    {
+        let at = level.offset;
+        if level.level > 1 || !level.value.is_over(at) || at < level.value.stop {
+            self.set_level(level);
+            return None;
+        }
+        self.offset = at;
+        self.open_values.clear();
+        let part = BarePart::Leave {
+            level: 0,
+            items: level.value.items,
+        };
+        Some(BareItem { at, used: 0, part })
     }
 }

@@ -7,6 +7,7 @@
 //! does, so that no rule stands here alone.
 
 use crate::cqlp_decode::leaf::{hand_kind, hand_leaf};
+use crate::cqlp_decode::list_loop::is_counted;
 use crate::cqlp_decode::page::{CellCursor, page_table};
 use crate::cqlp_decode::page_loop::Handed;
 use crate::cqlp_decode::parts::Parts;
@@ -32,10 +33,11 @@ pub struct ItemsHanded {
 }
 
 /// Hands the items of cells to the sink, as far as the loop takes them, and answers how many bytes of the input they
-/// take.
+/// take. It begins cells that have fields, and those that have a count if `counted` says so.
 pub(crate) fn take_items<S: Sink, A: Allocator>(
     progress: &mut StreamProgress,
     parts: &mut Parts<A>,
+    counted: bool,
     input: &[u8],
     sink: &mut S,
 ) -> Result<usize, FaultAfter>
@@ -43,7 +45,7 @@ pub(crate) fn take_items<S: Sink, A: Allocator>(
     if parts.partial.held() > 0 || progress.refusal.is_some() {
         return Ok(0);
     }
-    let Some(first) = progress.enter_cell(parts) else {
+    let Some(first) = progress.enter_cell(parts, counted) else {
         return Ok(0);
     };
     let mut page = first;
@@ -65,7 +67,7 @@ pub(crate) fn take_items<S: Sink, A: Allocator>(
             }
         }
         if taken.over {
-            let Some(following) = progress.enter_cell(parts) else {
+            let Some(following) = progress.enter_cell(parts, counted) else {
                 return Ok(used);
             };
             page = following;
@@ -75,7 +77,11 @@ pub(crate) fn take_items<S: Sink, A: Allocator>(
 
 /// Hands a part without a content to the sink.
 #[inline(always)]
-fn hand_part<S: Sink>(page: CellCursor, item: BareItem, sink: &mut S) -> Result<(), SinkFault>
+pub(crate) fn hand_part<S: Sink>(
+    page: CellCursor,
+    item: BareItem,
+    sink: &mut S,
+) -> Result<(), SinkFault>
 {
     let CellCursor { row, column, .. } = page;
     let at = item.at;
@@ -97,15 +103,21 @@ fn hand_part<S: Sink>(page: CellCursor, item: BareItem, sink: &mut S) -> Result<
 }
 
 impl StreamProgress {
-    /// The cell that is under way. One that is due begins, if its values have items.
+    /// The cell that is under way. One that is due begins, if its values have items; one that has a count only if
+    /// `counted` says so.
     #[inline(always)]
-    fn enter_cell<A: Allocator>(&mut self, parts: &mut Parts<A>) -> Option<CellCursor>
+    fn enter_cell<A: Allocator>(
+        &mut self,
+        parts: &mut Parts<A>,
+        counted: bool,
+    ) -> Option<CellCursor>
     {
         match self.stage {
             StreamStage::InCell(page) => Some(page),
             StreamStage::BeforeCell(page) => {
                 let table = page_table(page.columns, &parts.table, &parts.given);
-                if page.kind(table).is_scalar() {
+                let kind = page.kind(table);
+                if kind.is_scalar() || (is_counted(kind) && !counted) {
                     return None;
                 }
                 self.begin_cell(page, &mut parts.cells);
@@ -129,53 +141,70 @@ impl StreamProgress {
         sink: &mut S,
     ) -> ItemsHanded
     {
-        if let Some(first) = parts.cells.level() {
-            let table = page_table(page.columns, &parts.table, &parts.given);
-            let mut level = first;
-            if level.is_list() {
-                if let Some(due) = level.due_item(table) {
-                    let handed = self.hand_list(parts, due.kind, &mut level, page, input, sink);
-                    parts.cells.set_level(level);
-                    return handed;
-                }
-            }
-        }
-        self.hand_scalars(parts, page, input, sink)
-    }
-
-    /// The same of any value, whose items may be of many kinds.
-    #[inline(always)]
-    fn hand_scalars<S: Sink, A: Allocator>(
-        &self,
-        parts: &mut Parts<A>,
-        page: CellCursor,
-        input: &[u8],
-        sink: &mut S,
-    ) -> ItemsHanded
-    {
         let Some(first) = parts.cells.level() else {
             return ItemsHanded {
                 used: 0,
                 failed: false,
             };
         };
+        let mut level = first;
+        let handed = self.hand_inside(parts, &mut level, page, input, sink);
+        parts.cells.set_level(level);
+        handed
+    }
+
+    /// The same of the innermost value in the caller's hands.
+    #[inline(always)]
+    pub(crate) fn hand_inside<S: Sink, A: Allocator>(
+        &self,
+        parts: &Parts<A>,
+        level: &mut Level,
+        page: CellCursor,
+        input: &[u8],
+        sink: &mut S,
+    ) -> ItemsHanded
+    {
+        let table = page_table(page.columns, &parts.table, &parts.given);
+        if !level.is_list() {
+            return self.hand_scalars(parts, level, page, input, sink);
+        }
+        let Some(due) = level.due_item(table) else {
+            return ItemsHanded {
+                used: 0,
+                failed: false,
+            };
+        };
+        self.hand_list(parts, due.kind, level, page, input, sink)
+    }
+
+    /// The same of any value, whose items may be of many kinds.
+    #[inline(always)]
+    fn hand_scalars<S: Sink, A: Allocator>(
+        &self,
+        parts: &Parts<A>,
+        level: &mut Level,
+        page: CellCursor,
+        input: &[u8],
+        sink: &mut S,
+    ) -> ItemsHanded
+    {
         let table = page_table(page.columns, &parts.table, &parts.given);
         let limits = self.limits;
-        let mut level = first;
+        let mut here = *level;
         let mut used = 0;
         'scalars: loop {
-            let Some(due) = level.due_item(table) else {
+            let Some(due) = here.due_item(table) else {
                 break 'scalars;
             };
             match hand_leaf(&limits, due, page, &input[used..], sink) {
                 Handed::Left => break 'scalars,
                 Handed::Taken(taken) => {
-                    level.pass(taken, table);
+                    here.pass(taken, table);
                     used += taken;
                 }
                 Handed::Fault(taken) => {
-                    level.pass(taken, table);
-                    parts.cells.set_level(level);
+                    here.pass(taken, table);
+                    *level = here;
                     return ItemsHanded {
                         used: used + taken,
                         failed: true,
@@ -183,7 +212,7 @@ impl StreamProgress {
                 }
             }
         }
-        parts.cells.set_level(level);
+        *level = here;
         ItemsHanded {
             used,
             failed: false,

@@ -123,6 +123,34 @@ impl StreamProgress {
         )
     }
 
+    /// Whether a cell is due that is not begun.
+    #[inline(always)]
+    pub fn is_cell_due(&self) -> bool
+    {
+        matches!(self.stage, StreamStage::BeforeCell(_))
+    }
+
+    /// The cell that is due and not begun, if there is one.
+    #[inline(always)]
+    pub fn due_cell(&self) -> Option<CellCursor>
+    {
+        match self.stage {
+            StreamStage::BeforeCell(page) => Some(page),
+            _ => None,
+        }
+    }
+
+    /// Whether the cell under way is of the row and the column of this one.
+    #[inline(always)]
+    pub fn is_in(&self, cell: Option<CellCursor>) -> bool {
+        match (cell, self.stage) {
+            (Some(cell), StreamStage::InCell(page)) => {
+                cell.row == page.row && cell.column == page.column
+            }
+            _ => false,
+        }
+    }
+
     /// The next step, where there was no refusal.
     fn step<A: Allocator>(&mut self, parts: &mut Parts<A>, input: &[u8]) -> EventAdvance
     {
@@ -308,6 +336,7 @@ impl StreamProgress {
     }
 
     /// Goes on after a cell: with the next cell of its page, or with what is due next in the message.
+    #[inline(always)]
     fn after_cell<A: Allocator>(&mut self, page: CellCursor, table: &TypeTable<A>)
     {
         match page.next(table) {
@@ -317,6 +346,7 @@ impl StreamProgress {
     }
 
     /// Begins the cell of a page that is due.
+    #[inline(always)]
     pub(crate) fn begin_cell<A: Allocator>(&mut self, page: CellCursor, cells: &mut CellReader<A>)
     {
         cells.begin(page.node(), self.offset, self.stop);
@@ -398,6 +428,7 @@ impl StreamProgress {
     }
 
     /// Goes on after a cell that is whole.
+    #[inline(always)]
     pub(crate) fn end_cell<A: Allocator>(
         &mut self,
         page: CellCursor,

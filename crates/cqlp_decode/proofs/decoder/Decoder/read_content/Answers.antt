@@ -1,4 +1,3 @@
-use Rattle.std.proofs.Common.{◌≡◌, ap, ◌∙◌}
 use Rattle.cqlp_decode.specs.Progress.{parts_state}
 use Rattle.cqlp_decode.proofs.Gathering.{lawful_still, answers_still}
 use Rattle.cqlp_decode.proofs.decoder.Decoder.read_content.Goals as goal

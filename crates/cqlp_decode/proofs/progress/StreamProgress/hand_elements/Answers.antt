@@ -191,3 +191,8 @@ returns-in-Fault-clause-drains g c =
     let told = cell_event p.row p.column (Leaf t.level one.value) in
     let h = item_takes s q p c.requires.here l i.inside i.lawful c.requires.empty rest t found n _ one in
     rw goes (item_fails (Gets g.S.Sink) (state_of s (at_level q c.args.level.now)) (state_of s (at_level q l)) (state_of s (at_level q behind)) c.args.input.now c.elements.used _ _ i.drained c.requires.unrefused t.at n told h (Fails g.S.Sink) _ one.holds)
+
+pub returns-in-Fault-clause-inside : goal.returns-in-Fault-clause-inside
+returns-in-Fault-clause-inside g c =
+    let i = c.elements.invariant in
+    rw c.pass_element-in-Fault.ensures (record { fresh = i.inside.fresh; items = i.inside.items; some = i.inside.some; level = i.inside.level })

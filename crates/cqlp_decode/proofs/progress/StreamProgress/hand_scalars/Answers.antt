@@ -1,14 +1,12 @@
-use Rattle.std.proofs.Common.{◌≡◌, ◌+◌, ◌*◌, ◌≤◌, List, drop, Some, sym, ap, subst, ◌∙◌, arith}
+use Rattle.std.proofs.Common.{◌≡◌, List, drop, Some, sym, ap, subst, ◌∙◌, arith}
 use Rattle.std.proofs.lemmas.List.{length-drop}
 use Rattle.cqlp_kind.specs.CellStep.{Leaf}
 use Rattle.cqlp_kind.specs.declared.node.Node.{Node}
-use Rattle.cqlp_cell.specs.Progress.{CellState, HasNext}
+use Rattle.cqlp_cell.specs.Progress.{HasNext}
 use Rattle.cqlp_cell.specs.Levels.{due_at, passed}
-use Rattle.cqlp_cell.proofs.Levels.{level_own}
 use Rattle.cqlp_decode.specs.Reading.{cell_event}
 use Rattle.cqlp_decode.specs.Items.{at_level}
-use Rattle.cqlp_decode.specs.Cells.{HandsOut}
-use Rattle.cqlp_decode.specs.Progress.{IsConsistent, PartsState, ends_due, nodes_of, parts, parts_state, state_of, state_with}
+use Rattle.cqlp_decode.specs.Progress.{nodes_of, parts_state, state_of}
 use Rattle.cqlp_decode.specs.Sinks.{Gets, Fails}
 use Rattle.cqlp_decode.proofs.Gets.{rest_is}
 use Rattle.cqlp_decode.proofs.Taken.{hands_none, item_drains, item_fails}
@@ -19,22 +17,18 @@ pub scalars-init : goal.scalars-init
 scalars-init g c =
     let s = c.args.self.now in
     let q = parts_state c.args.parts.now in
-    let own = level_own q.cells c.in-Some.first (sym c.in-Some.ensures) in
-    let back : q ≡ at_level q c.in-Some.first = ap (λ (z : CellState). parts q.partial q.types z q.table q.given) (sym own.1) in
-    let v = c.args.sink.now in
-    let due = ends_due (state_of s q).place.symbols + (state_of s q).open_values in
     record {
       within = omega arith;
-      inside = own.0;
-      lawful = subst (λ (z : PartsState). IsConsistent s z) back c.requires.lawful;
-      pays = subst (λ (z : PartsState). ends_due (state_of s z).place.symbols + (state_of s z).open_values ≤ due + 2 * 0) back (omega arith);
-      drained = subst (λ (z : PartsState). HandsOut (Gets g.S.Sink) (state_of s q) (state_of s z) c.args.input.now 0 v v) back (hands_none (Gets g.S.Sink) (state_of s q) c.args.input.now v);
+      inside = c.requires.inside;
+      lawful = c.requires.lawful;
+      pays = omega arith;
+      drained = hands_none (Gets g.S.Sink) (state_of s (at_level q c.args.level.now)) c.args.input.now c.args.sink.now;
     }
 
 pub due_item-requires : goal.due_item-requires
 due_item-requires g c =
     let i = c.scalars.invariant in
-    rw c.page_table-table.ensures (level_fits c.args.self.now (parts_state c.args.parts.now) c.args.page c.requires.here c.scalars.level i.inside i.lawful)
+    rw c.page_table-table.ensures (level_fits c.args.self.now (parts_state c.args.parts.now) c.args.page c.requires.here c.scalars.here i.inside i.lawful)
 
 pub pass-requires-clause-next : goal.pass-requires-clause-next
 pass-requires-clause-next g c =
@@ -42,9 +36,9 @@ pass-requires-clause-next g c =
     let q = parts_state c.args.parts.now in
     let p = c.args.page in
     let i = c.scalars.invariant in
-    let l = c.scalars.level in
-    let t = c.in-Some-due_item.due in
-    let found : due_at (nodes_of q p.columns) l ≡ Some t = sym (rw c.page_table-table.ensures at c.in-Some-due_item.ensures) in
+    let l = c.scalars.here in
+    let t = c.in-Some.due in
+    let found : due_at (nodes_of q p.columns) l ≡ Some t = sym (rw c.page_table-table.ensures at c.in-Some.ensures) in
     let rest = drop c.scalars.used c.args.input.now in
     subst (λ (z : List Node). HasNext z l.value l.value.order) (sym c.page_table-table.ensures) (item_next s q p c.requires.here l i.inside i.lawful c.requires.empty rest t found)
 
@@ -54,9 +48,9 @@ pass-requires-clause-place g c =
     let q = parts_state c.args.parts.now in
     let p = c.args.page in
     let i = c.scalars.invariant in
-    let l = c.scalars.level in
-    let t = c.in-Some-due_item.due in
-    let found : due_at (nodes_of q p.columns) l ≡ Some t = sym (rw c.page_table-table.ensures at c.in-Some-due_item.ensures) in
+    let l = c.scalars.here in
+    let t = c.in-Some.due in
+    let found : due_at (nodes_of q p.columns) l ≡ Some t = sym (rw c.page_table-table.ensures at c.in-Some.ensures) in
     let rest = drop c.scalars.used c.args.input.now in
     item_place s q p c.requires.here l i.inside i.lawful c.requires.empty rest t found c.in-Taken.taken _ (rw rest_is at c.in-Taken.ensures.hands)
 
@@ -66,9 +60,9 @@ pass-requires-in-Fault-clause-next g c =
     let q = parts_state c.args.parts.now in
     let p = c.args.page in
     let i = c.scalars.invariant in
-    let l = c.scalars.level in
-    let t = c.in-Some-due_item.due in
-    let found : due_at (nodes_of q p.columns) l ≡ Some t = sym (rw c.page_table-table.ensures at c.in-Some-due_item.ensures) in
+    let l = c.scalars.here in
+    let t = c.in-Some.due in
+    let found : due_at (nodes_of q p.columns) l ≡ Some t = sym (rw c.page_table-table.ensures at c.in-Some.ensures) in
     let rest = drop c.scalars.used c.args.input.now in
     subst (λ (z : List Node). HasNext z l.value l.value.order) (sym c.page_table-table.ensures) (item_next s q p c.requires.here l i.inside i.lawful c.requires.empty rest t found)
 
@@ -78,9 +72,9 @@ pass-requires-in-Fault-clause-place g c =
     let q = parts_state c.args.parts.now in
     let p = c.args.page in
     let i = c.scalars.invariant in
-    let l = c.scalars.level in
-    let t = c.in-Some-due_item.due in
-    let found : due_at (nodes_of q p.columns) l ≡ Some t = sym (rw c.page_table-table.ensures at c.in-Some-due_item.ensures) in
+    let l = c.scalars.here in
+    let t = c.in-Some.due in
+    let found : due_at (nodes_of q p.columns) l ≡ Some t = sym (rw c.page_table-table.ensures at c.in-Some.ensures) in
     let rest = drop c.scalars.used c.args.input.now in
     item_place s q p c.requires.here l i.inside i.lawful c.requires.empty rest t found c.in-Fault.taken _ (rw rest_is at c.in-Fault.ensures.hands)
 
@@ -90,9 +84,9 @@ scalars-preserved g c =
     let q = parts_state c.args.parts.now in
     let p = c.args.page in
     let i = c.scalars.invariant in
-    let l = c.scalars.level in
-    let t = c.in-Some-due_item.due in
-    let found : due_at (nodes_of q p.columns) l ≡ Some t = sym (rw c.page_table-table.ensures at c.in-Some-due_item.ensures) in
+    let l = c.scalars.here in
+    let t = c.in-Some.due in
+    let found : due_at (nodes_of q p.columns) l ≡ Some t = sym (rw c.page_table-table.ensures at c.in-Some.ensures) in
     let rest = drop c.scalars.used c.args.input.now in
     let n = c.in-Taken.taken in
     let one = rw rest_is at c.in-Taken.ensures.hands in
@@ -106,7 +100,7 @@ scalars-preserved g c =
       lawful = item_lawful s q p c.requires.here l i.inside i.lawful c.requires.empty rest t found n _ one;
       pays = omega (arith, h.3.pays, i.pays);
       drained =
-          item_drains (Gets g.S.Sink) (state_with c.args.self.now c.args.parts.now) (state_of s (at_level q l)) (state_of s (at_level q behind)) c.args.input.now c.scalars.used _ _ i.drained c.requires.unrefused t.at n told h _ one.holds;
+          item_drains (Gets g.S.Sink) (state_of s (at_level q c.args.level.now)) (state_of s (at_level q l)) (state_of s (at_level q behind)) c.args.input.now c.scalars.used _ _ i.drained c.requires.unrefused t.at n told h _ one.holds;
     })
 
 pub returns-in-Fault-clause-lawful : goal.returns-in-Fault-clause-lawful
@@ -115,9 +109,9 @@ returns-in-Fault-clause-lawful g c =
     let q = parts_state c.args.parts.now in
     let p = c.args.page in
     let i = c.scalars.invariant in
-    let l = c.scalars.level in
-    let t = c.in-Some-due_item.due in
-    let found : due_at (nodes_of q p.columns) l ≡ Some t = sym (rw c.page_table-table.ensures at c.in-Some-due_item.ensures) in
+    let l = c.scalars.here in
+    let t = c.in-Some.due in
+    let found : due_at (nodes_of q p.columns) l ≡ Some t = sym (rw c.page_table-table.ensures at c.in-Some.ensures) in
     let rest = drop c.scalars.used c.args.input.now in
     let n = c.in-Fault.taken in
     let one = rw rest_is at c.in-Fault.ensures.hands in
@@ -125,7 +119,7 @@ returns-in-Fault-clause-lawful g c =
     let behind = passed (nodes_of q p.columns) l n in
     let told = cell_event p.row p.column (Leaf t.level one.value) in
     let h = item_takes s q p c.requires.here l i.inside i.lawful c.requires.empty rest t found n _ one in
-    rw (c.set_level.ensures, goes) (item_lawful s q p c.requires.here l i.inside i.lawful c.requires.empty rest t found n _ one)
+    rw goes (item_lawful s q p c.requires.here l i.inside i.lawful c.requires.empty rest t found n _ one)
 
 pub returns-in-Fault-clause-within : goal.returns-in-Fault-clause-within
 returns-in-Fault-clause-within g c =
@@ -133,9 +127,9 @@ returns-in-Fault-clause-within g c =
     let q = parts_state c.args.parts.now in
     let p = c.args.page in
     let i = c.scalars.invariant in
-    let l = c.scalars.level in
-    let t = c.in-Some-due_item.due in
-    let found : due_at (nodes_of q p.columns) l ≡ Some t = sym (rw c.page_table-table.ensures at c.in-Some-due_item.ensures) in
+    let l = c.scalars.here in
+    let t = c.in-Some.due in
+    let found : due_at (nodes_of q p.columns) l ≡ Some t = sym (rw c.page_table-table.ensures at c.in-Some.ensures) in
     let rest = drop c.scalars.used c.args.input.now in
     let n = c.in-Fault.taken in
     let one = rw rest_is at c.in-Fault.ensures.hands in
@@ -143,7 +137,7 @@ returns-in-Fault-clause-within g c =
     let behind = passed (nodes_of q p.columns) l n in
     let told = cell_event p.row p.column (Leaf t.level one.value) in
     let h = item_takes s q p c.requires.here l i.inside i.lawful c.requires.empty rest t found n _ one in
-    rw (c.set_level.ensures, goes) (omega (arith, i.within, h.3.within, length-drop c.scalars.used c.args.input.now), omega (arith, h.3.pays, i.pays))
+    rw goes (omega (arith, i.within, h.3.within, length-drop c.scalars.used c.args.input.now), omega (arith, h.3.pays, i.pays))
 
 pub returns-in-Fault-clause-drains : goal.returns-in-Fault-clause-drains
 returns-in-Fault-clause-drains g c =
@@ -151,9 +145,9 @@ returns-in-Fault-clause-drains g c =
     let q = parts_state c.args.parts.now in
     let p = c.args.page in
     let i = c.scalars.invariant in
-    let l = c.scalars.level in
-    let t = c.in-Some-due_item.due in
-    let found : due_at (nodes_of q p.columns) l ≡ Some t = sym (rw c.page_table-table.ensures at c.in-Some-due_item.ensures) in
+    let l = c.scalars.here in
+    let t = c.in-Some.due in
+    let found : due_at (nodes_of q p.columns) l ≡ Some t = sym (rw c.page_table-table.ensures at c.in-Some.ensures) in
     let rest = drop c.scalars.used c.args.input.now in
     let n = c.in-Fault.taken in
     let one = rw rest_is at c.in-Fault.ensures.hands in
@@ -161,4 +155,10 @@ returns-in-Fault-clause-drains g c =
     let behind = passed (nodes_of q p.columns) l n in
     let told = cell_event p.row p.column (Leaf t.level one.value) in
     let h = item_takes s q p c.requires.here l i.inside i.lawful c.requires.empty rest t found n _ one in
-    rw (c.set_level.ensures, goes) (item_fails (Gets g.S.Sink) (state_with c.args.self.now c.args.parts.now) (state_of s (at_level q l)) (state_of s (at_level q behind)) c.args.input.now c.scalars.used _ _ i.drained c.requires.unrefused t.at n told h (Fails g.S.Sink) _ one.holds)
+    rw goes (item_fails (Gets g.S.Sink) (state_of s (at_level q c.args.level.now)) (state_of s (at_level q l)) (state_of s (at_level q behind)) c.args.input.now c.scalars.used _ _ i.drained c.requires.unrefused t.at n told h (Fails g.S.Sink) _ one.holds)
+
+pub returns-in-Fault-clause-inside : goal.returns-in-Fault-clause-inside
+returns-in-Fault-clause-inside g c =
+    let i = c.scalars.invariant in
+    let n = c.in-Fault.taken in
+    rw c.pass-in-Fault.ensures (record { fresh = i.inside.fresh; items = i.inside.items; some = i.inside.some; level = i.inside.level })

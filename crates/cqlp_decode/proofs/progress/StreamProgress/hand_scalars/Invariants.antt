@@ -1,7 +1,7 @@
 use Rattle.std.proofs.Common.{◌+◌, ◌-◌, ◌*◌, ◌≤◌, length}
 use Rattle.cqlp_cell.specs.Levels.{IsInLevel}
 use Rattle.cqlp_decode.specs.Sinks.{Gets}
-use Rattle.cqlp_decode.specs.Progress.{IsConsistent, ends_due, parts_state, state_of, state_with}
+use Rattle.cqlp_decode.specs.Progress.{IsConsistent, ends_due, parts_state, state_of}
 use Rattle.cqlp_decode.specs.Cells.{HandsOut}
 use Rattle.cqlp_decode.specs.Items.{at_level}
 use Rattle.cqlp_decode.proofs.progress.StreamProgress.hand_scalars.Given as goal
@@ -10,10 +10,10 @@ use Rattle.cqlp_decode.proofs.progress.StreamProgress.hand_scalars.Given as goal
 abbrev pub invariant-scalars : goal.invariant-scalars
 invariant-scalars g l = record {
   within : l.used ≤ length l.input;
-  inside : IsInLevel l.fn.parts.cells l.level;
-  lawful : IsConsistent l.fn.self (at_level (parts_state l.fn.parts) l.level);
-  pays : ends_due (state_of l.fn.self (at_level (parts_state l.fn.parts) l.level)).place.symbols + (state_of l.fn.self (at_level (parts_state l.fn.parts) l.level)).open_values ≤ ends_due (state_with l.fn.self l.fn.parts).place.symbols + (state_with l.fn.self l.fn.parts).open_values + 2 * l.used;
-  drained : HandsOut (Gets g.S.Sink) (state_with l.fn.self l.fn.parts) (state_of l.fn.self (at_level (parts_state l.fn.parts) l.level)) l.input l.used l.fn.sink l.sink;
+  inside : IsInLevel l.fn.parts.cells l.here;
+  lawful : IsConsistent l.fn.self (at_level (parts_state l.fn.parts) l.here);
+  pays : ends_due (state_of l.fn.self (at_level (parts_state l.fn.parts) l.here)).place.symbols + (state_of l.fn.self (at_level (parts_state l.fn.parts) l.here)).open_values ≤ ends_due (state_of l.fn.self (at_level (parts_state l.fn.parts) l.fn.level)).place.symbols + (state_of l.fn.self (at_level (parts_state l.fn.parts) l.fn.level)).open_values + 2 * l.used;
+  drained : HandsOut (Gets g.S.Sink) (state_of l.fn.self (at_level (parts_state l.fn.parts) l.fn.level)) (state_of l.fn.self (at_level (parts_state l.fn.parts) l.here)) l.input l.used l.fn.sink l.sink;
 }
 
 -- each item takes some byte

@@ -1,0 +1,265 @@
+//! The cells of a page that are lists, sets or maps, handed straight to a sink.
+//!
+//! A cell is taken in one step while all its bytes lie in the input and its items are scalars: the value that is open stays
+//! in the loop's hands. What stands elsewhere is left, with the reading where it would stand: its items to the loop over
+//! the items of cells, and all else to `Decoder::next`.
+
+ghost use Rattle.std.specs.Prelude.{◌≡◌, Ok, None, Some, []};
+ghost use Rattle.cqlp_note.specs.declared.refusal.Refusal.{Refusal};
+ghost use Rattle.cqlp_decode.specs.declared.progress.StreamStage.TheVariants as stage;
+ghost use Rattle.cqlp_decode.specs.Cells.{DrainsCells, DrainsItems, StaysWithin, UsesWithin};
+ghost use Rattle.cqlp_decode.specs.Items.{IsIn, LeavesCell, StandsIn, TakesEntry, at_level};
+ghost use Rattle.cqlp_cell.specs.Sizes.{is_counted as has_count};
+ghost use Rattle.cqlp_cell.specs.Levels.{IsInLevel, IsPair};
+ghost use Rattle.cqlp_decode.specs.Sinks.{Gets, Fails};
+ghost use Rattle.cqlp_decode.specs.Progress.{IsConsistent, IsLawful, nodes_of, parts_state, state_of, state_with};
+
+use crate::item_loop::{ItemsHanded, hand_part};
+use crate::leaf::hand_leaf;
+use crate::page::{CellCursor, page_table};
+use crate::page_loop::Handed;
+use crate::parts::Parts;
+use crate::progress::{StreamProgress, StreamStage};
+use crate::step::FaultAfter;
+use cqlp_cell::{BareItem, Entered, Level, PairKinds};
+use cqlp_grammar::{Sink, SinkFault};
+use cqlp_kind::Kind;
+use std::alloc::Allocator;
+
+/// Hands the cells that are due to the sink, as far as each is a list, a set or a map of scalars and lies in the input, and
+/// answers how many bytes of the input they take.
+#[inline(never)]
+pub fn take_lists<S: Sink, A: Allocator>(
+    progress: &mut StreamProgress,
+    parts: &mut Parts<A>,
+    input: &[u8],
+    sink: &mut S,
+) -> Result<usize, FaultAfter>
+    requires lawful { IsLawful progress.old parts.old }
+    ensures lawful { IsLawful progress.new parts.new }
+    ensures stays { StaysWithin (state_with progress.old parts.old) input.now result
+        (state_with progress.new parts.new) }
+    ensures refused { (r : Refusal) → progress.old.refusal ≡ Some r
+        → (progress.new ≡ progress.old) × (parts.new ≡ parts.old) × (sink.new ≡ sink.old) × (result ≡ Ok 0) }
+    ensures drains { DrainsCells (Gets S.Sink) (Fails S.Sink) (state_with progress.old parts.old) input.now result
+        (state_with progress.new parts.new) sink.old sink.new }
+{
+    if parts.partial.held() > 0 || progress.refusal.is_some() {
+        return Ok(0);
+    }
+    let mut used = 0;
+    'lists: loop {
+        let Some(page) = progress.begin_list(parts) else {
+            return Ok(used);
+        };
+        let Some(entered) = progress.enter_list(parts, page, &input[used..]) else {
+            return Ok(used);
+        };
+        match hand_part(page, entered.item, sink) {
+            Ok(()) => used += entered.item.used,
+            Err(SinkFault) => {
+                let used = used + entered.item.used;
+                return Err(FaultAfter { used });
+            }
+        }
+        let mut level = entered.level;
+        let handed = progress.hand_counted(parts, &mut level, page, &input[used..], sink);
+        used += handed.used;
+        if handed.failed {
+            parts.cells.set_level(level);
+            return Err(FaultAfter { used });
+        }
+        let Some(item) = progress.leave_list(parts, page, level) else {
+            return Ok(used);
+        };
+        match hand_part(page, item, sink) {
+            Ok(()) => used += item.used,
+            Err(SinkFault) => {
+                let used = used + item.used;
+                return Err(FaultAfter { used });
+            }
+        }
+    }
+}
+
+/// Whether a value of this kind has a count before its items.
+#[inline(always)]
+pub(crate) fn is_counted(kind: Kind) -> bool
+    ensures { result ≡ has_count kind }
+{
+    matches!(kind, Kind::List | Kind::Set | Kind::Map)
+}
+
+impl StreamProgress {
+    /// Begins the cell that is due, if it is a list, a set or a map.
+    #[inline(always)]
+    fn begin_list<A: Allocator>(&mut self, parts: &mut Parts<A>) -> Option<CellCursor>
+        requires lawful { IsLawful self.old parts.old }
+        requires unrefused { self.old.refusal ≡ None }
+        ensures lawful { IsLawful self.new parts.new }
+        ensures same { state_with self.new parts.new ≡ state_with self.old parts.old }
+        ensures here { IsIn result self.new.stage }
+    {
+        let StreamStage::BeforeCell(page) = self.stage else {
+            return None;
+        };
+        let table = page_table(page.columns, &parts.table, &parts.given);
+        if !is_counted(page.kind(table)) {
+            return None;
+        }
+        self.begin_cell(page, &mut parts.cells);
+        Some(page)
+    }
+
+    /// Goes on inside the list, the set or the map that is next of the cell under way, where its length and its count are
+    /// lawful and lie in the input.
+    #[inline(always)]
+    fn enter_list<A: Allocator>(
+        &self,
+        parts: &mut Parts<A>,
+        page: CellCursor,
+        input: &[u8],
+    ) -> Option<Entered>
+        requires lawful { IsLawful self.now parts.old }
+        requires here { self.now.stage ≡ stage.InCell page }
+        requires empty { parts.old.partial.content ≡ [] }
+        ensures lawful { IsLawful self.now parts.new }
+        ensures empty { parts.new.partial.content ≡ [] }
+        ensures takes { TakesEntry (state_with self.now parts.old) input.now page.row page.column result
+            (state_with self.now parts.new) }
+        ensures inside { StandsIn result parts.new.cells }
+    {
+        let table = page_table(page.columns, &parts.table, &parts.given);
+        let Some(entered) = parts.cells.enter(table, input) else {
+            return None;
+        };
+        Some(entered)
+    }
+
+    /// Hands the items of the list, the set or the map that a level is to the sink, as long as each is a scalar, all whose
+    /// bytes lie in the input.
+    #[inline(always)]
+    fn hand_counted<S: Sink, A: Allocator>(
+        &self,
+        parts: &Parts<A>,
+        level: &mut Level,
+        page: CellCursor,
+        input: &[u8],
+        sink: &mut S,
+    ) -> ItemsHanded
+        requires lawful { IsConsistent self.now (at_level (parts_state parts.now) level.old) }
+        requires inside { IsInLevel parts.now.cells level.old }
+        requires here { self.now.stage ≡ stage.InCell page }
+        requires unrefused { self.now.refusal ≡ None }
+        requires empty { parts.now.partial.content ≡ [] }
+        ensures lawful { IsConsistent self.now (at_level (parts_state parts.now) level.new) }
+        ensures inside { IsInLevel parts.now.cells level.new }
+        ensures within { UsesWithin (state_of self.now (at_level (parts_state parts.now) level.old)) input.now
+            (Ok result.used) (state_of self.now (at_level (parts_state parts.now) level.new)) }
+        ensures drains { DrainsItems (Gets S.Sink) (Fails S.Sink) (state_of self.now (at_level (parts_state parts.now) level.old)) input.now
+            result (state_of self.now (at_level (parts_state parts.now) level.new)) sink.old sink.new }
+    {
+        let table = page_table(page.columns, &parts.table, &parts.given);
+        let Some(kinds) = level.pair_kinds(table) else {
+            return self.hand_inside(parts, level, page, input, sink);
+        };
+        self.hand_pairs(parts, kinds, level, page, input, sink)
+    }
+
+    /// The same of a map, whose keys and values are of these kinds.
+    #[inline(always)]
+    fn hand_pairs<S: Sink, A: Allocator>(
+        &self,
+        parts: &Parts<A>,
+        kinds: PairKinds,
+        level: &mut Level,
+        page: CellCursor,
+        input: &[u8],
+        sink: &mut S,
+    ) -> ItemsHanded
+        requires lawful { IsConsistent self.now (at_level (parts_state parts.now) level.old) }
+        requires inside { IsInLevel parts.now.cells level.old }
+        requires pair { IsPair (nodes_of (parts_state parts.now) page.columns) level.old kinds.key kinds.value }
+        requires here { self.now.stage ≡ stage.InCell page }
+        requires unrefused { self.now.refusal ≡ None }
+        requires empty { parts.now.partial.content ≡ [] }
+        ensures lawful { IsConsistent self.now (at_level (parts_state parts.now) level.new) }
+        ensures inside { IsInLevel parts.now.cells level.new }
+        ensures within { UsesWithin (state_of self.now (at_level (parts_state parts.now) level.old)) input.now
+            (Ok result.used) (state_of self.now (at_level (parts_state parts.now) level.new)) }
+        ensures drains { DrainsItems (Gets S.Sink) (Fails S.Sink) (state_of self.now (at_level (parts_state parts.now) level.old)) input.now
+            result (state_of self.now (at_level (parts_state parts.now) level.new)) sink.old sink.new }
+    {
+        let limits = self.limits;
+        let mut here = *level;
+        let mut used = 0;
+        'pairs: loop {
+            if !here.has_key() {
+                break 'pairs;
+            }
+            let due = here.due_in_pair(kinds.key);
+            match hand_leaf(&limits, due, page, &input[used..], sink) {
+                Handed::Left => break 'pairs,
+                Handed::Taken(taken) => {
+                    here.pass_key(taken);
+                    used += taken;
+                }
+                Handed::Fault(taken) => {
+                    here.pass_key(taken);
+                    *level = here;
+                    return ItemsHanded {
+                        used: used + taken,
+                        failed: true,
+                    };
+                }
+            }
+            let due = here.due_in_pair(kinds.value);
+            match hand_leaf(&limits, due, page, &input[used..], sink) {
+                Handed::Left => break 'pairs,
+                Handed::Taken(taken) => {
+                    here.pass_value(taken);
+                    used += taken;
+                }
+                Handed::Fault(taken) => {
+                    here.pass_value(taken);
+                    *level = here;
+                    return ItemsHanded {
+                        used: used + taken,
+                        failed: true,
+                    };
+                }
+            }
+        }
+        *level = here;
+        ItemsHanded {
+            used,
+            failed: false,
+        }
+    }
+
+    /// Goes on where a level stands, and leaves the cell, where that is at its end.
+    #[inline(always)]
+    fn leave_list<A: Allocator>(
+        &mut self,
+        parts: &mut Parts<A>,
+        page: CellCursor,
+        level: Level,
+    ) -> Option<BareItem>
+        requires lawful { IsConsistent self.old (at_level (parts_state parts.old) level) }
+        requires inside { IsInLevel parts.old.cells level }
+        requires here { self.old.stage ≡ stage.InCell page }
+        requires unrefused { self.old.refusal ≡ None }
+        requires empty { parts.old.partial.content ≡ [] }
+        ensures lawful { IsLawful self.new parts.new }
+        ensures empty { parts.new.partial.content ≡ [] }
+        ensures leaves { LeavesCell (state_of self.old (at_level (parts_state parts.old) level)) page.row page.column
+            result (state_with self.new parts.new) }
+    {
+        let Some(item) = parts.cells.leave(level) else {
+            return None;
+        };
+        let table = page_table(page.columns, &parts.table, &parts.given);
+        self.end_cell(page, &mut parts.cells, table);
+        Some(item)
+    }
+}

@@ -1,0 +1,202 @@
+// Written by dist/erase from crates/cqlp_decode/src/list_loop.rt.
+//! The cells of a page that are lists, sets or maps, handed straight to a sink.
+//!
+//! A cell is taken in one step while all its bytes lie in the input and its items are scalars: the value that is open stays
+//! in the loop's hands. What stands elsewhere is left, with the reading where it would stand: its items to the loop over
+//! the items of cells, and all else to `Decoder::next`.
+
+use crate::cqlp_decode::item_loop::{ItemsHanded, hand_part};
+use crate::cqlp_decode::leaf::hand_leaf;
+use crate::cqlp_decode::page::{CellCursor, page_table};
+use crate::cqlp_decode::page_loop::Handed;
+use crate::cqlp_decode::parts::Parts;
+use crate::cqlp_decode::progress::{StreamProgress, StreamStage};
+use crate::cqlp_decode::step::FaultAfter;
+use crate::cqlp_cell::{BareItem, Entered, Level, PairKinds};
+use crate::cqlp_grammar::{Sink, SinkFault};
+use crate::cqlp_kind::Kind;
+use crate::kit_std::alloc::Allocator;
+
+/// Hands the cells that are due to the sink, as far as each is a list, a set or a map of scalars and lies in the input, and
+/// answers how many bytes of the input they take.
+#[inline(never)]
+pub(crate) fn take_lists<S: Sink, A: Allocator>(
+    progress: &mut StreamProgress,
+    parts: &mut Parts<A>,
+    input: &[u8],
+    sink: &mut S,
+) -> Result<usize, FaultAfter>
+{
+    if parts.partial.held() > 0 || progress.refusal.is_some() {
+        return Ok(0);
+    }
+    let mut used = 0;
+    loop {
+        let Some(page) = progress.begin_list(parts) else {
+            return Ok(used);
+        };
+        let Some(entered) = progress.enter_list(parts, page, &input[used..]) else {
+            return Ok(used);
+        };
+        match hand_part(page, entered.item, sink) {
+            Ok(()) => used += entered.item.used,
+            Err(SinkFault) => {
+                let used = used + entered.item.used;
+                return Err(FaultAfter { used });
+            }
+        }
+        let mut level = entered.level;
+        let handed = progress.hand_counted(parts, &mut level, page, &input[used..], sink);
+        used += handed.used;
+        if handed.failed {
+            parts.cells.set_level(level);
+            return Err(FaultAfter { used });
+        }
+        let Some(item) = progress.leave_list(parts, page, level) else {
+            return Ok(used);
+        };
+        match hand_part(page, item, sink) {
+            Ok(()) => used += item.used,
+            Err(SinkFault) => {
+                let used = used + item.used;
+                return Err(FaultAfter { used });
+            }
+        }
+    }
+}
+
+/// Whether a value of this kind has a count before its items.
+#[inline(always)]
+pub(crate) fn is_counted(kind: Kind) -> bool
+{
+    matches!(kind, Kind::List | Kind::Set | Kind::Map)
+}
+
+impl StreamProgress {
+    /// Begins the cell that is due, if it is a list, a set or a map.
+    #[inline(always)]
+    fn begin_list<A: Allocator>(&mut self, parts: &mut Parts<A>) -> Option<CellCursor>
+    {
+        let StreamStage::BeforeCell(page) = self.stage else {
+            return None;
+        };
+        let table = page_table(page.columns, &parts.table, &parts.given);
+        if !is_counted(page.kind(table)) {
+            return None;
+        }
+        self.begin_cell(page, &mut parts.cells);
+        Some(page)
+    }
+
+    /// Goes on inside the list, the set or the map that is next of the cell under way, where its length and its count are
+    /// lawful and lie in the input.
+    #[inline(always)]
+    fn enter_list<A: Allocator>(
+        &self,
+        parts: &mut Parts<A>,
+        page: CellCursor,
+        input: &[u8],
+    ) -> Option<Entered>
+    {
+        let table = page_table(page.columns, &parts.table, &parts.given);
+        let Some(entered) = parts.cells.enter(table, input) else {
+            return None;
+        };
+        Some(entered)
+    }
+
+    /// Hands the items of the list, the set or the map that a level is to the sink, as long as each is a scalar, all whose
+    /// bytes lie in the input.
+    #[inline(always)]
+    fn hand_counted<S: Sink, A: Allocator>(
+        &self,
+        parts: &Parts<A>,
+        level: &mut Level,
+        page: CellCursor,
+        input: &[u8],
+        sink: &mut S,
+    ) -> ItemsHanded
+    {
+        let table = page_table(page.columns, &parts.table, &parts.given);
+        let Some(kinds) = level.pair_kinds(table) else {
+            return self.hand_inside(parts, level, page, input, sink);
+        };
+        self.hand_pairs(parts, kinds, level, page, input, sink)
+    }
+
+    /// The same of a map, whose keys and values are of these kinds.
+    #[inline(always)]
+    fn hand_pairs<S: Sink, A: Allocator>(
+        &self,
+        parts: &Parts<A>,
+        kinds: PairKinds,
+        level: &mut Level,
+        page: CellCursor,
+        input: &[u8],
+        sink: &mut S,
+    ) -> ItemsHanded
+    {
+        let limits = self.limits;
+        let mut here = *level;
+        let mut used = 0;
+        'pairs: loop {
+            if !here.has_key() {
+                break 'pairs;
+            }
+            let due = here.due_in_pair(kinds.key);
+            match hand_leaf(&limits, due, page, &input[used..], sink) {
+                Handed::Left => break 'pairs,
+                Handed::Taken(taken) => {
+                    here.pass_key(taken);
+                    used += taken;
+                }
+                Handed::Fault(taken) => {
+                    here.pass_key(taken);
+                    *level = here;
+                    return ItemsHanded {
+                        used: used + taken,
+                        failed: true,
+                    };
+                }
+            }
+            let due = here.due_in_pair(kinds.value);
+            match hand_leaf(&limits, due, page, &input[used..], sink) {
+                Handed::Left => break 'pairs,
+                Handed::Taken(taken) => {
+                    here.pass_value(taken);
+                    used += taken;
+                }
+                Handed::Fault(taken) => {
+                    here.pass_value(taken);
+                    *level = here;
+                    return ItemsHanded {
+                        used: used + taken,
+                        failed: true,
+                    };
+                }
+            }
+        }
+        *level = here;
+        ItemsHanded {
+            used,
+            failed: false,
+        }
+    }
+
+    /// Goes on where a level stands, and leaves the cell, where that is at its end.
+    #[inline(always)]
+    fn leave_list<A: Allocator>(
+        &mut self,
+        parts: &mut Parts<A>,
+        page: CellCursor,
+        level: Level,
+    ) -> Option<BareItem>
+    {
+        let Some(item) = parts.cells.leave(level) else {
+            return None;
+        };
+        let table = page_table(page.columns, &parts.table, &parts.given);
+        self.end_cell(page, &mut parts.cells, table);
+        Some(item)
+    }
+}
