@@ -208,7 +208,7 @@ impl Pieces {
         }
     }
 
-    /// Reads the items of a value of so many bytes.
+    /// Reads the items of a value of this many bytes.
     fn items(&mut self, of: &Type, mut left: u64, count: &mut Count) -> Answer<()> {
         match of {
             Type::List(_) | Type::Map(..) => {

@@ -1,7 +1,7 @@
 #!/usr/bin/env python3
-"""captures/lines.py of NAME <LINES: compares the lines that `cqlp capture` wrote of the capture NAME in crates/cqlp_test_captures/data with
-those that it has to write. They are made of what that crate's stdout has of the exchanges on its connections, which its expected.py writes
-by a reading of its own, and of the driver's and the server's own bytes. Of a message that was cut what it says is not compared.
+"""captures/lines.py of NAME <LINES: compares the lines that `cqlp capture` wrote of the capture NAME in captures/data with
+those that it has to write. They are made of what said.txt has of the exchanges on its connections, which expected.py writes by a reading of
+its own, and of the driver's and the server's own bytes. Of a message that was cut what it says is not compared.
 
 captures/lines.py live NAME COMMAND..: gives the capture to the command through a pipe, packet after packet, and each only when all lines
 are there that were due before it.
@@ -16,12 +16,12 @@ import time
 import uuid
 from pathlib import Path
 
-CRATE = Path(__file__).resolve().parent.parent / "crates" / "cqlp_test_captures"
+HERE = Path(__file__).resolve().parent
 MESSAGE = re.compile(r'(?P<stream>-?\d+) (?P<opcode>[A-Z]\w+) (?P<length>\d+) at (?P<at>\d+)(?P<cut> cut)? from (?P<begun>\d+) to (?P<ended>\d+) '
                      r'kept \d+(?: text (?P<text>"(?:[^"\\]|\\.)*")| id (?P<id>\d+)| int (?P<int>\d+))?')
 KINDS = {1: "VOID", 2: "ROWS", 3: "SET_KEYSPACE", 4: "PREPARED", 5: "SCHEMA_CHANGE"}
 ERRORS = {0x2000: "SyntaxError", 0x2200: "Invalid", 0x2500: "Unprepared"}
-# Captures of which that crate's stdout has no exchanges, since they have the same packets as this one.
+# Captures of which said.txt has no exchanges, since they have the same packets as this one.
 SAME = {f"driver{kind}": "driver.pcap" for kind in (".pcapng", "-big-endian.pcap", "-ns.pcap", "-vlan.pcap")}
 # How long a line that is due is waited for, in seconds.
 PATIENCE = 20
@@ -29,8 +29,8 @@ PATIENCE = 20
 
 def told(name):
     """What is told of a capture, in order: what it is, the connection's number, and its messages."""
-    stdout = (CRATE / "stdout").read_text()
-    found = re.search(rf"^== exchanges 64 of \d+ {re.escape(SAME.get(name, name))}\n((?:(?!== ).*\n)*)", stdout, re.M)
+    said = (HERE / "said.txt").read_text()
+    found = re.search(rf"^== exchanges 64 of \d+ {re.escape(SAME.get(name, name))}\n((?:(?!== ).*\n)*)", said, re.M)
     for line in found[1].splitlines():
         number, kind = re.match(r"(\d+)(?::| (\w+))", line).groups()
         if messages := [found.groupdict() for found in MESSAGE.finditer(line)]:
@@ -38,8 +38,8 @@ def told(name):
 
 
 def ids(name):
-    """The ids of statements that the driver sent, each by the number that stands for it in that crate's stdout."""
-    for file in CRATE.glob("data/*.requests.bin"):
+    """The ids of statements that the driver sent, each by the number that stands for it in said.txt."""
+    for file in HERE.glob("data/*.requests.bin"):
         rest = file.read_bytes()
         while rest:
             length = struct.unpack_from(">I", rest, 5)[0]
@@ -54,7 +54,7 @@ def ids(name):
 
 def first_time(name):
     """When the first packet came, in nanoseconds."""
-    file = (CRATE / "data" / SAME.get(name, name)).read_bytes()
+    file = (HERE / "data" / SAME.get(name, name)).read_bytes()
     order = "<" if file[:4] == bytes.fromhex("d4c3b2a1") else ">"
     seconds, microseconds = struct.unpack_from(order + "II", file, 24)
     return seconds * 10**9 + microseconds * 1000
@@ -105,7 +105,7 @@ class Fields:
 def body_of(name, number, is_response, message):
     """The flags and the body of a message, of the bytes that the driver or the server sent. None where the capture does not have their beginning."""
     session = "driver-sll2" if name.startswith("driver-sll2") else "driver"
-    file = (CRATE / "data" / f"{session}.{int(number) - 1}.{'responses' if is_response else 'requests'}.bin").read_bytes()
+    file = (HERE / "data" / f"{session}.{int(number) - 1}.{'responses' if is_response else 'requests'}.bin").read_bytes()
     at, length = int(message["at"]), int(message["length"])
     stream, found = struct.unpack_from(">hxI", file, at + 2) if at + 9 <= len(file) else (None, None)
     return (file[at + 1], file[at + 9:at + 9 + length]) if (stream, found) == (int(message["stream"]), length) else None
@@ -127,7 +127,7 @@ def entries(fields):
 
 
 def batch(flags, body, known):
-    """Patterns of what stands behind the opcode of a BATCH: its consistency, how many statements it has, and the first of them."""
+    """Patterns of what stands after the opcode of a BATCH: its consistency, how many statements it has, and the first of them."""
     fields = Fields(body)
     pass_payload(fields, flags)
     found = list(entries(fields))
@@ -137,7 +137,7 @@ def batch(flags, body, known):
 
 
 def asked(flags, body, message):
-    """What stands before the statement of a request, and behind it: its consistency, and how many rows a page is to have."""
+    """What stands before the statement of a request, and after it: its consistency, and how many rows a page is to have."""
     fields = Fields(body)
     pass_payload(fields, flags)
     if message["opcode"] not in ("Query", "Execute"):
@@ -171,7 +171,7 @@ def said_by(fields, message):
 
 
 def answered(flags, body, message):
-    """What stands behind the kind of a response."""
+    """What stands after the kind of a response."""
     fields = Fields(body)
     tracing = f" tracing {uuid.UUID(bytes=fields.take(16))}" if flags & 0x02 else ""
     warnings = [fields.text() for _ in range(fields.number())] if flags & 0x08 else None
@@ -249,7 +249,7 @@ def records(file):
 
 
 def live(name, command):
-    file = (CRATE / "data" / name).read_bytes()
+    file = (HERE / "data" / name).read_bytes()
     due = [when for _, when in patterns(name)]
     program = subprocess.Popen(command, stdin=subprocess.PIPE, stdout=subprocess.PIPE, stderr=subprocess.DEVNULL, bufsize=0)
     program.stdin.write(file[:24])

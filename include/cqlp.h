@@ -139,7 +139,7 @@ extern "C" {
 #define CQLP_UNBUILT 40              /* a part of a scalar */
 #define CQLP_TOO_MANY_FIELDS 41      /* there are more than 268435456 fields */
 #define CQLP_TOO_MANY_BYTES 42       /* the contents have more than 268435456 bytes */
-#define CQLP_LEFT_OVER 43            /* there are bytes behind the contents of the events */
+#define CQLP_LEFT_OVER 43            /* there are bytes after the contents of the events */
 #define CQLP_NO_SUCH_FRAME 44        /* no frame has these events */
 
 #define CQLP_TOO_MANY_COLUMNS 60     /* there are more columns than the limits say */
@@ -580,7 +580,7 @@ uint32_t cqlp_next(cqlp_decoder *decoder, const uint8_t *input, size_t length, c
 
 /* Passes over the rest of the frame within which the stream is refused, and says which it was, and why. The decoder goes on with the memory
  * that it has: give the rest of the input, from `used` on, to cqlp_next, which uses what is left of the frame unread, in however many
- * pieces it comes, and then reads the header behind it. What it puts from there on is what it would put of a stream that begins with
+ * pieces it comes, and then reads the header after it. What it puts from there on is what it would put of a stream that begins with
  * that header, at the offsets in this one. A frame can be passed over if its event was put: at each refusal in a body, for whatever reason.
  * A table of types that the decoder has is freed: take it back before, by cqlp_take_given, and give it again. cqlp_types_of has none until
  * the next metadata. It asks for no memory.
@@ -726,7 +726,7 @@ uint32_t cqlp_server_free(cqlp_server *server);
  * names the versions and by which drivers try another one. The request is one that a decoder refused for CQLP_REASON_BAD_VERSION;
  * `header` is the first nine bytes of its frame, zeros where they did not come, and the answer has its stream id. `length` is how many bytes
  * the answer has, no more than 117, also where there is less room. It asks for no memory.
- * Answers CQLP_DONE, and the bytes behind the answer are as they were; else CQLP_NO_ROOM, and all bytes are as they were. */
+ * Answers CQLP_DONE, and the bytes after the answer are as they were; else CQLP_NO_ROOM, and all bytes are as they were. */
 uint32_t cqlp_version_error(const uint8_t header[9], uint8_t *bytes, size_t room, size_t *length);
 
 /* Writes the nine bytes of a header, of which the decoder reads these fields again.
@@ -742,7 +742,7 @@ uint32_t cqlp_write_header(const cqlp_header *fields, uint8_t bytes[9]);
  * whether it has 4 or 16 bytes. The cells of a page have the types that its columns tell, and are raw where none are told.
  * Where there is no event, no content or no room, its pointer may be null. It asks for memory for a copy of the contents, for each event, for the
  * values of a page, and for the bytes of the frame, and gives all of it back.
- * Answers CQLP_DONE, and the bytes behind the frame are as they were; what was written is read as these events by a decoder whose limits allow it.
+ * Answers CQLP_DONE, and the bytes after the frame are as they were; what was written is read as these events by a decoder whose limits allow it.
  * Else all bytes are as they were:
  * - CQLP_NO_ROOM: `length` says how many bytes the frame has. So a call with a `room` of 0 measures it.
  * - Of the event that `event` names, and the first that is so: CQLP_UNBUILT where it is a CQLP_TAG_PART, which says neither how long the content is

@@ -35,7 +35,7 @@ static void note(told *told, const cqlp_event *event) {
   told->length += event->length;
 }
 
-/* Calls cqlp_encode with this much room, and looks at what it leaves behind what it says it wrote. */
+/* Calls cqlp_encode with this much room, and looks at what it leaves after what it says it wrote. */
 static uint32_t encode(const told *told, size_t room, uint8_t **bytes, cqlp_encoded *encoded) {
   cqlp_event *events = edge(EVENTS, told->count * sizeof *events);
   uint8_t *contents = edge(PIECE, told->length);

@@ -9,7 +9,7 @@ import (
 	"time"
 )
 
-// page is one of bench/pages.py with so many rows: go test -run none -bench .
+// page is one of bench/pages.py with this many rows: go test -run none -bench .
 func page(b *testing.B, kind, rows string) []byte {
 	b.Helper()
 	stream, err := exec.Command("python3", "../../bench/pages.py", kind, rows).Output()

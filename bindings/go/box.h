@@ -54,7 +54,7 @@ static inline void cqlp_box_fill(cqlp_box *box, const uint8_t *input, size_t len
   cqlp_box_place(box, input, length);
 }
 
-// How many rows are whole in so many columns: the last one has no cell of the row under way.
+// How many rows are whole in this many columns: the last one has no cell of the row under way.
 static inline size_t cqlp_box_rows(cqlp_box *box, size_t columns) {
   return columns && cqlp_columns_get(&box->columns, columns - 1, &box->column) == CQLP_DONE ? box->column.cells : 0;
 }

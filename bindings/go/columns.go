@@ -51,7 +51,7 @@ type ColumnArray struct {
 	Values []byte
 	// Offsets say, of values without a fixed length, where each begins in Values, and where the last one ends.
 	Offsets []uint64
-	// Valid has a bit for each cell, set where it has a value, the least of a byte first. Bits behind the last count for nothing.
+	// Valid has a bit for each cell, set where it has a value, the least of a byte first. Bits after the last count for nothing.
 	Valid []byte
 	// Empty has a bit for each cell, set where it has a value of no bytes; of values of a fixed length such a cell is not set in Valid.
 	Empty []byte
@@ -268,7 +268,7 @@ func (r *ColumnReader) beginPage(head Event) bool {
 	return true
 }
 
-// make makes arrays for the page, whose body has so many bytes. Those that are there are used again where they are as large.
+// make makes arrays for the page, whose body has this many bytes. Those that are there are used again where they are as large.
 func (r *ColumnReader) make(body uint64) error {
 	defer runtime.KeepAlive(r.decoder)
 	width := r.page.Metadata.Width

@@ -242,7 +242,7 @@ func (d *Decoder) fill(events []Event, p []byte) (n int, err error) {
 	}
 }
 
-// ended is what the last call says where it put no event and so many bytes are left.
+// ended is what the last call says where it put no event and this many bytes are left.
 func (d *Decoder) ended(left int) error {
 	switch batch := &d.box.batch; {
 	case batch.stop == C.CQLP_STOP_REFUSED:
@@ -293,7 +293,7 @@ func (d *Decoder) Next(p []byte) (event Event, n int, err error) {
 	return event, n, nil
 }
 
-// take is one call of the library: how many bytes were used. It puts so many events at most; 0 of them stands for a call that fills the columns, and
+// take is one call of the library: how many bytes were used. It puts this many events at most; 0 of them stands for a call that fills the columns, and
 // puts the event that they do not take.
 func (d *Decoder) take(p []byte, most int) int {
 	var first *C.uint8_t

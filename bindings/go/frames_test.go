@@ -154,7 +154,7 @@ func TestFramesAreWrittenAsTheyCame(t *testing.T) {
 }
 
 func TestWhatADriverSentIsWrittenAsItCame(t *testing.T) {
-	const folder = "../../crates/cqlp_test_captures/data/"
+	const folder = "../../captures/data/"
 	if _, err := os.Stat(folder); err != nil {
 		t.Skip("the recorded requests are not here")
 	}
@@ -437,7 +437,7 @@ func TestFramesBehindBadOnes(t *testing.T) {
 	}
 }
 
-// pieces reads at most so many bytes at a time.
+// pieces reads at most this many bytes at a time.
 func pieces(stream []byte, size int) io.Reader {
 	return readerFunc(func(p []byte) (int, error) {
 		if len(p) > size {

@@ -536,7 +536,7 @@ const (
 	CodeTooManyFields Code = 41
 	// CodeTooManyBytes: the contents have more than 268435456 bytes.
 	CodeTooManyBytes Code = 42
-	// CodeLeftOver: there are bytes behind the contents of the events.
+	// CodeLeftOver: there are bytes after the contents of the events.
 	CodeLeftOver Code = 43
 	// CodeNoSuchFrame: no frame has these events.
 	CodeNoSuchFrame Code = 44

@@ -588,7 +588,7 @@ func TestTypesStepByStep(t *testing.T) {
 	}
 }
 
-// A table is there again after a page that is refused, passed over or not, and where the reader is closed behind a page.
+// A table is there again after a page that is refused, passed over or not, and where the reader is closed after a page.
 func TestTypesOfPagesThatAreRefused(t *testing.T) {
 	types := typesOf(t)
 	given := func(stream string, skip func(Skipped)) *RowReader {

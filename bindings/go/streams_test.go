@@ -109,7 +109,7 @@ func linesOf(t *testing.T, d *Decoder, piece []byte) (lines []string) {
 	}
 }
 
-// decoded are the lines of the events of these pieces, and the verdict, with room for so many events at a time.
+// decoded are the lines of the events of these pieces, and the verdict, with room for this many events at a time.
 func decoded(t *testing.T, limits Limits, room int, pieces ...[]byte) (lines []string, verdict string) {
 	t.Helper()
 	d, err := NewDecoder(limits)

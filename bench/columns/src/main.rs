@@ -24,7 +24,7 @@ impl Sink for Alone {
     }
 }
 
-/// A column for each, which are cleared after so many rows.
+/// A column for each, which are cleared after this many rows.
 struct Each {
     columns: Vec<Column>,
     cells: usize,

@@ -6,7 +6,7 @@
 static uint8_t buffer[1 + 4096];
 static size_t kept;
 
-/* Gives a piece to the decoder, which lies behind the byte that was kept, and changes what it says. Answers whether it goes on. */
+/* Gives a piece to the decoder, which lies after the byte that was kept, and changes what it says. Answers whether it goes on. */
 static int read_piece(cqlp_decoder *decoder, size_t length, uint64_t base) {
   static cqlp_event events[64];
   cqlp_batch batch = {0};

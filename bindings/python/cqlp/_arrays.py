@@ -118,7 +118,7 @@ class _Arrays:
         self.sizes = (0, 0, 0)
 
     def begin(self, kinds: Tuple[int, ...], rows: int, body: int) -> None:
-        """Makes columns without rows for a page with values of these kinds, with so many rows and in a body of so many bytes. Those that
+        """Makes columns without rows for a page with values of these kinds, with this many rows and in a body of this many bytes. Those that
         are there are used again where they are as large."""
         sizes = self.sizes_for(kinds, rows, body)
         if self.handle.live and self.kinds == kinds and all(there >= wanted for there, wanted in zip(self.sizes, sizes)):
@@ -198,14 +198,14 @@ def _copied(place: int, size: int) -> bytes:
 
 
 def _bits(place: int, count: int) -> bytes:
-    """So many bits, and zeros behind the last."""
+    """This many bits, and zeros after the last."""
     found = _copied(place, (count + 7) // 8)
     return found[:-1] + bytes([found[-1] & (1 << count % 8) - 1]) if count % 8 else found
 
 
 @lru_cache(maxsize=8)
 def _repeated(bit: bool, count: int) -> bytes:
-    """So many bits that are all this one, and zeros behind the last."""
+    """This many bits that are all this one, and zeros after the last."""
     return ((1 << count) - 1 if bit else 0).to_bytes((count + 7) // 8, "little")
 
 

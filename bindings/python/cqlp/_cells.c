@@ -27,7 +27,7 @@ enum state { IS_THERE, IS_NULL, IS_EMPTY, IS_ODD };
 typedef struct column {
   uint8_t kind;
   uint8_t size;      /* the bytes of a number; 0 where the values are in a list */
-  char *numbers;     /* so many bytes for each */
+  char *numbers;     /* this many bytes for each */
   char *missing;     /* NULL where no number is missing; else the state of each */
   Py_ssize_t length; /* how many numbers there are */
   Py_ssize_t room;   /* and how many have room */

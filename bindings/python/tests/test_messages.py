@@ -211,7 +211,7 @@ def endings(read: Any, *words: Any) -> Tuple[list, Any]:
     return found, None
 
 
-# What no stream of streams.txt has: a page and a statement without columns under a keyspace and a table, columns of tables of their own behind
+# What no stream of streams.txt has: a page and a statement without columns under a keyspace and a table, columns of tables of their own after
 # a paging state of no bytes, and each code of an error.
 def frame_of(opcode: int, body: bytes, flags: int = 0) -> bytes:
     return struct.pack(">BBhBi", 0x84, flags, 0, opcode, len(body)) + body

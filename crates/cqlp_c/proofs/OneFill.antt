@@ -37,7 +37,7 @@ use Rattle.cqlp_c.specs.Laws.{unplaced}
 
 -- ---- lists
 
--- the longer of two beginnings of one list goes on behind the shorter
+-- the longer of two beginnings of one list goes on after the shorter
 cut_one : {X : Type 0} (xs ys t z : List X) → ys ++ t ≡ xs ++ z → length xs < length ys → (y : X) × (rest : List X) × (ys ≡ xs ++ y ∷ rest) × (z ≡ y ∷ (rest ++ t))
 cut_one [] [] t z same lt = absurd (omega (arith, lt))
 cut_one [] (y ∷ ys) t z same lt = (y, ys, refl, sym same)
@@ -115,7 +115,7 @@ module _ (gifts : Gifts) (l : Rules) (s input : List ℕ) (es : List (ℕ × Eve
       let there : (s ++ take used input) ++ drop used input ≡ s ++ input = append_assoc s (take used input) (drop used input) ∙ ap (λ (z : List ℕ). s ++ z) (take-append-drop used input) in
       subst (λ (z : List ℕ). Reads l (start_with gifts) z (es ++ told) p (b ++ drop used input)) there (runs_stay (step l) (start_with gifts) (s ++ take used input) (drop used input) (es ++ told) p b run)
 
-  -- where the reading is behind these events, it has at least what was not used
+  -- where the reading is after these events, it has at least what was not used
   record Reached (used : ℕ) (told : List (ℕ × Event)) : Type 0 where
     place : Place
     rest : List ℕ
@@ -162,7 +162,7 @@ module _ (gifts : Gifts) (l : Rules) (s input : List ℕ) (es : List (ℕ × Eve
       let le = no_further gifts l (s ++ input) (es ++ t) (es ++ t') v y.0 y.1 all y.2 in omega (arith, le, length-append es t, length-append es t')
 
   module _ (kinds : List Kind) (had : List Event) (columns : Batch) (has : HasTaken columns.limits kinds had columns) where
-    -- how a call ended, behind these cells and at most one other event
+    -- how a call ended, after these cells and at most one other event
     abbrev EndsBy : (cells other : List (ℕ × Event)) → (c : Batch) → (used : ℕ) → Why → Type 0
     EndsBy cells other c used why.More = (is_full c ≡ false) × (other ≡ []) × (used ≡ length input) × Says l (start_with gifts) (s ++ input) (es ++ cells) Waits
     EndsBy cells other c used why.Full = (is_full c ≡ true) × (other ≡ []) × Stops used cells

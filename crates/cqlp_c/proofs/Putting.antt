@@ -11,7 +11,7 @@ use Rattle.cqlp_c.specs.declared.slots.Slots.{Slots}
 use Rattle.cqlp_c.specs.Course.{begun_by}
 use Rattle.cqlp_c.specs.Slots.{HasRoom, PutsOne, TellsItems}
 
--- These events were put, behind those that were there, into the same array.
+-- These events were put, after those that were there, into the same array.
 pub record PutsAll (before : Slots) (xs : List Item) (after : Slots) : Type 0 where
   pub events : List CqlpEvent
   pub told : TellsItems before.origin events xs

@@ -4,7 +4,7 @@ use Rattle.std.proofs.lemmas.List.{length-append, take-append-drop}
 use Rattle.cqlp_c.specs.declared.numbers.TheConstants as numbers
 use Rattle.cqlp_c.specs.Rooms.{PutsBytes, PutsWhere}
 
--- Bytes stand at the front of this room, and all behind them is as it was in that one.
+-- Bytes stand at the front of this room, and all after them is as it was in that one.
 pub record Stand (before bytes after : List ℕ) : Type 0 where
   pub first : take (length bytes) after ≡ bytes
   pub others : (n : ℕ) → length bytes ≤ n → drop n after ≡ drop n before
@@ -32,7 +32,7 @@ assembled head digits a b n z is same = append_assoc (a ++ b) n z ∙ append_ass
 pub text_long : (b digits n z : List ℕ) (sizeb sizez : ℕ) → sizeb ≡ length b → sizez ≡ length z → n ≡ digits → sizeb + length n + sizez ≡ length ((b ++ digits) ++ z)
 text_long b digits n z sizeb sizez bs zs same = omega (arith, bs, zs, ap length same, length-append (b ++ digits) z, length-append b digits)
 
--- bytes of a second list, put behind others into a room, where they follow what stands there
+-- bytes of a second list, put after others into a room, where they follow what stands there
 pub record Follow (old bytes : List ℕ) (at end : ℕ) (new : List ℕ) : Type 0 where
   pub behind : end ≡ at + length bytes
   pub first : take end new ≡ take at old ++ bytes

@@ -63,7 +63,7 @@ pub record Buffer : Type 0 where
 abbrev pub buffer_in : Decoding → Buffer
 buffer_in d = record { at = buffer_of d; bytes = (state d).held }
 
--- A content that was gathered is what the decoder holds, and lies where its memory begins; a decimal's lies behind the
+-- A content that was gathered is what the decoder holds, and lies where its memory begins; a decimal's lies after the
 -- scale, which is held with it.
 pub record LiesInBuffer (b : Buffer) (e : Event) (content : List ℕ) (place : Ptr) : Type 0 where
   pub is : drop (before_gathered e) b.bytes ≡ content

@@ -1,4 +1,4 @@
--- Where a handle is in its stream, which is read in stretches (Stretches of cqlp_skip): each but the first begins behind a frame that was passed over.
+-- Where a handle is in its stream, which is read in stretches (Stretches of cqlp_skip): each but the first begins after a frame that was passed over.
 use Rattle.std.specs.Prelude.{◌≡◌, ℕ, zero, suc, ◌+◌, ◌-◌, ◌^◌, min, ℤ, pos, negsuc, List, [], ◌∷◌, Option, Some, None, Result, Ok, Err}
 use Rattle.std.specs.Prelude.{Bool, true, false, ◌==◌, ◌&&◌, nat_lt, nat_le, if◌then◌else◌}
 use Rattle.cqlp_note.specs.declared.refusal.Refusal.{Refusal}
@@ -139,7 +139,7 @@ skip_by None c = Err NotRefused
 skip_by (Some r) c =
     if c.frame.tag == numbers.TAG_FRAME then skip_to (end_begun c.frame c.base c.used) r c else Err InHeader
 
--- the present stretch ends, and another one begins behind the frame
+-- the present stretch ends, and another one begins after the frame
 abbrev pub skipped_on : Result CqlpSkipped Unskippable → CqlpCourse → CqlpCourse
 skipped_on (Err why) c = c
 skipped_on (Ok x) c = record { base = c.used + x.rest; used = c.used; last = x.frame.at; frame = no_frame }

@@ -51,7 +51,7 @@ TellsItems o [] [] = ⊤
 TellsItems o (c ∷ cs) (x ∷ xs) = TellsIn o c x.at x.event × TellsItems o cs xs
 TellsItems o cs xs = ⊥
 
--- Items were taken one after the other, of this many bytes, and their events, as C sees them, stand behind the first n
+-- Items were taken one after the other, of this many bytes, and their events, as C sees them, stand after the first n
 -- of the array, which is the same otherwise. The frame is under way that is after them.
 pub record PutsWhole (old new : StreamState) (input : Bor (List ℕ)) (n : ℕ) (put : WholePut)
     (before after : List CqlpEvent) (was now : CqlpBegun) : Type 0 where

@@ -26,7 +26,7 @@ pub struct CqlpBegun {
     pub tag: u8,
 }
 
-/// Where a handle is in its stream, which is read in stretches: the first begins where the stream does, and each further one behind
+/// Where a handle is in its stream, which is read in stretches: the first begins where the stream does, and each further one after
 /// a frame that was passed over.
 #[repr(C)]
 #[derive(Clone, Copy)]

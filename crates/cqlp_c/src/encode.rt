@@ -33,7 +33,7 @@ pub enum Unencoded {
     Untold(NotTold),
     /// An event is not taken, or no frame has all of them.
     Refused(BuildError),
-    /// There are contents behind those of the last event.
+    /// There are contents after those of the last event.
     LeftOver,
 }
 
@@ -44,7 +44,7 @@ pub struct Stopped {
     pub why: Unencoded,
 }
 
-/// Takes the event that C tells, and answers the contents behind its own.
+/// Takes the event that C tells, and answers the contents after its own.
 #[tactic(auto, using(crate::proofs::Encoded::one_taken, crate::proofs::Encoded::one_not_taken, crate::proofs::Encoded::one_untold))]
 fn take_told<'a>(
     composer: &mut Composer,
@@ -63,7 +63,7 @@ fn take_told<'a>(
     }
 }
 
-/// Takes all events, and answers the contents behind theirs.
+/// Takes all events, and answers the contents after theirs.
 fn take_all<'a>(
     composer: &mut Composer,
     events: &[CqlpEvent],

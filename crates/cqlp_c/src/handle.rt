@@ -274,7 +274,7 @@ fn pass_over(
 }
 
 /// Passes over the rest of the frame within which the stream is refused: the next calls use its bytes without looking at them, and go
-/// on with the header behind it.
+/// on with the header after it.
 #[unsafe(no_mangle)]
 pub extern "C" fn cqlp_skip(
     alloc: Global,

@@ -47,7 +47,7 @@ pub fn one_answer_of_server_new()
 
 /// A handle reads its stream in stretches, as cqlp_skip defines them: a decoder that was made is at the start of the first; over the next
 /// piece `cqlp_next` puts the next events of the present one, just these, at their offsets in the whole stream; where `cqlp_skip` passes
-/// over a frame, the present one is given up and the next begins behind the frame; and what `cqlp_finish` answers is the end of the whole.
+/// over a frame, the present one is given up and the next begins after the frame; and what `cqlp_finish` answers is the end of the whole.
 pub fn calls_read_stretches()
     ensures new { NewBegins }
     ensures next { NextReadsOn }

@@ -110,7 +110,7 @@ fn bytes_used(decoder: &Decoder<Global>) -> u64
     }
 }
 
-/// Puts events that lie whole in the input behind the first `count` of the array, while there is room, and goes on to the frame
+/// Puts events that lie whole in the input after the first `count` of the array, while there is room, and goes on to the frame
 /// that is under way after them.
 pub fn put_whole(
     decoder: &mut Decoder<Global>,

@@ -19,7 +19,7 @@ pub enum NotTold {
     Unbuilt,
 }
 
-/// What C tells as an event, with the first bytes of the contents that are left, where it has a content; and the contents behind it.
+/// What C tells as an event, with the first bytes of the contents that are left, where it has a content; and the contents after it.
 pub fn event_told<'a>(
     told: &CqlpEvent,
     contents: &'a [u8],

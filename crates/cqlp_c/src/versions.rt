@@ -29,7 +29,7 @@ fn error_head(stream: i16, text_len: u16) -> [u8; 15]
     ]
 }
 
-/// Writes bytes at a place, and answers the place behind them.
+/// Writes bytes at a place, and answers the place after them.
 pub fn put(room: &mut [u8], at: usize, bytes: &[u8]) -> usize
     requires { at + length bytes.now ≤ length room.old }
     ensures behind { result ≡ at + length bytes.now }

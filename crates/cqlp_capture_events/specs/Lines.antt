@@ -41,7 +41,7 @@ refused_line s at why =
 abbrev pub compressed_line : Lines → (at : ℕ) → List ℕ
 compressed_line s at = joined (place_text s ∷ decimal at ∷ codes " compressed\n" ∷ [])
 
--- so many bytes are missing
+-- this many bytes are missing
 abbrev pub gap_line : Lines → (at length : ℕ) → List ℕ
 gap_line s at n = joined (place_text s ∷ decimal at ∷ codes " gap " ∷ decimal n ∷ codes "\n" ∷ [])
 

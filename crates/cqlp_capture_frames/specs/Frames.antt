@@ -42,14 +42,14 @@ module _ (l : Rules) (given : Option (List Node)) where
   abbrev pub more_events : (before more : List ℕ) → List (ℕ × Event)
   more_events before more = drop (length (read before).0) (read (before ++ more)).0
 
--- ---- the types of the metadata that was read last: behind a PREPARED those of its statement's result (section 4.2.5.4)
+-- ---- the types of the metadata that was read last: after a PREPARED those of its statement's result (section 4.2.5.4)
 
 abbrev pub place_on : (Place → List ℕ → Place) → Place → List ℕ → Said (Emitted Event Place) (ℕ × Reason) → Place
 place_on next p bytes More = p
 place_on next p bytes (Bad fault) = p
 place_on next p bytes (Got x used) = next (x.after used) (drop used bytes)
 
--- where the reading stands behind n events, or behind all that there are
+-- where the reading stands after n events, or after all that there are
 abbrev pub place_behind : Rules → (n : ℕ) → Place → List ℕ → Place
 place_behind l zero p bytes = p
 place_behind l (suc n) p bytes = place_on (place_behind l n) p bytes (told (step l p) 0 bytes)
@@ -59,7 +59,7 @@ types_read l given bytes = (place_behind l (length bytes + 1) (start_with (gifts
 
 -- ---- what is told of a frame
 
--- the offset behind so many bytes; the greatest number, if more
+-- the offset after this many bytes; the greatest number, if more
 abbrev pub behind : (at n : ℕ) → ℕ
 behind at n = min (at + n) (2 ^ 64 - 1)
 

@@ -6,7 +6,7 @@ use Rattle.cqlp_kind.specs.declared.node.Node.{Node}
 use Rattle.cqlp_grammar.specs.Events.{Event}
 
 -- At an offset of the direction: a frame with this header begins, of which the bytes are read; it says an event; it is refused; a frame with this
--- header begins that is compressed; so many bytes are missing. Or the frame came whole, and these are the types of the metadata that it
+-- header begins that is compressed; this many bytes are missing. Or the frame came whole, and these are the types of the metadata that it
 -- described last; or no more is read of it.
 pub data Happening : Type 0 where
   Begins : (at : ℕ) → Header → Happening

@@ -12,7 +12,7 @@ use cqlp_text::{Pen, TextWriter};
 use cqlp_type::TypeTable;
 use std::alloc::Allocator;
 
-/// The offset behind so many bytes; the greatest number, if more.
+/// The offset after this many bytes; the greatest number, if more.
 pub(crate) fn behind(at: u64, used: u64) -> u64
     ensures { result ≡ behind at used }
 {

@@ -67,6 +67,6 @@ abbrev pub rows_text : FrameSpot → Page → List (ℕ × Event) → List ℕ
 rows_text s p [] = []
 rows_text s p (e ∷ es) = rows_part s p e.1 ++ rows_text s (page_after p e.1) es
 
--- A page that does not end says so, behind its last row, which may not be whole, or in a line of its own.
+-- A page that does not end says so, after its last row, which may not be whole, or in a line of its own.
 abbrev pub cut_text : Page → List ℕ
 cut_text p = if p.is_begun then codes " cut\n" else []

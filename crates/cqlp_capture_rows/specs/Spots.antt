@@ -34,6 +34,6 @@ refused_line s why =
 abbrev pub compressed_line : Spot → List ℕ
 compressed_line s = joined (place_text s ∷ decimal s.at ∷ codes " compressed\n" ∷ [])
 
--- so many bytes are missing at a spot
+-- this many bytes are missing at a spot
 abbrev pub gap_line : Spot → ℕ → List ℕ
 gap_line s n = joined (place_text s ∷ decimal s.at ∷ codes " gap " ∷ decimal n ∷ codes "\n" ∷ [])

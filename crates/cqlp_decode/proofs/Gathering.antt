@@ -55,7 +55,7 @@ module _ (nodes : List Node) (d : CellState) (same : d.rules.part ≡ d.rules.ce
       let few = int_waits at room (p.seen ++ x) enough (rw is at (more.waits x (omega arith))) in
       omega (arith, few, length-append p.seen x)
 
-  -- the bytes behind the last field of the innermost value
+  -- the bytes after the last field of the innermost value
   further_goes : (o : Option OpenValue) → d.next ≡ next.Items → d.arrived ≡ arrived.Later → FurtherUnder nodes d p o → Goes d
   further_goes None here is under = absurd under
   further_goes (Some o) here is under =

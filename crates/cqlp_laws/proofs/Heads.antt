@@ -1,4 +1,4 @@
--- The content of an event is the last bytes of its step, and begins behind its length. How many bytes a length has is
+-- The content of an event is the last bytes of its step, and begins after its length. How many bytes a length has is
 -- known of each field that a stream can reach.
 use Rattle.std.proofs.Common.{◌≡◌, ℕ, zero, suc, ◌+◌, ◌-◌, ◌^◌, ◌≤◌, Bool, true, false, ◌||◌, ◌&&◌, ltb, leb, eqb, cond, bytes_eq, List, [], ◌∷◌, ◌++◌, length, take, drop, Option, Some, None, Ok, Err, refl, sym, ap, ◌∙◌, subst, append_assoc, arith}
 use Rattle.std.specs.Int.{Width, w8, w16, w32, w64, from_be_bytes}

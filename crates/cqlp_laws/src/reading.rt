@@ -29,7 +29,7 @@ pub fn content_lies_in_its_step()
     ensures { LiesInItsStep }
 {}
 
-/// Where an event with a content is read, the content is the last of the bytes read so far. It begins behind the bytes of
+/// Where an event with a content is read, the content is the last of the bytes read so far. It begins after the bytes of
 /// its length, whose number follows from the event: so where it lies is known from the event's offset.
 pub fn contents_end_what_is_read()
     ensures { EndsWhatIsRead }

@@ -19,7 +19,7 @@ use Rattle.cqlp_encode.specs.declared.page_writer.PageError.TheVariants as error
 use Rattle.cqlp_encode.specs.PageWriting.{PageState, page, After, Begins, Adds, Finishes, cell_error, one_more}
 use Rattle.cqlp_loop.specs.Exchanges.{IsPage, WritesPage, cell}
 
--- ---- bytes behind others
+-- ---- bytes after others
 
 -- all of some bytes were taken
 abbrev TakesAll : (old : Output) → List ℕ → (new : Output) → Type 0

@@ -98,7 +98,7 @@ tells_then old mid new a b x y z p q = record {
   rules = q.rules ∙ p.rules;
 }
 
--- after some bytes were used, what all bytes behind them say
+-- after some bytes were used, what all bytes after them say
 pub says_then : (old mid : StreamState) (a b : List ℕ) (v : Verdict) (x y z : Hearing) → Tells old a mid x y → SaysAll mid b v y z → SaysAll old (a ++ b) v x z
 says_then old mid a b v x y z p q = record {
   more = p.more ++ q.more;

@@ -86,7 +86,7 @@ abbrev pub due_at : Mark → ℕ
 due_at (mark.Head h) = 1
 due_at mark.Tail = 0
 
--- Whatever led to the first, at the second nothing is under way: no byte was used that is behind the mark.
+-- Whatever led to the first, at the second nothing is under way: no byte was used that is after the mark.
 abbrev pub Stops : StreamState → Mark → StreamState → Type 0
 Stops old m new =
     (s : List ℕ) (es : List (ℕ × Event))

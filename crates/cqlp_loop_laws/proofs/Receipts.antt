@@ -88,7 +88,7 @@ module _ (l : Rules) (xs : List ℕ) where
       let rest : i'.waiting ++ st'.rest ≡ i.waiting ++ st.rest = sym (none_before u' i' at' (idle hs) st' stop'.0) ∙ same ∙ none_before u i at (idle hs) st stop.0 in
       append_cancel_right u' u (i.waiting ++ st.rest) (ap (λ (z : List ℕ). u' ++ z) (sym rest) ∙ sym st'.stream ∙ st.stream)
 
-  -- behind the headers that were heard, what more events tell
+  -- after the headers that were heard, what more events tell
   heard_behind : (hs : List Header) (y : Hearing) (es more : List (ℕ × Event)) → with_events (idle []) es ≡ idle hs → with_events (idle []) more ≡ y → with_events (idle []) (es ++ more) ≡ behind hs y
   heard_behind hs y es more here there =
       events_then (idle []) es more ∙ ap (λ (z : Hearing). with_events z more) (here ∙ ap (λ (z : List Header). idle z) (sym (append-nil hs)))

@@ -63,7 +63,7 @@ pub record IsSoFar (gifts : Gifts) (d : StreamState) (s input : List ℕ) (es : 
 pub read_none : (gifts : Gifts) (d : StreamState) (s input : List ℕ) (es : List (ℕ × Event)) (columns : Batch) → AfterGifts gifts d s es → IsSoFar gifts d s input es columns columns 0
 read_none gifts d s input es columns a = record { cells = []; taken = refl; after = rw (append-nil s, append-nil es) a; ends = inl refl }
 
--- one more piece of the input behind what was used
+-- one more piece of the input after what was used
 pub onward : (gifts : Gifts) (d : StreamState) (s input : List ℕ) (used taken : ℕ) (es : List (ℕ × Event)) → AfterGifts gifts d ((s ++ take used input) ++ take taken (drop used input)) es → AfterGifts gifts d (s ++ take (used + taken) input) es
 onward gifts d s input used taken es a = rw (take_two used taken input, ← (append_assoc s (take used input) (take taken (drop used input)))) a
 
@@ -200,7 +200,7 @@ pub refuses_on : (gifts : Gifts) (free old : StreamState) (s input : List ℕ) (
 refuses_on gifts free old s input es used r rules same h =
     refuses_free free.refusal gifts free old s input es used r rules (subst (λ (o : Option Refusal). Refuses o gifts old (s ++ take used input) es (drop used input) r) same h)
 
--- more is wanted behind all of the input
+-- more is wanted after all of the input
 pub waits_on : (gifts : Gifts) (old new : StreamState) (s input : List ℕ) (es : List (ℕ × Event)) (used taken : ℕ) → LeadsAfter gifts old (s ++ take used input) es (drop used input) (steps.More taken) new
     → (taken ≡ length (drop used input)) × (new.refusal ≡ None) × AfterGifts gifts new (s ++ input) es × Says new.rules (start_with gifts) (s ++ input) es Waits
 waits_on gifts old new s input es used taken h = rw (all_of s input used) at h

@@ -21,7 +21,7 @@ takes b Nothing = false
 takes b Part = false
 takes b (Whole column c) = is_none (fault_at column c b)
 
--- Columns took a cell, and have it behind those that they had.
+-- Columns took a cell, and have it after those that they had.
 pub record TakesCell (before : Batch) (e : Event) (after : Batch) : Type 0 where
   pub free : takes before (found_in e) ≡ true
   pub taken : (kinds : List Kind) (es : List Event) → HasTaken before.limits kinds es before

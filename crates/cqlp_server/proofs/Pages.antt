@@ -5,7 +5,7 @@ use Rattle.std.proofs.lemmas.Bool.{ltb-true, ltb-false}
 use Rattle.std.specs.List.{range_with_len}
 use Rattle.cqlp_server.specs.Pages.{between, page_end, pages}
 
--- two runs of rows, one behind the other
+-- two runs of rows, one after the other
 runs : (a m n b : ℕ) → b ≡ a + m → range_with_len a m ++ range_with_len b n ≡ range_with_len a (m + n)
 runs a zero n b is = (let e : b ≡ a = omega arith in ap (λ x. range_with_len x n) e ∙ ap (λ k. range_with_len a k) (let z : n ≡ zero + n = omega arith in z))
 runs a (suc m) n b is =

@@ -49,7 +49,7 @@ impl Statement {
 }
 
 impl Key {
-    /// What stands behind the name of the table.
+    /// What stands after the name of the table.
     fn read(rest: &str) -> Key {
         let Some((_, value)) = rest.split_once('=') else {
             return Key::Any;

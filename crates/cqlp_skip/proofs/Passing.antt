@@ -1,4 +1,4 @@
--- Bytes that are passed over, and what is left of a stream behind them.
+-- Bytes that are passed over, and what is left of a stream after them.
 use Rattle.std.proofs.Common.{◌≡◌, ℕ, ◌+◌, ◌-◌, List, [], ◌++◌, length, take, drop, sym, ap, ◌∙◌, inl, inr, arith}
 use Rattle.std.specs.Prelude.{min}
 use Rattle.std.proofs.lemmas.Bool.{cases_lt}
@@ -35,7 +35,7 @@ behind_all base s input p is =
     let both = behind_passed base s input p (length input) is in
     rw (front, back) at both
 
--- and what the stream has behind them
+-- and what the stream has after them
 pub behind_piece : (base : ℕ) (s input later : List ℕ) (p : ℕ) → p ≡ min (base - length s) (length input) → (more : List ℕ) × (drop base ((s ++ input) ++ later) ≡ (drop base s ++ drop p input) ++ more)
 behind_piece base s input later p is = elim (cases_lt (length (s ++ input)) base) [
   | inr le ↦ (later, drop-append-le base (s ++ input) later le ∙ ap (λ (z : List ℕ). z ++ later) (behind_all base s input p is))

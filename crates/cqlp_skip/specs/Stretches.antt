@@ -1,5 +1,5 @@
 -- A stream that is read in stretches. A stretch is a stream of its own, which begins with a frame's header. Where it is refused within the body of a frame,
--- the caller may give it up: the rest of that frame is passed over, and the next stretch begins with the header behind it.
+-- the caller may give it up: the rest of that frame is passed over, and the next stretch begins with the header after it.
 use Rattle.std.specs.Prelude.{◌≡◌, ℕ, ◌+◌, ◌-◌, ◌^◌, min, ◌&&◌, List, [], ◌∷◌, ◌++◌, drop, Option, Some, None, nat_lt, nat_le, if◌then◌else◌}
 use Rattle.cqlp_note.specs.declared.refusal.Refusal.{Refusal}
 use Rattle.cqlp_note.specs.Limits.{Rules}
@@ -59,7 +59,7 @@ IsGivenUp l bytes x =
     Says l (start_with x.gifts) bytes x.events (Refused x.refusal.at x.refusal.why)
     × (frame_under_way x.events ≡ Some x.frame)
 
--- where the stretch begins that comes after these, of which the last stands first: behind the frame that was passed over
+-- where the stretch begins that comes after these, of which the last stands first: after the frame that was passed over
 abbrev pub base_after : List Stretch → ℕ
 base_after [] = 0
 base_after (x ∷ earlier) = x.from + end_of x.frame

@@ -52,7 +52,7 @@ once l xs (x ∷ zs) (y ∷ ys) a b same =
 
 -- ---- more bytes
 
--- what follows a stream, behind a place in it
+-- what follows a stream, after a place in it
 behind : (n : ℕ) (xs t : List ℕ) → (more : List ℕ) × (drop n (xs ++ t) ≡ drop n xs ++ more)
 behind n xs t = elim (cases_lt (length xs) n) [
   | inr le ↦ (t, drop-append-le n xs t le)

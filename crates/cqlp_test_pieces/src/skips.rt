@@ -196,12 +196,12 @@ struct Passed {
     /// Why a table of types that was held is not taken after the refusal.
     refused: Option<GiveReason>,
     skipped: Result<Skipped, NotSkippable>,
-    /// Whether that table is taken behind the frame, where none is held.
+    /// Whether that table is taken after the frame, where none is held.
     again: Option<bool>,
 }
 
 /// Passes over the frame that is refused, if it can be. A table of types that is held is tried again before, taken back, and given
-/// again behind the frame.
+/// again after the frame.
 fn pass_over(decoder: &mut SkippingDecoder<&LocalHeap>) -> Passed {
     if let Some(table) = decoder.take_given() {
         if let Err(error) = decoder.give(table) {

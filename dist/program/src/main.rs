@@ -12,7 +12,11 @@ mod kit_std;
 // The modules.
 
 #[cfg(test)]
+mod heap;
+#[cfg(test)]
 mod mutated;
+#[cfg(test)]
+mod watched;
 
 use kit_host::prelude::HostRuntime;
 use kit_host::rt::Status;

@@ -1,38 +1,16 @@
 //! Captures whose bytes were changed at random, and what `write_streams`, `write_exchanges`, `write_events` and `write_rows` make of them: no panic, no more
 //! memory than the limits say, the same files and lines whole and in pieces of any size, lines that say how long the files are, those of exchanges
 //! that are asked for among those of all, an object for each of their lines, and summaries that count them. CQLP_STREAMS is how many changed captures
-//! there are, 3,000 where it is not set, 5,000 in a file; CQLP_CAPTURES is the folder with those of a driver.
+//! there are, 3,000 where it is not set, 5,000 in a file; those of a driver lie in the folder data of CQLP_CAPTURES.
 use crate::cqlp_connections::Way;
 use crate::cqlp_capture_events::write_events;
 use crate::cqlp_capture_rows::write_rows;
 use crate::cqlp_exchanges::{ExchangeFilter, ExchangeForm, write_exchanges};
 use crate::cqlp_note::{IoFault, OfStd, Source};
 use crate::cqlp_streams::{FileFault, StreamFile, StreamFiles, write_streams};
+use crate::heap::measured;
 use crate::kit_std::alloc::Global;
-use std::alloc::{GlobalAlloc, Layout, System};
 use std::collections::HashMap;
-use std::sync::atomic::{AtomicUsize, Ordering::SeqCst};
-
-/// How many bytes are taken at once, where the test counts them: those of the files and of the lines are not among them.
-struct Counting;
-
-static LIVE: AtomicUsize = AtomicUsize::new(0);
-static MOST: AtomicUsize = AtomicUsize::new(0);
-
-unsafe impl GlobalAlloc for Counting {
-    unsafe fn alloc(&self, layout: Layout) -> *mut u8 {
-        MOST.fetch_max(LIVE.fetch_add(layout.size(), SeqCst) + layout.size(), SeqCst);
-        unsafe { System.alloc(layout) }
-    }
-
-    unsafe fn dealloc(&self, memory: *mut u8, layout: Layout) {
-        LIVE.fetch_sub(layout.size(), SeqCst);
-        unsafe { System.dealloc(memory, layout) }
-    }
-}
-
-#[global_allocator]
-static HEAP: Counting = Counting;
 
 /// Numbers that look random, the same at each run.
 struct Numbers(u64);
@@ -50,7 +28,7 @@ impl Numbers {
     }
 }
 
-/// Gives a file in pieces of at most so many bytes.
+/// Gives a file in pieces of at most this many bytes.
 struct Pieces<'a> {
     rest: &'a [u8],
     most: usize,
@@ -125,12 +103,9 @@ struct Made {
 fn made(file: &[u8], most: usize, ports: &[u16], calls: usize) -> Made {
     let mut pieces = Pieces { rest: file, most, numbers: Numbers(most as u64 | 1) };
     let (files, out, err) = (Sums::with_room(calls), OfStd::new(Vec::with_capacity(64 << 20)), OfStd::new(Vec::with_capacity(1_000)));
-    let before = LIVE.load(SeqCst);
-    MOST.store(before, SeqCst);
-    let (status, files, out, err) = write_streams(Global, ports, &mut pieces, files, out, err);
-    let taken = MOST.load(SeqCst) - before;
+    let ((status, files, out, err), taken, held) = measured(|| write_streams(Global, ports, &mut pieces, files, out, err));
     assert!(taken <= 48 << 20, "{taken} bytes of memory");
-    assert_eq!(LIVE.load(SeqCst), before);
+    assert_eq!(held, 0);
     Made { status, kept: files.kept, open: files.open.len(), lines: text(out), said: text(err) }
 }
 
@@ -142,15 +117,12 @@ fn text(target: OfStd<Vec<u8>>) -> String {
 type Told = (u8, String, String);
 
 /// What is written of a file, in at most so many MiB.
-fn told(file: &[u8], most: usize, room: usize, write: impl Fn(&mut Pieces, OfStd<Vec<u8>>, OfStd<Vec<u8>>) -> (u8, OfStd<Vec<u8>>, OfStd<Vec<u8>>)) -> Told {
+fn told(file: &[u8], most: usize, room: isize, write: impl Fn(&mut Pieces, OfStd<Vec<u8>>, OfStd<Vec<u8>>) -> (u8, OfStd<Vec<u8>>, OfStd<Vec<u8>>)) -> Told {
     let mut pieces = Pieces { rest: file, most, numbers: Numbers(most as u64 | 1) };
     let (out, err) = (OfStd::new(Vec::with_capacity(64 << 20)), OfStd::new(Vec::with_capacity(1_000)));
-    let before = LIVE.load(SeqCst);
-    MOST.store(before, SeqCst);
-    let (status, out, err) = write(&mut pieces, out, err);
-    let taken = MOST.load(SeqCst) - before;
+    let ((status, out, err), taken, held) = measured(|| write(&mut pieces, out, err));
     assert!(taken <= room << 20, "{taken} bytes of memory");
-    assert_eq!(LIVE.load(SeqCst), before);
+    assert_eq!(held, 0);
     (status, text(out), text(err))
 }
 
@@ -185,7 +157,7 @@ fn agree(made: &Made) {
 fn captures() -> Vec<(Vec<u8>, Vec<Vec<u8>>)> {
     let folder = std::env::var("CQLP_CAPTURES").unwrap();
     ["driver", "driver-swapped", "driver-overlap", "driver-snapped", "driver-middle"]
-        .map(|name| records(&std::fs::read(format!("{folder}/{name}.pcap")).unwrap()))
+        .map(|name| records(&std::fs::read(format!("{folder}/data/{name}.pcap")).unwrap()))
         .into()
 }
 

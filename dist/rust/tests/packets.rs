@@ -1,5 +1,5 @@
 //! What is said of captures, of the segments in their packets, and of what streams tell of these: packets/said.txt, which is by a reading in
-//! Python (crates/cqlp_test_captures/expected.py). A line of packets/lines.txt is the name of a capture, or a name and its bytes in hexadecimal
+//! Python (captures/expected.py of the repository). A line of packets/lines.txt is the name of a capture, or a name and its bytes in hexadecimal
 //! digits. A capture is read in one piece, in pieces of 1, 7 and 4,096 bytes, and one of at most 256 bytes in pieces of each size; after the word
 //! `small` with room for 64 bytes of a packet and two interfaces. After `streams` the streams of its segments are asked, of one piece.
 #![forbid(unsafe_code)]

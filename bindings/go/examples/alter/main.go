@@ -10,7 +10,7 @@ import (
 	"cqlp"
 )
 
-// alter gives a piece to the decoder, which lies behind so many bytes that were kept, and changes what it says. The first byte of the
+// alter gives a piece to the decoder, which lies after this many bytes that were kept, and changes what it says. The first byte of the
 // buffer is at the offset base of the stream.
 func alter(decoder *cqlp.Decoder, buffer []byte, kept int, base uint64) error {
 	for rest := buffer[kept:]; ; {

@@ -36,7 +36,7 @@ pub const CQLP_UNBUILT: u32 = 40;
 pub const CQLP_TOO_MANY_FIELDS: u32 = 41;
 /// The contents have more than 268435456 bytes.
 pub const CQLP_TOO_MANY_BYTES: u32 = 42;
-/// There are bytes behind the contents of the events.
+/// There are bytes after the contents of the events.
 pub const CQLP_LEFT_OVER: u32 = 43;
 /// No frame has these events.
 pub const CQLP_NO_SUCH_FRAME: u32 = 44;

@@ -141,7 +141,7 @@ impl Composer {
                 _ => return Err(self.failed(code, encoded.event)),
             }
         }
-        // SAFETY: the library wrote so many bytes, and there was room for them.
+        // SAFETY: the library wrote this many bytes, and there was room for them.
         unsafe { frame.set_len(encoded.length) };
         Ok(frame)
     }

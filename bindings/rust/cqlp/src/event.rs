@@ -133,7 +133,7 @@ pub enum Scalar<'a> {
     Boolean(bool),
     /// A number.
     Counter(i64),
-    /// An unscaled number in two's complement, the highest byte first, and how many of its decimal digits are behind the point.
+    /// An unscaled number in two's complement, the highest byte first, and how many of its decimal digits are after the point.
     Decimal {
         /// The scale.
         scale: i32,

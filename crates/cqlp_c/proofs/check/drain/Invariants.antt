@@ -4,7 +4,7 @@ use Rattle.cqlp_decode.specs.Streams.{After, state}
 use Rattle.cqlp_c.specs.Batches.{due}
 use Rattle.cqlp_c.proofs.check.drain.Given as goal
 
--- the decoder has used so many bytes of the stream, and refused none of them
+-- the decoder has used this many bytes of the stream, and refused none of them
 abbrev pub invariant-batches : goal.invariant-batches
 invariant-batches l = record {
   within : l.used ≤ length l.stream;

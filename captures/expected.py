@@ -1,0 +1,756 @@
+#!/usr/bin/env python3
+"""expected.py <lines.txt >said.txt, in this folder: what is to be said of captures and frames, by Python's struct and by nothing of this
+repository; and so said.txt of lines.txt in dist/package/tests/packets. To add a capture, add its line, and what this, or you by hand, say of it.
+
+data has a capture that tcpdump took on a loopback interface while a released driver spoke to a small server; the same with its numbers the other
+way round, with times in nanoseconds, with packets cut at 96 bytes, with a tag of a virtual network, with segments that come twice, in another
+order, with bytes of the one before, or not at all, and with its beginning or its end missing; and one that was taken on all interfaces. One is
+the same in pcapng, and has to give the same packets. The files of requests and responses are the bytes of each connection as the sockets saw
+them, with which this compares."""
+import re
+import struct
+import sys
+
+LIMIT = 262144
+INTERFACES = 256
+FORMS = {
+    bytes.fromhex('a1b2c3d4'): ('>', 'BigEndian', 'Microseconds', 1000),
+    bytes.fromhex('d4c3b2a1'): ('<', 'LittleEndian', 'Microseconds', 1000),
+    bytes.fromhex('a1b23c4d'): ('>', 'BigEndian', 'Nanoseconds', 1),
+    bytes.fromhex('4d3cb2a1'): ('<', 'LittleEndian', 'Nanoseconds', 1),
+}
+
+
+def sum_of(data):
+    total = 0
+    for byte in data:
+        total = (total * 31 + byte) & 0xffffffff
+    return total
+
+
+class No(Exception):
+    """Why a packet has no segment."""
+
+
+def want(condition, why):
+    if not condition:
+        raise No(why)
+
+
+def ip_of(link, packet):
+    """The version of IP, and the packet from its header on."""
+    if link in (0, 108):
+        want(len(packet) >= 4, 'CutInLink')
+        families = {2: 4, 24: 6, 28: 6, 30: 6}
+        found = families.get(struct.unpack_from('>I', packet)[0])
+        if link == 0:
+            found = found or families.get(struct.unpack_from('<I', packet)[0])
+        want(found, 'NotIp')
+        return found, packet[4:]
+    if link in (101, 228, 229):
+        if link != 101:
+            return 4 if link == 228 else 6, packet
+        want(packet, 'CutInIp')
+        want(packet[0] >> 4 in (4, 6), 'NotIp')
+        return packet[0] >> 4, packet
+    type_at, length = {1: (12, 14), 113: (14, 16), 276: (0, 20)}.get(link, (0, 0))
+    want(length, 'UnknownLink')
+    want(len(packet) >= length, 'CutInLink')
+    kind = struct.unpack_from('>H', packet, type_at)[0]
+    rest = packet[length:]
+    while kind in (0x8100, 0x88a8, 0x9100):
+        want(len(rest) >= 4, 'CutInLink')
+        kind, rest = struct.unpack_from('>H', rest, 2)[0], rest[4:]
+    want(kind in (0x800, 0x86dd), 'NotIp')
+    return 4 if kind == 0x800 else 6, rest
+
+
+def content_4(ip, beyond):
+    want(len(ip) >= 20, 'CutInIp')
+    want(ip[0] >> 4 == 4, 'NotIp')
+    header = (ip[0] & 15) * 4
+    total, _, fragment = struct.unpack_from('>HHH', ip, 2)
+    total = total or len(ip) + beyond
+    want(header >= 20 and total >= header, 'BadIpLength')
+    want(fragment & 0x3fff == 0, 'Fragment')
+    want(ip[9] == 6, 'NotTcp')
+    want(len(ip) >= header, 'CutInIp')
+    return ip[12:16], ip[16:20], total - header, ip[header:]
+
+
+def content_6(ip, beyond):
+    want(len(ip) >= 40, 'CutInIp')
+    want(ip[0] >> 4 == 6, 'NotIp')
+    size, kind = struct.unpack_from('>HB', ip, 4)
+    rest = ip[40:]
+    size = size or len(rest) + beyond
+    while kind in (0, 43, 60):
+        want(len(rest) >= 2, 'CutInIp')
+        length = (rest[1] + 1) * 8
+        want(length <= size, 'BadIpLength')
+        want(length <= len(rest), 'CutInIp')
+        kind, size, rest = rest[0], size - length, rest[length:]
+    want(kind != 44, 'Fragment')
+    want(kind == 6, 'NotTcp')
+    return ip[8:24], ip[24:40], size, rest
+
+
+def segment(link, packet, original):
+    beyond = max(original - len(packet), 0)
+    try:
+        version, ip = ip_of(link, packet)
+        source, target, size, tcp = (content_4 if version == 4 else content_6)(ip, beyond)
+        want(size >= 20, 'BadTcpLength')
+        want(len(tcp) >= 20, 'CutInTcp')
+        header = (tcp[12] >> 4) * 4
+        want(20 <= header <= size, 'BadTcpLength')
+        want(len(tcp) >= header, 'CutInTcp')
+    except No as why:
+        return f'no segment {why}'
+    ports = struct.unpack_from('>HH', tcp)
+    numbers = struct.unpack_from('>II', tcp, 4)
+    flags = ''.join(letter if tcp[13] & bit else '-' for letter, bit in (('S', 2), ('F', 1), ('R', 4), ('A', 16)))
+    payload = tcp[header:size]
+    return (f'segment V{version}({list(source)}) {ports[0]} V{version}({list(target)}) {ports[1]} {numbers[0]} {numbers[1]} {flags}'
+            f' payload {len(payload)} at {len(packet) - len(tcp) + header} sum {sum_of(payload)} missing {size - header - len(payload)}')
+
+
+def padded(size):
+    return (size + 3) // 4 * 4
+
+
+def interface(order, body, at):
+    """The link type, the snap length, how many units a second has and how many seconds are added, or a refusal."""
+    link, _, snap = struct.unpack_from(order + 'HHI', body)
+    units, seconds, options = 10**6, 0, 8
+    while options < len(body):
+        code, size = struct.unpack_from(order + 'HH', body, options)
+        if code == 0:
+            break
+        if options + 4 + padded(size) > len(body) or size != {9: 1, 14: 8}.get(code, size):
+            return f'{at + options + 2} BadOptionLength'
+        value = body[options + 4:options + 4 + size]
+        if code == 9:
+            if value[0] > 9:
+                return f'{at + options + 4} UnknownTimeUnit'
+            units = 10**value[0]
+        if code == 14:
+            seconds, = struct.unpack(order + 'q', value)
+            if seconds < 0:
+                return f'{at + options + 4} NegativeTimeOffset'
+        options += 4 + padded(size)
+    return link, snap, units, seconds
+
+
+def said_of_blocks(file, limit, most):
+    lines, at, order, known = [], 0, None, []
+    while at < len(file):
+        left = len(file) - at
+        cut = lines + [f'cut at {at} after {len(file)}']
+        kind = file[at:at + 4]
+        is_section = kind == bytes.fromhex('0a0d0d0a')
+        if left < (24 if is_section else 8):
+            return cut
+        if is_section:
+            order = {'1a2b3c4d': '>', '4d3c2b1a': '<'}.get(file[at + 8:at + 12].hex())
+            if not order:
+                return lines + [f'{at + 8} UnknownByteOrder']
+        kind, length = struct.unpack_from(order + 'II', file, at)
+        least = 28 if is_section else {1: 20, 3: 16, 6: 32}.get(kind, 12)
+        if length % 4 or length < least:
+            return lines + [f'{at + 4} BadBlockLength']
+        body, end = file[at + 8:min(at + length - 4, len(file))], at + length - 4
+        room = end - at - 8
+        if is_section:
+            if struct.unpack_from(order + 'HH', file, at + 12) not in ((1, 0), (1, 2)):
+                return lines + [f'{at + 12} UnknownVersion']
+            lines.append(f"{at} section {'BigEndian' if order == '>' else 'LittleEndian'} pcapng")
+            known = []
+        elif kind == 1 and len(body) == room:
+            found = interface(order, body, at + 8)
+            if isinstance(found, str):
+                return lines + [found]
+        elif kind in (3, 6):
+            start = 28 if kind == 6 else 12
+            if left < start:
+                return cut
+            if kind == 6:
+                number, high, low, captured, original = struct.unpack_from(order + 'IIIII', body)
+            else:
+                number, (original,) = 0, struct.unpack_from(order + 'I', body)
+            if number >= len(known):
+                return lines + [f'{at + 8 if kind == 6 else at} UnknownInterface']
+            link, snap, units, seconds = known[number]
+            when = 'no time'
+            if kind == 6:
+                time = (high * 2**32 + low) * (10**9 // units) + seconds * 10**9
+                if time >= 2**64:
+                    return lines + [f'{at + 12} TimeTooLarge']
+                when = f'{time} ns'
+                if captured > room - 20:
+                    return lines + [f'{at + 20} PacketBeyondBlock']
+            else:
+                captured = min(room - 4, original, snap or original)
+            if captured > limit:
+                return lines + [f'{at + 20 if kind == 6 else at + 8} PacketTooLong']
+            lines.append(f'{at} packet of {number} at {when} captured {captured} of {original}')
+            data = file[at + start:at + start + captured]
+            if len(data) < captured:
+                return lines + [f'cut at {at} after {len(file)}']
+            lines.append(f'{at + start} data {captured} sum {sum_of(data)}')
+            lines.append(segment(link, data, original))
+        if left < length:
+            return lines + [f'cut at {at} after {len(file)}']
+        if struct.unpack_from(order + 'I', file, end)[0] != length:
+            return lines + [f'{end} UnequalBlockLengths']
+        if kind == 1 and not is_section:
+            if len(known) == most:
+                return lines + [f'{at} TooManyInterfaces']
+            lines.append(f'{at} interface {len(known)} link {found[0]} snap {found[1]}')
+            known.append(found)
+        at += length
+    return lines + [f'whole {len(file)}']
+
+
+def said(file, limit=LIMIT, most=INTERFACES):
+    if file[:4] == bytes.fromhex('0a0d0d0a'):
+        return said_of_blocks(file, limit, most)
+    if len(file) < 4:
+        return [f'cut at 0 after {len(file)}']
+    if file[:4] not in FORMS:
+        return ['0 UnknownMagic']
+    order, name, fraction, unit = FORMS[file[:4]]
+    lines = [f'0 section {name} {fraction}']
+    if len(file) < 24:
+        return lines + [f'cut at 0 after {len(file)}']
+    major, minor, _, _, snap, link = struct.unpack_from(order + 'HHIIII', file, 4)
+    if (major, minor) != (2, 4):
+        return lines + ['4 UnknownVersion']
+    lines.append(f'4 interface 0 link {link & 0xffff} snap {snap}')
+    at = 24
+    while at < len(file):
+        if len(file) < at + 16:
+            return lines + [f'cut at {at} after {len(file)}']
+        seconds, part, captured, original = struct.unpack_from(order + 'IIII', file, at)
+        if captured > limit:
+            return lines + [f'{at + 8} PacketTooLong']
+        time = seconds * 10**9 + part * unit
+        lines.append(f'{at} packet of 0 at {time} ns captured {captured} of {original}')
+        data = file[at + 16:at + 16 + captured]
+        if len(data) < captured:
+            return lines + [f'cut at {at} after {len(file)}']
+        lines.append(f'{at + 16} data {captured} sum {sum_of(data)}')
+        lines.append(segment(link & 0xffff, data, original))
+        at += 16 + captured
+    return lines + [f'whole {len(file)}']
+
+
+def segments_of(file):
+    """Of each segment of TCP in a capture its ends, numbers, flags and payload, by the lines that are said of it."""
+    for line in said(file):
+        words = line.split()
+        if words[1:2] == ['data']:
+            at, captured = int(words[0]), int(words[2])
+            packet = file[at:at + captured]
+        elif words[0] == 'segment':
+            tail = line[line.rindex(')') + 2:].split()
+            _, sequence, _, flags, _, length, _, offset, _, _, _, missing = tail
+            ends = re.match(r'segment (\S+\(.*?\)) (\d+) (\S+\(.*?\)) (\d+) ', line).groups()
+            offset, length = int(offset), int(length)
+            yield (ends[:2], ends[2:], int(sequence), flags, packet[offset:offset + length], int(missing))
+
+
+def directions_of(file):
+    """Of each direction what its stream has to tell: from the first byte on the bytes that some segment carried, and between them
+    the gaps."""
+    directions = {}
+    for source, target, sequence, flags, payload, missing in segments_of(file):
+        d = directions.setdefault((source, target), {'ports': f'{source[1]} {target[1]}', 'first': None, 'bytes': {}, 'fin': None, 'segments': 0})
+        d['segments'] += 1
+        if 'S' in flags:
+            sequence += 1
+        if d['first'] is None and ('S' in flags or 'F' in flags or payload):
+            d['first'], d['syn'] = sequence, 'S' in flags
+        if d['first'] is None:
+            continue
+        place = (sequence - d['first'] + 2**31) % 2**32 - 2**31
+        for i, byte in enumerate(payload):
+            d['bytes'].setdefault(place + i, byte)
+        if 'F' in flags and d['fin'] is None:
+            d['fin'] = place + len(payload) + missing
+    for d in directions.values():
+        if d['first'] is None:
+            d['said'], d['data'] = 'bytes 0 sum 0', b''
+            continue
+        end = max(d['bytes'], default=-1) + 1 if d['fin'] is None else d['fin']
+        words, gap, data = [f"began {str(d['syn']).lower()}"], 0, bytearray()
+        for place in range(end + 1):
+            if place in d['bytes'] or place == end:
+                if gap:
+                    words.append(f'gap {gap} at {place - gap}')
+                gap = 0
+                if place < end:
+                    data.append(d['bytes'][place])
+            else:
+                gap += 1
+        if d['fin'] is not None:
+            words.append('ended')
+        d['said'] = f"{' '.join(words)} bytes {len(data)} sum {sum_of(data)}"
+        d['data'] = bytes(data)
+    return directions
+
+
+def streams(name, file):
+    """A line for each direction."""
+    directions = directions_of(file)
+    if name in WHOLE:
+        for i, d in enumerate(directions.values()):
+            side = 'responses' if i % 2 else 'requests'
+            stem = name.split('.')[0] if 'sll2' in name else 'driver'
+            assert d['data'] == open(f'data/{stem}.{i // 2}.{side}.bin', 'rb').read(), (name, i)
+    return [f"{d['ports']} {d['said']}" for d in directions.values()]
+
+
+def connections(port, file):
+    """Two lines for each connection with a node that listens on this port, in the order of their first segments."""
+    directions, pairs, foreign = directions_of(file), [], 0
+    for (source, target), d in directions.items():
+        own, other = d['ports'].split()
+        if port not in (own, other):
+            foreign += d['segments']
+        elif not any((target, source) in pair for pair in pairs):
+            pairs.append([(source, target), (target, source)] if other == port else [(target, source), (source, target)])
+    nothing = {'said': 'bytes 0 sum 0', 'segments': 0}
+    lines = []
+    for number, pair in enumerate(pairs, 1):
+        for way, ends in zip(('requests', 'responses'), pair):
+            d = directions.get(ends, nothing)
+            lines.append(f"{number} {way} {d['said']} segments {d['segments']}")
+    return lines + [f'connections {len(pairs)} crowded 0 foreign {foreign}']
+
+
+OPCODES = {0: 'Error', 1: 'Startup', 2: 'Ready', 3: 'Authenticate', 5: 'Options', 6: 'Supported', 7: 'Query', 8: 'Result', 9: 'Prepare',
+           10: 'Execute', 11: 'Register', 12: 'Event', 13: 'Batch', 14: 'AuthChallenge', 15: 'AuthResponse', 16: 'AuthSuccess'}
+REQUESTS = {1, 5, 7, 9, 10, 11, 13, 15}
+
+
+def timed_segments_of(file):
+    """The segments of a capture, each with the time of its packet and its number of acknowledgement."""
+    times, numbers = [], []
+    for line in said(file):
+        words = line.split()
+        if words[1:2] == ['packet']:
+            time = int(words[5])
+        elif words[0] == 'segment':
+            times.append(time)
+            numbers.append(int(line[line.rindex(')') + 2:].split()[2]))
+    return zip(times, numbers, segments_of(file))
+
+
+def header_of(data, responses):
+    """The opcode, stream id, length and flags of nine bytes that are a header of this direction, compressed or not."""
+    if len(data) < 9:
+        return None
+    version, flags, stream, opcode, length = struct.unpack('>BBhBI', data[:9])
+    lawful = version == (0x84 if responses else 0x04) and opcode in OPCODES and (opcode not in REQUESTS) == responses
+    return (opcode, stream, length, flags) if lawful and length <= 2**28 else None
+
+
+class Side:
+    """One direction of a connection: its bytes in order, its gaps, and its frames."""
+
+    def __init__(self, responses):
+        self.responses, self.first, self.next, self.early, self.fin = responses, None, 0, {}, None
+        self.lost, self.head, self.frame = True, b'', None
+
+    def place(self, number):
+        return (number - self.first + 2**31) % 2**32 - 2**31
+
+    def hear(self, data, time, begins):
+        """The frames that end in these bytes."""
+        while True:
+            if self.frame and not self.frame['left']:
+                yield self.ended()
+            if not data:
+                return
+            if self.frame:
+                part, data = data[:self.frame['left']], data[self.frame['left']:]
+                self.frame['left'] -= len(part)
+                self.frame['ended'] = time
+                if self.frame['whole']:
+                    self.frame['body'] += part
+                self.next += len(part)
+            elif self.lost:
+                if begins and header_of(data, self.responses):
+                    self.lost = False
+                    continue
+                self.next += len(data)
+                return
+            else:
+                if not self.head:
+                    self.at, self.begun = self.next, time
+                part = data[:9 - len(self.head)]
+                self.head, data, self.next = self.head + part, data[len(part):], self.next + len(part)
+                if len(self.head) == 9:
+                    found, self.head = header_of(self.head, self.responses), b''
+                    self.lost = not found
+                    if found:
+                        opcode, stream, length, flags = found
+                        self.frame = {'opcode': opcode, 'flags': flags, 'stream': stream, 'length': length, 'at': self.at, 'begun': self.begun, 'ended': time, 'whole': True, 'left': length, 'body': b''}
+            begins = False
+
+    def ended(self):
+        frame, self.frame = self.frame, None
+        return frame
+
+    def gap(self, length):
+        frame, self.head = self.frame, b''
+        self.next += length
+        if frame and length <= frame['left']:
+            frame['whole'], frame['left'] = False, frame['left'] - length
+            return [] if frame['left'] else [self.ended()]
+        self.lost, self.frame = True, None
+        if frame:
+            frame['whole'] = False
+        return [frame] if frame else []
+
+
+class Short(Exception):
+    """The body ends early, or the reading gives up."""
+
+
+class Body:
+    """Bytes of a body, read from left to right."""
+
+    def __init__(self, data):
+        self.data, self.at = data, 0
+
+    def take(self, size):
+        if len(self.data) < self.at + size:
+            self.at = len(self.data)
+            raise Short
+        self.at += size
+        return self.data[self.at - size:self.at]
+
+    def number(self, size, signed=False):
+        return int.from_bytes(self.take(size), 'big', signed=signed)
+
+    def string(self):
+        return self.take(self.number(2))
+
+    def content(self, least):
+        """A content after its length, which may be negative down to some number."""
+        size = self.number(4, True)
+        if size < least:
+            raise Short
+        self.take(max(size, 0))
+
+    def type(self, depth, more):
+        """A type, after which more is to come, or not, of what lies within so many UDTs of which more is to come. There may be three of these."""
+        kind = self.number(2)
+        if kind == 0:
+            self.string()
+        elif kind in (0x20, 0x22):
+            self.type(depth, more)
+        elif kind == 0x21:
+            self.type(depth, True), self.type(depth, more)
+        elif kind == 0x30:
+            self.string(), self.string()
+            count = self.number(2)
+            if more and depth == 3:
+                raise Short
+            for i in range(count):
+                self.string(), self.type(depth + more, i < count - 1)
+        elif kind == 0x31:
+            count = self.number(2)
+            for i in range(count):
+                self.type(depth, more or i < count - 1)
+        elif kind > 0x14 or kind == 0x0A:
+            raise Short
+
+
+def tell_request(body, kind, said):
+    """Sections 4.1.4 to 4.1.7."""
+    if kind == 'Batch':
+        body.take(1)
+        for _ in range(body.number(2)):
+            entry = body.number(1)
+            if entry > 1:
+                raise Short
+            body.string() if entry else body.content(0)
+            for _ in range(body.number(2)):
+                body.content(-2)
+        said['consistency'] = body.number(2)
+        return
+    body.string() if kind == 'Execute' else body.content(0)
+    said['consistency'] = body.number(2)
+    flags = body.number(1)
+    if flags & 1:
+        for _ in range(body.number(2)):
+            if flags & 0x40:
+                body.string()
+            body.content(-2)
+    if flags & 4:
+        said['page'] = body.number(4, True)
+
+
+def tell_result(body, said):
+    """Sections 4.2.5 and 4.2.5.2."""
+    said['result'] = body.number(4)
+    if said['result'] != 2:
+        return
+    flags, columns = body.number(4), body.number(4, True)
+    if columns < 0:
+        raise Short
+    said['columns'] = columns
+    if flags & 2:
+        body.content(-2**31)
+    if not flags & 4:
+        if flags & 1:
+            body.string(), body.string()
+        for i in range(columns):
+            for _ in range(1 if flags & 1 else 3):
+                body.string()
+            body.type(0, i < columns - 1)
+    rows = body.number(4, True)
+    if rows >= 0:
+        said['rows'] = rows
+
+
+def facts(frame):
+    """How many bytes of a body come before the message proper (section 2.2), and what the body says beside its first field."""
+    kind, flags, said = OPCODES[frame['opcode']], frame['flags'], {}
+    body, is_response, before = Body(frame['body']), frame['opcode'] not in REQUESTS, None
+    try:
+        if not flags & 1:
+            if is_response and flags & 2:
+                said['trace'] = sum_of(body.take(16))
+            if is_response and flags & 8:
+                said['warnings'] = body.number(2)
+                for _ in range(said['warnings']):
+                    body.string()
+            if flags & 4:
+                for _ in range(body.number(2)):
+                    body.string(), body.content(-2**31)
+            before = body.at
+            if kind in ('Query', 'Execute', 'Batch'):
+                tell_request(body, kind, said)
+            elif kind == 'Error':
+                said['error'] = body.number(4)
+            elif kind == 'Result':
+                tell_result(body, said)
+        else:
+            before = 0
+    except Short:
+        before = len(frame['body']) if before is None else before
+    names = ('consistency', 'page', 'trace', 'warnings', 'result', 'error', 'columns', 'rows')
+    return before, ''.join(f' {name} {said[name]}' for name in names if name in said)
+
+
+def front(frame):
+    """The first bytes of the message proper."""
+    return frame['body'][facts(frame)[0]:][:256]
+
+
+def growing(file):
+    """What is said of a frame's body as it grows, where that is something new, and of all of it."""
+    opcode, stream, length, flags = header_of(file, file[0] == 0x84)
+    last = ''
+    for size in range(length + 1):
+        before, said = facts({'opcode': opcode, 'flags': flags, 'body': file[9:9 + size]})
+        if said != last or size == length:
+            yield f'{size}: before {before}{said}'
+        last = said
+
+
+def subject(frame):
+    """The text of a QUERY or PREPARE, the id of an EXECUTE, the code of an ERROR or the kind of a RESULT."""
+    kind, body = OPCODES[frame['opcode']], front(frame)
+    if frame['flags'] & 1:
+        return ''
+    if kind in ('Query', 'Prepare') and len(body) >= 4:
+        size = struct.unpack_from('>i', body)[0]
+        if 0 <= size <= len(body) - 4:
+            return ' text "' + body[4:4 + size].decode().replace('\\', '\\\\').replace('"', '\\"') + '"'
+    if kind == 'Execute' and len(body) >= 2:
+        size = struct.unpack_from('>H', body)[0]
+        if size <= len(body) - 2:
+            return f' id {sum_of(body[2:2 + size])}'
+    if kind in ('Error', 'Result') and len(body) >= 4:
+        return f" int {struct.unpack_from('>i', body)[0]}"
+    return ''
+
+
+def exchanges(port, limit, file):
+    """A line for each exchange, and for each message that is in none. Of responses what came early has the latest time so far."""
+    pairs, sides, waiting, lines, latest = [], [], [], [], 0
+
+    def name(frame):
+        cut = '' if frame['whole'] else ' cut'
+        return f"{frame['stream']} {OPCODES[frame['opcode']]} {frame['length']} at {frame['at']}{cut} from {frame['begun']} to {frame['ended']} kept {sum_of(front(frame))}{subject(frame)}{facts(frame)[1]}"
+
+    def alone(number, frame):
+        what = 'unanswered' if frame['opcode'] in REQUESTS else 'unasked'
+        lines.append(f'{number} {what} {name(frame)}')
+
+    def tell(number, side, frames):
+        """A response is that to the request under its id, also where that comes after it in the capture but was sent before it."""
+        waits = waiting[number - 1]
+        for frame in frames:
+            if side.responses and OPCODES[frame['opcode']] == 'Event' and frame['stream'] < 0:
+                lines.append(f'{number} event {name(frame)}')
+                continue
+            before = waits.pop(frame['stream'], None)
+            if before:
+                request, response = (before, frame) if side.responses else (frame, before)
+                is_reply = request['opcode'] in REQUESTS and response['opcode'] not in REQUESTS
+                if is_reply and (side.responses or request['begun'] <= response['begun']):
+                    lines.append(f'{number}:{name(request)} -> {name(response)}')
+                    continue
+            elif len(waits) == limit and side.responses:
+                alone(number, frame)
+                continue
+            elif len(waits) == limit:
+                before = waits.pop(next(iter(waits)))
+            if before:
+                alone(number, before)
+            waits[frame['stream']] = frame
+
+    def settle(number, side, time, acknowledged):
+        """Hands on what came early, and the gaps before it or FIN that the other side acknowledged."""
+        while side.early or side.fin is not None and side.next < side.fin:
+            later = min(side.early, default=side.fin)
+            hole = later - side.next
+            if hole > 0:
+                if acknowledged is not None and acknowledged < later:
+                    break
+                lines.append(f"{number} {'responses' if side.responses else 'requests'} gap {hole} at {side.next}")
+                tell(number, side, side.gap(hole))
+            data = bytearray()
+            while side.next + len(data) in side.early:
+                data.append(side.early.pop(side.next + len(data)))
+            tell(number, side, side.hear(bytes(data), latest if side.responses else time, False))
+
+    for time, number, (source, target, sequence, flags, payload, missing) in timed_segments_of(file):
+        latest = max(latest, time)
+        if port not in (source[1], target[1]):
+            continue
+        ends = (target, source) if source[1] == port else (source, target)
+        if ends not in pairs:
+            pairs.append(ends)
+            waiting.append({})
+            sides.append((Side(False), Side(True)))
+        index = pairs.index(ends)
+        own, other = sides[index] if source[1] != port else sides[index][::-1]
+        if 'A' in flags and other.first is not None:
+            settle(index + 1, other, time, other.place(number))
+        if 'S' in flags:
+            sequence += 1
+        if own.first is None:
+            if not ('S' in flags or 'F' in flags or payload):
+                continue
+            own.first, own.lost = sequence, 'S' not in flags
+        place = own.place(sequence)
+        if not own.early and place <= own.next < place + len(payload):
+            tell(index + 1, own, own.hear(payload[own.next - place:], time, place == own.next))
+        else:
+            for i, byte in enumerate(payload):
+                if place + i >= own.next:
+                    own.early.setdefault(place + i, byte)
+        if 'F' in flags and own.fin is None:
+            own.fin = place + len(payload) + missing
+        if own.early:
+            settle(index + 1, own, time, -1)
+    for index, pair in enumerate(sides, 1):
+        for side in pair:
+            settle(index, side, time, None)
+        for side in pair:
+            if side.frame:
+                side.frame['whole'] = side.frame['whole'] and not side.frame['left']
+                tell(index, side, [side.ended()])
+        for frame in waiting[index - 1].values():
+            alone(index, frame)
+    return lines
+
+
+# the same packets in both formats
+def packets(name):
+    return [line.split(' ', 1)[1] for line in said(open(f'data/{name}', 'rb').read()) if line.split()[1:2] in (['packet'], ['data'])]
+
+
+assert packets('driver.pcapng') == packets('driver.pcap') and len(packets('driver.pcap')) == 110
+
+# captures in which no byte is missing: the streams' bytes are what the sockets saw
+WHOLE = {f'driver{kind}' for kind in ('.pcap', '.pcapng', '-big-endian.pcap', '-ns.pcap', '-vlan.pcap', '-sll2.pcap', '-twice.pcap', '-swapped.pcap', '-overlap.pcap', '-cut.pcap')}
+
+# what is told of these, in which it matters when a segment comes
+BY_HAND = {
+    'numbers that wrap': [
+        f"40000 9042 began true gap 3 at 10 ended bytes 12 sum {sum_of(b'abcdefghijno')}",
+        f"9042 40000 began true reset bytes 3 sum {sum_of(b'but')}",
+    ],
+    'a segment beyond the window': [
+        f"40000 9042 began true gap 100 at 0 gap 65595 at 105 bytes 11 sum {sum_of(b'earlybeyond')}",
+    ],
+}
+
+# and of these, in which connections leave
+CONNECTIONS_BY_HAND = {
+    'a SYN again, and another': [
+        '1 leaves, full false',
+        f"1 requests began true bytes 5 sum {sum_of(b'first')} segments 3",
+        f"1 responses began true bytes 6 sum {sum_of(b'answer')} segments 3",
+        f"2 requests began true gap 3 at 6 bytes 10 sum {sum_of(b'secondlate')} segments 3",
+        f"2 responses began true reset bytes 2 sum {sum_of(b'ok')} segments 4",
+        'connections 2 crowded 0 foreign 0',
+    ],
+    'a node that asks another': [
+        f"1 requests began true bytes 3 sum {sum_of(b'ask')} segments 2",
+        f"1 responses began true ended bytes 5 sum {sum_of(b'reply')} segments 3",
+        f"2 requests began false bytes 4 sum {sum_of(b'then')} segments 1",
+        f"2 responses began false bytes 15 sum {sum_of(b'from the middle')} segments 1",
+        'connections 2 crowded 0 foreign 1',
+    ],
+    'a full table': [
+        '1 leaves, full true',
+        f"1 requests began true gap 2 at 3 bytes 8 sum {sum_of(b'oneearly')} segments 3",
+        '1 responses bytes 0 sum 0 segments 0',
+        f"2 requests began true bytes 4 sum {sum_of(b'two!')} segments 3",
+        '2 responses bytes 0 sum 0 segments 0',
+        f"3 requests began true bytes 5 sum {sum_of(b'three')} segments 2",
+        '3 responses bytes 0 sum 0 segments 0',
+        'connections 3 crowded 1 foreign 0',
+    ],
+}
+
+for line in sys.stdin:
+    of_streams, small = line.startswith('streams '), line.startswith('small ')
+    of_connections = line.startswith('connections ')
+    of_exchanges = line.startswith('exchanges ')
+    of_facts = line.startswith('facts ')
+    name, digits = line.rstrip('\n').removeprefix('streams ').removeprefix('small ').removeprefix('facts '), None
+    if of_exchanges:
+        _, limit, port, connections_limit, early, name = name.split(' ', 5)
+    if of_connections:
+        _, port, limit, _, name = name.split(' ', 4)
+    if '|' in name:
+        name, digits = name.split('|')
+    file = bytes.fromhex(digits) if digits is not None else open(f'data/{name}', 'rb').read()
+    if of_facts:
+        print('== facts', name.rstrip())
+        print('\n'.join(growing(file)))
+    elif of_exchanges:
+        print('== exchanges', limit, 'of', port, name.rstrip())
+        print('\n'.join(exchanges(port, int(limit), file)))
+    elif of_connections:
+        print('== connections', limit, 'of', port, name.rstrip())
+        print('\n'.join(CONNECTIONS_BY_HAND.get(name.rstrip()) or connections(port, file)))
+    elif of_streams and name.rstrip() in BY_HAND:
+        print('== streams', name.rstrip())
+        print('\n'.join(BY_HAND[name.rstrip()]))
+    elif of_streams:
+        print('== streams', name.rstrip())
+        print('\n'.join(streams(name, file)))
+    else:
+        print('==', name.rstrip())
+        print('\n'.join(said(file, 64, 2) if small else said(file)))

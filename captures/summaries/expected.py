@@ -1,0 +1,82 @@
+#!/usr/bin/env python3
+"""What is to be said of lines.txt, from the definitions in crates/cqlp_summary/specs, and by whole lists of times. Writes said.txt."""
+import os
+import re
+
+HIDDEN = re.compile('[\x00-\x1f\x7f-\x9f\u061c\u200e\u200f\u2028-\u202e\u2066-\u2069]')
+HEADER = 'share          %    time_ms    count errors      rows       bytes   p50_ms   p99_ms    max_ms statement\n'
+MOST = 2 ** 64 - 1
+
+
+def shown(text):
+    text = text.replace('\\', '\\\\').replace('"', '\\"')
+    return HIDDEN.sub(lambda m: ''.join(f'\\x{b:02x}' for b in m[0].encode()), text)
+
+
+def greatest_in_bucket(time):
+    """A time is told by its first six binary digits."""
+    dropped = max(time.bit_length() - 6, 0)
+    return (time >> dropped << dropped) + (1 << dropped) - 1
+
+
+def ms(width, time):
+    return f'{time // 1000000:{width}}.{time // 1000 % 1000:03}'
+
+
+def quantile(times, hundredths):
+    rank = -(-len(times) * hundredths // 100)
+    return min(greatest_in_bucket(sorted(times)[rank - 1]), max(times))
+
+
+def line(name, entries, total):
+    times = [e[3] for e in entries if e[3] is not None]
+    time = min(sum(times), MOST)
+    share = min(time * 1000 // max(total, 1), 1000)
+    text = '#' * (share // 100) + '.' * (10 - share // 100) + f' {share // 10:3}.{share % 10} {ms(6, time)}'
+    sums = [min(sum(e[i] for e in entries), MOST) for i in (1, 2)]
+    text += f' {len(entries):8} {sum(e[0] for e in entries):6} {sums[0]:9} {sums[1]:11}'
+    if times:
+        text += f' {ms(4, quantile(times, 50))} {ms(4, quantile(times, 99))} {ms(5, max(times))}'
+    else:
+        text += f' {"-":>8} {"-":>8} {"-":>9}'
+    return f'{text} {name}\n'
+
+
+def summary(limit, entries):
+    names, others = {}, []
+    for entry in entries:
+        if entry[4] in names or len(names) < limit:
+            names.setdefault(entry[4], []).append(entry)
+        else:
+            others.append(entry)
+    total = min(sum(e[3] or 0 for e in entries), MOST)
+    time = {name: min(sum(e[3] or 0 for e in of), MOST) for name, of in names.items()}
+    text = HEADER
+    for name in sorted(names, key=lambda n: -time[n]):
+        kept, whole = name
+        text += line(shown(kept.decode('utf-8', 'ignore')) + ('' if whole else '..'), names[name], total)
+    return text + (line('others', others, total) if others else '')
+
+
+def main():
+    here = os.path.dirname(os.path.abspath(__file__))
+    said, limit, entries = '', 0, []
+    with open(f'{here}/lines.txt', encoding='utf-8', newline='\n') as file:
+        rows = file.read().split('\n')[:-1]
+    for row in rows:
+        if row.startswith('statements '):
+            said += summary(limit, entries)
+            limit, entries = int(row.split(' ')[1]), []
+            continue
+        kind, count, size, took, name = row.split(' ', 4)
+        whole = not name.startswith('..')
+        raw = name.lstrip('.').encode() if not whole else name.encode()
+        key = (raw[:256], whole and len(raw) <= 256)
+        entries.append((kind == 'error', int(count), int(size), None if took == '-' else int(took), key))
+    said += summary(limit, entries)
+    with open(f'{here}/said.txt', 'w', encoding='utf-8', newline='\n') as file:
+        file.write(said)
+
+
+if __name__ == '__main__':
+    main()

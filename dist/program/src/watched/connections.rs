@@ -1,0 +1,133 @@
+//! What a table of connections tells of the segments of a capture.
+use super::{Asked, Packet, fold};
+use crate::cqlp_connections::{ConnectionTotals, Connections, Departure, DirectionTotals, Sight, Told, Way};
+use crate::cqlp_reassembly::StreamStep;
+use crate::cqlp_segment::Segment;
+use crate::heap::refusing;
+use crate::kit_std::alloc::Global;
+use std::fmt::Write;
+
+/// What was told of one direction of a connection.
+#[derive(Default)]
+struct Heard {
+    bytes: u64,
+    sum: u32,
+    said: String,
+}
+
+/// What was told of all connections, in the order of their numbers, requests and responses; and a line for each direction of those that left.
+struct Listener {
+    connections: Connections,
+    /// Whether the table gets no memory.
+    is_poor: bool,
+    pairs: Vec<[Heard; 2]>,
+    said: String,
+}
+
+/// A line for each direction of a connection in a capture, when it leaves, and what was counted. The same is told where no memory is granted
+/// after the requests of `new`, and each of those is needed.
+pub fn said(asked: Asked, packets: &[Packet]) -> String {
+    let make = || Connections::new(Global, asked.limits, &[asked.port]);
+    let needed = 3 * u64::from(asked.limits.connections) + 2;
+    for number in 1..=needed {
+        assert!(refusing(number, number, || make().is_err()).0, "made without request {number}");
+    }
+    let heard = [(u64::MAX, false), (needed + 1, true)].map(|(first, is_poor)| {
+        let connections = refusing(first, u64::MAX, make).0.unwrap_or_else(|_| panic!("no memory"));
+        Listener { connections, is_poor, pairs: Vec::new(), said: String::new() }.hear(packets)
+    });
+    assert_eq!(heard[0], heard[1], "without memory");
+    heard.into_iter().next().unwrap()
+}
+
+impl Listener {
+    /// What a call of the table answers.
+    fn ask<T>(&mut self, call: impl FnOnce(&mut Connections) -> T) -> T {
+        if self.is_poor { refusing(1, u64::MAX, || call(&mut self.connections)).0 } else { call(&mut self.connections) }
+    }
+
+    /// Hands all segments of a capture to the table, and then ends it.
+    fn hear(mut self, packets: &[Packet]) -> String {
+        for segment in packets.iter().filter_map(|packet| packet.segment().ok()) {
+            self.take(&segment);
+        }
+        self.end();
+        self.said
+    }
+
+    fn take(&mut self, segment: &Segment<'_>) {
+        for _ in 0..3 {
+            match self.ask(|connections| connections.take(&segment.head)) {
+                Sight::Foreign => return,
+                Sight::Crowded { number, is_full } => {
+                    writeln!(self.said, "{number} leaves, full {is_full}").unwrap();
+                    self.leave();
+                }
+                Sight::Taken { number, .. } => {
+                    self.pairs.resize_with(self.pairs.len().max(number as usize), Default::default);
+                    while let Some(told) = self.ask(|connections| connections.pull(segment)) {
+                        self.tell(told, segment.payload);
+                    }
+                    return;
+                }
+            }
+        }
+        panic!("a segment is never taken");
+    }
+
+    fn leave(&mut self) {
+        loop {
+            match self.ask(|connections| connections.leave()) {
+                Departure::Told(told) => self.tell(told, &[]),
+                Departure::Left(totals) => return self.put(&totals),
+                Departure::Empty => return,
+            }
+        }
+    }
+
+    fn end(&mut self) {
+        loop {
+            match self.ask(|connections| connections.finish()) {
+                Departure::Told(told) => self.tell(told, &[]),
+                Departure::Left(totals) => self.put(&totals),
+                Departure::Empty => break,
+            }
+        }
+        let counts = self.ask(|connections| connections.counts());
+        writeln!(self.said, "connections {} crowded {} foreign {}", counts.connections, counts.crowded, counts.foreign).unwrap();
+    }
+
+    fn tell(&mut self, told: Told, payload: &[u8]) {
+        let mut buffer = [0; 64];
+        let bytes = match told.step {
+            StreamStep::Payload { from, count } => &payload[from..from + count],
+            StreamStep::Held { .. } => {
+                let count = self.ask(|connections| connections.read(told.way, &mut buffer));
+                &buffer[..count]
+            }
+            _ => &[],
+        };
+        let heard = &mut self.pairs[told.number as usize - 1][told.way as usize];
+        heard.sum = fold(heard.sum, bytes);
+        heard.bytes += bytes.len() as u64;
+        heard.said += &match told.step {
+            StreamStep::Payload { .. } | StreamStep::Held { .. } => String::new(),
+            StreamStep::Began { syn } => format!("began {syn} "),
+            StreamStep::Gap { length } => format!("gap {length} at {} ", told.at),
+            StreamStep::Ended => "ended ".to_string(),
+            StreamStep::Reset => "reset ".to_string(),
+            StreamStep::Done => "done ".to_string(),
+        };
+    }
+
+    /// Writes down what was told of a connection that has left.
+    fn put(&mut self, totals: &ConnectionTotals) {
+        let pair = &self.pairs[totals.number as usize - 1];
+        for (way, total) in [(Way::Requests, &totals.requests), (Way::Responses, &totals.responses)] {
+            let Heard { bytes, sum, said } = &pair[way as usize];
+            let name = if way == Way::Requests { "requests" } else { "responses" };
+            assert_eq!(total.bytes, *bytes);
+            writeln!(self.said, "{} {name} {said}bytes {bytes} sum {sum} segments {}", totals.number, total.segments).unwrap();
+        }
+    }
+}

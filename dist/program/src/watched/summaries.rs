@@ -1,0 +1,53 @@
+//! The summaries of statements. A line `statements N` begins one of at most so many; each other line has `ok` or `error`, rows, bytes,
+//! nanoseconds or `-`, and the statement, `..` before it if it is not whole.
+use super::text;
+use crate::cqlp_note::OfStd;
+use crate::cqlp_summary::{Occurrence, Summary};
+use crate::cqlp_text::TextWriter;
+use crate::heap::refusing;
+use crate::kit_std::alloc::Global;
+
+#[test]
+fn what_summaries_say() {
+    let lines = text("summaries/lines.txt");
+    let (mut summary, mut said) = (begun(0), String::new());
+    for line in lines.lines() {
+        match line.strip_prefix("statements ") {
+            Some(count) => {
+                said += &written(&summary);
+                summary = begun(count.parse().unwrap());
+            }
+            None => summary.note(&occurrence_of(line)),
+        }
+    }
+    said += &written(&summary);
+    assert_eq!(said, text("summaries/said.txt"));
+}
+
+/// A summary of at most this many statements, for which memory is asked twice, or once for none, and each time needed.
+fn begun(statements: usize) -> Summary {
+    for number in 1..=1 + statements.min(1) as u64 {
+        assert!(refusing(number, number, || Summary::new(Global, statements).is_err()).0, "made without request {number}");
+    }
+    Summary::new(Global, statements).unwrap()
+}
+
+fn occurrence_of(line: &str) -> Occurrence<'_> {
+    let words: Vec<&str> = line.splitn(5, ' ').collect();
+    Occurrence {
+        name: words[4].trim_start_matches("..").as_bytes(),
+        is_whole_name: !words[4].starts_with(".."),
+        is_error: words[0] == "error",
+        rows: words[1].parse().unwrap(),
+        bytes: words[2].parse().unwrap(),
+        took: words[3].parse().ok(),
+    }
+}
+
+fn written(summary: &Summary) -> String {
+    let mut out = OfStd::new(Vec::new());
+    let mut writer = TextWriter::over(&mut out);
+    summary.put(&mut writer).and(writer.flush()).unwrap();
+    let _ = writer.into_target();
+    String::from_utf8(out.into_inner()).unwrap()
+}
