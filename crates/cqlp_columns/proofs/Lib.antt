@@ -4,4 +4,5 @@ pub mod OneSpelling
 pub mod OneAnswer
 pub mod Ready
 pub mod Taking
+pub mod Turns
 pub mod BatchLaws

@@ -89,10 +89,10 @@ sized_more l k c [] s = s
 sized_more l zero c (a ∷ cols) s = s
 sized_more l (suc k) c (a ∷ cols) s = (s.0, sized_more l k c cols s.1)
 
-room_behind : (l : BatchLimits) (k : ℕ) (c : Cell) (cols : List Column) → has_room l (drop k cols) ≡ true → has_room l (drop (suc k) (with_cell_in k c cols)) ≡ true
-room_behind l k c [] r = refl
-room_behind l zero c (a ∷ cols) r = (and_parts (room_in l.rows l.bytes a) (has_room l cols) r).1
-room_behind l (suc k) c (a ∷ cols) r = room_behind l k c cols r
+room_after : (l : BatchLimits) (k : ℕ) (c : Cell) (cols : List Column) → has_room l (drop k cols) ≡ true → has_room l (drop (suc k) (with_cell_in k c cols)) ≡ true
+room_after l k c [] r = refl
+room_after l zero c (a ∷ cols) r = (and_parts (room_in l.rows l.bytes a) (has_room l cols) r).1
+room_after l (suc k) c (a ∷ cols) r = room_after l k c cols r
 
 next_is : (k n : ℕ) → k < n → (next_after k n ≡ 0) ⊎ (next_after k n ≡ suc k)
 next_is k n h =
@@ -118,7 +118,7 @@ ready_more l cols next k c r e =
       sized = sized_more l k c cols r.sized;
       room = elim (next_is k (length cols) (there l k c cols (none_among k c (batch l cols next) e))) [
         | inl z ↦ inl z
-        | inr n ↦ inr (ap (λ x. has_room l (drop x (with_cell_in k c cols))) n ∙ room_behind l k c cols room)
+        | inr n ↦ inr (ap (λ x. has_room l (drop x (with_cell_in k c cols))) n ∙ room_after l k c cols room)
       ];
     }
 

@@ -27,7 +27,7 @@ number_of_bytes (b ∷ bs) = b + 256 * number_of_bytes bs
 abbrev pub rounded : ℕ → ℕ
 rounded n = (n + 7) / 8
 
--- The bytes have these bits, the first of them the least of the first byte, and zeros behind the last: both spell one number, and there is
+-- The bytes have these bits, the first of them the least of the first byte, and zeros after the last: both spell one number, and there is
 -- no byte more than the bits need.
 pub record Spells (bs : List Bool) (bytes : List ℕ) : Type 0 where
   pub length : length bytes ≡ rounded (length bs)

@@ -5,4 +5,5 @@ pub mod Cells
 pub mod Arrays
 pub mod Findings
 pub mod Batches
+pub mod Turns
 pub mod Laws

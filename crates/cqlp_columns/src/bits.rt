@@ -9,7 +9,7 @@ use std::marker::Model;
 /// Bits in memory that is taken once: eight in a byte, the first of them the least.
 #[derive(Drop)]
 pub(crate) struct Bits<A: Allocator> {
-    /// As many as there is room for. There are zeros behind the bits so far.
+    /// As many as there is room for. There are zeros after the bits so far.
     bytes: Vec<u8, A>,
     len: usize,
 }
@@ -42,6 +42,7 @@ impl<A: Allocator> Bits<A> {
 
     /// How many there are.
     #[tactic(auto, using(crate::proofs::Numbers::bits_are))]
+    #[inline(always)]
     pub fn len(&self) -> usize
         ensures { result ≡ length self.now.bits }
     {
@@ -66,7 +67,7 @@ impl<A: Allocator> Bits<A> {
         self.len = 0;
     }
 
-    /// The bytes that have the bits, and zeros behind the last.
+    /// The bytes that have the bits, and zeros after the last.
     pub fn as_slice(&self) -> &[u8]
         ensures { Spells self.now.bits result.now }
     {
@@ -74,7 +75,7 @@ impl<A: Allocator> Bits<A> {
     }
 }
 
-/// Adds the bit behind so many, where the bytes have only zeros.
+/// Adds the bit after so many, where the bytes have only zeros.
 #[inline(always)]
 fn add_bit(bytes: &mut [u8], at: usize, bit: bool)
     requires room { at < 8 * length bytes.old }

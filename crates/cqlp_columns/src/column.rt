@@ -1,9 +1,9 @@
 //! A column of a batch.
 
-ghost use Rattle.std.specs.Prelude.{◌≡◌, ◌==◌, ◌+◌, ◌<◌, ◌≤◌, ◌++◌, ◌∷◌, [], List, length, replicate, vec_capacity};
+ghost use Rattle.std.specs.Prelude.{◌≡◌, ◌==◌, ◌+◌, ◌<◌, ◌≤◌, ◌++◌, ◌∷◌, [], List, length, nat_le, replicate, vec_capacity};
 ghost use Rattle.std.specs.Prelude.{Err, IfOk, IsOk, None, OnErr, OnOk, Some};
 ghost use Rattle.cqlp_kind.specs.Types.{is_kind};
-ghost use Rattle.cqlp_columns.specs.Arrays.{AreBytesOf, HasCells, IsAnswer, column_of, fits, is_long, offset_in, refusal_of, room_in, with_cell};
+ghost use Rattle.cqlp_columns.specs.Arrays.{AreBytesOf, HasCells, IsAnswer, column_of, fits, is_long, offset_in, refusal_of, with_cell};
 ghost use Rattle.cqlp_columns.specs.Bits.{Spells, bits};
 ghost use Rattle.cqlp_columns.specs.Layouts.{layout_of};
 ghost use Rattle.cqlp_columns.specs.Cells.{Cell as CellValue, blank, cell_bits, cell_bytes, cell_of, is_of};
@@ -57,8 +57,9 @@ pub struct Column<A: Allocator = Global> {
 }
 
 impl<A: Allocator> Model for Column<A> {
-    ghost use Rattle.std.specs.Prelude.{◌≡◌, ◌+◌, ◌≤◌, length, vec_capacity};
+    ghost use Rattle.std.specs.Prelude.{◌≡◌, ◌+◌, ◌≤◌, Some, length, vec_capacity};
     ghost use Rattle.cqlp_columns.specs.Arrays.{Column};
+    ghost use Rattle.cqlp_columns.specs.Layouts.{layout_of};
 
     ghost Value = { Column };
 
@@ -77,7 +78,7 @@ impl<A: Allocator> Model for Column<A> {
     ghost invariant = { λ c. (c.size ≤ c.values.room) × (c.rows + 1 ≤ vec_capacity c.offsets)
         × (c.rows ≤ c.truths.room) × (c.rows ≤ c.valid.room) × (c.rows ≤ c.empty.room)
         × (length c.truths.bits ≤ length c.valid.bits) × (length c.empty.bits ≡ length c.valid.bits)
-        × (length c.offsets.items ≤ length c.valid.bits + 1) };
+        × (length c.offsets.items ≤ length c.valid.bits + 1) × (layout_of c.kind ≡ Some c.layout) };
 }
 
 impl<A: Allocator> Column<A> {
@@ -113,6 +114,7 @@ impl<A: Allocator> Column<A> {
     ) -> Result<Self, AllocError>
     where
         A: Clone,
+        requires { layout_of kind ≡ Some layout }
         ensures { IfOk result (λ column. column ≡ column_of kind layout rows size []) }
     {
         let mut offsets = Vec::with_capacity(alloc.clone()?, rows as usize + 1)?;
@@ -190,11 +192,12 @@ impl<A: Allocator> Column<A> {
         self.valid.len() == 0
     }
 
-    /// Whether it has fewer cells than so many, and no more bytes of values than so many.
-    pub(crate) fn has_room(&self, rows: u32, bytes: u32) -> bool
-        ensures { result ≡ room_in rows bytes self.now }
+    /// Whether it has at most so many bytes of values.
+    #[inline(always)]
+    pub(crate) fn is_light(&self, bytes: u32) -> bool
+        ensures { result ≡ nat_le (length self.now.values) bytes }
     {
-        self.valid.len() < rows as usize && self.values.len() <= bytes as usize
+        self.values.len() <= bytes as usize
     }
 
     /// Whether more bytes than so many stand for a cell.
@@ -213,7 +216,7 @@ impl<A: Allocator> Column<A> {
         is_of(self.kind, cell)
     }
 
-    /// Takes the next cell. Its arrays are those of the cells before, and of this one behind them.
+    /// Takes the next cell. Its arrays are those of the cells before, and of this one after them.
     ///
     /// # Errors
     ///
@@ -259,16 +262,28 @@ impl<A: Allocator> Column<A> {
             && cell_len(self.layout, cell) <= self.size - self.values.len()
     }
 
+    /// How its values lie in memory, asked of its kind: where the kind is known, nothing is left to ask.
+    #[inline(always)]
+    fn layout_of_kind(&self) -> Layout
+        ensures { result ≡ self.now.layout }
+    {
+        match layout_of(self.kind) {
+            Some(layout) => layout,
+            None => self.layout,
+        }
+    }
+
     /// Adds a cell.
     #[inline(always)]
     pub(crate) fn push(&mut self, cell: &Cell<'_>)
         requires { refusal_of (cell_of cell.now) self.old ≡ None }
         ensures { self.new ≡ with_cell (cell_of cell.now) self.old }
     {
-        put_cell(&mut self.values, self.layout, cell);
+        let layout = self.layout_of_kind();
+        put_cell(&mut self.values, layout, cell);
         let end = self.values.len() as u64;
-        put_beside(&mut self.truths, &mut self.offsets, self.layout, cell, end);
-        self.valid.push(is_valid(self.layout, cell));
+        put_beside(&mut self.truths, &mut self.offsets, layout, cell, end);
+        self.valid.push(is_valid(layout, cell));
         self.empty.push(is_empty(cell));
     }
 

@@ -1,14 +1,15 @@
 //! Rows of a page as columns.
 
-ghost use Rattle.std.specs.Prelude.{◌≡◌, ◌<◌, ◌++◌, ◌∷◌, [], List, IfOk, IsOk, OnErr, None, length, map};
+ghost use Rattle.std.specs.Prelude.{◌≡◌, ◌+◌, ◌<◌, ◌^◌, ◌&&◌, ◌++◌, ◌∷◌, [], List, IfOk, IsOk, OnErr, None, length, map};
 ghost use Rattle.std.specs.List.{list_all};
 ghost use Rattle.cqlp_grammar.specs.Events.{Event as Told, event_of};
 ghost use Rattle.cqlp_kind.specs.declared.kind.Kind.{Kind as OneKind};
-ghost use Rattle.cqlp_columns.specs.Batches.{HasTaken, IsAnswerOf, IsMade, cleared, empty_column, empty_columns, fault_among, fault_at, fault_in};
-ghost use Rattle.cqlp_columns.specs.Batches.{has_layout, has_room, is_full, next_after, refusal_among, refusal_of_kinds};
-ghost use Rattle.cqlp_columns.specs.Batches.{refusal_to, rows_in, with_cell_at, with_cell_in};
+ghost use Rattle.cqlp_columns.specs.Batches.{HasTaken, IsAnswerOf, IsMade, batch, cleared, empty_column, empty_columns, fault_among, fault_at, fault_in};
+ghost use Rattle.cqlp_columns.specs.Batches.{has_layout, is_full, next_after, refusal_among, refusal_of_kinds, refusal_to, rows_in};
+ghost use Rattle.cqlp_columns.specs.Batches.{with_cell_at, with_cell_in};
 ghost use Rattle.cqlp_columns.specs.Cells.{cell_of};
 ghost use Rattle.cqlp_columns.specs.Findings.{found_in};
+ghost use Rattle.cqlp_columns.specs.Turns.{AreEven, are_light, fault_out_of_turn, is_light_at, turn_to};
 
 use crate::cell::Cell;
 use crate::column::{Column, MakeError};
@@ -58,19 +59,25 @@ pub enum TakeError {
 pub struct Columns<A: Allocator = Global> {
     limits: BatchLimits,
     columns: Vec<Column<A>, A>,
-    /// The column of the next cell.
-    next: usize,
+    /// The column of the next cell, or [`NO_TURN`].
+    turn: usize,
+    /// Whether each column has at most as many bytes of values as a row may begin with.
+    light: bool,
 }
+
+/// No column's turn: a row begins next, for which there is no room.
+const NO_TURN: usize = usize::MAX;
 
 impl<A: Allocator> Model for Columns<A> {
     ghost use Rattle.std.specs.Prelude.{◌≡◌};
-    ghost use Rattle.cqlp_columns.specs.Batches.{Batch, IsReady, batch};
+    ghost use Rattle.cqlp_columns.specs.Batches.{Batch, batch};
+    ghost use Rattle.cqlp_columns.specs.Turns.{IsKept, next_in};
 
     ghost Value = { Batch };
 
-    ghost view = { λ c. batch c.limits c.columns.items c.next };
+    ghost view = { λ c. batch c.limits c.columns.items (next_in c.turn) };
 
-    ghost invariant = { λ c. IsReady c.limits c.columns.items c.next };
+    ghost invariant = { λ c. IsKept c.limits c.columns.items c.turn c.light };
 }
 
 impl<A: Allocator> Columns<A> {
@@ -93,11 +100,16 @@ impl<A: Allocator> Columns<A> {
             return Err(MakeError::Unsupported);
         }
         match make_columns(alloc, limits, kinds) {
-            Ok(columns) => Ok(Columns {
-                limits,
-                columns,
-                next: 0,
-            }),
+            Ok(columns) => {
+                let light = true;
+                let turn = first_turn(&columns, limits, light);
+                Ok(Columns {
+                    limits,
+                    columns,
+                    turn,
+                    light,
+                })
+            }
             Err(_) => Err(MakeError::NoMemory),
         }
     }
@@ -124,7 +136,7 @@ impl<A: Allocator> Columns<A> {
     pub fn is_full(&self) -> bool
         ensures { result ≡ is_full self.now }
     {
-        self.next == 0 && !has_room(&self.columns, self.limits)
+        self.turn == NO_TURN
     }
 
     /// Takes the next event of a page. Events that are not of cells change nothing.
@@ -150,6 +162,7 @@ impl<A: Allocator> Columns<A> {
     /// Takes the next cell.
     #[inline(always)]
     fn put(&mut self, column: usize, cell: &Cell<'_>) -> Result<(), TakeError>
+        requires { column < 2 ^ 32 }
         ensures answer { IsAnswerOf (fault_at column (cell_of cell.now) self.old) result }
         ensures taken { IsOk result → self.new ≡ with_cell_at column (cell_of cell.now) self.old }
         ensures refused { OnErr result (self.new ≡ self.old) }
@@ -157,8 +170,9 @@ impl<A: Allocator> Columns<A> {
         match self.fault(column, cell) {
             Some(why) => Err(why),
             None => {
-                put_in(self.columns.as_mut_slice(), column, cell);
-                self.next = next_after(column, self.columns.len());
+                let light = put_in(self.columns.as_mut_slice(), self.limits, column, cell);
+                keep(&mut self.light, light);
+                self.turn = turn_after(&self.columns, self.limits, self.light, column);
                 Ok(())
             }
         }
@@ -167,13 +181,11 @@ impl<A: Allocator> Columns<A> {
     /// Why a cell of a column is not taken.
     #[inline(always)]
     fn fault(&self, column: usize, cell: &Cell<'_>) -> Option<TakeError>
+        requires { column < 2 ^ 32 }
         ensures { result ≡ fault_at column (cell_of cell.now) self.now }
     {
-        if column != self.next {
-            return Some(TakeError::OutOfOrder);
-        }
-        if column == 0 && !has_room(&self.columns, self.limits) {
-            return Some(TakeError::Full);
+        if column != self.turn {
+            return Some(fault_out_of_turn(self.turn, column));
         }
         fault_among(&self.columns, self.limits, column, cell)
     }
@@ -183,7 +195,8 @@ impl<A: Allocator> Columns<A> {
         ensures { (kinds : List OneKind) (es : List Told) → HasTaken self.old.limits kinds es self.old → HasTaken self.old.limits kinds [] self.new }
     {
         clear_all(self.columns.as_mut_slice());
-        self.next = 0;
+        self.light = true;
+        self.turn = first_turn(&self.columns, self.limits, true);
     }
 }
 
@@ -231,13 +244,16 @@ fn make_column<A: Allocator + Clone>(
     }
 }
 
-/// Whether there is room for one more row.
-fn has_room<A: Allocator>(columns: &[Column<A>], limits: BatchLimits) -> bool
-    ensures { result ≡ has_room limits columns.now }
+/// Why a cell of a column is not taken where it is not its turn.
+#[cold]
+fn fault_out_of_turn(turn: usize, column: usize) -> TakeError
+    ensures { result ≡ fault_out_of_turn turn column }
 {
-    columns
-        .iter()
-        .all(|column| column.has_room(limits.rows, limits.bytes))
+    if turn == NO_TURN && column == 0 {
+        TakeError::Full
+    } else {
+        TakeError::OutOfOrder
+    }
 }
 
 /// Why the column of a number does not take a cell.
@@ -275,14 +291,32 @@ fn fault_in<A: Allocator>(
     }
 }
 
-/// Adds a cell to the column of a number, which takes it.
+/// Adds a cell to the column of a number, which takes it, and answers whether the column is light with it.
 #[inline(always)]
-fn put_in<A: Allocator>(columns: &mut [Column<A>], column: usize, cell: &Cell<'_>)
+fn put_in<A: Allocator>(
+    columns: &mut [Column<A>],
+    limits: BatchLimits,
+    column: usize,
+    cell: &Cell<'_>,
+) -> bool
     requires there { column < length columns.old }
     requires takes { refusal_among column (cell_of cell.now) columns.old ≡ None }
-    ensures { columns.new ≡ with_cell_in column (cell_of cell.now) columns.old }
+    ensures more { columns.new ≡ with_cell_in column (cell_of cell.now) columns.old }
+    ensures light { result ≡ is_light_at limits column columns.new }
 {
-    columns[column].push(cell);
+    let column = &mut columns[column];
+    column.push(cell);
+    column.is_light(limits.bytes)
+}
+
+/// Keeps whether all columns are light, where one of them changed.
+#[inline(always)]
+fn keep(light: &mut bool, more: bool)
+    ensures { light.new ≡ (light.old && more) }
+{
+    if !more {
+        *light = false;
+    }
 }
 
 /// Removes the cells of each column.
@@ -294,11 +328,41 @@ fn clear_all<A: Allocator>(columns: &mut [Column<A>])
     }
 }
 
-/// The column of the cell after one of this column.
+/// Whose turn it is after a cell of this column.
 #[inline(always)]
-fn next_after(column: usize, columns: usize) -> usize
-    requires { column < columns }
-    ensures { result ≡ next_after column columns }
+fn turn_after<A: Allocator>(
+    columns: &[Column<A>],
+    limits: BatchLimits,
+    light: bool,
+    column: usize,
+) -> usize
+    requires there { column < length columns.now }
+    requires light { light ≡ are_light limits columns.now }
+    requires even { AreEven (column + 1) columns.now }
+    ensures { result ≡ turn_to (batch limits columns.now (next_after column (length columns.now))) }
 {
-    if column + 1 == columns { 0 } else { column + 1 }
+    if column + 1 == columns.len() {
+        first_turn(columns, limits, light)
+    } else {
+        column + 1
+    }
+}
+
+/// Whose turn it is where a row begins.
+#[inline(never)]
+fn first_turn<A: Allocator>(columns: &[Column<A>], limits: BatchLimits, light: bool) -> usize
+    requires light { light ≡ are_light limits columns.now }
+    requires even { AreEven 0 columns.now }
+    ensures { result ≡ turn_to (batch limits columns.now 0) }
+{
+    match columns.last() {
+        None => 0,
+        Some(column) => {
+            if light && column.len() < limits.rows as usize {
+                0
+            } else {
+                NO_TURN
+            }
+        }
+    }
 }

@@ -260,7 +260,7 @@ pub mod columns {
 ///
 /// A [`CellBuilder`](cells::CellBuilder) makes the [`Value`](frame::Value) of a cell, so that a page of any size is read, altered and written
 /// by a [`PageWriter`](frame::PageWriter) cell by cell. [`PageCells`](cells::PageCells) writes the next cells of a page of their events, and
-/// behind what [`page_head`](cells::page_head) answers they are the whole frame. Of a page that was read, here with its rows in two
+/// after what [`page_head`](cells::page_head) answers they are the whole frame. Of a page that was read, here with its rows in two
 /// pieces:
 ///
 /// ```

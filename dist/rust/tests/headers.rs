@@ -96,7 +96,7 @@ fn page(kind: Kind) -> Frame {
     Frame { flags: 0, stream: 0, tracing: None, warnings: None, payload: None, message }
 }
 
-/// Where the option of the page's column begins: behind the header, the kind of result, the flags, the count and three texts without letters.
+/// Where the option of the page's column begins: after the header, the kind of result, the flags, the count and three texts without letters.
 const OPTION: usize = 9 + 4 + 4 + 4 + 3 * 2;
 
 #[test]

@@ -98,7 +98,7 @@ fn scalar(numbers: &mut Numbers, kind: Kind) -> Vec<u8> {
     bytes
 }
 
-/// Changes some of the bytes, or cuts them behind the length.
+/// Changes some of the bytes, or cuts them after the length.
 fn change(numbers: &mut Numbers, bytes: &mut Vec<u8>) {
     for _ in 0..numbers.one_of(&[0, 0, 1, 1, 2]) {
         let (place, any) = (numbers.below(bytes.len()), numbers.below(256) as u8);

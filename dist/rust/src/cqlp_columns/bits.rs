@@ -6,7 +6,7 @@ use crate::kit_std::alloc::{AllocError, Allocator};
 
 /// Bits in memory that is taken once: eight in a byte, the first of them the least.
 pub(crate) struct Bits<A: Allocator> {
-    /// As many as there is room for. There are zeros behind the bits so far.
+    /// As many as there is room for. There are zeros after the bits so far.
     bytes: Vec<u8, A>,
     len: usize,
 }
@@ -22,6 +22,7 @@ impl<A: Allocator> Bits<A> {
     }
 
     /// How many there are.
+    #[inline(always)]
     pub fn len(&self) -> usize
     {
         self.len
@@ -42,14 +43,14 @@ impl<A: Allocator> Bits<A> {
         self.len = 0;
     }
 
-    /// The bytes that have the bits, and zeros behind the last.
+    /// The bytes that have the bits, and zeros after the last.
     pub fn as_slice(&self) -> &[u8]
     {
         &self.bytes[..self.len.div_ceil(8)]
     }
 }
 
-/// Adds the bit behind so many, where the bytes have only zeros.
+/// Adds the bit after so many, where the bytes have only zeros.
 #[inline(always)]
 fn add_bit(bytes: &mut [u8], at: usize, bit: bool)
 {

@@ -149,10 +149,11 @@ impl<A: Allocator> Column<A> {
         self.valid.len() == 0
     }
 
-    /// Whether it has fewer cells than so many, and no more bytes of values than so many.
-    pub(crate) fn has_room(&self, rows: u32, bytes: u32) -> bool
+    /// Whether it has at most so many bytes of values.
+    #[inline(always)]
+    pub(crate) fn is_light(&self, bytes: u32) -> bool
     {
-        self.valid.len() < rows as usize && self.values.len() <= bytes as usize
+        self.values.len() <= bytes as usize
     }
 
     /// Whether more bytes than so many stand for a cell.
@@ -169,7 +170,7 @@ impl<A: Allocator> Column<A> {
         is_of(self.kind, cell)
     }
 
-    /// Takes the next cell. Its arrays are those of the cells before, and of this one behind them.
+    /// Takes the next cell. Its arrays are those of the cells before, and of this one after them.
     ///
     /// # Errors
     ///
@@ -209,14 +210,25 @@ impl<A: Allocator> Column<A> {
             && cell_len(self.layout, cell) <= self.size - self.values.len()
     }
 
+    /// How its values lie in memory, asked of its kind: where the kind is known, nothing is left to ask.
+    #[inline(always)]
+    fn layout_of_kind(&self) -> Layout
+    {
+        match layout_of(self.kind) {
+            Some(layout) => layout,
+            None => self.layout,
+        }
+    }
+
     /// Adds a cell.
     #[inline(always)]
     pub(crate) fn push(&mut self, cell: &Cell<'_>)
     {
-        put_cell(&mut self.values, self.layout, cell);
+        let layout = self.layout_of_kind();
+        put_cell(&mut self.values, layout, cell);
         let end = self.values.len() as u64;
-        put_beside(&mut self.truths, &mut self.offsets, self.layout, cell, end);
-        self.valid.push(is_valid(self.layout, cell));
+        put_beside(&mut self.truths, &mut self.offsets, layout, cell, end);
+        self.valid.push(is_valid(layout, cell));
         self.empty.push(is_empty(cell));
     }
 

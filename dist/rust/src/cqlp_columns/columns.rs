@@ -49,9 +49,14 @@ pub enum TakeError {
 pub struct Columns<A: Allocator = Global> {
     limits: BatchLimits,
     columns: Vec<Column<A>, A>,
-    /// The column of the next cell.
-    next: usize,
+    /// The column of the next cell, or [`NO_TURN`].
+    turn: usize,
+    /// Whether each column has at most as many bytes of values as a row may begin with.
+    light: bool,
 }
+
+/// No column's turn: a row begins next, for which there is no room.
+const NO_TURN: usize = usize::MAX;
 
 impl<A: Allocator> Columns<A> {
     /// With no rows, and a column for each of these kinds. This is the one call that takes memory: for each column `bytes` and `content`, 8 bytes for
@@ -71,11 +76,16 @@ impl<A: Allocator> Columns<A> {
             return Err(MakeError::Unsupported);
         }
         match make_columns(alloc, limits, kinds) {
-            Ok(columns) => Ok(Columns {
-                limits,
-                columns,
-                next: 0,
-            }),
+            Ok(columns) => {
+                let light = true;
+                let turn = first_turn(&columns, limits, light);
+                Ok(Columns {
+                    limits,
+                    columns,
+                    turn,
+                    light,
+                })
+            }
             Err(_) => Err(MakeError::NoMemory),
         }
     }
@@ -99,7 +109,7 @@ impl<A: Allocator> Columns<A> {
     #[inline]
     pub fn is_full(&self) -> bool
     {
-        self.next == 0 && !has_room(&self.columns, self.limits)
+        self.turn == NO_TURN
     }
 
     /// Takes the next event of a page. Events that are not of cells change nothing.
@@ -125,8 +135,9 @@ impl<A: Allocator> Columns<A> {
         match self.fault(column, cell) {
             Some(why) => Err(why),
             None => {
-                put_in(self.columns.as_mut_slice(), column, cell);
-                self.next = next_after(column, self.columns.len());
+                let light = put_in(self.columns.as_mut_slice(), self.limits, column, cell);
+                keep(&mut self.light, light);
+                self.turn = turn_after(&self.columns, self.limits, self.light, column);
                 Ok(())
             }
         }
@@ -136,11 +147,8 @@ impl<A: Allocator> Columns<A> {
     #[inline(always)]
     fn fault(&self, column: usize, cell: &Cell<'_>) -> Option<TakeError>
     {
-        if column != self.next {
-            return Some(TakeError::OutOfOrder);
-        }
-        if column == 0 && !has_room(&self.columns, self.limits) {
-            return Some(TakeError::Full);
+        if column != self.turn {
+            return Some(fault_out_of_turn(self.turn, column));
         }
         fault_among(&self.columns, self.limits, column, cell)
     }
@@ -149,7 +157,8 @@ impl<A: Allocator> Columns<A> {
     pub fn clear(&mut self)
     {
         clear_all(self.columns.as_mut_slice());
-        self.next = 0;
+        self.light = true;
+        self.turn = first_turn(&self.columns, self.limits, true);
     }
 }
 
@@ -193,12 +202,15 @@ fn make_column<A: Allocator + Clone>(
     }
 }
 
-/// Whether there is room for one more row.
-fn has_room<A: Allocator>(columns: &[Column<A>], limits: BatchLimits) -> bool
+/// Why a cell of a column is not taken where it is not its turn.
+#[cold]
+fn fault_out_of_turn(turn: usize, column: usize) -> TakeError
 {
-    columns
-        .iter()
-        .all(|column| column.has_room(limits.rows, limits.bytes))
+    if turn == NO_TURN && column == 0 {
+        TakeError::Full
+    } else {
+        TakeError::OutOfOrder
+    }
 }
 
 /// Why the column of a number does not take a cell.
@@ -234,11 +246,27 @@ fn fault_in<A: Allocator>(
     }
 }
 
-/// Adds a cell to the column of a number, which takes it.
+/// Adds a cell to the column of a number, which takes it, and answers whether the column is light with it.
 #[inline(always)]
-fn put_in<A: Allocator>(columns: &mut [Column<A>], column: usize, cell: &Cell<'_>)
+fn put_in<A: Allocator>(
+    columns: &mut [Column<A>],
+    limits: BatchLimits,
+    column: usize,
+    cell: &Cell<'_>,
+) -> bool
 {
-    columns[column].push(cell);
+    let column = &mut columns[column];
+    column.push(cell);
+    column.is_light(limits.bytes)
+}
+
+/// Keeps whether all columns are light, where one of them changed.
+#[inline(always)]
+fn keep(light: &mut bool, more: bool)
+{
+    if !more {
+        *light = false;
+    }
 }
 
 /// Removes the cells of each column.
@@ -249,9 +277,34 @@ fn clear_all<A: Allocator>(columns: &mut [Column<A>])
     }
 }
 
-/// The column of the cell after one of this column.
+/// Whose turn it is after a cell of this column.
 #[inline(always)]
-fn next_after(column: usize, columns: usize) -> usize
+fn turn_after<A: Allocator>(
+    columns: &[Column<A>],
+    limits: BatchLimits,
+    light: bool,
+    column: usize,
+) -> usize
 {
-    if column + 1 == columns { 0 } else { column + 1 }
+    if column + 1 == columns.len() {
+        first_turn(columns, limits, light)
+    } else {
+        column + 1
+    }
+}
+
+/// Whose turn it is where a row begins.
+#[inline(never)]
+fn first_turn<A: Allocator>(columns: &[Column<A>], limits: BatchLimits, light: bool) -> usize
+{
+    match columns.last() {
+        None => 0,
+        Some(column) => {
+            if light && column.len() < limits.rows as usize {
+                0
+            } else {
+                NO_TURN
+            }
+        }
+    }
 }

@@ -49,7 +49,7 @@ impl<A: Allocator + Clone> Decoder<A> {
     ///
     /// - A content that its type does not have, by its length or by its bytes, is told as [`Event::Leaf`] with
     ///   [`Scalar::Raw`](crate::cqlp_kind::Scalar::Raw), all its bytes.
-    /// - The bytes that a tuple or a user-defined value has behind its last field are told as [`Event::Part`] before its
+    /// - The bytes that a tuple or a user-defined value has after its last field are told as [`Event::Part`] before its
     ///   `Leave`, at the level of its fields, in parts of at most `cell` bytes whose offsets begin at 0.
     /// - A type option of an id that no kind has is told as [`Kind::Raw`](crate::cqlp_kind::Kind::Raw), and has no parameters.
     ///

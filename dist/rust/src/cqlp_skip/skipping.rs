@@ -15,7 +15,7 @@ use crate::kit_std::alloc::{Allocator, Global};
 /// is refused in the body of a frame it can pass over the rest of that frame, and go on with the next header. It takes all
 /// its memory when it is made.
 pub struct SkippingDecoder<A: Allocator = Global> {
-    /// The decoder of the present stretch, which begins where a stream begins or behind a frame that was passed over.
+    /// The decoder of the present stretch, which begins where a stream begins or after a frame that was passed over.
     decoder: Decoder<A>,
     /// Where the present stretch begins in the whole stream.
     base: u64,
@@ -63,7 +63,7 @@ impl<A: Allocator> SkippingDecoder<A> {
     }
 
     /// Hands all events of a piece to the sink, at their offsets in the whole stream, up to a refusal or a fault of the
-    /// sink. The bytes of a frame that was passed over are used without being looked at. The next call goes on behind the
+    /// sink. The bytes of a frame that was passed over are used without being looked at. The next call goes on after the
     /// bytes that were used. A refusal is said again until the frame is passed over.
     pub fn feed<S: Sink>(&mut self, input: &[u8], sink: S) -> (Fed, S)
     {
@@ -86,7 +86,7 @@ impl<A: Allocator> SkippingDecoder<A> {
     }
 
     /// Gives types for a page without metadata of the present stretch, as `Decoder::give` does. While a frame is passed over that is
-    /// the stretch behind it. The table that was held before comes back; one that is not taken comes back with the reason, and
+    /// the stretch after it. The table that was held before comes back; one that is not taken comes back with the reason, and
     /// nothing changes: after a refusal none is taken until the frame is passed over.
     pub fn give(&mut self, table: TypeTable<A>) -> Result<Option<TypeTable<A>>, GiveError<A>>
     {
@@ -101,7 +101,7 @@ impl<A: Allocator> SkippingDecoder<A> {
     }
 
     /// Passes over the rest of the frame in whose body the stream is refused: the next calls use its bytes without looking at
-    /// them, and go on with the header behind it. Nothing is held of them. A table of types that was given and not taken back
+    /// them, and go on with the header after it. Nothing is held of them. A table of types that was given and not taken back
     /// is let go of: over the next stretch nothing is given yet. Where the stream is not refused, or no header of the frame was
     /// handed out, nothing changes.
     pub fn skip(&mut self) -> Result<Skipped, NotSkippable>
