@@ -48,6 +48,18 @@ func (c *cells) next() bool {
 		if !c.comes() {
 			return false
 		}
+		open = c.gather(d, open)
+	}
+	return true
+}
+
+// gather takes the events of the row that lie in the batch, of which there is one at least, and says whether a cell is open behind them, as it may
+// be before them.
+func (c *cells) gather(d *Decoder, open bool) bool {
+	for d.next < d.count && (open || len(c.starts) < c.width) {
+		if tag := Tag(d.box.events[d.next].tag); tag < TagLeaf || tag > TagPart {
+			break
+		}
 		if !open {
 			c.starts = append(c.starts, len(c.events))
 		}
@@ -55,7 +67,7 @@ func (c *cells) next() bool {
 		d.put(e)
 		open = e.Level > 0 || e.Tag == TagEnter || e.Tag == TagPart && e.Mark != MarkLast
 	}
-	return true
+	return open
 }
 
 // comes says whether the next event is one of a cell.

@@ -135,6 +135,12 @@ func (r *RowReader) Scan(to ...any) error {
 		return &ScanError{len(r.cells.starts), errCount}
 	}
 	for i, to := range to {
+		// most cells are scalars, so this stands here
+		if e := &r.cells.events[r.cells.starts[i]]; e.Tag == TagLeaf {
+			if done, err := putLeaf(e, to); done && err == nil {
+				continue
+			}
+		}
 		cell := r.cells.cell(i)
 		if err := cell.scan(to); err != nil {
 			return &ScanError{i, err}

@@ -49,6 +49,9 @@ func (c *cell) scan(to any) error {
 			return err
 		}
 	}
+	if done, err := c.putItems(to); done {
+		return err
+	}
 	value := reflect.ValueOf(to)
 	if value.Kind() != reflect.Pointer || value.IsNil() {
 		return fmt.Errorf("%T is no pointer to a value", to)
@@ -126,6 +129,9 @@ func (c *cell) into(v reflect.Value) error {
 			c.take()
 			return err
 		}
+	}
+	if done, err := c.putItems(to); done {
+		return err
 	}
 	if to, ok := to.(scanner); ok && !c.isOdd() {
 		return to.Scan(driverValue(c.value()))

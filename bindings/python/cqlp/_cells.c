@@ -1,6 +1,7 @@
-/* Puts the events of cells together to rows of Python values, as `_Cells` of _pages.py does, or to columns, as `_ColumnCells` of columns.py
- * does: the same values, from the events where cqlp_next put them. It calls nothing of libcqlp. It is of the stable ABI, from Python 3.9 on, and bindings/build makes
- * cqlp/_cells.abi3.so of it. Where that is not there, _pages.py does it alone. */
+/* Puts the events of cells together to rows of Python values, as `_Cells` of _pages.py does, or to columns, as `_ColumnCells` of _columns.py
+ * does: the same values, from the events where cqlp_next put them, or from the arrays that cqlp_columns_next filled. It calls nothing of
+ * libcqlp. It is of the stable ABI, from Python 3.9 on, and bindings/build makes cqlp/_cells.abi3.so of it. Where that is not there, _pages.py
+ * and _columns.py do it alone. */
 #define Py_LIMITED_API 0x03090000
 #define PY_SSIZE_T_CLEAN
 #include <Python.h>
@@ -145,13 +146,9 @@ static PyObject *next_type(cells *self) {
   return PyTuple_GetItem(inner, place);
 }
 
-/* A value of no bytes. */
-static PyObject *empty_value(cells *self) {
-  PyObject *type = next_type(self), *kind = type == NULL ? NULL : PyTuple_GetItem(type, 0);
-  if (PyErr_Occurred()) return NULL;
-  long number = kind == NULL ? CQLP_KIND_RAW : PyLong_AsLong(kind);
-  if (number == -1 && PyErr_Occurred()) return NULL;
-  switch (number) {
+/* A value of no bytes, of a type of this kind. */
+static PyObject *empty_of(cells *self, long kind) {
+  switch (kind) {
   case CQLP_KIND_ASCII:
   case CQLP_KIND_VARCHAR:
     return PyUnicode_FromStringAndSize(NULL, 0);
@@ -163,6 +160,15 @@ static PyObject *empty_value(cells *self) {
     Py_INCREF(self->empty);
     return self->empty;
   }
+}
+
+/* A value of no bytes. */
+static PyObject *empty_value(cells *self) {
+  PyObject *type = next_type(self), *kind = type == NULL ? NULL : PyTuple_GetItem(type, 0);
+  if (PyErr_Occurred()) return NULL;
+  long number = kind == NULL ? CQLP_KIND_RAW : PyLong_AsLong(kind);
+  if (number == -1 && PyErr_Occurred()) return NULL;
+  return empty_of(self, number);
 }
 
 /* Begins a value with items. */
@@ -341,6 +347,137 @@ static int put_number(column *of, const cqlp_event *event) {
   return 1;
 }
 
+static int bit(const uint8_t *bits, size_t at) {
+  return bits[at / 8] >> at % 8 & 1;
+}
+
+/* Whether a column has room for so many more numbers, and for whether each is missing where it has that. */
+static int grow_by(column *of, size_t count) {
+  Py_ssize_t before = of->room;
+  if ((size_t)(of->room - of->length) < count) {
+    size_t wanted = (size_t)of->length + count + (size_t)of->room / 2;
+    void *grown = wanted > PY_SSIZE_T_MAX / of->size ? NULL : PyMem_Realloc(of->numbers, wanted * of->size);
+    if (grown == NULL) {
+      PyErr_NoMemory();
+      return 0;
+    }
+    of->numbers = grown;
+    of->room = (Py_ssize_t)wanted;
+  }
+  return of->missing == NULL || before == of->room || grow_missing(of, before);
+}
+
+/* The bits of a number in an array of the library, whose lowest byte comes first. */
+static uint64_t bits_at(const column *of, const cqlp_column *from, size_t at) {
+  if (of->kind == CQLP_KIND_BOOLEAN) return (uint64_t)bit(from->values, at);
+  uint64_t bits = 0;
+  for (size_t k = of->size; k > 0; k--) bits = bits << 8 | from->values[at * of->size + k - 1];
+  return of->kind == CQLP_KIND_DATE ? bits ^ (uint64_t)1 << 31 : bits;
+}
+
+/* Puts the numbers of an array of the library into their column, as put_number does. */
+static int put_numbers(column *of, const cqlp_column *from) {
+  const uint16_t one = 1;
+  int is_little_endian = *(const uint8_t *)&one;
+  if (from->cells == 0) return 1;
+  if (!grow_by(of, from->cells)) return 0;
+  char *to = of->numbers + of->length * of->size;
+  if (is_little_endian && of->kind != CQLP_KIND_BOOLEAN && of->kind != CQLP_KIND_DATE) {
+    memcpy(to, from->values, from->cells * of->size);
+  } else {
+    for (size_t at = 0; at < from->cells; at++) write_number(to + at * of->size, of->size, bits_at(of, from, at));
+  }
+  for (size_t at = 0; at < from->cells; at++) {
+    if (at % 8 == 0 && from->validity[at / 8] == 0xff) {
+      at += 7;
+      continue;
+    }
+    if (bit(from->validity, at)) continue;
+    if (of->missing == NULL && !grow_missing(of, 0)) return 0;
+    of->missing[of->length + (Py_ssize_t)at] = bit(from->empties, at) ? IS_EMPTY : IS_NULL;
+    write_number(to + at * of->size, of->size, 0);
+  }
+  of->length += (Py_ssize_t)from->cells;
+  return 1;
+}
+
+/* The value of a cell in an array of the library, as that of the event that says the same. */
+static PyObject *value_at(cells *self, const cqlp_column *from, size_t at) {
+  cqlp_event event;
+  memset(&event, 0, sizeof event);
+  event.kind = from->kind;
+  if (from->kind == CQLP_KIND_UUID || from->kind == CQLP_KIND_TIMEUUID) {
+    event.octets = 16;
+    memcpy(event.bytes, from->values + 16 * at, 16);
+    return leaf(self, &event);
+  }
+  event.content = from->values + from->offsets[at];
+  event.length = (size_t)(from->offsets[at + 1] - from->offsets[at]);
+  if (from->kind == CQLP_KIND_INET && event.length <= sizeof event.bytes) {
+    event.octets = (uint8_t)event.length;
+    memcpy(event.bytes, event.content, event.length);
+    event.length = 0;
+  } else if (from->kind == CQLP_KIND_DECIMAL && event.length >= 4) {
+    uint32_t scale = 0;
+    for (int k = 0; k < 4; k++) scale = scale << 8 | event.content[k];
+    memcpy(&event.extra, &scale, 4);
+    event.content += 4;
+    event.length -= 4;
+  }
+  return leaf(self, &event);
+}
+
+/* Puts the values of an array of the library into the list of their column. */
+static int put_values(cells *self, const column *of, const cqlp_column *from) {
+  int is_text = from->kind == CQLP_KIND_VARCHAR || from->kind == CQLP_KIND_ASCII;
+  for (size_t at = 0; at < from->cells; at++) {
+    PyObject *value;
+    if (bit(from->empties, at)) {
+      value = empty_of(self, from->kind);
+    } else if (!bit(from->validity, at)) {
+      Py_INCREF(Py_None);
+      value = Py_None;
+    } else if (is_text) { // most are such
+      uint64_t begin = from->offsets[at];
+      value = PyUnicode_DecodeUTF8((const char *)from->values + begin, (Py_ssize_t)(from->offsets[at + 1] - begin), NULL);
+    } else {
+      value = value_at(self, from, at);
+    }
+    int done = value == NULL ? -1 : PyList_Append(of->values, value);
+    Py_XDECREF(value);
+    if (done < 0) return 0;
+  }
+  return 1;
+}
+
+PyDoc_STRVAR(put_doc, "put(address, count): puts the cells of so many columns of the library, as cqlp_columns_get tells where they lie, behind those "
+                      "that came. The next cell is the first of a row; of the row under way in them the first columns have one more.");
+
+static PyObject *cells_put(PyObject *object, PyObject *arguments) {
+  cells *self = (cells *)object;
+  PyObject *address;
+  Py_ssize_t count;
+  if (!PyArg_ParseTuple(arguments, "On", &address, &count)) return NULL;
+  const cqlp_column *from = PyLong_AsVoidPtr(address);
+  if (from == NULL && PyErr_Occurred()) return NULL;
+  int is_begun = self->to_columns && count == self->width && count == self->begun;
+  if (!is_begun || self->depth > 0 || (self->length > 0 && from[0].cells > 0)) {
+    PyErr_SetString(PyExc_ValueError, "cells of other columns, or within a row");
+    return NULL;
+  }
+  for (Py_ssize_t at = 0; at < count; at++) {
+    column *of = &self->columns[at];
+    if (of->size > 0 && of->kind != from[at].kind) {
+      PyErr_SetString(PyExc_ValueError, "numbers of another kind");
+      return NULL;
+    }
+    if (!(of->size > 0 ? put_numbers(of, &from[at]) : put_values(self, of, &from[at]))) return NULL;
+    if (from[at].cells > from[count - 1].cells) self->length = at + 1;
+  }
+  Py_INCREF(Py_None);
+  return Py_None;
+}
+
 /* Begins one more column, of numbers where its type is told and they have a width. A count that lies gets no memory: of columns that are
  * not told one is begun when its first cell comes. */
 static int begin_column(cells *self) {
@@ -512,6 +649,7 @@ static void cells_dealloc(PyObject *object) {
 
 static PyMethodDef cells_methods[] = {
     {"take", cells_take, METH_VARARGS, take_doc},
+    {"put", cells_put, METH_VARARGS, put_doc},
     {"columns", cells_columns, METH_NOARGS, columns_doc},
     {NULL, NULL, 0, NULL},
 };

@@ -1,17 +1,20 @@
 """Pages column by column: the numbers of a column in an `array.array`."""
 
+import ctypes
 import sys
 from array import array
 from dataclasses import dataclass
 from typing import Any, Dict, Iterator, List, NamedTuple, Optional, Tuple, Union
 
-from . import _pages
-from ._decoder import Limits, Record, Skip
+from . import _native, _pages
+from ._arrays import _Arrays
+from ._decoder import Decoder, Limits, Placed, Record, Refused, Skip, event_of
+from ._events import Event
 from ._pages import Column, Row, Type, _Cells, _cells, _CompiledCells
-from ._sources import Batch, Progress, Source, batches
+from ._sources import Batch, Progress, Source, _must_be_whole, _pieces, batches
 from ._values import ValueOf
-from .messages import Rows, _Frames
-from .numbers import Kind, Tag
+from .messages import Frame, Rows, _Frames
+from .numbers import Kind, Stop, Tag
 
 # The kinds whose values are in an array, and the code of its items.
 _CODES: Dict[int, str] = {
@@ -28,6 +31,11 @@ _CODES: Dict[int, str] = {
     Kind.DOUBLE: "d",
 }
 _LEAF, _NULL, _EMPTY, _PART = map(int, (Tag.LEAF, Tag.NULL, Tag.EMPTY, Tag.PART))
+# The kinds whose values the library puts into arrays.
+_SCALARS = {int(kind) for kind in Kind} - {int(kind) for kind in (Kind.LIST, Kind.SET, Kind.MAP, Kind.TUPLE, Kind.UDT)}
+# How many columns a page has at most whose cells go through these arrays: of more their places are too far apart. How many events come before,
+# and how many rows and bytes the arrays have.
+_WIDEST, _ROOM, _ROWS, _MEMORY = 32, 1024, 4096, 1 << 24
 # What the byte of a number says of it.
 _IS_THERE, _IS_NULL, _IS_EMPTY, _IS_ODD = range(4)
 
@@ -154,8 +162,20 @@ class _ColumnCells(_Cells):
 class _Columns(_Frames):
     """Makes pages of events, column by column."""
 
+    kinds: Tuple[int, ...] = ()
+    """The kinds of the columns of the page under way, where their types are told and none has items; else none."""
+    body = count = 0
+    """How many bytes the frame under way has, and how many rows its page says."""
+
+    def add(self, event: Event) -> Optional[Frame]:
+        if event.tag in (Tag.FRAME, Tag.END):
+            self.body, self.kinds = event.number, ()
+        return super().add(event)
+
     def begin(self, page: Rows) -> None:
         width, types = page.metadata.width, self.types_of(page)
+        kinds = tuple(int(type.kind) for type in types)
+        self.count, self.kinds = page.count, kinds if width <= _WIDEST and _SCALARS.issuperset(kinds) else ()
         if not width:
             self.cells = _cells(0, ())
         elif _pages._compiled is None:
@@ -177,6 +197,60 @@ class _Columns(_Frames):
         return PageColumns(tuple(series), page.count, page.metadata.paging_state)
 
 
+class _Filling:
+    """Has the library put the cells of a long page into its arrays, and these into its columns."""
+
+    def __init__(self, found: _Columns, decoder: Decoder, limits: Limits) -> None:
+        self.found = found
+        self.decoder = decoder
+        self.arrays = _Arrays(limits, _ROWS, _MEMORY)
+        self.views: Any = None
+
+    def take(self, batch: Placed) -> Iterator[Frame]:
+        """The frames that the events of a call end, and what it put into the arrays before them."""
+        if self.decoder._filling is not None and (batch.count or self.decoder._batch.stop):
+            self.put()
+        yield from self.found.take(batch)
+        kinds = self.found.kinds
+        if not kinds:
+            self.decoder._filling = None
+        elif self.decoder._filling is None and self.decoder._batch.stop == Stop.FULL:
+            self.begin(kinds)
+
+    def begin(self, kinds: Tuple[int, ...]) -> None:
+        """From here on the cells of the page go into arrays."""
+        self.arrays.begin(kinds, self.found.count, self.found.body)
+        self.views = (_native.Column * len(kinds))()
+        self.decoder._filling = self.arrays.handle
+
+    def put(self) -> None:
+        """Puts the cells of the arrays into the columns, and leaves none there."""
+        handle, cells = self.arrays.handle, self.found.cells
+        for at, view in enumerate(self.views):
+            _native.library.cqlp_columns_get(handle, at, view)
+        if isinstance(cells, _CompiledCells):
+            cells.put(ctypes.addressof(self.views), len(self.views))
+        _native.library.cqlp_columns_clear(handle)
+
+
+def _filled(
+    found: _Columns, source: Source, limits: Limits, piece: int, progress: Optional[Progress], skip: Optional[Skip], lenient: bool
+) -> Iterator[Frame]:
+    """The frames of a source, the cells of whose pages go through the library's arrays where they may."""
+    read = 0
+    with Decoder(limits, room=_ROOM, lenient=lenient) as decoder:
+        filling = _Filling(found, decoder, limits)
+        for data, total in _pieces(source, piece):
+            for batch, refusal in decoder._placed(data, skip):
+                yield from filling.take(batch)
+                if refusal:
+                    raise Refused(*refusal, [event_of(*one) for one in batch])
+            read += len(data)
+            if progress:
+                progress(read, total)
+        _must_be_whole(decoder.finish())
+
+
 def columns(
     source: Source,
     limits: Limits = Limits(),
@@ -189,12 +263,16 @@ def columns(
 ) -> Iterator[PageColumns]:
     """The pages of a stream, each once it is whole, column by column. A page is held whole, as by `frames`, and `longest` bounds it.
 
-    Where the stream is refused or cut, Refused or Cut is raised after the last page that ends before that place. With `skip` a frame that is
-    refused within its body is passed over, and it is told which. With `lenient` a content that its type does not have is bytes in a list, and
-    in an array a number that is missing.
+    Where the stream is refused or cut, Refused or Cut is raised after the last page that ends before that place; `events` of Refused has none of
+    the cells of a long page. With `skip` a frame that is refused within its body is passed over, and it is told which. With `lenient` a content
+    that its type does not have is bytes in a list, and in an array a number that is missing.
     """
     found = _Columns(longest, limits.types)
-    for batch in batches(source, limits, piece, progress, _pages._compiled is not None, skip=skip, lenient=lenient):
-        for frame in found.take(batch):
-            if isinstance(frame.message, Rows):
-                yield found.page(frame.message)
+    if _pages._compiled is not None:
+        frames = _filled(found, source, limits, piece, progress, skip, lenient)
+    else:
+        events = batches(source, limits, piece, progress, skip=skip, lenient=lenient)
+        frames = (frame for batch in events for frame in found.take(batch))
+    for frame in frames:
+        if isinstance(frame.message, Rows):
+            yield found.page(frame.message)

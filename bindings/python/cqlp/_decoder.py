@@ -237,6 +237,8 @@ class Decoder:
         self._array = (_native.Event * self._room)()
         self._bytes = (ctypes.c_char * ctypes.sizeof(self._array)).from_buffer(self._array)
         self._batch = _native.Batch()
+        self._filling: Optional[_native.Handle] = None
+        """The columns that calls of the library fill, where they do: then they put one event at most."""
         new = _native.library.cqlp_new_lenient if lenient else _native.library.cqlp_new
         _must_be_done(new(limits._native(), self._handle))
 
@@ -351,7 +353,10 @@ class Decoder:
     def _call(self, base: int, length: int, used: int) -> Tuple[int, int, Refusal]:
         """One call of the library, with what comes after the used bytes: how many it used, why it stopped, and the refusal."""
         batch = self._batch
-        code = _native.library.cqlp_next(self._handle, base + used, length - used, self._array, self._room, batch)
+        if self._filling is None:
+            code = _native.library.cqlp_next(self._handle, base + used, length - used, self._array, self._room, batch)
+        else:
+            code = _native.library.cqlp_columns_next(self._handle, self._filling, base + used, length - used, self._array[0], batch)
         if code:
             _must_be_done(code)
         stop = batch.stop

@@ -322,6 +322,7 @@ class _CompiledCells:
     def __init__(self, width: int, types: Tuple[Type, ...], to_columns: bool = False) -> None:
         cells = _compiled.Cells(width, types, LEAVES, EMPTY, _frozen, to_columns)
         self._take = cells.take
+        self.put = cells.put
         self.columns = cells.columns
 
     def take(self, batch: Any, at: int) -> Tuple[List[Row], int]:

@@ -1,5 +1,6 @@
 """Columns have what rows have, by the module in C and by Python alone."""
 
+import ctypes
 import gc
 import struct
 import sys
@@ -12,7 +13,7 @@ from typing import Any, List, Optional, Tuple
 from unittest import mock
 
 import cqlp
-from cqlp import Kind, _pages
+from cqlp import Kind, _columns, _native, _pages
 from cqlp import messages as m
 
 from .streams import BINDINGS, streams
@@ -55,9 +56,14 @@ def shown(found: cqlp.PageColumns) -> Tuple[Any, ...]:
     return series, found.count, found.paging_state
 
 
-def read(data: bytes, limits: cqlp.Limits, compiled: Any, **words: Any) -> Tuple[List[cqlp.PageColumns], Any]:
+# How columns are read: by the module in C with cells that go through the library's arrays, as it is, and with as many of them as can, into arrays that
+# are full with two rows or with one, and have no room for a value of more than 16 bytes; and by Python alone.
+WAYS = [(compiled, words) for compiled in COMPILED for words in ({}, {"_ROOM": 1, "_ROWS": 2}, {"_ROOM": 1, "_MEMORY": 1}) if compiled or not words]
+
+
+def read(data: bytes, limits: cqlp.Limits, compiled: Any, sizes: Any = {}, **words: Any) -> Tuple[List[cqlp.PageColumns], Any]:
     pages = []
-    with mock.patch.object(_pages, "_compiled", compiled):
+    with mock.patch.object(_pages, "_compiled", compiled), mock.patch.multiple(_columns, **{"_ROOM": 1024, **sizes}):
         try:
             for found in cqlp.columns(data, limits, **words):
                 pages.append(found)
@@ -75,9 +81,9 @@ class Columns(unittest.TestCase):
         except (cqlp.Refused, cqlp.Cut) as error:
             ending = str(error)
         of_rows = [wanted(frame, limits.types) for frame in frames]
-        for compiled in COMPILED:
+        for compiled, sizes in WAYS:
             for piece in pieces:
-                found, end = read(data, limits, compiled, piece=piece)
+                found, end = read(data, limits, compiled, sizes, piece=piece)
                 self.assertEqual([shown(one) for one in found], of_rows)
                 self.assertEqual(end, ending)
 
@@ -112,8 +118,8 @@ class Columns(unittest.TestCase):
             (b"\0\x08", ">I", (0, 1 << 31, 0x7F80 << 16, 0x7F80 << 16 | 1, 0x7FC0 << 16 | 5, 0xFFC0 << 16, 1, 0x3F80 << 16)),
         ):
             data = page([option], [[cell(struct.pack(form, one))] for one in bits])
-            for compiled in COMPILED:
-                ((found,), _) = read(data, cqlp.Limits(), compiled)
+            for compiled, sizes in WAYS:
+                ((found,), _) = read(data, cqlp.Limits(), compiled, sizes)
                 octets = found.series[0].values.tobytes()
                 self.assertEqual(struct.unpack("=%d%s" % (len(bits), form[1]), octets), bits)
 
@@ -135,9 +141,9 @@ class Columns(unittest.TestCase):
         options = [struct.pack(">H", id) for id in odd]
         rows = [[cell(good) for _, good, _ in odd.values()], [cell(bad) for bad, _, _ in odd.values()], [NULL] * len(odd), [NOTHING] * len(odd)]
         data = page(options + [VARCHAR], [row + [last] for row, last in zip(rows, [cell(b"a"), cell(b"\xed\xa0\x80"), NULL, NOTHING])])
-        for compiled in COMPILED:
+        for compiled, sizes in WAYS:
             for piece in (1, 65536):
-                (found,), end = read(data, cqlp.Limits(), compiled, piece=piece, lenient=True)
+                (found,), end = read(data, cqlp.Limits(), compiled, sizes, piece=piece, lenient=True)
                 self.assertIsNone(end)
                 for series, (_, _, good) in zip(found.series, odd.values()):
                     self.assertEqual((list(series.values), series.missing), ([good, 0, 0, 0], b"\0\x03\x01\x02"))
@@ -152,7 +158,7 @@ class Columns(unittest.TestCase):
 
     def test_a_number_of_columns_that_lies_takes_no_memory(self) -> None:
         """Columns that are not told, 2,147,483,647 of them, with no row and with one; and as many as the body can have."""
-        for compiled in COMPILED:
+        for compiled, sizes in WAYS:
             for width, rows, length, end in (
                 (0x7FFFFFFF, 0, 16, None),
                 (0x7FFFFFFF, 1, 16, cqlp.Refused),
@@ -162,12 +168,24 @@ class Columns(unittest.TestCase):
                 body = struct.pack(">iiii", 2, 4, width, rows) + (NULL * 3 if length > 16 else b"")
                 data = struct.pack(">BBhBi", 0x84, 0, 0, 8, length) + body
                 tracemalloc.start()
-                pages, ending = read(data, cqlp.Limits(), compiled)
+                pages, ending = read(data, cqlp.Limits(), compiled, sizes)
                 peak = tracemalloc.get_traced_memory()[1]
                 tracemalloc.stop()
                 self.assertLess(peak, 2_000_000)
                 self.assertEqual([(one.series, one.count) for one in pages], [] if end else [((), 0)])
                 self.assertEqual(ending is None, end is None)
+
+    def test_frames_that_are_passed_over(self) -> None:
+        """Within the rows of a page, at each of its bytes."""
+        bad = bytearray(page([INT, VARCHAR], [[cell(struct.pack(">i", 7)), cell(b"abc")]] * 3 + [[cell(b"12345678"), NULL]] + [[NULL, NULL]] * 3))
+        good = page([INT, VARCHAR], [[cell(struct.pack(">i", at)), cell(b"%d" % at)] for at in range(9)])
+        for compiled, sizes in WAYS:
+            for piece in (1, 50, 65536):
+                passed: List[cqlp.Skipped] = []
+                found, end = read(good + bytes(bad) + good, cqlp.Limits(), compiled, sizes, piece=piece, skip=passed.append)
+                self.assertEqual((len(passed), passed[0].frame.at, end), (1, len(good), None))
+                self.assertEqual([list(one.series[0].values) for one in found], [list(range(9))] * 2)
+                self.assertEqual([one.series[1].values for one in found], [[str(at) for at in range(9)]] * 2)
 
     def test_a_page_that_is_too_long_is_not_held(self) -> None:
         pages = (BINDINGS / "pages.bin").read_bytes()
@@ -180,7 +198,7 @@ class Columns(unittest.TestCase):
 
         def once() -> None:
             for cut in cuts:
-                read(cut, cqlp.Limits(), COMPILED[0])
+                read(cut, cqlp.Limits(), *WAYS[len(WAYS) > 1])
 
         once()
         gc.collect()
@@ -204,6 +222,10 @@ class Columns(unittest.TestCase):
         self.assertEqual(_pages._compiled.Cells(2, types_of_two, leaves, None, None, True).columns(), [(b"", None), ([], None)])
         self.assertEqual(_pages._compiled.Cells(sys.maxsize, (), leaves, None, None, True).columns(), [])
         self.assertEqual(_pages._compiled.Cells(2, (), leaves, None, None).columns(), [])
+        views = (_native.Column * 2)()
+        place = ctypes.addressof(views)
+        for width, of, to_columns, count in ((2, types_of_two, True, 1), (2, types_of_two, False, 2), (2, (), True, 2), (1, types_of_two[:1], True, 1)):
+            self.assertRaises(ValueError, _pages._compiled.Cells(width, of, leaves, None, None, to_columns).put, place, count)
 
     def test_numpy(self) -> None:
         """Where NumPy is not there, that it is asked for an array over the numbers."""

@@ -437,6 +437,74 @@ pub struct cqlp_batch {
     pub reason: u8,
 }
 
+/// Columns for a page's rows, or none. The members are the library's own.
+#[repr(C)]
+#[derive(Debug)]
+pub struct cqlp_columns {
+    /// The library's own.
+    pub live: u64,
+    /// The library's own.
+    pub place: *mut c_void,
+}
+
+impl cqlp_columns {
+    /// A handle that has no columns: `CQLP_NO_COLUMNS_YET`.
+    pub const NONE: cqlp_columns = cqlp_columns {
+        live: 0,
+        place: std::ptr::null_mut(),
+    };
+}
+
+/// How large a batch of rows may be.
+#[repr(C)]
+#[derive(Clone, Copy, Debug, Default)]
+pub struct cqlp_batch_limits {
+    /// How many columns.
+    pub columns: u32,
+    /// How many rows.
+    pub rows: u32,
+    /// With how many bytes of values in a column no further row begins; those of its last row come on top of it.
+    pub bytes: u32,
+    /// How many bytes one value may have.
+    pub content: u32,
+}
+
+/// The arrays of a column, in the layout of Apache Arrow. A bit of an array of bits is the least of its byte first.
+#[repr(C)]
+#[derive(Clone, Copy, Debug)]
+pub struct cqlp_column {
+    /// The values, one after the other, zeros where a cell has none: numbers with their lowest byte first; of booleans a bit each.
+    pub values: *const u8,
+    /// Where each value begins among these bytes, and where the last one ends.
+    pub offsets: *const u64,
+    /// A bit for each cell: whether it has a value.
+    pub validity: *const u8,
+    /// A bit for each cell: whether it has a value of no bytes, which among values of a fixed length has no other place.
+    pub empties: *const u8,
+    /// How many bytes of values there are.
+    pub size: usize,
+    /// How many offsets there are: one more than cells, or 0 where all values have the same length.
+    pub bounds: usize,
+    /// How many cells there are; where a row is under way the first columns have one more than the last.
+    pub cells: usize,
+    /// Of which kind they are: `CQLP_KIND_..`
+    pub kind: u8,
+}
+
+impl cqlp_column {
+    /// A column that was not told.
+    pub const BLANK: cqlp_column = cqlp_column {
+        values: std::ptr::null(),
+        offsets: std::ptr::null(),
+        validity: std::ptr::null(),
+        empties: std::ptr::null(),
+        size: 0,
+        bounds: 0,
+        cells: 0,
+        kind: CQLP_KIND_RAW,
+    };
+}
+
 /// How a stream ends.
 #[repr(C)]
 #[derive(Clone, Copy, Debug, Default)]
@@ -479,6 +547,10 @@ const _: () = assert!(offset_of!(cqlp_event, bytes) == 32 + 2 * size_of::<*const
 const _: () = assert!(offset_of!(cqlp_event, octets) == 54 + 2 * size_of::<*const u8>());
 const _: () = assert!(size_of::<cqlp_decoder>() == 56 + size_of::<*const u8>());
 const _: () = assert!(size_of::<cqlp_limits>() == 20);
+const _: () = assert!(size_of::<cqlp_batch_limits>() == 16);
+const _: () = assert!(size_of::<cqlp_columns>() == 8 + size_of::<*const u8>());
+const _: () = assert!(size_of::<cqlp_column>() == 8 * size_of::<*const u8>());
+const _: () = assert!(offset_of!(cqlp_column, kind) == 7 * size_of::<*const u8>());
 const _: () = assert!(size_of::<cqlp_holding>() == 12);
 const _: () = assert!(size_of::<cqlp_encoded>() == 2 * size_of::<usize>());
 
@@ -498,6 +570,33 @@ extern "C" {
         room: usize,
         batch: *mut cqlp_batch,
     ) -> u32;
+
+    /// Makes columns without rows in a handle that has none, one for each of `count` kinds.
+    pub fn cqlp_columns_new(
+        limits: *const cqlp_batch_limits,
+        kinds: *const u8,
+        count: usize,
+        columns: *mut cqlp_columns,
+    ) -> u32;
+
+    /// Reads on, as [`cqlp_next`] does, with cells of a page put into the columns, up to the event that they do not take, which it puts.
+    pub fn cqlp_columns_next(
+        decoder: *mut cqlp_decoder,
+        columns: *mut cqlp_columns,
+        input: *const u8,
+        length: usize,
+        event: *mut cqlp_event,
+        batch: *mut cqlp_batch,
+    ) -> u32;
+
+    /// Tells where the arrays of a column lie. They stay as they are until the next call on the handle but this one.
+    pub fn cqlp_columns_get(columns: *mut cqlp_columns, column: usize, view: *mut cqlp_column) -> u32;
+
+    /// Removes all rows, also one that is under way, and keeps the memory.
+    pub fn cqlp_columns_clear(columns: *mut cqlp_columns) -> u32;
+
+    /// Frees the columns, and leaves a handle that has none.
+    pub fn cqlp_columns_free(columns: *mut cqlp_columns) -> u32;
 
     /// How the stream ends, if it ends after the bytes that were used.
     pub fn cqlp_finish(decoder: *mut cqlp_decoder, end: *mut cqlp_end) -> u32;

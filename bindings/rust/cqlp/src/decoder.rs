@@ -228,6 +228,11 @@ impl Decoder {
         }
     }
 
+    /// The library's handle, which has a decoder since `new`.
+    pub(crate) fn handle(&mut self) -> &mut sys::cqlp_decoder {
+        &mut self.handle
+    }
+
     /// One call of the library: how many bytes were used, how many events were put, and why it stopped.
     fn take(&mut self, input: &[u8]) -> (usize, usize, Stop) {
         let mut batch = sys::cqlp_batch::default();

@@ -2,6 +2,8 @@
 
 use crate::names::{Field, Kind, Opcode};
 use cqlp_sys as sys;
+use std::error::Error;
+use std::fmt;
 use std::net::{IpAddr, Ipv4Addr, Ipv6Addr};
 
 /// An event, whose content is lent by the decoder or the piece. `to_string` gives the line that `cqlp show` writes.
@@ -170,6 +172,24 @@ pub enum Scalar<'a> {
     Raw(&'a [u8]),
     /// The bytes of a kind that has no name here.
     Other(Kind, &'a [u8]),
+}
+
+/// A sink that gives up.
+#[derive(Clone, Copy, Debug, PartialEq, Eq)]
+pub struct SinkFault;
+
+impl fmt::Display for SinkFault {
+    fn fmt(&self, f: &mut fmt::Formatter<'_>) -> fmt::Result {
+        f.write_str("the sink gave up")
+    }
+}
+
+impl Error for SinkFault {}
+
+/// What takes the events of a stream, one after the other.
+pub trait Sink {
+    /// Takes the event at an offset, which is `event.at`.
+    fn take(&mut self, at: u64, event: &Event<'_>) -> Result<(), SinkFault>;
 }
 
 impl<'a> Event<'a> {

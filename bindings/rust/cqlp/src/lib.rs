@@ -4,6 +4,7 @@
 //! the piece, so the next call waits until they are let go. It holds no more than its [`Limits`] say, whatever lengths and counts a
 //! peer sends. It stands on libcqlp, which is written in Rattle and proved: the events are those that the bytes used say, in order.
 //! [`encode`] and [`Composer`] write the frame that has given events, or name the one that is refused.
+//! The module [`columns`] reads pages column by column, in the layout of Apache Arrow.
 //! Not proved is this crate, which is thin: it calls the library, and gives what it puts Rust's types.
 //!
 //! ```
@@ -45,6 +46,7 @@
 //! ```
 #![deny(missing_docs)]
 
+pub mod columns;
 mod decoder;
 mod encode;
 mod event;
@@ -53,5 +55,5 @@ mod names;
 
 pub use decoder::{check, BadLimit, Batch, Decoder, Events, Held, Limits, NewError, Refusal, Stop, Verdict};
 pub use encode::{encode, Composer, EncodeError};
-pub use event::{Bound, Event, Frame, Place, Scalar, What};
+pub use event::{Bound, Event, Frame, Place, Scalar, Sink, SinkFault, What};
 pub use names::{Code, Field, Kind, Opcode, Reason};
