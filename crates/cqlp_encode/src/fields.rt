@@ -65,7 +65,7 @@ impl<'a, W: Target> Staged<'a, W> {
         ensures { Puts self.old (to_be_bytes w32 count) self.new }
     {
         let bytes = count.to_be_bytes();
-        self.put(&bytes[4..]);
+        self.put_few(&bytes[4..]);
     }
 
     /// Takes a content after its length of two bytes.
@@ -95,7 +95,7 @@ impl<'a, W: Target> Staged<'a, W> {
         let end = content.len() + 4;
         bytes[..4].copy_from_slice(&content.len().to_be_bytes()[4..]);
         bytes[4..end].copy_from_slice(content);
-        self.put(&bytes[..end]);
+        self.put_few(&bytes[..end]);
     }
 
     /// Takes \[bytes\], a null as the length -1.

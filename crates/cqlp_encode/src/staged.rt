@@ -87,7 +87,20 @@ impl<'a, W: Target> Staged<'a, W> {
     pub fn put(&mut self, bytes: &[u8])
         ensures { Puts self.old bytes.now self.new }
     {
-        if bytes.len() > ROOM - self.len {
+        if self.len + bytes.len() > ROOM {
+            self.put_after_flush(bytes);
+        } else {
+            self.keep(bytes);
+        }
+    }
+
+    /// Takes at most 256 bytes. Where the compiler knows how many, it asks once whether there is room.
+    #[inline(always)]
+    pub fn put_few(&mut self, bytes: &[u8])
+        requires { length bytes.now ≤ 256 }
+        ensures { Puts self.old bytes.now self.new }
+    {
+        if self.len > ROOM - bytes.len() {
             self.put_after_flush(bytes);
         } else {
             self.keep(bytes);

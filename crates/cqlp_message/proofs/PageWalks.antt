@@ -19,9 +19,9 @@ pub row_none : (row column : ℕ) (ts : Types) → row_parts row column ts [] �
 row_none row column NoMore = refl
 row_none row column (Type_and k inner others) = refl
 
--- the cells of a row from this column on
+-- the cells of a row from this column on, which are of these types
 abbrev pub typed_rest : (row i : ℕ) → List Spec → List Value → List Part
-typed_rest row i specs cells = row_parts row i (column_types (map spec_of (drop i specs))) (map value_of (drop i cells))
+typed_rest row i specs cells = row_parts row i (column_types (map spec_of specs)) (map value_of (drop i cells))
 
 abbrev pub raw_rest : (row i columns : ℕ) → List Value → List Part
 raw_rest row i columns cells = row_parts row i (raw_types (columns - i)) (map value_of (drop i cells))
@@ -29,11 +29,12 @@ raw_rest row i columns cells = row_parts row i (raw_types (columns - i)) (map va
 next : {X : Type 0} (xs : List X) (i : ℕ) (x : X) → x ≡ get_or xs i x → i < length xs → drop i xs ≡ x ∷ drop (i + 1) xs
 next xs i x e l = drop_more xs i x l ∙ ap (λ (y : _). y ∷ drop (i + 1) xs) (sym e)
 
-pub typed_more : (row i : ℕ) (specs : List Spec) (cells : List Value) (s : Spec) (v : Value) → s ≡ get_or specs i s → v ≡ get_or cells i v → i < length specs → i < length cells → typed_rest row i specs cells ≡ Cell_is row i (kind_in (head_of s.tree)) (types_in (inner_of s.tree)) (value_of v) ∷ [] ++ typed_rest row (i + 1) specs cells
-typed_more row i specs cells s v e f l m = rw (next specs i s e l, next cells i v f m) refl
+pub typed_more : (row i : ℕ) (specs others : List Spec) (cells : List Value) (s : Spec) (v : Value) → specs ≡ s ∷ others → v ≡ get_or cells i v → i < length cells → typed_rest row i specs cells ≡ Cell_is row i (kind_in (head_of s.tree)) (types_in (inner_of s.tree)) (value_of v) ∷ [] ++ typed_rest row (i + 1) others cells
+typed_more row i specs others cells s v e f m = rw (e, next cells i v f m) refl
 
-pub typed_all : (row i : ℕ) (specs : List Spec) (cells : List Value) → length specs ≤ i → typed_rest row i specs cells ≡ []
-typed_all row i specs cells l = rw (drop_all i specs l) refl
+pub typed_all : (row i : ℕ) (specs : List Spec) (cells : List Value) → length specs ≡ 0 → typed_rest row i specs cells ≡ []
+typed_all row i [] cells e = refl
+typed_all row i (s ∷ specs) cells e = absurd (omega arith)
 
 pub typed_cut : (row i : ℕ) (specs : List Spec) (cells : List Value) → length cells ≤ i → typed_rest row i specs cells ≡ []
 typed_cut row i specs cells l = rw (drop_all i cells l) (row_none row i _)

@@ -62,8 +62,9 @@ fn walk_typed<V: TakesParts>(row: u32, specs: &[Spec], cells: &[Value], visitor:
     ensures { Takes V.taken visitor.old visitor.new
         (body.row_parts row 0 (body.column_types (map spec_of specs.now)) (map value_of cells.now)) }
 {
+    let mut rest = specs;
     for (column, value) in cells.iter().enumerate() {
-        let Some(spec) = specs.get(column) else {
+        let Some((spec, others)) = rest.split_first() else {
             return;
         };
         visitor.take(PartRef::Cell {
@@ -72,6 +73,7 @@ fn walk_typed<V: TakesParts>(row: u32, specs: &[Spec], cells: &[Value], visitor:
             tree: Some(&spec.tree),
             value,
         });
+        rest = others;
     }
 }
 

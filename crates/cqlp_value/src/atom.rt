@@ -116,6 +116,22 @@ impl Atom {
         }
     }
 
+    /// How many bytes it has with the four of its length. What it holds is in the range of its types.
+    #[inline(always)]
+    pub(crate) fn size(&self) -> u64
+        ensures size { result ≡ 4 + length (content_of (atom_of self.now)) }
+        ensures range { IsInRange (atom_of self.now) }
+    {
+        match self.content() {
+            Content::One(_) => 5,
+            Content::Two(_) => 6,
+            Content::Four(_) => 8,
+            Content::Eight(_) => 12,
+            Content::Lent(bytes) => bytes.len() as u64 + 4,
+            Content::Decimal(_, unscaled) => unscaled.len() as u64 + 8,
+        }
+    }
+
     /// How many bytes it has with the four of its length, or None where [`is_allowed`](Self::is_allowed) is false. What it
     /// holds is then in the range of its types.
     #[inline(always)]
@@ -125,7 +141,7 @@ impl Atom {
         ensures range { IfSome result (λ _. IsInRange (atom_of self.now)) }
     {
         if self.is_allowed() {
-            Some(self.content_len() + 4)
+            Some(self.size())
         } else {
             None
         }

@@ -47,7 +47,7 @@ pub fn value_size(value: &Value) -> u64
     ensures range { AreInRange (value_of value.now) }
 {
     match value {
-        Value::Leaf(atom) => atom.content_len().saturating_add(4),
+        Value::Leaf(atom) => atom.size(),
         _ => any_size(value),
     }
 }
@@ -61,7 +61,7 @@ fn any_size(value: &Value) -> u64
     match value {
         Value::Null => 4,
         Value::Empty => 4,
-        Value::Leaf(atom) => atom.content_len().saturating_add(4),
+        Value::Leaf(atom) => atom.size(),
         Value::List(items) => items_size(items).saturating_add(8),
         Value::Set(items) => items_size(items).saturating_add(8),
         Value::Map(pairs) => pairs_size(pairs).saturating_add(8),

@@ -57,7 +57,18 @@ impl<'a, W: Target> Staged<'a, W> {
     #[inline(always)]
     pub fn put(&mut self, bytes: &[u8])
     {
-        if bytes.len() > ROOM - self.len {
+        if self.len + bytes.len() > ROOM {
+            self.put_after_flush(bytes);
+        } else {
+            self.keep(bytes);
+        }
+    }
+
+    /// Takes at most 256 bytes. Where the compiler knows how many, it asks once whether there is room.
+    #[inline(always)]
+    pub(crate) fn put_few(&mut self, bytes: &[u8])
+    {
+        if self.len > ROOM - bytes.len() {
             self.put_after_flush(bytes);
         } else {
             self.keep(bytes);

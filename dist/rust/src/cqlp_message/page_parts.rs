@@ -42,8 +42,9 @@ fn walk_row<V: TakesParts>(meta: &Metadata, row: u32, cells: &[Value], visitor: 
 /// Hands over a cell of each of these columns.
 fn walk_typed<V: TakesParts>(row: u32, specs: &[Spec], cells: &[Value], visitor: &mut V)
 {
+    let mut rest = specs;
     for (column, value) in cells.iter().enumerate() {
-        let Some(spec) = specs.get(column) else {
+        let Some((spec, others)) = rest.split_first() else {
             return;
         };
         visitor.take(PartRef::Cell {
@@ -52,6 +53,7 @@ fn walk_typed<V: TakesParts>(row: u32, specs: &[Spec], cells: &[Value], visitor:
             tree: Some(&spec.tree),
             value,
         });
+        rest = others;
     }
 }
 

@@ -106,13 +106,27 @@ impl Atom {
         }
     }
 
+    /// How many bytes it has with the four of its length. What it holds is in the range of its types.
+    #[inline(always)]
+    pub(crate) fn size(&self) -> u64
+    {
+        match self.content() {
+            Content::One(_) => 5,
+            Content::Two(_) => 6,
+            Content::Four(_) => 8,
+            Content::Eight(_) => 12,
+            Content::Lent(bytes) => bytes.len() as u64 + 4,
+            Content::Decimal(_, unscaled) => unscaled.len() as u64 + 8,
+        }
+    }
+
     /// How many bytes it has with the four of its length, or None where [`is_allowed`](Self::is_allowed) is false. What it
     /// holds is then in the range of its types.
     #[inline(always)]
     pub fn allowed_size(&self) -> Option<u64>
     {
         if self.is_allowed() {
-            Some(self.content_len() + 4)
+            Some(self.size())
         } else {
             None
         }
