@@ -14,6 +14,8 @@ import tempfile
 
 HERE = pathlib.Path(__file__).resolve().parent
 TOP = HERE.parent
+# How many events a page has, but for the few of its front.
+EVENTS = {'rows': 4_000_000, 'collections': 3_600_000, 'columns': 1_000_000}
 PAGES = ('rows', 'collections', 'columns', 'kinds', 'blobs')
 OPTIONS = bytes([4, 0, 0, 0, 5, 0, 0, 0, 0])
 WRITES = 20
@@ -55,7 +57,8 @@ class Programs:
         self.check, self.text, self.encode = (self.rust(it) for it in ('check', 'show', 'encode'))
         self.pages = self.cargo(HERE / 'pages', HERE / 'out', 'pages')
         self.cqlp = os.environ.get('CQLP') or self.program()
-        self.batches = self.c()
+        self.batches = self.c('bindings/c/speed.c', TOP / 'bindings/out/libcqlp.a')
+        self.events = self.c('bench/events.c')
 
     def rust(self, name):
         made = self.room / name
@@ -71,12 +74,12 @@ class Programs:
         subprocess.run([TOP / 'cqlp', '--version'], check=True, stdout=subprocess.DEVNULL)
         return str(next(it for it in (TOP / made for made in ('dist/out/program/target/release/cqlp', 'crates/cqlp/out/cqlp')) if it.exists()))
 
-    def c(self):
-        """What counts the events that cqlp_next puts, in batches."""
-        library, made = TOP / 'bindings/out/libcqlp.a', self.room / 'speed'
-        if not library.exists() or not shutil.which('cc'):
+    def c(self, source, *libraries):
+        """A program in C: what counts the events that cqlp_next puts, in batches; what puts as many and decodes nothing."""
+        made = self.room / pathlib.Path(source).stem
+        if not all(it.exists() for it in libraries) or not shutil.which('cc'):
             return None
-        subprocess.run(['cc', '-O2', f'-I{TOP}/include', '-o', made, TOP / 'bindings/c/speed.c', library], check=True)
+        subprocess.run(['cc', '-O2', f'-I{TOP}/include', '-o', made, TOP / source, *libraries], check=True)
         return str(made)
 
     def page(self, name):
@@ -101,6 +104,11 @@ def read_tables(programs, pages, rounds):
     for name in ('rows', 'collections', 'columns'):
         batch = [programs.batches and (lambda room=room: spent([programs.batches, room], pages[name])) for room in ('256', '64')]
         tell(name, least(rounds, [lambda: spent([programs.cqlp, 'check', '-'], pages[name]), *batch]))
+    table('events written alone', 'no decoder', '`cqlp check`', 'both', 'the greatest ratio of 256 events')
+    for name, many in EVENTS.items():
+        written, checked = least(rounds, [programs.events and (lambda: spent([programs.events, str(many), '256'])), lambda: spent([programs.cqlp, 'check', '-'], pages[name])])
+        if written:
+            print(f'| {name} | {written:.1f} ms | {checked:.1f} ms | {written + checked:.1f} ms | {checked / (written + checked):.2f} |', flush=True)
 
 
 def text_table(programs, pages, rounds):

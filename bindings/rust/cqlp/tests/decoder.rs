@@ -68,7 +68,10 @@ fn a_content_that_no_type_has() {
     assert_eq!(scalars, [Scalar::Int(7), Scalar::Raw(&[0, 1, 2])]);
     assert_eq!(decoder.finish(), Verdict::Whole { bytes: 49 });
     assert!(matches!(
-        Decoder::lenient(Limits { depth: 0, ..Limits::default() }),
+        Decoder::lenient(Limits {
+            depth: 0,
+            ..Limits::default()
+        }),
         Err(NewError::BadLimit(BadLimit::Depth))
     ));
 }
