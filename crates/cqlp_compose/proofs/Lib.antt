@@ -1,2 +1,3 @@
 mod Taking
 mod Writing
+pub mod Once

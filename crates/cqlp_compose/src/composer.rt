@@ -7,6 +7,7 @@ ghost use Rattle.cqlp_message.specs.Frames.{FrameIsInRange, frame_bytes, unfit_o
 ghost use Rattle.cqlp_message.specs.Owned.{frame_of};
 ghost use Rattle.cqlp_build.specs.declared.error.BuildError.TheVariants as error;
 ghost use Rattle.cqlp_build.specs.Building.{is_end};
+ghost use Rattle.cqlp_build.specs.Closing.{Ends};
 ghost use Rattle.cqlp_compose.specs.Composing.{IsOfNone, IsWrittenOf, Takes, composed, start};
 
 use crate::memory::InMemory;
@@ -94,6 +95,21 @@ impl Composer {
         Ok(())
     }
 
+    /// The frame that has these events.
+    ///
+    /// # Errors
+    ///
+    /// Those of [`FrameBuilder::close`].
+    pub fn close(self) -> Result<Frame, BuildError>
+        ensures { Ends (composed self).frame.events result }
+    {
+        let Composer {
+            mut builder,
+            ended: _,
+        } = self;
+        builder.close()
+    }
+
     /// Writes the frame that has these events: 9 to 268,435,465 bytes.
     ///
     /// # Errors
@@ -103,11 +119,7 @@ impl Composer {
         ensures { MatchResult result (λ v. IsWrittenOf (composed self).frame.events v.items)
             (λ why. IsOfNone (composed self).frame.events why) }
     {
-        let Composer {
-            mut builder,
-            ended: _,
-        } = self;
-        match builder.close() {
+        match self.close() {
             Ok(frame) => written(alloc, &frame),
             Err(why) => Err(why),
         }

@@ -4,6 +4,6 @@ mod Sizes
 mod Taking
 mod Steps
 mod Pieces
-mod Whole
-mod OneAnswer
+pub mod Whole
+pub mod OneAnswer
 mod Built

@@ -2,7 +2,9 @@
 use Rattle.std.proofs.Common.{◌≡◌, ℕ, zero, suc, ◌+◌, ◌-◌, ◌*◌, ◌/◌, ◌%◌, ◌<◌, ◌≤◌, ◌&&◌, ◌==◌, Bool, true, false, nat_lt, List, [], ◌∷◌, ◌++◌, map, length, Some, None, Ok, refl, sym, ap, ◌∙◌, subst, append_assoc, append-nil, arith, inr}
 use Rattle.std.specs.Prelude.{not}
 use Rattle.std.proofs.lemmas.Bool.{eqb-true}
+use Rattle.std.specs.List.{All}
 use Rattle.std.proofs.lemmas.List.{length-append, map-append}
+use Rattle.std.proofs.lemmas.List.Elements.{All-append, All-cons, All-nil}
 use Rattle.std.proofs.lemmas.Bool.Decides.{nat_tests}
 use Rattle.std.proofs.Math.Nat.{mul-zero, mul_comm, mod-lt, div-add-mod, div-lt_iff_lt-mul}
 use Rattle.cqlp_kind.specs.CellStep.{CellEvent, Leaf, Null, Empty, Enter, Leave, Part}
@@ -11,7 +13,7 @@ use Rattle.cqlp_kind.specs.Types.{Types, NoMore, Type_and, how_many}
 use Rattle.cqlp_grammar.specs.Events.{Event, Frame, Holds, Node_of, Cell_at, End, cell_event}
 use Rattle.cqlp_grammar.specs.Events as event
 use Rattle.cqlp_value.specs.Owned.{cell_type, value_of}
-use Rattle.cqlp_value.specs.Values.{Values, values_bytes, values_fit, values_size}
+use Rattle.cqlp_value.specs.Values.{AreInRange, Values, values_bytes, values_fit, values_size}
 use Rattle.cqlp_value.specs.declared.value.Value.{Value}
 use Rattle.cqlp_note.specs.Heading.{has}
 use Rattle.cqlp_message.specs.FrameValues.{FrameValue}
@@ -98,6 +100,7 @@ pub record Stands (f : FrameValue) (n : ℕ) (es : List Event) (bytes : List ℕ
   pub fit : cells_fit f cells ≡ true
   pub size : p.free + cells_size cells ≡ n
   pub are : cells_bytes cells ≡ bytes
+  pub range : All AreInRange cells
 
 above : (rows c n : ℕ) → n < rows * c → 0 < c
 above rows zero n lt = absurd (omega (arith, mul-zero rows))
@@ -125,7 +128,7 @@ metadata_in f e =
 
 module _ (f : OwnedFrame) (n : ℕ) (begins : page_unfit_of (frame_of f) n ≡ None) (es : List Event) (bytes : List ℕ) (p : PagePlace) (w : Values) (cs : List CellEvent) (s : Stands (frame_of f) n es bytes p)
     (some : p.cells < cells_wanted (frame_of f).message) (short : values_size w ≤ p.free) (none : have_none cs ≡ true)
-    (are : AreEventsOf cs (cell_type (told_type f (p.cells % page_columns (frame_of f).message))) w) (fits : values_fit (cell_type (told_type f (p.cells % page_columns (frame_of f).message))) w ≡ true) where
+    (are : AreEventsOf cs (cell_type (told_type f (p.cells % page_columns (frame_of f).message))) w) (fits : values_fit (cell_type (told_type f (p.cells % page_columns (frame_of f).message))) w ≡ true) (range : AreInRange w) where
   abbrev g : FrameValue
   g = frame_of f
 
@@ -198,6 +201,7 @@ module _ (f : OwnedFrame) (n : ℕ) (begins : page_unfit_of (frame_of f) n ≡ N
         fit = fit_more has.0 has.1 has.2;
         size = omega (arith, s.size, short, cells_size_more s.cells w);
         are = cells_bytes_more s.cells w ∙ ap (λ (b : List ℕ). b ++ values_bytes w) s.are ∙ d;
+        range = All-append AreInRange s.cells (w ∷ []) s.range (All-cons AreInRange w [] range (All-nil AreInRange));
       }
 
 -- ---- events of a cell
@@ -221,7 +225,7 @@ less m n e = grind (arith, nat_tests)
 
 -- where a cell ends
 module _ (f : OwnedFrame) (n : ℕ) (begins : page_unfit_of (frame_of f) n ≡ None) (es : List Event) (bytes : List ℕ) (s : CellsState) (some : s.place.cells < cells_wanted (page s).message) (w : IsWithin f n es bytes s) (v : Value)
-    (made : Finishes s.under.events (told_type s.frame (next_column s)) (Ok v)) (short : values_size (value_of v) ≤ room s) where
+    (made : Finishes s.under.events (told_type s.frame (next_column s)) (Ok v)) (short : values_size (value_of v) ≤ room s) (range : AreInRange (value_of v)) where
   built : IsBuiltOf s.under.events (cell_type (told_type f (s.place.cells % page_columns (frame_of f).message))) (value_of v)
   built = subst (λ (x : OwnedFrame). IsBuiltOf s.under.events (cell_type (told_type x (s.place.cells % page_columns (frame_of x).message))) (value_of v)) w.frame made.1
 
@@ -233,7 +237,7 @@ module _ (f : OwnedFrame) (n : ℕ) (begins : page_unfit_of (frame_of f) n ≡ N
   stands_on : Stands (frame_of f) n es (bytes ++ (s.bytes ++ values_bytes (value_of v))) (record { cells = s.place.cells + 1; free = s.place.free - values_size (value_of v) })
   stands_on =
       let some_in : s.place.cells < cells_wanted (frame_of f).message = subst (λ (x : OwnedFrame). s.place.cells < cells_wanted (frame_of x).message) w.frame some in
-      one_more f n begins w.before (bytes ++ s.bytes) s.place (value_of v) s.under.events w.stands some_in (omega (arith, short)) w.whole built.are built.fits
+      one_more f n begins w.before (bytes ++ s.bytes) s.place (value_of v) s.under.events w.stands some_in (omega (arith, short)) w.whole built.are built.fits range
       es (bytes ++ (s.bytes ++ values_bytes (value_of v))) here (append_assoc bytes s.bytes (values_bytes (value_of v)))
 
   with_one : IsWithin f n es bytes (with_cell s (value_of v))
@@ -246,7 +250,7 @@ gone_on f n begins false es bytes s new some w g =
     let on : IsWithin f n es bytes (record s { cut = true }) = record { frame = w.frame; before = w.before; events = w.events; whole = w.whole; stands = w.stands } in
     subst (λ (x : CellsState). IsWithin f n es bytes x) (sym g) on
 gone_on f n begins true es bytes s new some w g =
-    subst (λ (x : CellsState). IsWithin f n es bytes x) (sym g.3) (with_one f n begins es bytes s some w g.0 g.1 g.2)
+    subst (λ (x : CellsState). IsWithin f n es bytes x) (sym g.3) (with_one f n begins es bytes s some w g.0 g.1 g.2 g.4)
 
 module _ (f : OwnedFrame) (n : ℕ) (begins : page_unfit_of (frame_of f) n ≡ None) where
   pub takes_within : (es : List Event) (bytes : List ℕ) (old : CellsState) (e : Event) (new : CellsState) → IsWithin f n es bytes old → Takes old e (Ok tt) new → IsWithin f n (es ++ e ∷ []) bytes new

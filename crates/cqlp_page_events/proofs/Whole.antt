@@ -2,7 +2,9 @@
 use Rattle.std.proofs.Common.{◌≡◌, ℕ, ◌+◌, ◌*◌, ◌≤◌, ◌==◌, true, false, List, [], ◌∷◌, ◌++◌, length, map, None, refl, sym, ap, ◌∙◌, arith, inl}
 use Rattle.std.specs.List.{list_all}
 use Rattle.std.proofs.lemmas.Bool.{eqb-true}
+use Rattle.std.proofs.lemmas.List.Elements.{All-nil}
 use Rattle.std.proofs.lemmas.List.Folds.{list_all-append}
+use Rattle.cqlp_value.specs.Values.{AreInRange}
 use Rattle.cqlp_note.specs.Limits.{Rules}
 use Rattle.cqlp_grammar.specs.Events.{Event, Frame, End}
 use Rattle.cqlp_kind.specs.Types.{how_many}
@@ -42,6 +44,7 @@ module _ (f : FrameValue) (n : ℕ) (begins : page_unfit_of f n ≡ None) where
     fit = no_cells_fit f n begins;
     size = omega arith;
     are = refl;
+    range = All-nil AreInRange;
   }
 
   module _ (es : List Event) (bytes : List ℕ) (p : PagePlace) (s : Stands f n es bytes p) (done : is_done f p ≡ true) where
@@ -91,6 +94,7 @@ module _ (f : FrameValue) (n : ℕ) (begins : page_unfit_of f n ≡ None) where
           spelled = law.0;
           written = ap (λ (b : List ℕ). page_head f n ++ b) (sym s.are) ∙ law.1;
           size = sizes;
+          range = s.range;
         }
 
 pub has_its_events : PageHasItsEvents

@@ -5,7 +5,7 @@ use Rattle.cqlp_kind.specs.CellStep as cell
 use Rattle.cqlp_grammar.specs.Events.{Event, Cell_at, Leave}
 use Rattle.cqlp_value.specs.declared.value.Value.{Value}
 use Rattle.cqlp_value.specs.Owned.{value_of}
-use Rattle.cqlp_value.specs.Values.{Values, values_bytes, values_size}
+use Rattle.cqlp_value.specs.Values.{AreInRange, Values, values_bytes, values_size}
 use Rattle.cqlp_message.specs.declared.frame.Frame.{Frame}
 use Rattle.cqlp_message.specs.Owned.{frame_of}
 use Rattle.cqlp_message.specs.FrameValues.{FrameValue}
@@ -86,11 +86,11 @@ room s = min s.place.free LONGEST_BODY
 abbrev pub IsOfColumn : CellsState → Result Value CellError → Type 0
 IsOfColumn s r = Finishes s.under.events (told_type s.frame (next_column s)) r
 
--- What becomes of the cell under way that ends: the value that has its events is written, and is the next cell; or there is none, or
+-- What becomes of the cell under way that ends: the value that has its events, whose numbers are in their ranges, is written, and is the next cell; or there is none, or
 -- it is too long, or memory was refused, and the cell is forgotten.
 abbrev pub Ends : CellsState → Result (Unit {0}) PageCellError → CellsState → Type 0
 Ends old (Ok u) new =
-    (v : Value) × IsOfColumn old (Ok v) × (values_size (value_of v) ≤ room old) × (new ≡ with_cell old (value_of v))
+    (v : Value) × IsOfColumn old (Ok v) × (values_size (value_of v) ≤ room old) × (new ≡ with_cell old (value_of v)) × AreInRange (value_of v)
 Ends old (Err error.PastLength) new =
     (v : Value) × IsOfColumn old (Ok v) × (room old < values_size (value_of v)) × (new ≡ without_cell old)
 Ends old (Err (error.Cell cell_error.NoMemory)) new = new ≡ without_cell old

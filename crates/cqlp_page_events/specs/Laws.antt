@@ -1,8 +1,8 @@
 -- Laws of pages that are written of the events of their cells.
 use Rattle.std.specs.Prelude.{◌≡◌, ◌++◌, ◌⊎◌, ℕ, true, List, [], ◌∷◌, None, Result, Ok, Err}
-use Rattle.std.specs.List.{flat_map}
+use Rattle.std.specs.List.{All, flat_map}
 use Rattle.cqlp_grammar.specs.Events.{Event, Frame, End}
-use Rattle.cqlp_value.specs.Values.{Values}
+use Rattle.cqlp_value.specs.Values.{AreInRange, Values}
 use Rattle.cqlp_message.specs.declared.frame.Frame.{Frame as OwnedFrame}
 use Rattle.cqlp_message.specs.FrameValues.{FrameValue}
 use Rattle.cqlp_message.specs.Owned.{frame_of}
@@ -65,13 +65,14 @@ abbrev pub own_header : FrameValue → Event
 own_header f = Frame (header_of f (parts_size (frame_parts f)))
 
 -- The bytes are those of the page with some cells, which nothing keeps from being spelled; and its events are its header, what is told of
--- the page without cells, these, and an end. These tell of n bytes.
+-- the page without cells, these, and an end. These tell of n bytes. The numbers of the cells are in the ranges of their types.
 pub record IsPageOf (f : FrameValue) (n : ℕ) (es : List Event) (bytes : List ℕ) : Type 0 where
   pub cells : List Values
   pub are : AreEventsOf (own_header (with_cells f cells) ∷ (told (frame_parts f) ++ es) ++ End 0 ∷ []) (with_cells f cells) 0
   pub spelled : unfit_of (with_cells f cells) ≡ None
   pub written : bytes ≡ frame_bytes (with_cells f cells)
   pub size : events_size es ≡ n
+  pub range : All AreInRange cells
 
 -- A page that is begun, and whose cells are all written in pieces, of their events: what is written in all is the frame that has these events.
 abbrev pub PageHasItsEvents : Type 0

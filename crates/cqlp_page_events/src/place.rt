@@ -1,6 +1,7 @@
 //! Where a page stands whose cells come some at a time.
 
-ghost use Rattle.std.specs.Prelude.{◌≡◌};
+ghost use Rattle.std.specs.Prelude.{◌≡◌, None};
+ghost use Rattle.cqlp_message.specs.Frames.{FrameIsInRange};
 ghost use Rattle.cqlp_message.specs.Owned.{frame_of};
 ghost use Rattle.cqlp_message.specs.Pages.{page_unfit_of};
 ghost use Rattle.cqlp_page_events.specs.Places as told;
@@ -25,7 +26,8 @@ impl PagePlace {
     ///
     /// What [`Frame::page_unfit`] says, where the frame is no page that can be written with cells of as many bytes.
     pub fn start(frame: &Frame, cells_len: u32) -> Result<PagePlace, Unfit>
-        ensures { result ≡ told.place_unless (page_unfit_of (frame_of frame.now) cells_len) cells_len }
+        ensures is { result ≡ told.place_unless (page_unfit_of (frame_of frame.now) cells_len) cells_len }
+        ensures range { page_unfit_of (frame_of frame.now) cells_len ≡ None → FrameIsInRange (frame_of frame.now) }
     {
         match frame.page_unfit(cells_len) {
             Some(why) => Err(why),

@@ -1,0 +1,4 @@
+pub mod Beginning
+pub mod Putting
+pub mod OneAnswer
+pub mod Written

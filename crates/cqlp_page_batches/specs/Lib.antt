@@ -1,0 +1,3 @@
+pub mod Begun
+pub mod Put
+pub mod Laws

@@ -1,0 +1,11 @@
+//! Pages of the CQL native protocol v4 of any size, begun with the events of their heads, and written in batches of the events of their cells.
+#![tactic(auto)]
+
+mod cells;
+mod error;
+pub mod laws;
+mod page;
+
+pub use cells::PutCells;
+pub use error::{BeginError, PutError, Unended};
+pub use page::{BegunPage, OpenPage};
