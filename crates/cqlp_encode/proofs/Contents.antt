@@ -25,7 +25,7 @@ and_bytes (Set' shape items) vs = simp (append_assoc, append-nil)
 and_bytes (Tuple' shape items) vs = simp (append_assoc, append-nil)
 and_bytes (Udt' shape items) vs = simp (append_assoc, append-nil)
 
-many_bytes : (vs : List Value) (v : Value) → values_bytes (listed_values (vs ++ v ∷ [])) ≡ values_bytes (listed_values vs) ++ values_bytes (value_of v)
+pub many_bytes : (vs : List Value) (v : Value) → values_bytes (listed_values (vs ++ v ∷ [])) ≡ values_bytes (listed_values vs) ++ values_bytes (value_of v)
 many_bytes [] v = and_bytes v (listed_values []) ∙ append-nil (values_bytes (value_of v))
 many_bytes (w ∷ vs) v =
     and_bytes w (listed_values (vs ++ v ∷ [])) ∙ ap (λ (t : List ℕ). values_bytes (value_of w) ++ t) (many_bytes vs v) ∙ sym (append_assoc (values_bytes (value_of w)) (values_bytes (listed_values vs)) (values_bytes (value_of v)))
@@ -38,7 +38,7 @@ pair_and_bytes : (x : Value × Value) (vs : Values) → values_bytes (value_and 
 pair_and_bytes x vs =
     and_bytes x.0 (value_and x.1 vs) ∙ ap (λ (t : List ℕ). values_bytes (value_of x.0) ++ t) (and_bytes x.1 vs) ∙ sym (append_assoc (values_bytes (value_of x.0)) (values_bytes (value_of x.1)) (values_bytes vs))
 
-many_pair_bytes : (xs : List (Value × Value)) (x : Value × Value) → values_bytes (listed_pairs (xs ++ x ∷ [])) ≡ values_bytes (listed_pairs xs) ++ pair_bytes x
+pub many_pair_bytes : (xs : List (Value × Value)) (x : Value × Value) → values_bytes (listed_pairs (xs ++ x ∷ [])) ≡ values_bytes (listed_pairs xs) ++ pair_bytes x
 many_pair_bytes [] x = pair_and_bytes x (listed_pairs []) ∙ append-nil (pair_bytes x)
 many_pair_bytes (y ∷ xs) x =
     pair_and_bytes y (listed_pairs (xs ++ x ∷ [])) ∙ ap (λ (t : List ℕ). pair_bytes y ++ t) (many_pair_bytes xs x) ∙ sym (append_assoc (pair_bytes y) (values_bytes (listed_pairs xs)) (pair_bytes x))

@@ -1,10 +1,12 @@
 pub mod Continuing
 pub mod Taking
+pub mod Kept
 pub mod Options
 pub mod Bindings
 pub mod Few
 pub mod Lent
 pub mod Contents
+pub mod KeptValues
 pub mod PartsTaken
 pub mod FramesTaken
 pub mod PageSteps

@@ -1,5 +1,6 @@
 -- What was written of a frame.
-use Rattle.std.specs.Prelude.{◌≡◌, ◌≢◌, ◌-◌, ◌^◌, ◌≤◌, ℕ, Bool, true, false, List, [], ◌++◌, length, drop, min}
+use Rattle.std.specs.Prelude.{◌≡◌, ◌≢◌, ◌+◌, ◌-◌, ◌^◌, ◌≤◌, ℕ, Bool, true, false, List, [], ◌++◌, length, take, drop, min}
+use Rattle.std.specs.Int.{w32, to_be_bytes}
 use Rattle.std.specs.Io.KnownBytes.{Appends}
 use Rattle.cqlp_note.specs.Streams.{counted}
 use Rattle.cqlp_note.specs.Outputs.{Output}
@@ -48,6 +49,17 @@ pub record Puts (old : Progress) (bytes : List ℕ) (new : Progress) : Type 0 wh
 pub record PutsWithin (size : ℕ) (old : Progress) (bytes : List ℕ) (new : Progress) : Type 0 where
   pub puts : size ≤ LONGEST_BODY → Puts old bytes new
   pub lender : new.lender ≡ old.lender
+
+-- These bytes are put to those that wait, and nothing else changes. Where there is no room for all of them, some bytes may be put.
+pub record Keeps (old : Progress) (whole : Bool) (bytes : List ℕ) (new : Progress) : Type 0 where
+  pub more : List ℕ
+  pub kept : new ≡ record old { waiting = old.waiting ++ more }
+  pub all : whole ≡ true → more ≡ bytes
+
+-- Of these bytes the four from start are the length of those after them.
+abbrev pub told : (start : ℕ) → List ℕ → List ℕ
+told start waiting =
+    take start waiting ++ (to_be_bytes w32 (length (drop (start + 4) waiting)) ++ drop (start + 4) waiting)
 
 -- What was there before the parts of a frame: where the target stood, what was taken first, and the name of the borrow.
 pub record Before : Type 0 where

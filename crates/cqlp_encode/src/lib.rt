@@ -3,6 +3,7 @@
 
 mod binding;
 mod fields;
+mod kept_values;
 pub mod laws;
 mod page_writer;
 mod parts;

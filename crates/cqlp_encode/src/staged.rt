@@ -1,9 +1,9 @@
 //! Bytes on their way to a target.
 
-ghost use Rattle.std.specs.Prelude.{◌≡◌, ◌+◌, ◌≤◌, ◌++◌, [], length, min, ◌-◌, ◌^◌};
+ghost use Rattle.std.specs.Prelude.{◌≡◌, ◌+◌, ◌≤◌, ◌++◌, [], length, min, take, ◌-◌, ◌^◌};
 ghost use Rattle.cqlp_note.specs.Outputs.{written};
 ghost use Rattle.cqlp_encode.specs.Encoding.{Continued};
-ghost use Rattle.cqlp_encode.specs.Progress.{Puts, begun};
+ghost use Rattle.cqlp_encode.specs.Progress.{Keeps, Puts, begun, told};
 
 use cqlp_note::{Target, offer};
 use std::marker::Model;
@@ -105,6 +105,58 @@ impl<'a, W: Target> Staged<'a, W> {
         } else {
             self.keep(bytes);
         }
+    }
+
+    /// How many bytes wait.
+    #[inline(always)]
+    pub fn waiting(&self) -> usize
+        ensures { result ≡ length self.now.waiting }
+    {
+        self.len
+    }
+
+    /// Takes at most 256 bytes where there is room for them without passing anything on, and answers whether there is.
+    #[inline(always)]
+    pub fn keep_few(&mut self, bytes: &[u8]) -> bool
+        requires { length bytes.now ≤ 256 }
+        ensures { Keeps self.old result bytes.now self.new }
+    {
+        if self.len > ROOM - bytes.len() {
+            return false;
+        }
+        self.keep(bytes);
+        true
+    }
+
+    /// The same of any bytes.
+    #[inline(always)]
+    pub fn keep_many(&mut self, bytes: &[u8]) -> bool
+        ensures { Keeps self.old result bytes.now self.new }
+    {
+        if self.len + bytes.len() > ROOM {
+            return false;
+        }
+        self.keep(bytes);
+        true
+    }
+
+    /// Writes the length of what waits from `start + 4` on into the four bytes before it.
+    #[inline(always)]
+    pub fn tell(&mut self, start: usize)
+        requires { start + 4 ≤ length self.old.waiting }
+        ensures { self.new ≡ record self.old { waiting = told start self.old.waiting } }
+    {
+        let len = (self.len - start - 4).to_be_bytes();
+        self.buffer[start..start + 4].copy_from_slice(&len[4..]);
+    }
+
+    /// Lets go of what waits after the first `len` bytes.
+    #[inline(always)]
+    pub fn cut(&mut self, len: usize)
+        requires { len ≤ length self.old.waiting }
+        ensures { self.new ≡ record self.old { waiting = take len self.old.waiting } }
+    {
+        self.len = len;
     }
 
     /// Takes bytes once all that waits is passed on.

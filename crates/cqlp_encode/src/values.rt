@@ -8,6 +8,7 @@ ghost use Rattle.cqlp_value.specs.Values.{Scalar_and, NoValue, values_bytes, val
 ghost use Rattle.cqlp_encode.specs.Binding.{content_written};
 ghost use Rattle.cqlp_encode.specs.Progress.{Puts, PutsWithin};
 
+use crate::kept_values::keep_whole;
 use crate::staged::Staged;
 use cqlp_note::Target;
 use cqlp_value::{Atom, Content, Value, content_len};
@@ -20,7 +21,22 @@ pub fn put_value<W: Target>(out: &mut Staged<'_, W>, value: &Value)
 {
     match value {
         Value::Leaf(atom) => put_atom(out, atom),
-        _ => put_measured(out, value, content_len(value)),
+        _ => put_nested(out, value),
+    }
+}
+
+/// The same of a value that is no scalar. It goes as a whole where it has room among the bytes that wait, and is measured only where it
+/// has more than 256 bytes.
+#[cycle(put_value)]
+fn put_nested<W: Target>(out: &mut Staged<'_, W>, value: &Value)
+    ensures { PutsWithin (values_size (value_of value.now)) out.old (values_bytes (value_of value.now)) out.new }
+{
+    if keep_whole(out, value) {
+        return;
+    }
+    out.flush();
+    if !keep_whole(out, value) {
+        put_measured(out, value, content_len(value));
     }
 }
 

@@ -79,6 +79,20 @@ impl Composer {
         Ok(())
     }
 
+    /// The frame that has these events.
+    ///
+    /// # Errors
+    ///
+    /// Those of [`FrameBuilder::close`].
+    pub fn close(self) -> Result<Frame, BuildError>
+    {
+        let Composer {
+            mut builder,
+            ended: _,
+        } = self;
+        builder.close()
+    }
+
     /// Writes the frame that has these events: 9 to 268,435,465 bytes.
     ///
     /// # Errors
@@ -86,11 +100,7 @@ impl Composer {
     /// Those of [`FrameBuilder::close`]; [`BuildError::NoMemory`] also where memory was refused for the bytes.
     pub fn write(self, alloc: Global) -> Result<Vec<u8>, BuildError>
     {
-        let Composer {
-            mut builder,
-            ended: _,
-        } = self;
-        match builder.close() {
+        match self.close() {
             Ok(frame) => written(alloc, &frame),
             Err(why) => Err(why),
         }

@@ -3,6 +3,7 @@
 
 mod binding;
 mod fields;
+mod kept_values;
 mod page_writer;
 mod parts;
 mod staged;

@@ -75,6 +75,50 @@ impl<'a, W: Target> Staged<'a, W> {
         }
     }
 
+    /// How many bytes wait.
+    #[inline(always)]
+    pub fn waiting(&self) -> usize
+    {
+        self.len
+    }
+
+    /// Takes at most 256 bytes where there is room for them without passing anything on, and answers whether there is.
+    #[inline(always)]
+    pub(crate) fn keep_few(&mut self, bytes: &[u8]) -> bool
+    {
+        if self.len > ROOM - bytes.len() {
+            return false;
+        }
+        self.keep(bytes);
+        true
+    }
+
+    /// The same of any bytes.
+    #[inline(always)]
+    pub fn keep_many(&mut self, bytes: &[u8]) -> bool
+    {
+        if self.len + bytes.len() > ROOM {
+            return false;
+        }
+        self.keep(bytes);
+        true
+    }
+
+    /// Writes the length of what waits from `start + 4` on into the four bytes before it.
+    #[inline(always)]
+    pub(crate) fn tell(&mut self, start: usize)
+    {
+        let len = (self.len - start - 4).to_be_bytes();
+        self.buffer[start..start + 4].copy_from_slice(&len[4..]);
+    }
+
+    /// Lets go of what waits after the first `len` bytes.
+    #[inline(always)]
+    pub(crate) fn cut(&mut self, len: usize)
+    {
+        self.len = len;
+    }
+
     /// Takes bytes once all that waits is passed on.
     fn put_after_flush(&mut self, bytes: &[u8])
     {

@@ -1,6 +1,7 @@
 // Written by dist/erase from crates/cqlp_encode/src/values.rt.
 //! Values of cells, written.
 
+use crate::cqlp_encode::kept_values::keep_whole;
 use crate::cqlp_encode::staged::Staged;
 use crate::cqlp_note::Target;
 use crate::cqlp_value::{Atom, Content, Value, content_len};
@@ -11,7 +12,20 @@ pub fn put_value<W: Target>(out: &mut Staged<'_, W>, value: &Value)
 {
     match value {
         Value::Leaf(atom) => put_atom(out, atom),
-        _ => put_measured(out, value, content_len(value)),
+        _ => put_nested(out, value),
+    }
+}
+
+/// The same of a value that is no scalar. It goes as a whole where it has room among the bytes that wait, and is measured only where it
+/// has more than 256 bytes.
+fn put_nested<W: Target>(out: &mut Staged<'_, W>, value: &Value)
+{
+    if keep_whole(out, value) {
+        return;
+    }
+    out.flush();
+    if !keep_whole(out, value) {
+        put_measured(out, value, content_len(value));
     }
 }
 

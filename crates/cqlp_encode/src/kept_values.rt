@@ -1,0 +1,215 @@
+//! Values that are kept whole among the bytes that wait.
+
+ghost use Rattle.std.specs.Prelude.{◌≡◌, ◌≤◌, ◌++◌, true, false, length};
+ghost use Rattle.std.specs.Int.{w32, to_be_bytes};
+ghost use Rattle.cqlp_note.specs.declared.field.Notation.TheVariants as notation;
+ghost use Rattle.cqlp_note.specs.Field as note;
+ghost use Rattle.cqlp_note.specs.Spelling.{field_bytes};
+ghost use Rattle.cqlp_value.specs.Measures.{listed_pairs, listed_values};
+ghost use Rattle.cqlp_value.specs.Owned.{atom_of, value_of};
+ghost use Rattle.cqlp_value.specs.Values.{Scalar_and, NoValue, values_bytes};
+ghost use Rattle.cqlp_encode.specs.Progress.{Keeps};
+
+use crate::staged::Staged;
+use cqlp_note::Target;
+use cqlp_value::{Atom, Content, Value};
+
+/// Keeps a value with its length among the bytes that wait, where there is room for all of it, and answers whether there is.
+#[inline(always)]
+pub fn keep_whole<W: Target>(out: &mut Staged<'_, W>, value: &Value) -> bool
+    ensures kept { result ≡ true → out.new ≡ record out.old { waiting = out.old.waiting ++ values_bytes (value_of value.now) } }
+    ensures none { result ≡ false → out.new ≡ out.old }
+{
+    if !is_short(value) {
+        return false;
+    }
+    let start = out.waiting();
+    if keep_nested(out, value) {
+        return true;
+    }
+    out.cut(start);
+    false
+}
+
+/// A guess whether a value has no more bytes than may wait: as if all its items had as many as the first of them. Where it is wrong a value
+/// is tried in vain, or measured, which takes time and nothing else.
+#[inline(always)]
+fn is_short(value: &Value) -> bool {
+    match value {
+        Value::List(items) => are_short(items),
+        Value::Set(items) => are_short(items),
+        Value::Map(pairs) => match pairs.first() {
+            Some((key, value)) => pairs.len() <= 16
+                && pairs.len() * (guess(key) + guess(value)) <= 256,
+            None => true,
+        },
+        _ => true,
+    }
+}
+
+/// The same of items.
+#[inline(always)]
+fn are_short(items: &[Value]) -> bool {
+    match items.first() {
+        Some(item) => items.len() <= 32 && items.len() * guess(item) <= 256,
+        None => true,
+    }
+}
+
+/// A guess how many bytes an item has with its length, at most 256.
+#[inline(always)]
+fn guess(item: &Value) -> usize
+    ensures { result ≤ 256 }
+{
+    let Value::Leaf(atom) = item else {
+        return 8;
+    };
+    match atom.content() {
+        Content::Eight(_) => 12,
+        Content::Lent(bytes) => bytes.len().min(252) + 4,
+        Content::Decimal(_, unscaled) => unscaled.len().min(248) + 8,
+        _ => 8,
+    }
+}
+
+/// Keeps a value with its length, where there is room for all of it, and answers whether there is. Where there is not, some bytes of it
+/// may be kept.
+#[inline(always)]
+#[cycle(keep_value)]
+fn keep_value<W: Target>(out: &mut Staged<'_, W>, value: &Value) -> bool
+    ensures { Keeps out.old result (values_bytes (value_of value.now)) out.new }
+{
+    match value {
+        Value::Leaf(atom) => keep_atom(out, atom),
+        _ => keep_nested(out, value),
+    }
+}
+
+/// The same, in a function of its own, of a value that mostly is no scalar.
+#[cycle(keep_value)]
+fn keep_nested<W: Target>(out: &mut Staged<'_, W>, value: &Value) -> bool
+    ensures { Keeps out.old result (values_bytes (value_of value.now)) out.new }
+{
+    match value {
+        Value::Null => out.keep_few(&[255; 4]),
+        Value::Empty => out.keep_few(&[0; 4]),
+        Value::Leaf(atom) => keep_atom(out, atom),
+        Value::List(items) => keep_items(out, items),
+        Value::Set(items) => keep_items(out, items),
+        Value::Map(pairs) => keep_entries(out, pairs),
+        Value::Tuple(items) => keep_fields(out, items),
+        Value::Udt(items) => keep_fields(out, items),
+    }
+}
+
+/// The same of the items of a list or a set, after the length of them all and their count.
+#[inline(always)]
+#[cycle(keep_value)]
+fn keep_items<W: Target>(out: &mut Staged<'_, W>, items: &[Value]) -> bool
+    ensures { Keeps out.old result
+        (field_bytes notation.Bytes32 (note.Bytes (Some (to_be_bytes w32 (length items.now) ++ values_bytes (listed_values items.now)))))
+        out.new }
+{
+    let start = out.waiting();
+    if !out.keep_few(&items.len().to_be_bytes()) {
+        return false;
+    }
+    if !keep_values(out, items) {
+        return false;
+    }
+    out.tell(start);
+    true
+}
+
+/// The same of the pairs of a map.
+#[inline(always)]
+#[cycle(keep_value)]
+fn keep_entries<W: Target>(out: &mut Staged<'_, W>, pairs: &[(Value, Value)]) -> bool
+    ensures { Keeps out.old result
+        (field_bytes notation.Bytes32 (note.Bytes (Some (to_be_bytes w32 (length pairs.now) ++ values_bytes (listed_pairs pairs.now)))))
+        out.new }
+{
+    let start = out.waiting();
+    if !out.keep_few(&pairs.len().to_be_bytes()) {
+        return false;
+    }
+    if !keep_pairs(out, pairs) {
+        return false;
+    }
+    out.tell(start);
+    true
+}
+
+/// The same of the fields of a tuple or a user-defined type, after the length of them all.
+#[inline(always)]
+#[cycle(keep_value)]
+fn keep_fields<W: Target>(out: &mut Staged<'_, W>, fields: &[Value]) -> bool
+    ensures { Keeps out.old result (field_bytes notation.Bytes32 (note.Bytes (Some (values_bytes (listed_values fields.now))))) out.new }
+{
+    let start = out.waiting();
+    if !out.keep_few(&[0; 4]) {
+        return false;
+    }
+    if !keep_values(out, fields) {
+        return false;
+    }
+    out.tell(start);
+    true
+}
+
+/// The same of values, each with its length.
+#[cycle(keep_value)]
+fn keep_values<W: Target>(out: &mut Staged<'_, W>, values: &[Value]) -> bool
+    ensures { Keeps out.old result (values_bytes (listed_values values.now)) out.new }
+{
+    for value in values {
+        if !keep_value(out, value) {
+            return false;
+        }
+    }
+    true
+}
+
+/// The same of pairs, of each the key and the value with their lengths.
+#[cycle(keep_value)]
+fn keep_pairs<W: Target>(out: &mut Staged<'_, W>, pairs: &[(Value, Value)]) -> bool
+    ensures { Keeps out.old result (values_bytes (listed_pairs pairs.now)) out.new }
+{
+    for (key, value) in pairs {
+        if !keep_value(out, key) {
+            return false;
+        }
+        if !keep_value(out, value) {
+            return false;
+        }
+    }
+    true
+}
+
+/// The same of a scalar with its length.
+#[inline(always)]
+fn keep_atom<W: Target>(out: &mut Staged<'_, W>, atom: &Atom) -> bool
+    ensures { Keeps out.old result (values_bytes (Scalar_and (atom_of atom.now) NoValue)) out.new }
+{
+    match atom.content() {
+        Content::One(bytes) => out.keep_number(&bytes),
+        Content::Two(bytes) => out.keep_number(&bytes),
+        Content::Four(bytes) => out.keep_number(&bytes),
+        Content::Eight(bytes) => out.keep_number(&bytes),
+        Content::Lent(bytes) => out.keep_content(bytes),
+        Content::Decimal(scale, unscaled) => keep_decimal(out, scale, unscaled),
+    }
+}
+
+/// The same of a decimal.
+fn keep_decimal<W: Target>(out: &mut Staged<'_, W>, scale: [u8; 4], unscaled: &[u8]) -> bool
+    ensures { Keeps out.old result (field_bytes notation.Bytes32 (note.Bytes (Some (scale ++ unscaled.now)))) out.new }
+{
+    if !out.keep_count32(unscaled.len().saturating_add(scale.len())) {
+        return false;
+    }
+    if !out.keep_few(&scale) {
+        return false;
+    }
+    out.keep_many(unscaled)
+}
