@@ -60,8 +60,8 @@
  *   points to as much as its type and the number after it say, aligned for its type, and no two that are given to one call
  *   overlap.
  * - A handle is CQLP_NO_DECODER_YET before cqlp_new or cqlp_new_lenient, CQLP_NO_CLIENT_YET before cqlp_client_new, CQLP_NO_SERVER_YET before
- *   cqlp_server_new, CQLP_NO_TYPES_YET before cqlp_types_of and cqlp_take_given, and CQLP_NO_COLUMNS_YET before
- *   cqlp_columns_new. Nothing but these calls writes or copies it from then on until it is freed, and it is not given to another call
+ *   cqlp_server_new, CQLP_NO_TYPES_YET before cqlp_types_of and cqlp_take_given, CQLP_NO_COLUMNS_YET before
+ *   cqlp_columns_new, and CQLP_NO_PAGE_YET before cqlp_page_begin. Nothing but these calls writes or copies it from then on until it is freed, and it is not given to another call
  *   of this library while one runs on it.
  * - The array of events and the other structs that calls write are memory that may be written; what was in them does not
  *   matter, but it must have been set once (zeros will do).
@@ -141,6 +141,18 @@ extern "C" {
 #define CQLP_TOO_MANY_BYTES 42       /* the contents have more than 268435456 bytes */
 #define CQLP_LEFT_OVER 43            /* there are bytes after the contents of the events */
 #define CQLP_NO_SUCH_FRAME 44        /* no frame has these events */
+
+#define CQLP_NO_PAGE 45              /* the handle has no page */
+#define CQLP_NO_ROWS 46              /* the last event of a head is no count of rows */
+#define CQLP_NOT_PAGE 47             /* the head is that of another frame than a page */
+#define CQLP_TOO_MANY_ROWS 48        /* there are more than 2147483647 rows */
+#define CQLP_BAD_SIZE 49             /* no cells of as many rows and columns have this many bytes */
+#define CQLP_PAST_SIZE 50            /* the cells would have more bytes than were said */
+#define CQLP_NOT_ENDED 51            /* the last cell has begun and not ended */
+#define CQLP_NO_TYPE 52              /* the type of a column is the type of no cell */
+#define CQLP_NO_VALUE 53             /* no value of the column's type has these events */
+#define CQLP_CELLS_MISSING 54        /* there are fewer cells than rows times columns */
+#define CQLP_BYTES_MISSING 55        /* the cells have fewer bytes than were said */
 
 #define CQLP_TOO_MANY_COLUMNS 60     /* there are more columns than the limits say */
 #define CQLP_BAD_KIND 61             /* no kind has this number */
@@ -549,6 +561,29 @@ typedef struct cqlp_encoded {
   size_t event;  /* which event is refused, from 0; how many there are where it is none of them, or where all are taken */
 } cqlp_encoded;
 
+/* How many bytes the cells of a page have. The caller makes one of zeros. */
+typedef struct cqlp_measured {
+  uint64_t size; /* those of the events so far */
+  size_t event;  /* which event of the last call is none, from 0; how many there are where all are */
+} cqlp_measured;
+
+/* A page that is begun, or none. The members are the library's own. */
+typedef struct cqlp_page {
+  uint64_t live;
+  void *place;
+} cqlp_page;
+
+#define CQLP_NO_PAGE_YET {0, NULL}
+
+/* What cqlp_page_put made of events. */
+typedef struct cqlp_put {
+  size_t events; /* how many events the cells have that were put: give those after them with the next call */
+  size_t used;   /* how many bytes of the contents are those of these events */
+  size_t length; /* how many bytes were put */
+  size_t event;  /* at which event it stopped, from 0; how many there are where it went over all */
+  size_t wanted; /* of CQLP_NO_ROOM how many bytes the next cell has; else 0 */
+} cqlp_put;
+
 /* Makes a decoder in a handle that has none, at the start of a stream. All of its memory is asked for here, so no later call
  * runs out of memory.
  * Answers CQLP_DONE; else the handle is as it was: CQLP_BAD_TEXT, CQLP_BAD_CELL, CQLP_BAD_ENTRIES or CQLP_BAD_DEPTH for the
@@ -756,6 +791,54 @@ uint32_t cqlp_write_header(const cqlp_header *fields, uint8_t bytes[9]);
  * - CQLP_NO_MEMORY, and `event` says at which event. */
 uint32_t cqlp_encode(const cqlp_event *events, size_t count, const uint8_t *contents, size_t length, uint8_t *bytes, size_t room,
                      cqlp_encoded *encoded);
+
+/* A page of any size is written in pieces: cqlp_page_begin puts its head, and cqlp_page_put its cells, as many at a time as the caller likes. The events
+ * are those that cqlp_next puts of the page, in their order, with their contents as in cqlp_encode: the head has the CQLP_TAG_FRAME and all else up to
+ * the CQLP_TAG_COUNT of CQLP_FIELD_ROWS, the cells all after it but CQLP_TAG_END. The header counts the body, so the bytes of the cells are added up
+ * before it is written: the caller goes over the events of the cells twice. What is held between two calls is the head alone. What all calls have put,
+ * one after the other, once cqlp_page_end answers CQLP_DONE, is the frame that has these events, and what cqlp_encode writes of them.
+ *
+ * Adds to `size` how many bytes of a page these events tell of: none but those of cells tell of any. It asks for no memory. `size` is 2^64 - 1 where
+ * it would be more.
+ * Answers CQLP_DONE; else `size` is as it was: CQLP_UNBUILT or CQLP_NO_EVENT, as in cqlp_encode, of the event that `event` names. */
+uint32_t cqlp_page_measure(const cqlp_event *events, size_t count, const uint8_t *contents, size_t length, cqlp_measured *measured);
+
+/* Begins a page in a handle that has none, and puts all of its bytes before the first cell. `size` is how many bytes its cells will have. Where there is
+ * no event, no content or no room, its pointer may be null. It asks for memory for a copy of the contents and for each event, keeps what the head
+ * holds, and gives the rest back.
+ * Answers CQLP_DONE: `length` is how many bytes were put, and those after them are as they were. Else the handle and all bytes are as they were:
+ * - CQLP_IN_USE where the handle has a page; `begun` is as it was.
+ * - CQLP_NO_ROOM: `length` says how many bytes the head has.
+ * - Of the event that `event` names, and the first that is so: those of cqlp_encode; CQLP_NO_ROWS where the last one is no count of rows.
+ * - Of all events together: CQLP_LEFT_OVER; CQLP_MISPLACED where no header or an end comes before the count; CQLP_NO_SUCH_FRAME where no page, also without
+ *   rows, has this head, as in cqlp_encode; CQLP_NOT_PAGE; CQLP_TOO_MANY_ROWS; CQLP_BAD_LENGTH where the body would have more than 268435456 bytes;
+ *   CQLP_BAD_SIZE where `size` is less than four for each cell, or not 0 where there is no cell.
+ * - CQLP_NO_MEMORY. */
+uint32_t cqlp_page_begin(const cqlp_event *events, size_t count, const uint8_t *contents, size_t length, uint64_t size, uint8_t *bytes, size_t room,
+                         cqlp_page *page, cqlp_encoded *begun);
+
+/* Puts the next cells of a page, each whole, and says how many events they have and how many bytes. It goes on over all events, or stops at the first
+ * that is refused, or whose cell has no room. The cells before are put, and the page stands behind them; of the cell that is refused nothing is put, and
+ * the bytes after those that were put are as they were. Events of a cell that is not put are given again, from its first on. It asks for memory for
+ * one cell, and gives it back.
+ * Answers CQLP_DONE where the last event ends a cell, or there is none. Else
+ * - CQLP_NOT_ENDED where it does not: give the events after the first `events` again, together with those after them;
+ * - CQLP_NO_ROOM: the next cell has `wanted` bytes, and as many are not left;
+ * - CQLP_UNBUILT or CQLP_NO_EVENT, as in cqlp_encode; CQLP_MISPLACED where the event is not of the row and the column of the next cell, or all cells have
+ *   come; CQLP_TOO_MANY_FIELDS or CQLP_TOO_MANY_BYTES where a cell has more than 268435456; at the end of a cell CQLP_NO_TYPE, CQLP_NO_VALUE where
+ *   no value of the column's type has the cell's events, CQLP_PAST_SIZE where the cells would have more bytes than were said;
+ * - CQLP_NO_MEMORY;
+ * - CQLP_NO_PAGE where the handle has none, and `put` is as it was. */
+uint32_t cqlp_page_put(cqlp_page *page, const cqlp_event *events, size_t count, const uint8_t *contents, size_t length, uint8_t *bytes, size_t room,
+                       cqlp_put *put);
+
+/* Says whether the page is whole. It changes nothing.
+ * Answers CQLP_DONE; else CQLP_CELLS_MISSING, CQLP_BYTES_MISSING where all cells have come, or CQLP_NO_PAGE. */
+uint32_t cqlp_page_end(cqlp_page *page);
+
+/* Frees the page, whole or not, and leaves a handle that has none, in which another may be begun.
+ * Answers CQLP_DONE, or CQLP_NO_PAGE where there was none, which does nothing. */
+uint32_t cqlp_page_free(cqlp_page *page);
 
 /* The word of a number of a group, CQLP_GROUP_.., or NULL where the group, or the number in it, is not known. It stays as it is
  * until the program ends, and is not to be freed. The words are those that `cqlp show` and `cqlp check` write, where they write

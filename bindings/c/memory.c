@@ -43,7 +43,7 @@ static const uint8_t query[] = {4, 0, 0, 7, 7, 0, 0, 0, 13, 0, 0, 0, 6, 'a', 'b'
 static const uint8_t bad[] = {4, 0, 0, 7, 7, 0, 0, 0, 13, 0, 0, 0, 6, 'a', 0xC3, 'c', 'd', 'e', 'f', 0, 1, 0};
 
 /* A call that asks for memory, with what it is given. */
-enum { NEW, CHECK_ALL, CLIENT, SERVER, TYPES_OF, TAKE_GIVEN, ENCODE, ENCODE_PAGE };
+enum { NEW, CHECK_ALL, CLIENT, SERVER, TYPES_OF, TAKE_GIVEN, ENCODE, ENCODE_PAGE, PAGE };
 
 typedef struct row {
   const char *name;
@@ -66,6 +66,7 @@ static const row ROWS[] = {
     {"cqlp_take_given, into a new handle", CQLP_DEFAULT_LIMITS, 0, TAKE_GIVEN},
     {"cqlp_encode, one text", CQLP_DEFAULT_LIMITS, 0, ENCODE},
     {"cqlp_encode, a page", CQLP_DEFAULT_LIMITS, 0, ENCODE_PAGE},
+    {"cqlp_page_begin and cqlp_page_put, the same page", CQLP_DEFAULT_LIMITS, 0, PAGE},
 };
 
 /* What the caller gives to be written: the handles, an end, and room for bytes. */
@@ -95,6 +96,25 @@ static uint32_t encode_page(uint8_t *bytes, size_t room) {
   make_page(events);
   uint32_t code = cqlp_encode(events, OF_PAGE, (const uint8_t *)page_contents, strlen(page_contents), bytes, room, &encoded);
   CHECK(code == CQLP_DONE ? encoded.length == 76 && encoded.event == OF_PAGE : encoded.length == 0 && encoded.event <= OF_PAGE);
+  return code;
+}
+
+/* The same in two calls, of its head and of its cells. Where memory is refused to the second, what it has put is taken back here. */
+static uint32_t put_page(uint8_t *bytes, size_t room) {
+  cqlp_event events[OF_PAGE];
+  cqlp_page page = CQLP_NO_PAGE_YET;
+  cqlp_encoded begun = {0, 0};
+  cqlp_put put = {0, 0, 0, 0, 0};
+  const uint8_t *contents = (const uint8_t *)page_contents;
+  make_page(events);
+  uint32_t code = cqlp_page_begin(events, 12, contents, 4, 33, bytes, room, &page, &begun);
+  if (code == CQLP_DONE) {
+    code = cqlp_page_put(&page, events + 12, 7, contents + 4, 1, bytes + begun.length, room - begun.length, &put);
+    CHECK(code == CQLP_DONE ? put.events == 7 && put.length == 33 : put.event < 7 && put.length < 33);
+    CHECK(cqlp_page_end(&page) == (code == CQLP_DONE ? CQLP_DONE : CQLP_CELLS_MISSING) && cqlp_page_free(&page) == CQLP_DONE);
+  }
+  CHECK(cqlp_page_free(&page) == CQLP_NO_PAGE);
+  if (code != CQLP_DONE) memset(bytes, 0, room);
   return code;
 }
 
@@ -131,6 +151,7 @@ static uint32_t call(const row *row, given *given, size_t refuse) {
     case TAKE_GIVEN: code = cqlp_take_given(&typed, &given->types); break;
     case ENCODE: code = encode_text(given->bytes, sizeof given->bytes); break;
     case ENCODE_PAGE: code = encode_page(given->bytes, sizeof given->bytes); break;
+    case PAGE: code = put_page(given->bytes, sizeof given->bytes); break;
     default: code = cqlp_new(&row->limits, &given->decoder);
   }
   refused = 0;
@@ -174,7 +195,7 @@ static void serve_and_free(const row *row, given *given) {
     CHECK(cqlp_types_free(&given->types) == CQLP_DONE);
   } else if (row->call == ENCODE) {
     CHECK(memcmp(given->bytes, "\x04\0\0\0\x09\0\0\0\x0a\0\0\0\x06" "abcdef", 19) == 0);
-  } else if (row->call == ENCODE_PAGE) {
+  } else if (row->call == ENCODE_PAGE || row->call == PAGE) {
     CHECK(memcmp(given->bytes, "\x84\0\0\x07\x08\0\0\0\x43\0\0\0\x02", 13) == 0);
   } else if (row->call == CHECK_ALL) {
     CHECK(given->end.verdict == CQLP_END_WHOLE && given->end.bytes == sizeof query);

@@ -16,7 +16,10 @@ static const char *const CODE[] = {
     [CQLP_NOT_REFUSED] = "NotRefused", [CQLP_IN_HEADER] = "InHeader", [CQLP_TOO_FAR] = "TooFar",
     [CQLP_NO_EVENT] = "NoEvent", [CQLP_MISPLACED] = "Misplaced", [CQLP_UNBUILT] = "Unbuilt",
     [CQLP_TOO_MANY_FIELDS] = "TooManyFields", [CQLP_TOO_MANY_BYTES] = "TooManyBytes", [CQLP_LEFT_OVER] = "LeftOver",
-    [CQLP_NO_SUCH_FRAME] = "NoSuchFrame", [CQLP_TOO_MANY_COLUMNS] = "TooManyColumns", [CQLP_BAD_KIND] = "BadKind",
+    [CQLP_NO_SUCH_FRAME] = "NoSuchFrame", [CQLP_NO_PAGE] = "NoPage", [CQLP_NO_ROWS] = "NoRows", [CQLP_NOT_PAGE] = "NotPage",
+    [CQLP_TOO_MANY_ROWS] = "TooManyRows", [CQLP_BAD_SIZE] = "BadSize", [CQLP_PAST_SIZE] = "PastSize", [CQLP_NOT_ENDED] = "NotEnded",
+    [CQLP_NO_TYPE] = "NoType", [CQLP_NO_VALUE] = "NoValue", [CQLP_CELLS_MISSING] = "CellsMissing", [CQLP_BYTES_MISSING] = "BytesMissing",
+    [CQLP_TOO_MANY_COLUMNS] = "TooManyColumns", [CQLP_BAD_KIND] = "BadKind",
     [CQLP_UNSUPPORTED] = "Unsupported", [CQLP_NO_COLUMNS] = "NoColumns", [CQLP_NO_COLUMN] = "NoColumn",
 };
 

@@ -540,6 +540,28 @@ const (
 	CodeLeftOver Code = 43
 	// CodeNoSuchFrame: no frame has these events.
 	CodeNoSuchFrame Code = 44
+	// CodeNoPage: the handle has no page.
+	CodeNoPage Code = 45
+	// CodeNoRows: the last event of a head is no count of rows.
+	CodeNoRows Code = 46
+	// CodeNotPage: the head is that of another frame than a page.
+	CodeNotPage Code = 47
+	// CodeTooManyRows: there are more than 2147483647 rows.
+	CodeTooManyRows Code = 48
+	// CodeBadSize: no cells of as many rows and columns have this many bytes.
+	CodeBadSize Code = 49
+	// CodePastSize: the cells would have more bytes than were said.
+	CodePastSize Code = 50
+	// CodeNotEnded: the last cell has begun and not ended.
+	CodeNotEnded Code = 51
+	// CodeNoType: the type of a column is the type of no cell.
+	CodeNoType Code = 52
+	// CodeNoValue: no value of the column's type has these events.
+	CodeNoValue Code = 53
+	// CodeCellsMissing: there are fewer cells than rows times columns.
+	CodeCellsMissing Code = 54
+	// CodeBytesMissing: the cells have fewer bytes than were said.
+	CodeBytesMissing Code = 55
 	// CodeTooManyColumns: there are more columns than the limits say.
 	CodeTooManyColumns Code = 60
 	// CodeBadKind: no kind has this number.

@@ -336,6 +336,17 @@ class Code(IntEnum):
     TOO_MANY_BYTES = 42
     LEFT_OVER = 43
     NO_SUCH_FRAME = 44
+    NO_PAGE = 45
+    NO_ROWS = 46
+    NOT_PAGE = 47
+    TOO_MANY_ROWS = 48
+    BAD_SIZE = 49
+    PAST_SIZE = 50
+    NOT_ENDED = 51
+    NO_TYPE = 52
+    NO_VALUE = 53
+    CELLS_MISSING = 54
+    BYTES_MISSING = 55
     TOO_MANY_COLUMNS = 60
     BAD_KIND = 61
     UNSUPPORTED = 62

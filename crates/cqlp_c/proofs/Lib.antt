@@ -1,4 +1,8 @@
 pub mod ArraysHeld
+pub mod PagesHeld
+pub mod PagesPut
+pub mod PagesWritten
+pub mod PagesOnce
 pub mod Beginning
 pub mod Checked
 pub mod ColumnsFilled

@@ -17,6 +17,7 @@ use Rattle.cqlp_build.specs.Closing.{Ends, of_length}
 use Rattle.cqlp_build.proofs.FrameViews.{body_of, body_told, frame_said, none_both}
 use Rattle.cqlp_build.proofs.Finishing.{is_frame_of}
 use Rattle.cqlp_compose.specs.Composing.{ComposerState, IsWrittenOf}
+use Rattle.cqlp_compose.proofs.Once.{one_frame, one_reason, only_memory}
 use Rattle.cqlp_decode.specs.Reading.{Says, Waits, start}
 use Rattle.cqlp_laws.proofs.WrittenFrames.{written_is_read}
 use Rattle.cqlp_c.specs.declared.encode.CqlpEncoded.{CqlpEncoded}
@@ -31,61 +32,8 @@ use Rattle.cqlp_c.specs.Rooms.{PutsBytes, PutsWhere}
 
 -- ---- the frame
 
-one_frame : (es : List Event) (f g : OwnedFrame) → Ends es (Ok f) → Ends es (Ok g) → frame_of f ≡ frame_of g
-one_frame [] f g a b = absurd cc
-one_frame (Frame h ∷ es) f g a b = b.only a.size (frame_of f) a.can a.are
-one_frame (Holds k v ∷ es) f g a b = absurd a
-one_frame (Node_of o ∷ es) f g a b = absurd a
-one_frame (Cell_at row column c ∷ es) f g a b = absurd a
-one_frame (Leave level items ∷ es) f g a b = absurd a
-one_frame (End x ∷ es) f g a b = absurd a
-
 written_once : (es : List Event) (bytes others : List ℕ) → IsWrittenOf es bytes → IsWrittenOf es others → bytes ≡ others
 written_once es bytes others a b = a.are ∙ ap frame_bytes (one_frame es a.frame b.frame a.ends b.ends) ∙ sym b.are
-
--- a frame that is there is not none
-not_none : (h : Header) (es : List Event) (f : OwnedFrame) (why : BuildError) → Ends (Frame h ∷ es) (Ok f) → Ends (Frame h ∷ es) (Err why) → why ≡ error.NoMemory
-not_none h es f error.NoFrame a b = absurd (b a.size (frame_of f) 0 a.can a.are)
-not_none h es f error.NoMemory a b = refl
-not_none h es f error.Misplaced a b = absurd b
-not_none h es f error.Unbuilt a b = absurd b
-not_none h es f error.TooManyFields a b = absurd b
-not_none h es f error.TooDeep a b = absurd b
-not_none h es f error.TooManyBytes a b = absurd b
-
-only_memory : (es : List Event) (f : OwnedFrame) (why : BuildError) → Ends es (Ok f) → Ends es (Err why) → why ≡ error.NoMemory
-only_memory [] f why a b = absurd cc
-only_memory (Frame h ∷ es) f why a b = not_none h es f why a b
-only_memory (Holds k v ∷ es) f why a b = absurd a
-only_memory (Node_of o ∷ es) f why a b = absurd a
-only_memory (Cell_at row column c ∷ es) f why a b = absurd a
-only_memory (Leave level items ∷ es) f why a b = absurd a
-only_memory (End x ∷ es) f why a b = absurd a
-
--- memory is refused, or there is one reason
-one_reason_at : (h : Header) (es : List Event) (a b : BuildError) → Ends (Frame h ∷ es) (Err a) → Ends (Frame h ∷ es) (Err b) → (a ≡ b) ⊎ ((a ≡ error.NoMemory) ⊎ (b ≡ error.NoMemory))
-one_reason_at h es error.NoMemory b x y = inr (inl refl)
-one_reason_at h es error.NoFrame error.NoMemory x y = inr (inr refl)
-one_reason_at h es error.NoFrame error.NoFrame x y = inl refl
-one_reason_at h es error.NoFrame error.Misplaced x y = absurd y
-one_reason_at h es error.NoFrame error.Unbuilt x y = absurd y
-one_reason_at h es error.NoFrame error.TooManyFields x y = absurd y
-one_reason_at h es error.NoFrame error.TooDeep x y = absurd y
-one_reason_at h es error.NoFrame error.TooManyBytes x y = absurd y
-one_reason_at h es error.Misplaced b x y = absurd x
-one_reason_at h es error.Unbuilt b x y = absurd x
-one_reason_at h es error.TooManyFields b x y = absurd x
-one_reason_at h es error.TooDeep b x y = absurd x
-one_reason_at h es error.TooManyBytes b x y = absurd x
-
-one_reason : (es : List Event) (a b : BuildError) → Ends es (Err a) → Ends es (Err b) → (a ≡ b) ⊎ ((a ≡ error.NoMemory) ⊎ (b ≡ error.NoMemory))
-one_reason [] a b x y = inl cc
-one_reason (Frame h ∷ es) a b x y = one_reason_at h es a b x y
-one_reason (Holds k v ∷ es) a b x y = absurd x
-one_reason (Node_of o ∷ es) a b x y = absurd x
-one_reason (Cell_at row column c ∷ es) a b x y = absurd x
-one_reason (Leave level items ∷ es) a b x y = absurd x
-one_reason (End e ∷ es) a b x y = absurd x
 
 -- ---- bytes that are put
 
@@ -227,7 +175,7 @@ module _ (cs : List CqlpEvent) (contents before : List ℕ) (a b : ℕ) (one oth
 -- ---- what is written is read
 
 -- between a header and an end nothing comes in parts either
-body_whole : (l : Rules) (f : FrameValue) → AreWhole l (told_all (Flat l 0 f 0)) → AreWhole l (body_of l 0 f)
+pub body_whole : (l : Rules) (f : FrameValue) → AreWhole l (told_all (Flat l 0 f 0)) → AreWhole l (body_of l 0 f)
 body_whole l f (inl e) = inl e
 body_whole l f (inr n) =
     let head = Frame (header_of f (parts_size (frame_parts f) + 0)) in

@@ -2,6 +2,8 @@ pub mod Batches
 pub mod Checks
 pub mod Clients
 pub mod Columns
+pub mod Pages
+pub mod PagesLaws
 pub mod ColumnsLaws
 pub mod Cores
 pub mod Course

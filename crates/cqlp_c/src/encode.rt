@@ -2,6 +2,7 @@
 
 ghost use Rattle.std.specs.Prelude.{◌≡◌, length, MatchResult};
 ghost use Rattle.cqlp_compose.specs.Composing.{composed};
+ghost use Rattle.cqlp_c.specs.Encoding as told_of;
 ghost use Rattle.cqlp_c.specs.Encoding.{Encodes, IsEncoded, IsUnencoded, TakesAll, TakesOne, code_of_refused};
 ghost use Rattle.cqlp_c.specs.Encoding.{code_of_unencoded, code_of_untold, seen};
 ghost use Rattle.cqlp_c.specs.Rooms.{PutsBytes};
@@ -64,7 +65,7 @@ fn take_told<'a>(
 }
 
 /// Takes all events, and answers the contents after theirs.
-fn take_all<'a>(
+pub(crate) fn take_all<'a>(
     composer: &mut Composer,
     events: &[CqlpEvent],
     contents: &'a [u8],
@@ -81,19 +82,24 @@ fn take_all<'a>(
     Ok(rest)
 }
 
+/// What is held of a frame. None has more fields, type options and events of cells, nor more bytes of texts and contents, than its body has
+/// bytes. No decoder reads types that are nested deeper than this.
+pub(crate) fn longest() -> BuildLimits
+    ensures { result ≡ told_of.longest }
+{
+    BuildLimits {
+        fields: Header::LONGEST_BODY,
+        depth: Limits::DEPTH.greatest,
+        bytes: Header::LONGEST_BODY,
+    }
+}
+
 /// The bytes of the frame that has these events.
 #[tactic(auto, using(crate::proofs::Encoded::ends_here))]
 fn frame_bytes(alloc: Global, events: &[CqlpEvent], contents: &[u8]) -> Result<Vec<u8>, Stopped>
     ensures { MatchResult result (λ v. IsEncoded events.now contents.now v.items) (λ r. IsUnencoded events.now contents.now r) }
 {
-    // No frame has more fields, type options and events of cells, nor more bytes of texts and contents, than its body has bytes. No decoder
-    // reads types that are nested deeper than this.
-    let limits = BuildLimits {
-        fields: Header::LONGEST_BODY,
-        depth: Limits::DEPTH.greatest,
-        bytes: Header::LONGEST_BODY,
-    };
-    let mut composer = Composer::new(alloc, limits);
+    let mut composer = Composer::new(alloc, longest());
     let rest = match take_all(&mut composer, events, contents) {
         Ok(rest) => rest,
         Err(stopped) => return Err(stopped),
@@ -115,7 +121,7 @@ fn frame_bytes(alloc: Global, events: &[CqlpEvent], contents: &[u8]) -> Result<V
 }
 
 /// The code for what is no event.
-fn untold_code(why: NotTold) -> u32
+pub(crate) fn untold_code(why: NotTold) -> u32
     ensures { result ≡ code_of_untold why }
 {
     match why {
@@ -125,7 +131,7 @@ fn untold_code(why: NotTold) -> u32
 }
 
 /// The code for events that are not taken.
-fn refused_code(why: BuildError) -> u32
+pub(crate) fn refused_code(why: BuildError) -> u32
     ensures { result ≡ code_of_refused why }
 {
     match why {
@@ -140,7 +146,7 @@ fn refused_code(why: BuildError) -> u32
 }
 
 /// The code for what is refused.
-fn unencoded_code(why: Unencoded) -> u32
+pub(crate) fn unencoded_code(why: Unencoded) -> u32
     ensures { result ≡ code_of_unencoded why }
 {
     match why {

@@ -5,6 +5,7 @@ ghost use Rattle.cqlp_c.specs.Laws.{ContentsLieThere, EventsArePushed, FramesAre
 ghost use Rattle.cqlp_c.specs.Laws.{IsOneAnswerOfClientNew, IsOneAnswerOfNext, IsOneAnswerOfServerNew};
 ghost use Rattle.cqlp_c.specs.ColumnsLaws.{IsOneAnswerOfColumns};
 ghost use Rattle.cqlp_c.specs.EncodeLaws.{IsOneAnswerOfEncode, WrittenHasHeader, WrittenIsTold};
+ghost use Rattle.cqlp_c.specs.PagesLaws.{IsOneAnswerOfPageBegin, IsOneAnswerOfPagePut, PutPagesAreRead};
 ghost use Rattle.cqlp_c.specs.Stretched.{FinishEndsThere, IsOneAnswerOfSkip, IsOneAnswerOverSkips, NewBegins, NextReadsOn, SkipGivesUp};
 ghost use Rattle.cqlp_c.specs.contracts.client.CqlpClient as client;
 ghost use Rattle.cqlp_c.specs.contracts.columns.CqlpColumns as columns;
@@ -88,13 +89,27 @@ pub fn written_events_are_read()
     ensures told { WrittenIsTold }
 {}
 
+/// Of the same events, with the same contents and room, `cqlp_page_begin` and, from one page, `cqlp_page_put` have one answer, but where memory
+/// is refused. So has `cqlp_page_measure`, and `cqlp_page_end` of one page, whose clauses are equations.
+pub fn one_answer_of_pages()
+    ensures begin { IsOneAnswerOfPageBegin }
+    ensures put { IsOneAnswerOfPagePut }
+{}
+
+/// What `cqlp_page_begin` and calls of `cqlp_page_put` have put of a page that `cqlp_page_end` says is whole is read as the events of its head and
+/// of the cells that were put: a decoder within whose limits the page is says of the bytes its header with their length, these events and an end, and nothing else.
+pub fn put_pages_are_read()
+    ensures { PutPagesAreRead }
+{}
+
 /// At one place of a stream of which nothing was refused, over the same input and with columns that have the same cells, `cqlp_columns_next` has one answer:
 /// one batch, one event, up to where a content lies, and the same columns after it.
 pub fn one_answer_of_columns()
     ensures { IsOneAnswerOfColumns }
 {}
 
-/// What a handle owns is the same to every thread, so a handle may go from one to another between two calls.
+/// What a handle owns is the same to every thread, so a handle may go from one to another between two calls. Of a page, whose types may be nested, that is
+/// not said.
 pub fn handles_cross()
     ensures decoder { IsSend decoder.the_row }
     ensures client { IsSend client.the_row }

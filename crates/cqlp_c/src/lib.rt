@@ -13,6 +13,7 @@ mod header;
 mod laws;
 mod loose;
 mod numbers;
+mod page;
 mod server;
 mod shown;
 mod slots;
@@ -43,8 +44,12 @@ pub use header::{CqlpHeader, cqlp_write_header};
 pub use laws::{
     calls_read_stretches, contents_lie_there, events_are_pushed, frames_are_heard,
     one_answer_of_check, one_answer_of_client_new, one_answer_of_columns, one_answer_of_encode,
-    one_answer_of_next, one_answer_of_server_new, one_answer_of_skip, one_answer_over_skips,
-    written_events_are_read,
+    one_answer_of_next, one_answer_of_pages, one_answer_of_server_new, one_answer_of_skip,
+    one_answer_over_skips, put_pages_are_read, written_events_are_read,
+};
+pub use page::{
+    CqlpMeasured, CqlpPage, CqlpPagePlace, CqlpPut, cqlp_page_begin, cqlp_page_end, cqlp_page_free,
+    cqlp_page_measure, cqlp_page_put,
 };
 pub use server::{
     CqlpServer, CqlpService, cqlp_server_accept, cqlp_server_answer, cqlp_server_event,

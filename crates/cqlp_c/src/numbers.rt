@@ -101,6 +101,31 @@ pub const LEFT_OVER: u32 = 43;
 
 pub const NO_SUCH_FRAME: u32 = 44;
 
+// ---- codes of pages that are written in batches
+
+/// A handle has no page.
+pub const NO_PAGE: u32 = 45;
+/// The last event of a head is no count of rows.
+pub const NO_ROWS: u32 = 46;
+/// The head is that of another frame than a page.
+pub const NOT_PAGE: u32 = 47;
+/// There are more rows than a count of rows says.
+pub const TOO_MANY_ROWS: u32 = 48;
+/// No cells of as many rows and columns have this many bytes.
+pub const BAD_SIZE: u32 = 49;
+/// The cells would have more bytes than were said.
+pub const PAST_SIZE: u32 = 50;
+/// A cell has begun and not ended.
+pub const NOT_ENDED: u32 = 51;
+/// The type of a column is not formed.
+pub const NO_TYPE: u32 = 52;
+/// No value of the column's type has these events.
+pub const NO_VALUE: u32 = 53;
+/// There are fewer cells than rows times columns.
+pub const CELLS_MISSING: u32 = 54;
+/// The cells have fewer bytes than were said.
+pub const BYTES_MISSING: u32 = 55;
+
 // ---- codes of columns
 
 /// There are more columns than the limits say.

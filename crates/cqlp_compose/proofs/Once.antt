@@ -1,5 +1,5 @@
 -- Of events there is one frame.
-use Rattle.std.proofs.Common.{◌≡◌, ◌⊎◌, inl, inr, List, [], ◌∷◌, refl, sym, Ok, Err}
+use Rattle.std.proofs.Common.{◌≡◌, ◌⊎◌, inl, inr, List, [], ◌∷◌, refl, Ok, Err}
 use Rattle.cqlp_note.specs.declared.header.Header.{Header}
 use Rattle.cqlp_grammar.specs.Events.{Event, Frame, Holds, Node_of, Cell_at, Leave, End}
 use Rattle.cqlp_message.specs.Owned.{frame_of}

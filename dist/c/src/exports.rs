@@ -194,3 +194,50 @@ pub extern "C" fn cqlp_columns_clear(columns: &mut CqlpColumns) -> u32 {
 pub extern "C" fn cqlp_columns_free(columns: &mut CqlpColumns) -> u32 {
     crate::cqlp_c::cqlp_columns_free(Global, columns)
 }
+
+#[unsafe(no_mangle)]
+pub unsafe extern "C" fn cqlp_page_measure(events: *const CqlpEvent, count: usize, contents: *const u8, length: usize, measured: &mut CqlpMeasured) -> u32 {
+    let (events, contents) = unsafe { (slice(events, count), slice(contents, length)) };
+    crate::cqlp_c::cqlp_page_measure(events, contents, measured)
+}
+
+#[unsafe(no_mangle)]
+pub unsafe extern "C" fn cqlp_page_begin(
+    events: *const CqlpEvent,
+    count: usize,
+    contents: *const u8,
+    length: usize,
+    size: u64,
+    bytes: *mut u8,
+    room: usize,
+    page: &mut CqlpPage,
+    begun: &mut CqlpEncoded,
+) -> u32 {
+    let (events, contents, bytes) = unsafe { (slice(events, count), slice(contents, length), slice_mut(bytes, room)) };
+    crate::cqlp_c::cqlp_page_begin(Global, events, contents, size, bytes, page, begun)
+}
+
+#[unsafe(no_mangle)]
+pub unsafe extern "C" fn cqlp_page_put(
+    page: &mut CqlpPage,
+    events: *const CqlpEvent,
+    count: usize,
+    contents: *const u8,
+    length: usize,
+    bytes: *mut u8,
+    room: usize,
+    told: &mut CqlpPut,
+) -> u32 {
+    let (events, contents, bytes) = unsafe { (slice(events, count), slice(contents, length), slice_mut(bytes, room)) };
+    crate::cqlp_c::cqlp_page_put(Global, page, events, contents, bytes, told)
+}
+
+#[unsafe(no_mangle)]
+pub extern "C" fn cqlp_page_end(page: &mut CqlpPage) -> u32 {
+    crate::cqlp_c::cqlp_page_end(Global, page)
+}
+
+#[unsafe(no_mangle)]
+pub extern "C" fn cqlp_page_free(page: &mut CqlpPage) -> u32 {
+    crate::cqlp_c::cqlp_page_free(Global, page)
+}

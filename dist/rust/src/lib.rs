@@ -213,6 +213,7 @@ mod cqlp_json;
 mod cqlp_kind;
 mod cqlp_message;
 mod cqlp_note;
+mod cqlp_page_batches;
 mod cqlp_page_columns;
 mod cqlp_page_events;
 mod cqlp_page_writing;
@@ -299,6 +300,7 @@ pub mod columns {
 /// ```
 pub mod cells {
     pub use crate::cqlp_build_cells::{CellBuilder, CellError, CellLimits, ends_cell};
+    pub use crate::cqlp_page_batches::{BeginError, BegunPage, OpenPage, PutCells, PutError, Unended};
     pub use crate::cqlp_page_events::{HeadError, PageCellError, PageCells, PagePlace, WrittenCells, event_size, page_head};
 }
 

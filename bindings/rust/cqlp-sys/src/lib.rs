@@ -40,6 +40,28 @@ pub const CQLP_TOO_MANY_BYTES: u32 = 42;
 pub const CQLP_LEFT_OVER: u32 = 43;
 /// No frame has these events.
 pub const CQLP_NO_SUCH_FRAME: u32 = 44;
+/// The handle has no page.
+pub const CQLP_NO_PAGE: u32 = 45;
+/// The last event of a head is no count of rows.
+pub const CQLP_NO_ROWS: u32 = 46;
+/// The head is that of another frame than a page.
+pub const CQLP_NOT_PAGE: u32 = 47;
+/// There are more than 2147483647 rows.
+pub const CQLP_TOO_MANY_ROWS: u32 = 48;
+/// No cells of as many rows and columns have this many bytes.
+pub const CQLP_BAD_SIZE: u32 = 49;
+/// The cells would have more bytes than were said.
+pub const CQLP_PAST_SIZE: u32 = 50;
+/// The last cell has begun and not ended.
+pub const CQLP_NOT_ENDED: u32 = 51;
+/// The type of a column is the type of no cell.
+pub const CQLP_NO_TYPE: u32 = 52;
+/// No value of the column's type has these events.
+pub const CQLP_NO_VALUE: u32 = 53;
+/// There are fewer cells than rows times columns.
+pub const CQLP_CELLS_MISSING: u32 = 54;
+/// The cells have fewer bytes than were said.
+pub const CQLP_BYTES_MISSING: u32 = 55;
 /// There are more columns than the limits say.
 pub const CQLP_TOO_MANY_COLUMNS: u32 = 60;
 /// No kind has this number.

@@ -343,6 +343,28 @@ numbers! {
         TooManyBytes = cqlp_sys::CQLP_TOO_MANY_BYTES, "TooManyBytes";
         /// One event is of another field than is due, or does not agree with what comes before it, or some are missing, or a text is too long.
         NoSuchFrame = cqlp_sys::CQLP_NO_SUCH_FRAME, "NoSuchFrame";
+        /// The handle has no page.
+        NoPage = cqlp_sys::CQLP_NO_PAGE, "NoPage";
+        /// The last event of a head is no count of rows.
+        NoRows = cqlp_sys::CQLP_NO_ROWS, "NoRows";
+        /// The head is that of another frame than a page.
+        NotPage = cqlp_sys::CQLP_NOT_PAGE, "NotPage";
+        /// There are more than 2147483647 rows.
+        TooManyRows = cqlp_sys::CQLP_TOO_MANY_ROWS, "TooManyRows";
+        /// No cells of as many rows and columns have this many bytes.
+        BadSize = cqlp_sys::CQLP_BAD_SIZE, "BadSize";
+        /// The cells would have more bytes than were said.
+        PastSize = cqlp_sys::CQLP_PAST_SIZE, "PastSize";
+        /// The last cell has begun and not ended.
+        NotEnded = cqlp_sys::CQLP_NOT_ENDED, "NotEnded";
+        /// The type of a column is the type of no cell.
+        NoType = cqlp_sys::CQLP_NO_TYPE, "NoType";
+        /// No value of the column's type has these events.
+        NoValue = cqlp_sys::CQLP_NO_VALUE, "NoValue";
+        /// There are fewer cells than rows times columns.
+        CellsMissing = cqlp_sys::CQLP_CELLS_MISSING, "CellsMissing";
+        /// The cells have fewer bytes than were said.
+        BytesMissing = cqlp_sys::CQLP_BYTES_MISSING, "BytesMissing";
         /// There are more columns than the limits say.
         TooManyColumns = cqlp_sys::CQLP_TOO_MANY_COLUMNS, "TooManyColumns";
         /// No kind has this number.
