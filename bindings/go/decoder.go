@@ -3,10 +3,10 @@
 // A Decoder takes the bytes of a connection, or of a file of frames, in pieces of any size, and gives their events; a Reader does so for an
 // io.Reader. Both hold no more than their Limits say, whatever lengths and counts a peer sends. A RowReader gives the rows of pages, and
 // Frames the frames, each message as a struct of its own. A Client pairs replies with requests, a Server knows which requests it has not
-// answered, AppendHeader writes headers, and EncodeEvents and an Encoder write frames of their events. All of these stand on libcqlp, which is
-// written in Rattle and proved: the events are those that the bytes used say, in order, and what is written is read as the events given. Not
-// proved is this package. What writes bodies and values, AppendMessage, AppendFrame and Bind, is plain Go: nothing of the library stands behind
-// it.
+// answered, AppendHeader writes headers, EncodeEvents and an Encoder write frames of their events, and a PageWriter a page of any size. All of
+// these stand on libcqlp, which is written in Rattle and proved: the events are those that the bytes used say, in order, and what is written is
+// read as the events given. Not proved is this package. What writes bodies and values, AppendMessage, AppendFrame and Bind, is plain Go: nothing
+// of the library stands behind it.
 //
 // No pointer to Go's memory stays with C after a call.
 package cqlp
@@ -25,7 +25,7 @@ import (
 // ErrMore says that all bytes were used, and that the ones that come after them are wanted.
 var ErrMore = errors.New("cqlp: more bytes are wanted")
 
-// ErrClosed says that the decoder, the core or the table was closed.
+// ErrClosed says that the decoder, the core, the table or the page was closed.
 var ErrClosed = errors.New("cqlp: it was closed")
 
 // ErrNoMemory says that there is not as much memory as the limits allow to be held.
@@ -108,7 +108,7 @@ func done(code C.uint32_t) error {
 		return &LimitError{limit}
 	case C.CQLP_NO_MEMORY:
 		return ErrNoMemory
-	case C.CQLP_NO_DECODER, C.CQLP_NO_CLIENT, C.CQLP_NO_SERVER:
+	case C.CQLP_NO_DECODER, C.CQLP_NO_CLIENT, C.CQLP_NO_SERVER, C.CQLP_NO_PAGE:
 		return ErrClosed
 	}
 	return Code(code)

@@ -10,7 +10,7 @@ import (
 	"unsafe"
 )
 
-// An EventError says that no frame has the events that were given, and that nothing was written.
+// An EventError says that no frame has the events that were given, and that nothing was written; of a PageWriter, that nothing more is.
 type EventError struct {
 	// Index is which event is refused, from 0, or -1 where no one is, but all together.
 	Index int
@@ -127,22 +127,37 @@ func (e *Encoder) encode() error { return e.encodeIn(len(e.contents) + most*len(
 
 // encodeIn does so in this much room, or in as much as is wanted where that is more.
 func (e *Encoder) encodeIn(room int) error {
-	var events *C.cqlp_event
-	if len(e.native) > 0 {
-		events = &e.native[0]
-	}
 	for ; ; room = int(e.encoded.length) {
-		if cap(e.frame) < room {
-			e.frame = make([]byte, room)
-		}
-		e.frame = e.frame[:cap(e.frame)]
-		err := done(C.cqlp_encode(events, C.size_t(len(e.native)), firstOf(e.contents), C.size_t(len(e.contents)), firstOf(e.frame),
+		e.makeRoom(room)
+		err := done(C.cqlp_encode(e.events(), C.size_t(len(e.native)), firstOf(e.contents), C.size_t(len(e.contents)), firstOf(e.frame),
 			C.size_t(len(e.frame)), &e.encoded))
 		if !errors.Is(err, CodeNoRoom) {
 			e.frame = e.frame[:e.encoded.length]
-			return e.failed(err)
+			return e.failed(err, int(e.encoded.event), 0)
 		}
 	}
+}
+
+// makeRoom makes the frame as long as this, or longer.
+func (e *Encoder) makeRoom(room int) {
+	if cap(e.frame) < room {
+		e.frame = make([]byte, room)
+	}
+	e.frame = e.frame[:cap(e.frame)]
+}
+
+// events is where the events lie, if there are any.
+func (e *Encoder) events() *C.cqlp_event {
+	if len(e.native) == 0 {
+		return nil
+	}
+	return &e.native[0]
+}
+
+// letGo lets go of this many events, the first ones, and of this many bytes, which their contents have.
+func (e *Encoder) letGo(events, contents int) {
+	e.native = e.native[:copy(e.native, e.native[events:])]
+	e.contents = e.contents[:copy(e.contents, e.contents[contents:])]
 }
 
 // firstOf is where bytes lie, if there are any.
@@ -153,14 +168,14 @@ func firstOf(b []byte) *C.uint8_t {
 	return first(b)
 }
 
-// failed says which event it was.
-func (e *Encoder) failed(err error) error {
+// failed says which event it was, and counts it from as many as came before.
+func (e *Encoder) failed(err error, at, before int) error {
 	var code Code
 	if !errors.As(err, &code) {
 		return err
 	}
-	if at := int(e.encoded.event); at < len(e.native) {
-		return &EventError{at, Tag(e.native[at].tag), Field(e.native[at].field), code}
+	if at < len(e.native) {
+		return &EventError{before + at, Tag(e.native[at].tag), Field(e.native[at].field), code}
 	}
 	return &EventError{Index: -1, Code: code}
 }

@@ -1,9 +1,10 @@
 """cqlp: the CQL binary protocol, version 4 (native_protocol_v4.spec of Apache Cassandra), read as events.
 
 `rows(source)` gives the rows of a stream's pages, `columns(source)` their columns, numbers as arrays, `arrays(source)` batches of rows in the
-layout of Apache Arrow, `frames(source)` the frames, each message a dataclass of `cqlp.messages`, `events(source)` the events, `check(data)` the verdict, and `encode(events)` writes a frame of its
-events. A `Decoder` takes the pieces of a stream as they come, a `Client` pairs replies with requests, a `Server` knows which requests it has
-not answered. All stand on the proved library libcqlp, whose interface is include/cqlp.h.
+layout of Apache Arrow, `frames(source)` the frames, each message a dataclass of `cqlp.messages`, `events(source)` the events, `check(data)` the
+verdict, and `encode(events)` writes a frame of its events, a `PageWriter` a page of any size. A `Decoder` takes the pieces of a stream as they
+come, a `Client` pairs replies with requests, a `Server` knows which requests it has not answered. All stand on the proved library libcqlp, whose
+interface is include/cqlp.h.
 """
 
 from . import messages
@@ -15,6 +16,7 @@ from ._decoder import BadCall, BadLimits, Closed, Cut, Decoder, Error, Held, Lim
 from ._encode import BadEvent, encode, encode_frames
 from ._events import Event
 from ._names import name, version, version_number
+from ._paged import PageWriter, cells_size
 from ._pages import Column, Page, Pages, Type, Types, rows
 from ._server import Answered, Server
 from ._sources import events
@@ -46,6 +48,7 @@ __all__ = [
     "BadEvent",
     "BadLimits",
     "BatchType",
+    "cells_size",
     "CellTooLong",
     "check",
     "Client",
@@ -85,6 +88,7 @@ __all__ = [
     "Page",
     "PageColumns",
     "Pages",
+    "PageWriter",
     "Phase",
     "Reason",
     "Refused",

@@ -22,9 +22,9 @@ _NO_EVENT = bytes(_native.RECORD.size)
 
 
 class BadEvent(BadCall):
-    """No frame has these events, and nothing was written. `code` says why, as `include/cqlp.h` does of cqlp_encode: of one event it is `NO_EVENT`,
-    `MISPLACED` or `UNBUILT`, and of all together `NO_SUCH_FRAME`, where one is of another field than is due, or does not agree with what comes
-    before it, or some are missing."""
+    """No frame has these events, and nothing was written; of a PageWriter, nothing more. `code` says why, as `include/cqlp.h` does of cqlp_encode: of
+    one event it is `NO_EVENT`, `MISPLACED` or `UNBUILT`, and of all together `NO_SUCH_FRAME`, where one is of another field than is due, or does not
+    agree with what comes before it, or some are missing."""
 
     def __init__(self, code: int, index: int, event: Optional[Event]) -> None:
         super().__init__(code)
@@ -56,7 +56,7 @@ def encode(events: Iterable[Event]) -> bytes:
     uses it or not, and one whose octets are not as many as it is to have.
     """
     given = tuple(events)
-    records, contents = _told(given) if _compiled is None else _compiled.told(given, Event)
+    records, contents = told(given)
     encoded = _native.Encoded()
     code, room = _native.NO_ROOM, len(contents) + _MOST * len(given)
     while code == _native.NO_ROOM:
@@ -86,6 +86,17 @@ def encode_frames(events: Iterable[Event]) -> Iterator[bytes]:
         yield encode(frame)
 
 
+def told(events: Tuple[Event, ...]) -> Tuple[bytes, bytes]:
+    """The array of cqlp_event of these events, and their contents. Raises TypeError where one is no event."""
+    found: Tuple[bytes, bytes] = _told(events) if _compiled is None else _compiled.told(events, Event)
+    return found
+
+
+def must_be_event(event: Event) -> None:
+    if not isinstance(event, Event) or len(event) != len(Event._fields):
+        raise TypeError("an Event is wanted")
+
+
 def _told(events: Tuple[Event, ...]) -> Tuple[bytes, bytes]:
     """The array of cqlp_event of these events, and their contents, as _told.c makes them."""
     found = [_record(event) for event in events]
@@ -94,8 +105,7 @@ def _told(events: Tuple[Event, ...]) -> Tuple[bytes, bytes]:
 
 def _record(event: Event) -> Tuple[bytes, bytes]:
     """An event as C has it, and its content. One that C cannot tell is of no tag, so that cqlp_encode refuses it in its turn."""
-    if not isinstance(event, Event) or len(event) != len(Event._fields):
-        raise TypeError("an Event is wanted")
+    must_be_event(event)
     _, content, number, row, column, level, extra, octets, tag, field, kind, opcode, flags, mark = event
     content, octets = b"".join((content,)), b"".join((octets,))
     numbers, record = (number, row, column, level, extra, tag, field, kind, opcode, flags, mark), _NO_EVENT

@@ -21,7 +21,7 @@ class Limits(ctypes.Structure):
 
 
 class Handle(ctypes.Structure):
-    """That of a core, of a table of types, or of columns."""
+    """That of a core, of a table of types, of columns, or of a page."""
 
     _fields_ = [("live", c_uint64), ("place", c_void_p)]
 
@@ -85,6 +85,14 @@ class Header(ctypes.Structure):
 
 class Encoded(ctypes.Structure):
     _fields_ = [("length", c_size_t), ("event", c_size_t)]
+
+
+class Measured(ctypes.Structure):
+    _fields_ = [("size", c_uint64), ("event", c_size_t)]
+
+
+class Put(ctypes.Structure):
+    _fields_ = [("events", c_size_t), ("used", c_size_t), ("length", c_size_t), ("event", c_size_t), ("wanted", c_size_t)]
 
 
 class BatchLimits(ctypes.Structure):
@@ -171,6 +179,15 @@ for name, result, arguments in (
     ("cqlp_version_error", c_uint32, [POINTER(c_uint8 * 9), c_void_p, c_size_t, POINTER(c_size_t)]),
     ("cqlp_write_header", c_uint32, [POINTER(Header), POINTER(c_uint8 * 9)]),
     ("cqlp_encode", c_uint32, [c_void_p, c_size_t, c_void_p, c_size_t, c_void_p, c_size_t, POINTER(Encoded)]),
+    ("cqlp_page_measure", c_uint32, [c_void_p, c_size_t, c_void_p, c_size_t, POINTER(Measured)]),
+    (
+        "cqlp_page_begin",
+        c_uint32,
+        [c_void_p, c_size_t, c_void_p, c_size_t, c_uint64, c_void_p, c_size_t, POINTER(Handle), POINTER(Encoded)],
+    ),
+    ("cqlp_page_put", c_uint32, [POINTER(Handle), c_void_p, c_size_t, c_void_p, c_size_t, c_void_p, c_size_t, POINTER(Put)]),
+    ("cqlp_page_end", c_uint32, [POINTER(Handle)]),
+    ("cqlp_page_free", c_uint32, [POINTER(Handle)]),
     ("cqlp_name", c_char_p, [c_uint32, c_int64]),
     ("cqlp_version", c_char_p, []),
     ("cqlp_version_number", c_uint32, []),

@@ -22,6 +22,8 @@ pub const CQLP_NO_MEMORY: u32 = 5;
 pub const CQLP_NO_DECODER: u32 = 6;
 /// The handle has a decoder already.
 pub const CQLP_IN_USE: u32 = 7;
+/// The body is longer than 268435456 bytes.
+pub const CQLP_BAD_LENGTH: u32 = 22;
 /// There are more bytes than there is room for.
 pub const CQLP_NO_ROOM: u32 = 27;
 /// Types are nested deeper than 64, of a frame that is written.
@@ -30,7 +32,7 @@ pub const CQLP_TOO_DEEP: u32 = 34;
 pub const CQLP_NO_EVENT: u32 = 38;
 /// An event of another place.
 pub const CQLP_MISPLACED: u32 = 39;
-/// An event of a page, or a part.
+/// A part of a scalar of a cell.
 pub const CQLP_UNBUILT: u32 = 40;
 /// There are more than 268435456 fields.
 pub const CQLP_TOO_MANY_FIELDS: u32 = 41;
@@ -563,6 +565,50 @@ pub struct cqlp_encoded {
     pub event: usize,
 }
 
+/// How many bytes the cells of a page have.
+#[repr(C)]
+#[derive(Clone, Copy, Debug, Default)]
+pub struct cqlp_measured {
+    /// Those of the events so far.
+    pub size: u64,
+    /// Which event of the last call is none, from 0; how many there are where all are.
+    pub event: usize,
+}
+
+/// A page that is begun, or none.
+#[repr(C)]
+#[derive(Debug)]
+pub struct cqlp_page {
+    /// The library's own.
+    pub live: u64,
+    /// The library's own.
+    pub place: *mut c_void,
+}
+
+impl cqlp_page {
+    /// A handle that has no page: `CQLP_NO_PAGE_YET`.
+    pub const NONE: cqlp_page = cqlp_page {
+        live: 0,
+        place: std::ptr::null_mut(),
+    };
+}
+
+/// What [`cqlp_page_put`] made of events.
+#[repr(C)]
+#[derive(Clone, Copy, Debug, Default)]
+pub struct cqlp_put {
+    /// How many events the cells have that were put.
+    pub events: usize,
+    /// How many bytes of the contents are those of these events.
+    pub used: usize,
+    /// How many bytes were put.
+    pub length: usize,
+    /// At which event it stopped, from 0; how many there are where it went over all.
+    pub event: usize,
+    /// Of [`CQLP_NO_ROOM`] how many bytes the next cell has; else 0.
+    pub wanted: usize,
+}
+
 // The library's own layouts, as bindings/c/test.c has them.
 const _: () = assert!(size_of::<cqlp_event>() == 56 + 2 * size_of::<*const u8>());
 const _: () = assert!(offset_of!(cqlp_event, bytes) == 32 + 2 * size_of::<*const u8>());
@@ -575,6 +621,9 @@ const _: () = assert!(size_of::<cqlp_column>() == 8 * size_of::<*const u8>());
 const _: () = assert!(offset_of!(cqlp_column, kind) == 7 * size_of::<*const u8>());
 const _: () = assert!(size_of::<cqlp_holding>() == 12);
 const _: () = assert!(size_of::<cqlp_encoded>() == 2 * size_of::<usize>());
+const _: () = assert!(size_of::<cqlp_measured>() == 8 + size_of::<usize>());
+const _: () = assert!(size_of::<cqlp_page>() == 8 + size_of::<*const u8>());
+const _: () = assert!(size_of::<cqlp_put>() == 5 * size_of::<usize>());
 
 extern "C" {
     /// Makes a decoder in a handle that has none.
@@ -642,4 +691,44 @@ extern "C" {
         room: usize,
         encoded: *mut cqlp_encoded,
     ) -> u32;
+
+    /// Adds up how many bytes of a page these events of cells tell of.
+    pub fn cqlp_page_measure(
+        events: *const cqlp_event,
+        count: usize,
+        contents: *const u8,
+        length: usize,
+        measured: *mut cqlp_measured,
+    ) -> u32;
+
+    /// Begins a page in a handle that has none, whose cells will have `size` bytes, and puts all of its bytes before the first cell.
+    pub fn cqlp_page_begin(
+        events: *const cqlp_event,
+        count: usize,
+        contents: *const u8,
+        length: usize,
+        size: u64,
+        bytes: *mut u8,
+        room: usize,
+        page: *mut cqlp_page,
+        begun: *mut cqlp_encoded,
+    ) -> u32;
+
+    /// Puts the next cells of a page, each whole, and says how many events they have and how many bytes.
+    pub fn cqlp_page_put(
+        page: *mut cqlp_page,
+        events: *const cqlp_event,
+        count: usize,
+        contents: *const u8,
+        length: usize,
+        bytes: *mut u8,
+        room: usize,
+        put: *mut cqlp_put,
+    ) -> u32;
+
+    /// Says whether the page is whole.
+    pub fn cqlp_page_end(page: *mut cqlp_page) -> u32;
+
+    /// Frees the page, whole or not, and leaves a handle that has none.
+    pub fn cqlp_page_free(page: *mut cqlp_page) -> u32;
 }

@@ -83,9 +83,9 @@ pub fn encode(events: &[Event<'_>]) -> Result<Vec<u8>, EncodeError> {
 #[derive(Clone, Default)]
 pub struct Composer {
     /// None has a pointer.
-    events: Vec<sys::cqlp_event>,
+    pub(crate) events: Vec<sys::cqlp_event>,
     /// The contents of all, one after the other.
-    contents: Vec<u8>,
+    pub(crate) contents: Vec<u8>,
 }
 
 // SAFETY: the pointer of each event in it is null.
@@ -146,7 +146,13 @@ impl Composer {
         Ok(frame)
     }
 
-    fn failed(&self, code: u32, event: usize) -> EncodeError {
+    /// Lets go of this many events, the first ones, and of this many bytes, which their contents have.
+    pub(crate) fn let_go(&mut self, events: usize, contents: usize) {
+        self.events.drain(..events);
+        self.contents.drain(..contents);
+    }
+
+    pub(crate) fn failed(&self, code: u32, event: usize) -> EncodeError {
         EncodeError {
             index: (event < self.events.len()).then_some(event),
             code: Code::of(code),

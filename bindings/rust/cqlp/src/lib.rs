@@ -3,7 +3,8 @@
 //! A [`Decoder`] takes the bytes of a connection, or of a file of frames, in pieces of any size. Its events borrow from it and from
 //! the piece, so the next call waits until they are let go. It holds no more than its [`Limits`] say, whatever lengths and counts a
 //! peer sends. It stands on libcqlp, which is written in Rattle and proved: the events are those that the bytes used say, in order.
-//! [`encode`] and [`Composer`] write the frame that has given events, or name the one that is refused.
+//! [`encode`] and [`Composer`] write the frame that has given events, or name the one that is refused. A [`PageWriter`] does so for a page of any
+//! size, of which it holds the head and some cells.
 //! The module [`columns`] reads pages column by column, in the layout of Apache Arrow.
 //! Not proved is this crate, which is thin: it calls the library, and gives what it puts Rust's types.
 //!
@@ -52,8 +53,10 @@ mod encode;
 mod event;
 mod line;
 mod names;
+mod pages;
 
 pub use decoder::{check, BadLimit, Batch, Decoder, Events, Held, Limits, NewError, Refusal, Stop, Verdict};
 pub use encode::{encode, Composer, EncodeError};
 pub use event::{Bound, Event, Frame, Place, Scalar, Sink, SinkFault, What};
 pub use names::{Code, Field, Kind, Opcode, Reason};
+pub use pages::{cells_size, PageError, PageWriter};

@@ -325,10 +325,12 @@ numbers! {
 }
 
 numbers! {
-    /// Why events were not written, as `include/cqlp.h` says of `cqlp_encode`.
+    /// Why events were not written, as `include/cqlp.h` says of `cqlp_encode` and of the calls that write a page.
     Code: u32 {
         /// Memory was refused.
         NoMemory = cqlp_sys::CQLP_NO_MEMORY, "NoMemory";
+        /// The body of a page is longer than 268,435,456 bytes.
+        BadLength = cqlp_sys::CQLP_BAD_LENGTH, "BadLength";
         /// A type option is nested deeper than 64.
         TooDeep = cqlp_sys::CQLP_TOO_DEEP, "TooDeep";
         /// Nobody knows the event, its field, its kind or its opcode, or its number is out of its range.

@@ -4,72 +4,15 @@
 mod common;
 
 use common::bindings;
+use common::frames::{frames, refusal, spelled};
 use common::streams::streams;
 use cqlp::{
-    encode, Bound, Code, Composer, Decoder, EncodeError, Event, Field, Frame, Kind, Limits, Opcode, Scalar, Stop, What,
+    encode, Bound, Code, Composer, Decoder, EncodeError, Event, Field, Frame, Kind, Limits, Opcode, Stop, What,
 };
 use std::collections::HashMap;
 
 /// How many lists are changed.
 const CHANGES: usize = 100_000;
-
-/// A whole frame of a stream, whose bytes stay until the tests end.
-struct Told {
-    name: String,
-    limits: Limits,
-    bytes: &'static [u8],
-    events: Vec<Event<'static>>,
-}
-
-/// The whole frames of all streams.
-fn frames() -> Vec<Told> {
-    let mut frames = Vec::new();
-    for stream in streams() {
-        let bytes: &'static [u8] = stream.bytes.leak();
-        let decoder = Box::leak(Box::new(Decoder::new(stream.limits).unwrap()));
-        let batch = decoder.batch(bytes);
-        assert_ne!(batch.stop(), Stop::Full, "{}", stream.name);
-        let events: Vec<Event> = batch.collect();
-        let parts = events.split_inclusive(|event| matches!(event.what, What::End(_)));
-        let whole = parts.filter(|part| matches!(part.last().unwrap().what, What::End(_)));
-        frames.extend(whole.map(|part| Told {
-            name: stream.name.clone(),
-            limits: stream.limits,
-            bytes: &bytes[part[0].at as usize..part.last().unwrap().at as usize],
-            events: part.to_vec(),
-        }));
-    }
-    frames
-}
-
-/// Why a frame is not written, if it is not: a scalar of a cell comes in parts, or cells were read without their types.
-fn refusal(frame: &Told) -> Option<Code> {
-    let has = |test: fn(&What) -> bool| frame.events.iter().any(|event| test(&event.what));
-    if has(|what| matches!(what, What::Part { .. })) {
-        Some(Code::Unbuilt)
-    } else if has(|what| matches!(what, What::TypeNode(_))) && !frame.limits.types {
-        Some(Code::NoSuchFrame)
-    } else {
-        None
-    }
-}
-
-/// The bytes of a frame without those after its last field, with a null of the length -1, and with 1 for true. There is no other way to spell it.
-fn spelled(frame: &Told) -> Vec<u8> {
-    let mut bytes = frame.bytes.to_vec();
-    for event in &frame.events {
-        let at = (event.at - frame.events[0].at) as usize;
-        match event.what {
-            What::Null(_) | What::Bytes(_, None) | What::Bound(_, Bound::Null) => bytes[at..at + 4].fill(0xFF),
-            What::Leaf(_, Scalar::Boolean(truth)) => bytes[at + 4] = truth.into(),
-            What::End(extra) => bytes.truncate(bytes.len() - extra as usize),
-            _ => (),
-        }
-    }
-    let length = bytes.len() as u32 - 9;
-    bytes[5..9].copy_from_slice(&length.to_be_bytes());
-    bytes
-}
 
 #[test]
 fn streams_are_written_as_they_came() {
@@ -461,7 +404,7 @@ fn codes_are_those_of_the_library() {
         .filter_map(|line| line.split_once(' '))
         .map(|(number, word)| (number.parse().unwrap(), word))
         .collect();
-    for number in [5, 34, 38, 39, 40, 41, 42, 44] {
+    for number in [5, 22, 34].into_iter().chain(38..=42).chain(44..=55) {
         assert_eq!(Code::of(number).to_string(), words[&number]);
         assert_eq!(Code::of(number).number(), number);
         assert!(!matches!(Code::of(number), Code::Other(_)));

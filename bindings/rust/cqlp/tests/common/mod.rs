@@ -1,6 +1,7 @@
 //! What the tests share, of which each uses a part.
 #![allow(dead_code)]
 
+pub mod frames;
 pub mod streams;
 
 use std::path::PathBuf;
