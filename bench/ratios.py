@@ -38,9 +38,17 @@ def least(rounds, tasks):
     return [tasks[at] and max(min(run[at] for run in runs), 1e-3) for at in range(len(tasks))]
 
 
+def told_times(times):
+    return ['-' if it is None else f'{it:.1f} ms' for it in times]
+
+
+def tell_times(name, times):
+    print(f'| {name} | {" | ".join(told_times(times))} |', flush=True)
+
+
 def tell(name, times, base=0):
     """Writes a line: the times, and the ratio of the one named `base` to each other."""
-    told = ['-' if it is None else f'{it:.1f} ms' for it in times]
+    told = told_times(times)
     ratios = ['-' if it is None or times[base] is None else f'{times[base] / it:.2f}' for at, it in enumerate(times) if at != base]
     print(f'| {name} | {" | ".join(told)} | {" | ".join(ratios)} |', flush=True)
 
@@ -104,11 +112,9 @@ def read_tables(programs, pages, rounds):
     for name in ('rows', 'collections', 'columns'):
         batch = [programs.batches and (lambda room=room: spent([programs.batches, room], pages[name])) for room in ('256', '64')]
         tell(name, least(rounds, [lambda: spent([programs.cqlp, 'check', '-'], pages[name]), *batch]))
-    table('events written alone', 'no decoder', '`cqlp check`', 'both', 'the greatest ratio of 256 events')
+    table('events written alone', '`cqlp check`', 'events of 72 bytes, decoding nothing')
     for name, many in EVENTS.items():
-        written, checked = least(rounds, [programs.events and (lambda: spent([programs.events, str(many), '256'])), lambda: spent([programs.cqlp, 'check', '-'], pages[name])])
-        if written:
-            print(f'| {name} | {written:.1f} ms | {checked:.1f} ms | {written + checked:.1f} ms | {checked / (written + checked):.2f} |', flush=True)
+        tell_times(name, least(rounds, [lambda: spent([programs.cqlp, 'check', '-'], pages[name]), programs.events and (lambda: spent([programs.events, str(many), '256']))]))
 
 
 def text_table(programs, pages, rounds):

@@ -77,6 +77,7 @@
  * Threads: a decoder and a core have no thread of their own and take no lock. A handle may go from one thread to another
  * between two calls, if the program orders them (by a lock, a thread's start or join, or a sequentially consistent
  * atomic), and each handle is in one call at a time. Different handles share nothing, and may be used at the same time.
+ * That a handle may go to another thread is proved of each but that of a page.
  *
  * The numbers below never change; new ones come at the end of their group, so take a number that you do not know as one to
  * pass over. Sections are those of native_protocol_v4.spec.

@@ -1,5 +1,5 @@
 -- How a stream over skips ends, and that a call over skips has one answer.
-use Rattle.std.proofs.Common.{◌≡◌, ℕ, ◌+◌, ◌-◌, ◌^◌, ◌≤◌, ◌<◌, List, [], ◌∷◌, ◌++◌, length, take, drop, refl, sym, ap, ◌∙◌, subst, arith}
+use Rattle.std.proofs.Common.{◌≡◌, ℕ, ◌-◌, ◌^◌, ◌≤◌, List, [], ◌∷◌, length, take, drop, refl, sym, ap, ◌∙◌, subst, arith}
 use Rattle.std.specs.Prelude.{min, Option, Some, None}
 use Rattle.std.specs.Ptr.{Ptr}
 use denote.RawPtr.{◌+ₚ◌}
@@ -8,9 +8,9 @@ use Rattle.std.proofs.lemmas.List.{length-drop}
 use Rattle.cqlp_note.specs.declared.refusal.Refusal.{Refusal}
 use Rattle.cqlp_grammar.specs.declared.event.Finish.{Finish}
 use Rattle.cqlp_grammar.specs.declared.event.Finish.TheVariants as finish
-use Rattle.cqlp_decode.specs.Reading.{Event, Gifts}
-use Rattle.cqlp_decode.specs.Streams.{AfterGifts, Decoding, FinishesBy, state}
-use Rattle.cqlp_skip.specs.Stretches.{Stretch, frame_under_way, told_at}
+use Rattle.cqlp_decode.specs.Reading.{Event}
+use Rattle.cqlp_decode.specs.Streams.{FinishesBy, state}
+use Rattle.cqlp_skip.specs.Stretches.{frame_under_way, told_at}
 use Rattle.cqlp_skip.specs.Skipping.{Skipping}
 use Rattle.cqlp_skip.specs.Skipping as skip
 use Rattle.cqlp_c.specs.declared.batch.Batch.{Batch}
@@ -19,9 +19,9 @@ use Rattle.cqlp_c.specs.declared.course.CqlpCourse.{CqlpCourse}
 use Rattle.cqlp_c.specs.declared.event.CqlpEvent.{CqlpEvent}
 use Rattle.cqlp_c.specs.Batches.{Put, buffer_in}
 use Rattle.cqlp_c.specs.Course.{batch_from, begun_after, begun_by, finish_from, gone_on}
-use Rattle.cqlp_c.specs.Handle.{IsFinish, PutsInto, PutsOn}
+use Rattle.cqlp_c.specs.Handle.{PutsInto}
 use Rattle.cqlp_c.specs.Laws.{AreSame}
-use Rattle.cqlp_c.specs.Stretched.{AfterCalls, FinishEndsThere, IsOneAnswerOverSkips, skipping_of}
+use Rattle.cqlp_c.specs.Stretched.{FinishEndsThere, IsOneAnswerOverSkips, skipping_of}
 use Rattle.cqlp_c.proofs.OneBatch.{one_answer}
 
 -- ---- the end

@@ -1,5 +1,5 @@
 -- The calls on pages have one answer.
-use Rattle.std.proofs.Common.{◌≡◌, ℕ, zero, suc, ◌+◌, ◌-◌, ◌++◌, ◌⊎◌, inl, inr, Bool, true, false, nat_lt, List, [], ◌∷◌, length, drop, Option, Some, None, Result, Ok, Err, refl, sym, ap, ◌∙◌, subst}
+use Rattle.std.proofs.Common.{◌≡◌, ℕ, suc, ◌-◌, ◌++◌, ◌⊎◌, inl, inr, Bool, true, false, nat_lt, List, [], ◌∷◌, length, drop, Option, Some, None, Result, Ok, Err, refl, sym, ap, ◌∙◌, subst}
 use Rattle.cqlp_grammar.specs.Events.{Event}
 use Rattle.cqlp_message.specs.Owned.{frame_of}
 use Rattle.cqlp_build.specs.declared.error.BuildError.TheVariants as build_error
@@ -8,7 +8,6 @@ use Rattle.cqlp_compose.specs.Composing.{ComposerState, start}
 use Rattle.cqlp_page_events.specs.declared.error.PageCellError.TheVariants as page_error
 use Rattle.cqlp_page_batches.specs.declared.error.BeginError.{BeginError}
 use Rattle.cqlp_page_batches.specs.declared.error.BeginError.TheVariants as begin_error
-use Rattle.cqlp_page_batches.specs.declared.error.PutError.{PutError}
 use Rattle.cqlp_page_batches.specs.declared.error.PutError.TheVariants as put_error
 use Rattle.cqlp_page_batches.specs.declared.page.BegunPage.{BegunPage}
 use Rattle.cqlp_page_batches.specs.declared.page.OpenPage.{OpenPage}
@@ -30,7 +29,7 @@ use Rattle.cqlp_c.specs.declared.page.Unput.{Unput}
 use Rattle.cqlp_c.specs.declared.page.Unput.TheVariants as unput
 use Rattle.cqlp_c.specs.declared.told.NotTold.{NotTold}
 use Rattle.cqlp_c.specs.Encoding.{StopsAt, Taken, after_all, code_of_unencoded, longest}
-use Rattle.cqlp_c.specs.Pages.{BatchState, Begins, BeginsNone, BeginsOne, Goes, Stops, IsHead, IsNone, IsPutBy, Opens, PutsAll, PutsCells, PutsFrom, PutsHead, PutsOne, ReadsHead, StopsIn, after_event, at_begin, code_of_unbegun, code_of_unput, longest_cell, rows_told, told_of}
+use Rattle.cqlp_c.specs.Pages.{BatchState, Begins, BeginsNone, BeginsOne, Goes, Stops, IsHead, Opens, PutsCells, PutsFrom, PutsHead, PutsOne, ReadsHead, after_event, at_begin, code_of_unbegun, longest_cell, rows_told, told_of}
 use Rattle.cqlp_c.specs.PagesLaws.{AreSamePages, IsOneAnswerOfPageBegin, IsOneAnswerOfPagePut}
 use Rattle.cqlp_c.specs.Told.{content_len, event_told}
 

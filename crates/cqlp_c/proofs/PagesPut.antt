@@ -1,5 +1,5 @@
 -- What becomes of events that C tells of cells, one after the other.
-use Rattle.std.proofs.Common.{◌≡◌, ℕ, zero, suc, ◌+◌, ◌-◌, ◌<◌, ◌≤◌, ◌++◌, ◌⊎◌, inl, inr, Bool, true, false, List, [], ◌∷◌, length, drop, take, get_or, Option, Some, None, Result, Ok, Err, refl, sym, ap, ◌∙◌, subst, arith, append_assoc}
+use Rattle.std.proofs.Common.{◌≡◌, ℕ, suc, ◌+◌, ◌-◌, ◌<◌, ◌≤◌, ◌++◌, inl, inr, Bool, true, false, List, [], ◌∷◌, length, drop, take, get_or, Option, Some, None, Result, Ok, Err, refl, sym, ap, ◌∙◌, subst, arith, append_assoc}
 use Rattle.std.proofs.Math.ListN.{drop_of_length-le}
 use Rattle.std.proofs.Math.Seq.{drop-append_seam, drop-cons, take-append_seam}
 use Rattle.std.specs.Prelude.{◌==◌, ◌^◌, IfSome, if◌then◌else◌}
@@ -18,7 +18,6 @@ use Rattle.cqlp_c.specs.declared.page.CqlpPut.{CqlpPut}
 use Rattle.cqlp_c.specs.declared.page.Unput.{Unput}
 use Rattle.cqlp_c.specs.declared.page.Unput.TheVariants as unput
 use Rattle.cqlp_page_batches.specs.declared.error.PutError.TheVariants as put_error
-use Rattle.cqlp_c.specs.declared.page.UntoldAt.{UntoldAt}
 use Rattle.cqlp_c.specs.declared.told.NotTold.{NotTold}
 use Rattle.cqlp_page_batches.specs.declared.page.OpenPage.{OpenPage}
 use Rattle.cqlp_c.specs.declared.encode.CqlpEncoded.{CqlpEncoded}

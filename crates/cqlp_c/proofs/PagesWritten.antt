@@ -1,24 +1,21 @@
 -- What calls on a page have put.
-use Rattle.std.proofs.Common.{◌≡◌, ℕ, zero, suc, ◌+◌, ◌-◌, ◌≤◌, ◌++◌, ◌⊎◌, inl, inr, Bool, true, false, nat_lt, List, [], ◌∷◌, length, drop, take, Option, Some, None, Result, Ok, Err, refl, sym, ap, ◌∙◌, subst, arith, append_assoc, append-nil}
+use Rattle.std.proofs.Common.{◌≡◌, ℕ, suc, ◌+◌, ◌-◌, ◌++◌, ◌⊎◌, inl, inr, Bool, true, false, nat_lt, List, [], ◌∷◌, length, drop, take, Option, Some, None, Result, Ok, Err, refl, sym, ap, ◌∙◌, subst, arith, append_assoc, append-nil}
 use Rattle.std.specs.Prelude.{◌||◌, not, if◌then◌else◌}
 use Rattle.std.proofs.Math.Seq.{take-append_seam}
 use Rattle.std.proofs.lemmas.List.{length-append}
 use Rattle.cqlp_note.specs.declared.field.Field.TheVariants as field
 use Rattle.cqlp_note.specs.declared.header.Header.{Header}
 use Rattle.cqlp_note.specs.Field.{Count}
-use Rattle.cqlp_note.specs.Limits.{Rules}
 use Rattle.cqlp_grammar.specs.Events.{Event, Frame, Holds, Node_of, Cell_at, Leave, End}
-use Rattle.cqlp_message.specs.Frames.{Flat, frame_bytes, frame_parts, header_of}
+use Rattle.cqlp_message.specs.Frames.{Flat}
 use Rattle.cqlp_message.specs.Owned.{frame_of}
 use Rattle.cqlp_message.specs.declared.frame.Frame.{Frame as OwnedFrame}
-use Rattle.cqlp_message.specs.Parts.{parts_size}
 use Rattle.cqlp_build.specs.declared.error.BuildError.{BuildError}
 use Rattle.cqlp_build.specs.declared.error.BuildError.TheVariants as build_error
 use Rattle.cqlp_build.specs.Building.{is_due, is_unbuilt}
 use Rattle.cqlp_build.specs.Closing.{Ends, of_length}
 use Rattle.cqlp_build.proofs.FrameViews.{body_of, body_told, frame_said}
 use Rattle.cqlp_build.proofs.Finishing.{is_frame_of}
-use Rattle.cqlp_build_cells.specs.declared.builder.CellLimits.{CellLimits}
 use Rattle.cqlp_build_cells.specs.Building.{ends_cell}
 use Rattle.cqlp_compose.specs.Composing.{ComposerState, bound_of, refusal_of, start, with_next}
 use Rattle.cqlp_decode.specs.Reading.{Says, Waits, start as first_state}
@@ -30,28 +27,25 @@ use Rattle.cqlp_page_batches.specs.declared.error.Unended.{Unended}
 use Rattle.cqlp_page_batches.specs.declared.error.Unended.TheVariants as unended
 use Rattle.cqlp_page_batches.specs.declared.page.BegunPage.{BegunPage}
 use Rattle.cqlp_page_batches.specs.declared.page.OpenPage.{OpenPage}
-use Rattle.cqlp_page_batches.specs.Begun.{ends, rows_event, without_rows}
-use Rattle.cqlp_page_batches.specs.Begun as page
+use Rattle.cqlp_page_batches.specs.Begun.{ends, rows_event}
 use Rattle.cqlp_page_batches.specs.Laws.{AreBatches, IsBatch, IsFrameWith, PutsAll as CellsPut}
 use Rattle.cqlp_page_batches.specs.Put.{GoesOn, PutterState, Puts as CellPuts, fresh, fresh_putter, within}
 use Rattle.cqlp_page_batches.proofs.Written.{page_is_written}
 use Rattle.cqlp_c.specs.declared.encode.CqlpEncoded.{CqlpEncoded}
-use Rattle.cqlp_c.specs.declared.encode.Stopped.{Stopped}
 use Rattle.cqlp_c.specs.declared.encode.Unencoded.{Unencoded}
 use Rattle.cqlp_c.specs.declared.event.CqlpEvent.{CqlpEvent}
 use Rattle.cqlp_c.specs.declared.numbers.TheConstants as numbers
 use Rattle.cqlp_c.specs.declared.page.CqlpPut.{CqlpPut}
-use Rattle.cqlp_c.specs.declared.page.Unbegun.{Unbegun}
 use Rattle.cqlp_c.specs.declared.page.Unput.{Unput}
 use Rattle.cqlp_c.specs.declared.page.Unput.TheVariants as unput
 use Rattle.cqlp_c.specs.declared.told.NotTold.{NotTold}
 use Rattle.cqlp_c.specs.EncodeLaws.{IsReadAs}
 use Rattle.cqlp_c.specs.Encoding.{Taken, after_all, after_one, longest, on_from, unless, with_told}
-use Rattle.cqlp_c.specs.Pages.{BatchState, Begins, IsPutBy, Opens, PutsCells, PutsFrom, PutsHead, PutsOne, after_event, at_begin, code_of_end, code_of_ends, gone_on, longest_cell, nothing_put, rows_in, rows_told, stopped, told_of}
+use Rattle.cqlp_c.specs.Pages.{BatchState, Begins, Opens, PutsCells, PutsFrom, PutsHead, PutsOne, after_event, at_begin, code_of_end, longest_cell, rows_in, told_of}
 use Rattle.cqlp_c.specs.PagesLaws.{ArePuts, IsPut, PutPagesAreRead, bytes_of, events_of, told_by, told_then}
 use Rattle.cqlp_c.specs.Told.{content_len, event_told}
 use Rattle.cqlp_c.proofs.OneEncoded.{body_whole}
-use Rattle.cqlp_c.proofs.PagesPut.{added, longer, put_fits}
+use Rattle.cqlp_c.proofs.PagesPut.{longer, put_fits}
 
 -- ---- one call
 

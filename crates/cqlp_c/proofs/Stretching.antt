@@ -1,9 +1,9 @@
 -- What calls over skips leave, in the words of cqlp_skip.
-use Rattle.std.proofs.Common.{◌≡◌, ℕ, zero, suc, ◌+◌, ◌-◌, ◌^◌, ◌≤◌, ◌<◌, List, [], ◌∷◌, ◌++◌, length, take, drop, refl, sym, ap, ◌∙◌, subst, inl, inr, arith}
-use Rattle.std.specs.Prelude.{min, Option, Some, None, Result, Ok, Err}
+use Rattle.std.proofs.Common.{◌≡◌, ℕ, zero, suc, ◌+◌, ◌-◌, ◌^◌, ◌≤◌, List, [], ◌∷◌, ◌++◌, length, take, drop, refl, sym, ap, ◌∙◌, subst, arith}
+use Rattle.std.specs.Prelude.{min, Option, Some, None}
 use Rattle.std.specs.Ptr.{Ptr}
 use denote.RawPtr.{◌+ₚ◌}
-use Rattle.std.proofs.lemmas.List.{append-nil, length-append, length-drop, length-take-le, nil_from_length}
+use Rattle.std.proofs.lemmas.List.{append-nil, length-drop, length-take-le, nil_from_length}
 use Rattle.cqlp_note.specs.declared.refusal.Refusal.{Refusal}
 use Rattle.cqlp_note.specs.Limits.{Rules}
 use Rattle.cqlp_note.specs.Field as field
@@ -16,7 +16,6 @@ use Rattle.cqlp_decode.specs.Progress.{StreamState}
 use Rattle.cqlp_decode.specs.Streams.{Decoding, Refuses, state}
 use Rattle.cqlp_skip.specs.declared.frame.OpenFrame.{OpenFrame}
 use Rattle.cqlp_skip.specs.Stretches.{Stretch, frame_after, frame_from, frame_under_way, told_at}
-use Rattle.cqlp_skip.specs.Skipping.{AfterSkips}
 use Rattle.cqlp_skip.proofs.Passing.{behind_all, behind_piece}
 use Rattle.cqlp_skip.proofs.Folding.{frame-append}
 use Rattle.cqlp_skip.proofs.Feeding.{goes_on, still_refused}
@@ -29,8 +28,8 @@ use Rattle.cqlp_c.specs.declared.event.CqlpEvent.{CqlpEvent}
 use Rattle.cqlp_c.specs.Batches.{Buffer, Fills, Put, StopsBy, TellsAll, buffer_in, events_of}
 use Rattle.cqlp_c.specs.Course.{batch_from, begun_after, begun_by, gone_on, placed, placed_from, stop_from}
 use Rattle.cqlp_c.specs.Events as told
-use Rattle.cqlp_c.specs.Handle.{PutsInto, PutsOn}
-use Rattle.cqlp_c.specs.Stretched.{AfterCalls, AreTold, EndsBy, ReadsOn, begun_of, skipping_of}
+use Rattle.cqlp_c.specs.Handle.{PutsOn}
+use Rattle.cqlp_c.specs.Stretched.{AfterCalls, AreTold, EndsBy, ReadsOn, begun_of}
 use Rattle.cqlp_c.proofs.Beginning.{not_edge}
 use Rattle.cqlp_c.proofs.Placing.{used_from}
 

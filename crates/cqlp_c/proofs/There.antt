@@ -1,5 +1,5 @@
 -- The bytes of the input where a content lies are the content.
-use Rattle.std.proofs.Common.{◌≡◌, ℕ, ◌+◌, ◌-◌, ◌≤◌, List, [], ◌++◌, length, take, drop, refl, sym, ap, ◌∙◌, arith}
+use Rattle.std.proofs.Common.{◌≡◌, ℕ, ◌+◌, ◌-◌, ◌≤◌, List, ◌++◌, length, take, drop, refl, sym, ap, ◌∙◌, arith}
 use Rattle.std.proofs.lemmas.List.{drop_at, drop-append-le, drop-take, length-append, length-drop, length-take-le}
 use Rattle.cqlp_laws.proofs.Heads.{ends_what_is_read}
 use Rattle.cqlp_c.specs.Laws.{ContentsLieThere}

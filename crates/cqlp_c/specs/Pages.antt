@@ -1,5 +1,5 @@
 -- What the calls on pages answer that are written in batches, and what they leave.
-use Rattle.std.specs.Prelude.{◌≡◌, ◌==◌, ℕ, zero, suc, ◌+◌, ◌-◌, ◌^◌, ◌++◌, ◌⊎◌, Bool, true, false, nat_lt, min, if◌then◌else◌}
+use Rattle.std.specs.Prelude.{◌≡◌, ◌==◌, ℕ, suc, ◌+◌, ◌-◌, ◌^◌, ◌++◌, ◌⊎◌, Bool, true, false, nat_lt, min, if◌then◌else◌}
 use Rattle.std.specs.Prelude.{List, [], ◌∷◌, length, drop, Option, Some, None, Result, Ok, Err}
 use Rattle.std.specs.Borrow.{Bor}
 use Rattle.cqlp_note.specs.declared.field.Field.TheVariants as field
@@ -18,7 +18,6 @@ use Rattle.cqlp_page_events.specs.declared.error.PageCellError.TheVariants as pa
 use Rattle.cqlp_page_events.specs.Measures.{event_size}
 use Rattle.cqlp_page_batches.specs.declared.error.BeginError.{BeginError}
 use Rattle.cqlp_page_batches.specs.declared.error.BeginError.TheVariants as begin_error
-use Rattle.cqlp_page_batches.specs.declared.error.PutError.{PutError}
 use Rattle.cqlp_page_batches.specs.declared.error.PutError.TheVariants as put_error
 use Rattle.cqlp_page_batches.specs.declared.error.Unended.{Unended}
 use Rattle.cqlp_page_batches.specs.declared.error.Unended.TheVariants as unended

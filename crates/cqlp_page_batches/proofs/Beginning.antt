@@ -1,13 +1,12 @@
 -- How a page is begun.
-use Rattle.std.proofs.Common.{◌≡◌, ℕ, ◌⊎◌, inl, inr, true, false, Bool, Option, Some, None, Result, Ok, Err, refl, sym, ap, ◌∙◌, subst}
+use Rattle.std.proofs.Common.{◌≡◌, ℕ, inl, inr, Option, Some, None, Result, Ok, Err, refl, sym, ap, subst}
 use Rattle.cqlp_message.specs.declared.frame.Frame.{Frame as OwnedFrame}
 use Rattle.cqlp_message.specs.declared.unfit.Unfit.{Unfit}
-use Rattle.cqlp_message.specs.FrameValues.{FrameValue}
 use Rattle.cqlp_message.specs.Owned.{frame_of}
 use Rattle.cqlp_build.specs.declared.error.BuildError.{BuildError}
 use Rattle.cqlp_build.specs.declared.error.BuildError.TheVariants as build_error
 use Rattle.cqlp_build.specs.Closing.{Ends}
-use Rattle.cqlp_compose.specs.Composing.{ComposerState, Takes, refusal_of}
+use Rattle.cqlp_compose.specs.Composing.{ComposerState, Takes}
 use Rattle.cqlp_page_events.specs.declared.place.PagePlace.{PagePlace}
 use Rattle.cqlp_page_events.specs.Places.{first_place, place_unless}
 use Rattle.cqlp_page_batches.specs.declared.error.BeginError.{BeginError}

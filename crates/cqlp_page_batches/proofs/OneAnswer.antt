@@ -1,5 +1,5 @@
 -- There is one answer.
-use Rattle.std.proofs.Common.{◌≡◌, ℕ, ◌<◌, ◌≤◌, ◌⊎◌, inl, inr, Bool, true, false, List, [], length, Option, Some, None, Result, Ok, Err, refl, sym, ap, ◌∙◌, subst, arith}
+use Rattle.std.proofs.Common.{◌≡◌, ℕ, ◌⊎◌, inl, inr, Bool, true, false, List, [], length, Some, None, Result, Ok, Err, refl, sym, ap, ◌∙◌, subst, arith}
 use Rattle.cqlp_grammar.specs.Events.{Event}
 use Rattle.cqlp_message.specs.declared.frame.Frame.{Frame as OwnedFrame}
 use Rattle.cqlp_message.specs.declared.unfit.Unfit.{Unfit}
@@ -19,12 +19,11 @@ use Rattle.cqlp_page_events.specs.Cells.{CellsState, Takes}
 use Rattle.cqlp_page_events.proofs.OneAnswer.{one_answer as one_event}
 use Rattle.cqlp_page_batches.specs.declared.error.BeginError.{BeginError}
 use Rattle.cqlp_page_batches.specs.declared.error.BeginError.TheVariants as error
-use Rattle.cqlp_page_batches.specs.declared.error.PutError.{PutError}
 use Rattle.cqlp_page_batches.specs.declared.error.PutError.TheVariants as put_error
 use Rattle.cqlp_page_batches.specs.declared.page.BegunPage.{BegunPage}
-use Rattle.cqlp_page_batches.specs.Begun.{Begins, BeginsBare, IsBare, SetsRows, frame_with_rows, is_page, rows_event, said_len, without_rows}
+use Rattle.cqlp_page_batches.specs.Begun.{Begins, IsBare, frame_with_rows, is_page, rows_event, said_len, without_rows}
 use Rattle.cqlp_page_batches.specs.Laws.{AreSame, OneAnswer, OneAnswerOfBegin, no_memory}
-use Rattle.cqlp_page_batches.specs.Put.{Answer, Ended, GoesOn, PutterState, Puts, PutsTaken, fresh, within}
+use Rattle.cqlp_page_batches.specs.Put.{Answer, Ended, GoesOn, PutterState, Puts, fresh, within}
 
 -- ---- events of cells
 

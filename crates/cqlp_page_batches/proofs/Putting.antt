@@ -1,10 +1,9 @@
 -- What becomes of an event of a cell.
-use Rattle.std.proofs.Common.{◌≡◌, ℕ, Bool, true, false, List, [], Option, Some, None, Result, Ok, Err, refl, sym, ap, ◌∙◌}
+use Rattle.std.proofs.Common.{◌≡◌, ℕ, Bool, true, false, List, [], Some, None, Ok, Err, refl, ap}
 use Rattle.cqlp_grammar.specs.Events.{Event}
 use Rattle.cqlp_build_cells.specs.Building.{ends_cell}
 use Rattle.cqlp_page_events.specs.declared.error.PageCellError.{PageCellError}
 use Rattle.cqlp_page_events.specs.Cells.{CellsState, GoesOn as CellGoesOn, Takes, within as cell_within}
-use Rattle.cqlp_page_batches.specs.declared.error.PutError.{PutError}
 use Rattle.cqlp_page_batches.specs.declared.error.PutError.TheVariants as error
 use Rattle.cqlp_page_batches.specs.Put.{Answer, Ended, GoesOn, PutterState, Puts, fresh, within}
 

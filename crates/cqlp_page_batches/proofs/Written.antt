@@ -1,22 +1,22 @@
 -- What is written of a page that is put in batches.
-use Rattle.std.proofs.Common.{◌≡◌, ℕ, ◌+◌, ◌++◌, ◌⊎◌, inl, inr, Bool, true, false, List, [], ◌∷◌, Option, Some, None, Result, Ok, Err, refl, sym, ap, ◌∙◌, subst, append_assoc, append-nil}
+use Rattle.std.proofs.Common.{◌≡◌, ℕ, ◌++◌, ◌⊎◌, inl, inr, Bool, true, false, List, [], ◌∷◌, Option, Some, None, Ok, refl, sym, ap, ◌∙◌, subst, append_assoc, append-nil}
 use Rattle.std.specs.Prelude.{not, pos, ◌&&◌, ◌==◌}
-use Rattle.std.specs.List.{flat_map, list_all}
+use Rattle.std.specs.List.{list_all}
 use Rattle.std.proofs.lemmas.Grind.{flat_map-append}
 use Rattle.std.proofs.lemmas.List.Folds.{list_all-append}
 use Rattle.cqlp_note.specs.declared.field.Field.TheVariants as field
 use Rattle.cqlp_note.specs.declared.header.Header.{Header}
-use Rattle.cqlp_grammar.specs.Events.{Event, Frame, Holds, Node_of, Cell_at, Leave, End}
+use Rattle.cqlp_grammar.specs.Events.{Event, Frame, End}
 use Rattle.cqlp_value.specs.Values.{Values}
 use Rattle.cqlp_message.specs.declared.frame.Frame.{Frame as OwnedFrame}
 use Rattle.cqlp_message.specs.FrameValues.{FrameValue, Message, Rows}
 use Rattle.cqlp_message.specs.Agreement.{is_response, opcode_of}
 use Rattle.cqlp_message.specs.Bodies.{count, int, metadata_parts}
-use Rattle.cqlp_message.specs.Frames.{FrameIsInRange, announced_parts, frame_bytes, frame_parts, header_of}
+use Rattle.cqlp_message.specs.Frames.{FrameIsInRange, announced_parts, frame_parts, header_of}
 use Rattle.cqlp_message.specs.Owned.{frame_of}
 use Rattle.cqlp_message.specs.Pages.{cells_wanted, filled, is_bare, page_head, page_unfit_of, with_cells}
 use Rattle.cqlp_message.specs.Parts.{Part, parts_size}
-use Rattle.cqlp_message.proofs.PageFrames.{front_parts, head_parts, page_rows, parts_bare}
+use Rattle.cqlp_message.proofs.PageFrames.{head_parts, page_rows, parts_bare}
 use Rattle.cqlp_message.proofs.PageFrames.{is_page as can_begin}
 use Rattle.cqlp_message.proofs.Ranges.{page_range}
 use Rattle.cqlp_build.specs.Building.{AreEventsOf, HaveNoParts, is_unbuilt}
@@ -24,21 +24,18 @@ use Rattle.cqlp_build.specs.Closing.{ClosesAt, Ends, closed, of_length}
 use Rattle.cqlp_build.specs.Told.{told}
 use Rattle.cqlp_build.proofs.Finishing.{is_frame_of}
 use Rattle.cqlp_build.proofs.FrameViews.{none_both}
-use Rattle.cqlp_build.proofs.Several.{both, join}
+use Rattle.cqlp_build.proofs.Several.{join}
 use Rattle.cqlp_build.proofs.Steps.{told_append}
 use Rattle.cqlp_build_cells.specs.declared.builder.CellLimits.{CellLimits}
-use Rattle.cqlp_build_cells.specs.Building.{ends_cell, is_part}
-use Rattle.cqlp_compose.specs.Composing.{ComposerState}
+use Rattle.cqlp_build_cells.specs.Building.{ends_cell}
 use Rattle.cqlp_page_events.specs.declared.place.PagePlace.{PagePlace}
 use Rattle.cqlp_page_events.specs.Cells.{CellsState, Takes, begun, within as cell_within}
 use Rattle.cqlp_page_events.specs.Cells as cells
-use Rattle.cqlp_page_events.specs.Laws.{ArePieces, IsPageOf, IsPiece, TakesAll, all_bytes, all_events, own_header}
-use Rattle.cqlp_page_events.specs.Places.{first_place, is_done}
+use Rattle.cqlp_page_events.specs.Laws.{ArePieces, IsPageOf, IsPiece, TakesAll, all_bytes, all_events}
+use Rattle.cqlp_page_events.specs.Places.{is_done}
 use Rattle.cqlp_page_events.proofs.Whole.{has_its_events}
-use Rattle.cqlp_page_batches.specs.declared.page.BegunPage.{BegunPage}
-use Rattle.cqlp_page_batches.specs.declared.error.Unended.{Unended}
-use Rattle.cqlp_page_batches.specs.Begun.{Begins, ends, ends_where, frame_with_rows, is_page, rows_event, said_len, with_rows, without_rows}
-use Rattle.cqlp_page_batches.specs.Laws.{AreBatches, IsBatch, IsFrameWith, PageIsWritten, PutsAll, bytes_of, events_of}
+use Rattle.cqlp_page_batches.specs.Begun.{ends, ends_where, frame_with_rows, is_page, rows_event, said_len, with_rows}
+use Rattle.cqlp_page_batches.specs.Laws.{AreBatches, IsFrameWith, PageIsWritten, PutsAll, bytes_of, events_of}
 use Rattle.cqlp_page_batches.specs.Put.{GoesOn, PutterState, Puts, fresh, fresh_putter, within}
 
 -- ---- ends of lists

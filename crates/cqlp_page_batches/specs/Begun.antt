@@ -1,5 +1,5 @@
 -- Pages that are begun with the events of their heads (section 4.2.5.2 of native_protocol_v4.spec).
-use Rattle.std.specs.Prelude.{◌≡◌, ◌==◌, ◌⊎◌, ℕ, Bool, true, false, if◌then◌else◌, min, Option, Some, None, Result, Ok, Err}
+use Rattle.std.specs.Prelude.{◌≡◌, ◌==◌, ◌⊎◌, ℕ, Bool, true, false, min, Some, None, Result, Ok, Err}
 use Rattle.cqlp_note.specs.declared.field.Field.TheVariants as field
 use Rattle.cqlp_note.specs.Field.{Count}
 use Rattle.cqlp_grammar.specs.Events.{Event, Holds}

@@ -1,4 +1,4 @@
-use Rattle.std.proofs.Common.{◌≡◌, ℕ, length, refl, ap, subst, arith}
+use Rattle.std.proofs.Common.{◌≡◌, length, refl, ap, subst, arith}
 use Rattle.std.specs.Ptr.{Ptr, as_ptr, block_ptr}
 use denote.RawPtr.{◌+ₚ◌}
 use Rattle.cqlp_decode.specs.Streams.{state}

@@ -1,4 +1,4 @@
-use Rattle.std.proofs.Common.{◌≡◌, Option, None, Some, sym, ap, subst, ◌∙◌}
+use Rattle.std.proofs.Common.{◌≡◌, Option, Some, sym, ap, subst, ◌∙◌}
 use Rattle.cqlp_type.specs.Table.{Table}
 use Rattle.cqlp_decode.specs.Giving.{reason_against}
 use Rattle.cqlp_decode.specs.Streams.{state}

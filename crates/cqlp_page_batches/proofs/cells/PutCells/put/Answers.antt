@@ -1,4 +1,4 @@
-use Rattle.std.proofs.Common.{rules, ◌≡◌, ◌++◌, drop, length, Ok, ap, subst, ◌∙◌}
+use Rattle.std.proofs.Common.{rules, Ok, ap, subst, ◌∙◌}
 use Rattle.cqlp_page_events.specs.declared.cells.PageCells.{PageCells}
 use Rattle.cqlp_page_events.specs.declared.place.PagePlace.{PagePlace}
 use Rattle.cqlp_page_events.specs.Cells.{Gives, state}
