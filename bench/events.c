@@ -1,5 +1,5 @@
 /* Writes events and decodes nothing: events MANY ROOM. Each is put into an array of ROOM, with what a scalar of a cell has in it,
- * and its length is added up, as bindings/c/speed.c does. */
+ * and its length is added up, as bindings/c/speed.c does. No library takes less for them, whatever its decoder is. */
 #include "cqlp.h"
 
 #include <stdio.h>

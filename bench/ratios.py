@@ -112,9 +112,11 @@ def read_tables(programs, pages, rounds):
     for name in ('rows', 'collections', 'columns'):
         batch = [programs.batches and (lambda room=room: spent([programs.batches, room], pages[name])) for room in ('256', '64')]
         tell(name, least(rounds, [lambda: spent([programs.cqlp, 'check', '-'], pages[name]), *batch]))
-    table('events written alone', '`cqlp check`', 'events of 72 bytes, decoding nothing')
+    table('events written alone', 'no decoder', '`cqlp check`', 'both', 'the greatest ratio of 256 events')
     for name, many in EVENTS.items():
-        tell_times(name, least(rounds, [lambda: spent([programs.cqlp, 'check', '-'], pages[name]), programs.events and (lambda: spent([programs.events, str(many), '256']))]))
+        written, checked = least(rounds, [programs.events and (lambda: spent([programs.events, str(many), '256'])), lambda: spent([programs.cqlp, 'check', '-'], pages[name])])
+        if written:
+            print(f'| {name} | {written:.1f} ms | {checked:.1f} ms | {written + checked:.1f} ms | {checked / (written + checked):.2f} |', flush=True)
 
 
 def text_table(programs, pages, rounds):

@@ -53,7 +53,7 @@ func (c *cells) next() bool {
 	return true
 }
 
-// gather takes the events of the row that lie in the batch, of which there is one at least, and says whether a cell is open after them, as it may
+// gather takes the events of the row that lie in the batch, of which there is one at least, and says whether a cell is open behind them, as it may
 // be before them.
 func (c *cells) gather(d *Decoder, open bool) bool {
 	for d.next < d.count && (open || len(c.starts) < c.width) {

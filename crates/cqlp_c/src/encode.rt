@@ -65,7 +65,7 @@ fn take_told<'a>(
 }
 
 /// Takes all events, and answers the contents after theirs.
-pub(crate) fn take_all<'a>(
+fn take_all<'a>(
     composer: &mut Composer,
     events: &[CqlpEvent],
     contents: &'a [u8],

@@ -98,39 +98,6 @@ impl<'a, W: Target> Staged<'a, W> {
         self.put_few(&bytes[..end]);
     }
 
-    /// Keeps the bytes of a number, at most eight, after their length, where there is room for them, and answers whether there is.
-    #[inline(always)]
-    pub fn keep_number(&mut self, content: &[u8]) -> bool
-        requires { length content.now ≤ 8 }
-        ensures { Keeps self.old result (to_be_bytes w32 (length content.now) ++ content.now) self.new }
-    {
-        let mut bytes = [0; 12];
-        let end = content.len() + 4;
-        bytes[..4].copy_from_slice(&content.len().to_be_bytes()[4..]);
-        bytes[4..end].copy_from_slice(content);
-        self.keep_few(&bytes[..end])
-    }
-
-    /// The same of a number of four bytes, the lowest four of this.
-    #[inline(always)]
-    pub fn keep_count32(&mut self, count: usize) -> bool
-        ensures { Keeps self.old result (to_be_bytes w32 count) self.new }
-    {
-        let bytes = count.to_be_bytes();
-        self.keep_few(&bytes[4..])
-    }
-
-    /// The same of a content after its length of four bytes, of which the length may be kept alone where there is no room for both.
-    #[inline(always)]
-    pub fn keep_content(&mut self, content: &[u8]) -> bool
-        ensures { Keeps self.old result (to_be_bytes w32 (length content.now) ++ content.now) self.new }
-    {
-        if !self.keep_count32(content.len()) {
-            return false;
-        }
-        self.keep_many(content)
-    }
-
     /// Takes \[bytes\], a null as the length -1.
     pub fn put_bytes(&mut self, bytes: Option<&[u8]>)
         ensures { Puts self.old (field_bytes notation.Bytes32 (bytes_of bytes.entry)) self.new }

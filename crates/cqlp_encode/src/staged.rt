@@ -107,6 +107,19 @@ impl<'a, W: Target> Staged<'a, W> {
         }
     }
 
+    /// Takes at most 256 bytes. Where the compiler knows how many, it asks once whether there is room.
+    #[inline(always)]
+    pub fn put_few(&mut self, bytes: &[u8])
+        requires { length bytes.now ≤ 256 }
+        ensures { Puts self.old bytes.now self.new }
+    {
+        if self.len > ROOM - bytes.len() {
+            self.put_after_flush(bytes);
+        } else {
+            self.keep(bytes);
+        }
+    }
+
     /// How many bytes wait.
     #[inline(always)]
     pub fn waiting(&self) -> usize

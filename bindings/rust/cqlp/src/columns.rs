@@ -112,7 +112,7 @@ impl Column {
     /// The values, one after the other, also zeros for cells without one: of booleans a bit each; numbers with their lowest byte first; of uuids 16
     /// bytes; of other kinds the bytes between the offsets. A date is the days from 1970 and 2^31 to them.
     pub fn values(&self) -> &[u8] {
-        // SAFETY: the library says that this many bytes are there.
+        // SAFETY: the library says that so many bytes are there.
         unsafe { lent(self.0.values, self.0.size) }
     }
 

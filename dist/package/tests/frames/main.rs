@@ -24,19 +24,19 @@
 //!   fails after ten bytes.
 //! - `type | TYPE` is what `type_len` says; `tuple 8*1 int` is one of eight ints.
 //! - `value | TYPE VALUE` is what `fits` and `value_len` say; a type `-` is none.
-//! - `cells | ROOM LENGTH PAGE CELLS` writes cells that are said to have this many bytes after a page that has none, to a socket that takes so
+//! - `cells | ROOM LENGTH PAGE CELLS` writes cells that are said to have so many bytes after a page that has none, to a socket that takes so
 //!   many bytes. Said is what each call answers, the bytes that came, and the rests and stops of the whole page. `as TYPE VALUE` is a cell for
 //!   `cell_as`.
 //! - `bind | TYPE VALUE` has the bytes of the value that is bound in a QUERY, whether the decoder and `read_value` read it of them, and whether
 //!   the cell of a page whose column is not told has them, by `raw_value` and by `cell_as`.
-//! - `cell | EVENTS BYTES TYPE` is what a `CellBuilder` that may hold this many events and bytes answers to the end of a value between cells, to a
+//! - `cell | EVENTS BYTES TYPE` is what a `CellBuilder` that may hold so many events and bytes answers to the end of a value between cells, to a
 //!   part of a scalar, to a text of three bytes, and to an int twice, and the value of the type that it makes of what it took.
 //! - `page | FIELDS DEPTH BYTES PART ROW FRAME` is what a `FrameBuilder` that may hold so much answers to the end of a frame, or to the first event
-//!   that it refuses: where scalars come in parts of this many bytes, or whole at `-`, and where no cell of one row comes, or all at `-`.
+//!   that it refuses: where scalars come in parts of so many bytes, or whole at `-`, and where no cell of one row comes, or all at `-`.
 //! - `pieces | N PAGE PAGE` is how many bytes the events of the second page's cells tell of, and whether `PageCells` writes its bytes again, N
 //!   cells in a piece, as the first page, which has no cells.
 //! - `lent | ROOM PAGE CELLS CELLS` writes a page by `encode_rows`, with the cells that are lent first and those that are lent again, to a socket
-//!   that takes this many bytes. Said are the answer, and the bytes that came.
+//!   that takes so many bytes. Said are the answer, and the bytes that came.
 //! - `read |` and `write |` have a word for each call of a socket: the kind of its error, or the bytes that it gives, or as many as it takes. Said
 //!   is what the call answers, how many failed, how many reads there were, the cause, and the buffer that was read to.
 #![forbid(unsafe_code)]

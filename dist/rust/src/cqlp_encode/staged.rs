@@ -75,6 +75,17 @@ impl<'a, W: Target> Staged<'a, W> {
         }
     }
 
+    /// Takes at most 256 bytes. Where the compiler knows how many, it asks once whether there is room.
+    #[inline(always)]
+    pub(crate) fn put_few(&mut self, bytes: &[u8])
+    {
+        if self.len > ROOM - bytes.len() {
+            self.put_after_flush(bytes);
+        } else {
+            self.keep(bytes);
+        }
+    }
+
     /// How many bytes wait.
     #[inline(always)]
     pub fn waiting(&self) -> usize
