@@ -97,7 +97,8 @@ pub fn one_answer_of_pages()
 {}
 
 /// What `cqlp_page_begin` and calls of `cqlp_page_put` have put of a page that `cqlp_page_end` says is whole is read as the events of its head and
-/// of the cells that were put: a decoder within whose limits the page is says of the bytes its header with their length, these events and an end, and nothing else.
+/// of the cells that were put: a decoder within whose limits the page is says of the bytes its header with their length, these events and an end,
+/// and nothing else.
 pub fn put_pages_are_read()
     ensures { PutPagesAreRead }
 {}

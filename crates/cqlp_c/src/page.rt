@@ -1,6 +1,7 @@
 //! Pages of any size, begun with the events of their heads, whose cells are written in batches of their events.
 
-ghost use Rattle.std.specs.Prelude.{◌≡◌, ◌++◌, ◌+◌, ◌<◌, ◌^◌, ◌≤◌, ℕ, List, Option, None, Some, IfNone, IfSome, MatchResult, drop, length, option_map};
+ghost use Rattle.std.specs.Prelude.{◌≡◌, ◌++◌, ◌+◌, ◌<◌, ◌^◌, ◌≤◌, ℕ, List, Option, None, Some};
+ghost use Rattle.std.specs.Prelude.{IfNone, IfSome, MatchResult, drop, length, option_map};
 ghost use Rattle.std.specs.Box.Ownership.{box_owns};
 ghost use Rattle.std.specs.Coded.{coded_option};
 ghost use Rattle.std.specs.contracts.alloc.Global as heap;

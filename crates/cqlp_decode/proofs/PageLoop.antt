@@ -1,5 +1,5 @@
 -- The loop over the cells of a page.
-use Rattle.std.proofs.Common.{◌≡◌, ℕ, ◌+◌, ◌-◌, ◌^◌, ◌≤◌, List, [], length, take, drop, refl, sym, arith}
+use Rattle.std.proofs.Common.{◌≡◌, ℕ, ◌+◌, ◌-◌, ◌*◌, ◌^◌, ◌≤◌, List, [], length, take, drop, refl, sym, ap, ◌∙◌, arith}
 use Rattle.std.specs.Prelude.{Some, None}
 use Rattle.std.specs.Int.{w32, from_be_bytes}
 use Rattle.std.proofs.lemmas.Bool.{le-ltb}
@@ -14,12 +14,12 @@ use Rattle.cqlp_decode.specs.declared.page.CellCursor.{CellCursor}
 use Rattle.cqlp_decode.specs.declared.progress.StreamStage.TheVariants as stage
 use Rattle.cqlp_decode.specs.declared.progress.StreamProgress.{StreamProgress}
 use Rattle.cqlp_decode.specs.Reading.{Event, cell_event}
-use Rattle.cqlp_decode.specs.Pages.{IsKind, Turns}
-use Rattle.cqlp_decode.specs.Progress.{StreamState, PartsState, IsConsistent, nodes_of, state_of}
+use Rattle.cqlp_decode.specs.Pages.{IsKind, Turns, cells_after}
+use Rattle.cqlp_decode.specs.Progress.{StreamState, PartsState, IsAt, IsConsistent, Continues, ends_due, nodes_of, state_of}
 use Rattle.cqlp_decode.specs.Items.{HandsLeaf, TakesItem}
 use Rattle.cqlp_decode.specs.Cells.{SaysCell, HandsCell, HandsFront, HasHanded, HandsOut, FailsAfter}
-use Rattle.cqlp_decode.proofs.CellSteps.{onward_hands, onward_lawful, says_leaf}
-use Rattle.cqlp_decode.proofs.Taken.{item_drains, item_fails}
+use Rattle.cqlp_decode.proofs.CellSteps.{one_hands, one_lawful, onward_hands, onward_lawful, says_leaf}
+use Rattle.cqlp_decode.proofs.Taken.{item_drains, item_fails, takes_within, takes_pays}
 
 -- ---- a value without a content
 
@@ -85,5 +85,48 @@ module _ (s : StreamProgress) (q : PartsState) (p p' : CellCursor) (offset : ℕ
     pub cell_drains : Gets u offset told v → HandsOut Gets first new input (used + taken) t v
     cell_drains got = item_drains Gets first old new input used t u d unrefused offset taken told cell_takes v got
 
-    pub cell_fails : (Fails : S → ℕ → Event → S → Type 0) → Fails u offset told v → FailsAfter Gets Fails first new input (used + taken) t v
-    cell_fails Fails fault = item_fails Gets first old new input used t u d unrefused offset taken told cell_takes Fails v fault
+-- ---- the last cell that is handed out
+
+-- The message goes on after it.
+module _ (s : StreamProgress) (q : PartsState) (p : CellCursor) (offset : ℕ) (law : IsConsistent (at_cell s p offset) q) (unrefused : s.refusal ≡ None) (empty : q.partial.content ≡ []) (k : Kind) (kind : IsKind (nodes_of q p.columns) p k)
+    (input : List ℕ) (used taken : ℕ) (Holds : Event → Type 0) (h : HandsCell (rules_asked s.limits) k (s.stop - offset) (drop used input) p.row p.column taken Holds) (e : StreamProgress) (at : ℕ) (place : at ≡ offset + taken) (goes : Continues s e q (cells_after (nodes_of q p.columns) p)) (rest : IsAt e at s) where
+  abbrev last_told : Event
+  last_told = cell_event p.row p.column h.event
+
+  same_use : e.given_use ≡ s.given_use
+  same_use = ap (λ (z : StreamProgress). z.given_use) rest
+
+  after_it : e.offset ≡ offset + taken
+  after_it = ap (λ (z : StreamProgress). z.offset) rest ∙ place
+
+  same_stop : e.stop ≡ s.stop
+  same_stop = ap (λ (z : StreamProgress). z.stop) rest
+
+  same_frame : e.frame ≡ s.frame
+  same_frame = ap (λ (z : StreamProgress). z.frame) rest
+
+  same_came : e.came ≡ s.came
+  same_came = ap (λ (z : StreamProgress). z.came) rest
+
+  pub last_lawful : IsConsistent e q
+  last_lawful =
+      one_lawful (at_cell s p offset) q p refl law unrefused (drop used input) taken k kind.0 kind.1 h.event kind.2 h.says empty e goes.0 goes.1 same_use after_it same_stop same_frame same_came (ap (λ (z : StreamProgress). z.limits) rest) (ap (λ (z : StreamProgress). z.header) rest)
+
+  last_takes : TakesItem (state_of (at_cell s p offset) q) (drop used input) offset taken last_told (state_of e q)
+  last_takes = (
+    ap (λ (z : StreamProgress). z.refusal) rest,
+    ap (λ (z : StreamProgress). rules_asked z.limits) rest,
+    refl,
+    one_hands (at_cell s p offset) q p refl law unrefused (drop used input) taken k kind.0 kind.1 h.event kind.2 h.says empty e goes.0 goes.1 same_use after_it same_stop same_frame same_came,
+  )
+
+  module _ {S : Type 0} (Gets : S → ℕ → Event → S → Type 0) (first : StreamState) (t u v : S) (d : HandsOut Gets first (state_of (at_cell s p offset) q) input used t u) where
+    pub last_drains : Gets u offset last_told v → HandsOut Gets first (state_of e q) input (used + taken) t v
+    last_drains got = item_drains Gets first (state_of (at_cell s p offset) q) (state_of e q) input used t u d unrefused offset taken last_told last_takes v got
+
+    pub last_fails : (Fails : S → ℕ → Event → S → Type 0) → Fails u offset last_told v → FailsAfter Gets Fails first (state_of e q) input (used + taken) t v
+    last_fails Fails fault = item_fails Gets first (state_of (at_cell s p offset) q) (state_of e q) input used t u d unrefused offset taken last_told last_takes Fails v fault
+
+-- what was handed out uses no more bytes than there are, and pays for what was opened
+pub hands_within : {S : Type 0} (Gets : S → ℕ → Event → S → Type 0) (old new : StreamState) (input : List ℕ) (used : ℕ) (s t : S) → HandsOut Gets old new input used s t → (used ≤ length input) × (ends_due new.place.symbols + new.open_values ≤ ends_due old.place.symbols + old.open_values + 2 * used)
+hands_within Gets old new input used s t d = (omega (arith, d.all, takes_within old new input d.items d.takes), omega (arith, d.all, takes_pays old new input d.items d.takes))

@@ -1,5 +1,5 @@
 -- The cells that are still to be read of a page (section 4.2.5.2 of native_protocol_v4.spec).
-use Rattle.std.specs.Prelude.{◌≡◌, ℕ, ◌+◌, ◌-◌, ◌<◌, ◌≤◌, ◌^◌, ◌++◌, Bool, true, List, [], ◌∷◌, length, drop, Option, Some, None}
+use Rattle.std.specs.Prelude.{◌≡◌, ℕ, ◌+◌, ◌-◌, ◌<◌, ◌≤◌, ◌^◌, ◌++◌, Bool, true, false, List, [], ◌∷◌, length, drop, Option, Some, None}
 use Rattle.std.specs.Prelude.{if◌then◌else◌, ⊤}
 use Rattle.cqlp_note.specs.Field.{FieldValue}
 use Rattle.cqlp_kind.specs.declared.kind.Kind.{Kind}
@@ -105,6 +105,11 @@ abbrev pub Turns : List Node → (depth : ℕ) → CellCursor → Option CellCur
 Turns nodes depth p None = cells_after nodes p ≡ []
 Turns nodes depth p (Some q) =
     (cells_after nodes p ≡ cells_from nodes q) × IsPage nodes depth q × (q.columns ≡ p.columns)
+
+-- the same, where the cursor itself goes on, if there is a next cell
+abbrev pub TurnsTo : List Node → (depth : ℕ) → CellCursor → (turned : Bool) → CellCursor → Type 0
+TurnsTo nodes depth p false q = cells_after nodes p ≡ []
+TurnsTo nodes depth p true q = Turns nodes depth p (Some q)
 
 -- the first cell of this many rows, if there is one
 abbrev pub Begins : List Node → (depth : ℕ) → Columns → (rows : ℕ) → Option CellCursor → Type 0

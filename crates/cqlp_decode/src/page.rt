@@ -7,7 +7,7 @@ ghost use Rattle.cqlp_type.specs.Forests.{Forest};
 ghost use Rattle.cqlp_kind.specs.Types.{NoMore};
 ghost use Rattle.cqlp_type.specs.Table.{beginnings};
 ghost use Rattle.cqlp_decode.specs.Reading.{serves_after};
-ghost use Rattle.cqlp_decode.specs.Pages.{AreColumns, Begins, FindsColumn, FindsPage, HoldsForest, IsKind, IsPage, IsSomePage, Turns};
+ghost use Rattle.cqlp_decode.specs.Pages.{AreColumns, Begins, FindsColumn, FindsPage, HoldsForest, IsKind, IsPage, IsSomePage, Turns, TurnsTo};
 ghost use Rattle.cqlp_decode.specs.Pages.{column_types, given_of, node_by, page_nodes};
 ghost use Rattle.cqlp_decode.specs.declared.given.GivenUse.{GivenUse as Use};
 
@@ -94,23 +94,33 @@ impl CellCursor {
         requires { IsSomePage table.now.nodes self }
         ensures { (depth : ℕ) → IsPage table.now.nodes depth self → Turns table.now.nodes depth self result }
     {
+        let mut following = self;
+        if following.turn(table) {
+            return Some(following);
+        }
+        None
+    }
+
+    /// Goes on to the cell after this one, if there is one.
+    #[inline(always)]
+    pub fn turn<A: Allocator>(&mut self, table: &TypeTable<A>) -> bool
+        requires { IsSomePage table.now.nodes self.old }
+        ensures { (depth : ℕ) → IsPage table.now.nodes depth self.old
+            → TurnsTo table.now.nodes depth self.old result self.new }
+    {
         if let Some(index) = self.next_column(table) {
-            return Some(CellCursor {
-                column: self.column + 1,
-                index,
-                ..self
-            });
+            self.column += 1;
+            self.index = index;
+            return true;
         }
         if self.left == 0 {
-            return None;
+            return false;
         }
-        Some(CellCursor {
-            row: self.row + 1,
-            column: 0,
-            index: 0,
-            left: self.left - 1,
-            ..self
-        })
+        self.row += 1;
+        self.column = 0;
+        self.index = 0;
+        self.left -= 1;
+        true
     }
 
     /// Where the type of the next column stands, if this row has one.

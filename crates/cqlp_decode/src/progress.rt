@@ -457,7 +457,7 @@ impl StreamProgress {
 
     /// Goes on after a cell: with the next cell of its page, or with what is due next in the message.
     #[inline(always)]
-    fn after_cell<A: Allocator>(&mut self, page: CellCursor, table: &TypeTable<A>)
+    pub fn after_cell<A: Allocator>(&mut self, page: CellCursor, table: &TypeTable<A>)
         requires page { IsPage table.now.nodes self.old.limits.depth page }
         ensures goes_on { GoesOn self.old self.new page table.now.nodes (cells_after table.now.nodes page) }
         ensures rest { self.new ≡ record self.old { stage = self.new.stage; upcoming = self.new.upcoming } }

@@ -77,23 +77,30 @@ impl CellCursor {
     /// The cell after this one, if there is one.
     pub(crate) fn next<A: Allocator>(self, table: &TypeTable<A>) -> Option<Self>
     {
+        let mut following = self;
+        if following.turn(table) {
+            return Some(following);
+        }
+        None
+    }
+
+    /// Goes on to the cell after this one, if there is one.
+    #[inline(always)]
+    pub(crate) fn turn<A: Allocator>(&mut self, table: &TypeTable<A>) -> bool
+    {
         if let Some(index) = self.next_column(table) {
-            return Some(CellCursor {
-                column: self.column + 1,
-                index,
-                ..self
-            });
+            self.column += 1;
+            self.index = index;
+            return true;
         }
         if self.left == 0 {
-            return None;
+            return false;
         }
-        Some(CellCursor {
-            row: self.row + 1,
-            column: 0,
-            index: 0,
-            left: self.left - 1,
-            ..self
-        })
+        self.row += 1;
+        self.column = 0;
+        self.index = 0;
+        self.left -= 1;
+        true
     }
 
     /// Where the type of the next column stands, if this row has one.

@@ -1,13 +1,13 @@
 // Written by dist/erase from crates/cqlp_decode/src/page_loop.rt.
 //! The cells of a page, handed straight to a sink.
 //!
-//! The loop takes nulls, empty values and scalars, while each lies whole in the input and a cell of the page follows.
-//! It leaves all else to `Decoder::next`, which alone decides it: a page's last cell, a value with items, a cut, a
-//! part, and each refusal. It may, since it is proved to hand out what the reading of the bytes says, and to stand
-//! where that does; and it reads a scalar by the very function by which `next` does, so that no rule stands here alone.
+//! The loop takes nulls, empty values and scalars, while each lies whole in the input. It leaves all else to
+//! `Decoder::next`, which alone decides it: a value with items, a cut, a part, and each refusal. It may, since it is
+//! proved to hand out what the reading of the bytes says, and to stand where that does; and it reads a scalar by the
+//! very function by which `next` does, so that no rule stands here alone.
 
 use crate::cqlp_decode::leaf::hand_leaf;
-use crate::cqlp_decode::page::{CellCursor, page_table};
+use crate::cqlp_decode::page::{CellCursor, Columns, page_table};
 use crate::cqlp_decode::parts::Parts;
 use crate::cqlp_decode::progress::{StreamProgress, StreamStage};
 use crate::cqlp_decode::step::FaultAfter;
@@ -55,45 +55,71 @@ pub(crate) fn take_cells<S: Sink, A: Allocator>(
     if let Some(_) = progress.refusal {
         return Ok(0);
     }
+    // An arm for each, so that each has a loop of its own: that over columns of unknown types looks at no table.
+    match due.columns {
+        Columns::Typed | Columns::Given => take_due(progress, parts, due, input, sink),
+        Columns::Raw(_) => take_due(progress, parts, due, input, sink),
+    }
+}
+
+/// The same where this cell is due, nothing was refused and no content is held.
+#[inline(always)]
+fn take_due<S: Sink, A: Allocator>(
+    progress: &mut StreamProgress,
+    parts: &Parts<A>,
+    due: CellCursor,
+    input: &[u8],
+    sink: &mut S,
+) -> Result<usize, FaultAfter>
+{
     let limits = progress.limits;
-    let stop = progress.stop;
+    let start = progress.offset;
+    let within = front_of(input, progress.stop - start);
     let table = page_table(due.columns, &parts.table, &parts.given);
     let mut page = due;
-    let mut offset = progress.offset;
     let mut used = 0;
     'cells: loop {
         let kind = page.kind(table);
-        let Some(following) = page.next(table) else {
-            break 'cells;
-        };
-        let room = stop - offset;
-        match hand_cell(&limits, kind, room, page, offset, &input[used..], sink) {
+        let at = start + used as u64;
+        match hand_cell(&limits, kind, page, at, &within[used..], sink) {
             Handed::Left => break 'cells,
             Handed::Taken(taken) => {
                 used += taken;
-                offset += taken as u64;
-                page = following;
+                if !page.turn(table) {
+                    progress.offset = start + used as u64;
+                    progress.expect_next();
+                    return Ok(used);
+                }
             }
             Handed::Fault(taken) => {
-                progress.offset = offset + taken as u64;
-                progress.stage = StreamStage::BeforeCell(following);
-                let used = used + taken;
+                used += taken;
+                progress.offset = start + used as u64;
+                progress.after_cell(page, table);
                 return Err(FaultAfter { used });
             }
         }
     }
-    progress.offset = offset;
+    progress.offset = start + used as u64;
     progress.stage = StreamStage::BeforeCell(page);
     Ok(used)
 }
 
-/// Hands the cell at the front of the input to the sink, if the loop takes it. It begins at an offset, and has room for
-/// this many bytes. Most cells are scalars, so these are asked for first.
+/// The bytes of the input that lie within a room of this many.
+#[inline(always)]
+fn front_of(input: &[u8], room: u64) -> &[u8]
+{
+    if input.len() as u64 <= room {
+        return input;
+    }
+    &input[..room as usize]
+}
+
+/// Hands the cell at the front of the input, which begins at an offset, to the sink, if the loop takes it. Most cells are
+/// scalars, so these are asked for first.
 #[inline(always)]
 fn hand_cell<S: Sink>(
     limits: &Asked,
     kind: Kind,
-    room: u64,
     page: CellCursor,
     at: u64,
     input: &[u8],
@@ -101,6 +127,8 @@ fn hand_cell<S: Sink>(
 ) -> Handed
 {
     let level = 0;
+    // The input ends with its frame or before: no cell in it is beyond the frame, and one comparison sees to both.
+    let room = input.len() as u64;
     let due = DueItem {
         at,
         kind,

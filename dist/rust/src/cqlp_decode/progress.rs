@@ -337,7 +337,7 @@ impl StreamProgress {
 
     /// Goes on after a cell: with the next cell of its page, or with what is due next in the message.
     #[inline(always)]
-    fn after_cell<A: Allocator>(&mut self, page: CellCursor, table: &TypeTable<A>)
+    pub(crate) fn after_cell<A: Allocator>(&mut self, page: CellCursor, table: &TypeTable<A>)
     {
         match page.next(table) {
             Some(page) => self.stage = StreamStage::BeforeCell(page),
