@@ -230,6 +230,7 @@ mod cqlp_text;
 mod cqlp_type;
 mod cqlp_type_tables;
 mod cqlp_value;
+mod errors;
 mod hex;
 mod itoa;
 mod jiff_core;

@@ -1,7 +1,9 @@
 //! What cannot be met answers an error.
 #![forbid(unsafe_code)]
 
-use cqlp::{Header, Kind, Opcode, Reason, Scalar};
+use cqlp::capture::{CaptureReason, CaptureRefusal, NoSegment};
+use cqlp::session::{ClientOf, RequestKind};
+use cqlp::{Decoder, Global, Header, Kind, Limits, Opcode, Reason, Scalar, Step, table_of};
 
 #[test]
 fn headers() {
@@ -28,4 +30,30 @@ fn scalars() {
 fn ids() {
     assert_eq!(Kind::Tuple.option_id(), Some(0x31));
     assert_eq!(Kind::Raw.option_id(), None);
+}
+
+/// What is refused goes through `?` into any error.
+#[test]
+fn errors() {
+    fn refused() -> Result<Header, Box<dyn std::error::Error + Send + Sync>> {
+        Ok(Header::from_bytes(&[5; 9])?)
+    }
+    assert_eq!(refused().unwrap_err().to_string(), "BadVersion at byte 0");
+    let mut client = ClientOf::new(Global, 1).unwrap();
+    let refused = client.begin(RequestKind::Query, "carried").unwrap_err();
+    assert_eq!(refused.carried, "carried");
+    assert_eq!(refused.to_string(), refused.why.to_string());
+    assert_eq!(table_for_an_ended_stream().unwrap_err().to_string(), "the stream was refused");
+    let why = NoSegment::CutInIp;
+    let cut = Box::<dyn std::error::Error + Send + Sync>::from(why);
+    assert_eq!(cut.to_string(), "CutInIp");
+    let said = CaptureRefusal { at: 4, why: CaptureReason::UnknownMagic };
+    assert_eq!(said.to_string(), "UnknownMagic at byte 4");
+}
+
+fn table_for_an_ended_stream() -> Result<(), Box<dyn std::error::Error>> {
+    let mut decoder = Decoder::new(Global, Limits::DEFAULT)?;
+    assert!(matches!(decoder.next(&[5; 9]), Step::Refused(_)));
+    decoder.give(table_of(Global, &[])?)?;
+    Ok(())
 }
