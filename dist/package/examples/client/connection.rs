@@ -73,7 +73,9 @@ impl Connection {
     fn read(&mut self) -> Result<()> {
         match run(&mut self.decoder, &mut OfStd::new(&self.stream), &mut self.inbox, 1) {
             Outcome::Turns => Ok(()),
-            Outcome::Finished(Finish::Refused(refusal)) => Err(format!("byte {} of what came: {}", refusal.at, reason_name(refusal.why)).into()),
+            Outcome::Finished(Finish::Refused(refusal)) => {
+                Err(format!("byte {} of what came: {}", refusal.at, reason_name(refusal.why)).into())
+            }
             Outcome::Finished(_) => Err("the connection ended before a reply".into()),
             Outcome::ReadFault => Err("a read of the socket failed".into()),
             Outcome::SinkFault => Err("a reply could not be kept".into()),
