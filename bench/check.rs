@@ -1,8 +1,9 @@
-//! A reader of one page by hand, beside which bench/ratios.py times `cqlp check`: `check FILE`.
+//! A reader of one page by hand, beside which bench/ratios.py times `cqlp check` and batches of events from C: `check FILE [events]`.
 //!
 //! It reads the file in pieces of 4,096 bytes and holds the bytes of the present scalar alone. It sees that each cell is within the page and has a
 //! length and a content of its type, and prints how many cells, scalars, nulls and empty values there were, and a sum over the scalars. Nothing is
-//! bounded, placed or told apart where it refuses. std alone:
+//! bounded, placed or told apart where it refuses. With `events` it also puts an event of 72 bytes, as include/cqlp.h has it, for each value into an
+//! array of 256, and adds up the lengths of their contents where the array is full or the bytes move, as bindings/c/speed.c does. std alone:
 //! `rustc --edition 2021 -O -C codegen-units=1 -o check check.rs`.
 use std::fs::File;
 use std::io::Read;
@@ -25,6 +26,127 @@ struct Count {
 }
 
 type Answer<T> = Result<T, &'static str>;
+
+/// What C sees of a value.
+#[repr(C)]
+#[derive(Clone, Copy)]
+struct Event {
+    at: u64,
+    content: *const u8,
+    length: usize,
+    number: i64,
+    row: u32,
+    column: u32,
+    level: u32,
+    extra: i32,
+    bytes: [u8; 16],
+    tag: u8,
+    field: u8,
+    kind: u8,
+    opcode: u8,
+    flags: u8,
+    mark: u8,
+    octets: u8,
+}
+
+const TAG_LEAF: u8 = 13;
+const TAG_NULL: u8 = 14;
+const TAG_EMPTY: u8 = 15;
+const TAG_ENTER: u8 = 16;
+const TAG_LEAVE: u8 = 17;
+
+const BLANK: Event = Event {
+    at: 0,
+    content: std::ptr::null(),
+    length: 0,
+    number: 0,
+    row: 0,
+    column: 0,
+    level: 0,
+    extra: 0,
+    bytes: [0; 16],
+    tag: 0,
+    field: 0,
+    kind: 0,
+    opcode: 0,
+    flags: 0,
+    mark: 0,
+    octets: 0,
+};
+
+/// Where a value is in its page.
+#[derive(Clone, Copy, Default)]
+struct Place {
+    row: u32,
+    column: u32,
+    level: u32,
+}
+
+/// The events of a batch, and what the batches before had.
+struct Batch {
+    events: [Event; 256],
+    length: usize,
+    put: u64,
+    content: u64,
+}
+
+impl Batch {
+    /// Begins an event at an offset, of a value in this place.
+    #[inline(always)]
+    fn put(&mut self, at: u64, place: Place, tag: u8, kind: u8) -> &mut Event {
+        if self.length == self.events.len() {
+            self.use_up();
+        }
+        let event = &mut self.events[self.length];
+        self.length += 1;
+        *event = Event { at, row: place.row, column: place.column, level: place.level, tag, kind, ..BLANK };
+        event
+    }
+
+    #[inline(never)]
+    fn use_up(&mut self) {
+        for event in &self.events[..self.length] {
+            self.content += event.length as u64;
+        }
+        self.put += self.length as u64;
+        self.length = 0;
+    }
+}
+
+/// Puts what is told of a scalar with this content, which is one of its type.
+#[inline(always)]
+fn tell(event: &mut Event, id: u16, content: &[u8]) {
+    match id {
+        0x02 | 0x05 | 0x0B | 0x12 => event.number = i64::from_be_bytes(content.try_into().unwrap()),
+        0x09 => event.number = i64::from(i32::from_be_bytes(content.try_into().unwrap())),
+        0x11 => event.number = i64::from(u32::from_be_bytes(content.try_into().unwrap())),
+        0x13 => event.number = i64::from(i16::from_be_bytes(content.try_into().unwrap())),
+        0x14 => event.number = i64::from(content[0] as i8),
+        0x04 => event.number = i64::from(content[0] != 0),
+        0x07 | 0x08 | 0x0C | 0x0F | 0x10 => {
+            event.bytes[..content.len()].copy_from_slice(content);
+            event.octets = content.len() as u8;
+        }
+        _ => {
+            let scale = if id == 0x06 { 4 } else { 0 };
+            if scale == 4 {
+                event.extra = i32::from_be_bytes(content[..4].try_into().unwrap());
+            }
+            event.content = content[scale..].as_ptr();
+            event.length = content.len() - scale;
+        }
+    }
+}
+
+/// Of which kind a value of this type is for C.
+fn kind_of(of: &Type) -> u8 {
+    match of {
+        Type::Scalar(id) => *id as u8,
+        Type::List(_) => 0x20,
+        Type::Map(..) => 0x21,
+        Type::Tuple(_) => 0x31,
+    }
+}
 
 /// A number that depends on a scalar's content, which is one of its type.
 #[inline(always)]
@@ -134,7 +256,9 @@ impl<'a> Head<'a> {
 }
 
 /// What was read, and not yet used, of a file.
-struct Pieces {
+struct Pieces<const EVENTS: bool> {
+    batch: Batch,
+    offset: u64,
     file: File,
     bytes: Vec<u8>,
     start: usize,
@@ -142,7 +266,7 @@ struct Pieces {
     piece: [u8; 4096],
 }
 
-impl Pieces {
+impl<const EVENTS: bool> Pieces<EVENTS> {
     #[inline(always)]
     fn take(&mut self, count: usize) -> Answer<&[u8]> {
         if self.end - self.start < count {
@@ -155,6 +279,10 @@ impl Pieces {
 
     #[cold]
     fn fill(&mut self, count: usize) -> Answer<()> {
+        if EVENTS {
+            self.batch.use_up();
+            self.offset += self.start as u64;
+        }
         self.bytes.copy_within(self.start..self.end, 0);
         self.end -= self.start;
         self.start = 0;
@@ -177,20 +305,33 @@ impl Pieces {
         Ok(i32::from_be_bytes(self.take(4)?.try_into().unwrap()))
     }
 
+    /// The present offset.
+    #[inline(always)]
+    fn at(&self) -> u64 {
+        self.offset + self.start as u64
+    }
+
     /// Reads a value, of which no more than `left` bytes belong to what it is in.
     #[inline(always)]
-    fn value(&mut self, of: &Type, left: &mut u64, count: &mut Count) -> Answer<()> {
+    fn value(&mut self, of: &Type, left: &mut u64, count: &mut Count, place: Place) -> Answer<()> {
         if *left < 4 {
             return Err("overrun");
         }
+        let at = self.at();
         *left -= 4;
         let size = self.int()?;
         if size < 0 {
             count.nulls += 1;
+            if EVENTS {
+                self.batch.put(at, place, TAG_NULL, 0);
+            }
             return Ok(());
         }
         if size == 0 {
             count.empties += 1;
+            if EVENTS {
+                self.batch.put(at, place, TAG_EMPTY, 0);
+            }
             return Ok(());
         }
         if size as u64 > *left {
@@ -200,16 +341,22 @@ impl Pieces {
         match of {
             Type::Scalar(id) => {
                 count.scalars += 1;
-                let content = self.take(size as usize)?;
+                self.take(size as usize)?;
+                let content = &self.bytes[self.start - size as usize..self.start];
                 count.sum = count.sum.wrapping_add(scalar(*id, content)?);
+                if EVENTS {
+                    tell(self.batch.put(at, place, TAG_LEAF, *id as u8), *id, content);
+                }
                 Ok(())
             }
-            _ => self.items(of, size as u64, count),
+            _ => self.items(of, size as u64, count, place, at),
         }
     }
 
     /// Reads the items of a value of this many bytes.
-    fn items(&mut self, of: &Type, mut left: u64, count: &mut Count) -> Answer<()> {
+    fn items(&mut self, of: &Type, mut left: u64, count: &mut Count, place: Place, at: u64) -> Answer<()> {
+        let inner = Place { level: place.level + 1, ..place };
+        let number;
         match of {
             Type::List(_) | Type::Map(..) => {
                 if left < 4 {
@@ -220,33 +367,46 @@ impl Pieces {
                 if items < 0 {
                     return Err("count");
                 }
+                number = i64::from(items);
+                if EVENTS {
+                    self.batch.put(at, place, TAG_ENTER, kind_of(of)).number = number;
+                }
                 for _ in 0..items {
                     match of {
-                        Type::List(item) => self.value(item, &mut left, count)?,
+                        Type::List(item) => self.value(item, &mut left, count, inner)?,
                         Type::Map(key, value) => {
-                            self.value(key, &mut left, count)?;
-                            self.value(value, &mut left, count)?;
+                            self.value(key, &mut left, count, inner)?;
+                            self.value(value, &mut left, count, inner)?;
                         }
                         _ => unreachable!(),
                     }
                 }
             }
             Type::Tuple(fields) => {
+                number = fields.len() as i64;
+                if EVENTS {
+                    self.batch.put(at, place, TAG_ENTER, kind_of(of)).number = number;
+                }
                 for field in fields {
                     if left == 0 {
                         break;
                     }
-                    self.value(field, &mut left, count)?;
+                    self.value(field, &mut left, count, inner)?;
                 }
             }
             Type::Scalar(_) => unreachable!(),
+        }
+        if EVENTS {
+            let inside = Place { level: place.level, ..Place::default() };
+            let at = self.at();
+            self.batch.put(at, inside, TAG_LEAVE, 0).number = number;
         }
         if left == 0 { Ok(()) } else { Err("extra bytes") }
     }
 }
 
 /// Reads the page in a file, whose metadata has at most 64 KB.
-fn read(path: &str) -> Answer<Count> {
+fn read<const EVENTS: bool>(path: &str) -> Answer<Count> {
     let mut file = File::open(path).map_err(|_| "open")?;
     let total = file.metadata().map_err(|_| "size")?.len();
     let mut bytes = vec![0; 65_536];
@@ -260,21 +420,30 @@ fn read(path: &str) -> Answer<Count> {
     let mut head = Head { left: &bytes[..end] };
     let (columns, rows) = head.page()?;
     let start = end - head.left.len();
-    let mut pieces = Pieces { file, bytes, start, end, piece: [0; 4096] };
+    let batch = Batch { events: [BLANK; 256], length: 0, put: 0, content: 0 };
+    let mut pieces = Pieces::<EVENTS> { batch, offset: 0, file, bytes, start, end, piece: [0; 4096] };
     let mut left = total - start as u64;
     let mut count = Count::default();
-    for _ in 0..rows {
-        for column in &columns {
+    for row in 0..rows {
+        for (at, column) in columns.iter().enumerate() {
             count.cells += 1;
-            pieces.value(column, &mut left, &mut count)?;
+            let place = Place { row, column: at as u32, level: 0 };
+            pieces.value(column, &mut left, &mut count, place)?;
         }
+    }
+    if EVENTS {
+        pieces.batch.use_up();
+        println!("{} events, {} bytes of contents", pieces.batch.put, pieces.batch.content);
     }
     if left == 0 { Ok(count) } else { Err("bytes after the page") }
 }
 
 fn main() -> Result<(), String> {
     let path = std::env::args().nth(1).ok_or("the page is wanted")?;
-    let Count { cells, scalars, nulls, empties, sum } = read(&path)?;
+    let Count { cells, scalars, nulls, empties, sum } = match std::env::args().nth(2) {
+        Some(_) => read::<true>(&path)?,
+        None => read::<false>(&path)?,
+    };
     println!("{cells} cells, {scalars} scalars, {nulls} nulls, {empties} empty, which add up to {sum}");
     Ok(())
 }

@@ -2,8 +2,9 @@
 """Times the program, the library for C and the encoder beside programs by hand, all in one run: ratios.py [ROUNDS]
 
 The programs of each line run in turn, ROUNDS times (15); a time is that of the processor, the least of them, and a ratio is the time of
-what is by hand to that of ours, so that over 1 is faster than by hand. Of batches it is `cqlp check` in place of what is by hand. The program is
-what cargo compiles over dist/rust, or $CQLP; `-` stands for what is not on this machine (a C compiler, or bindings/out/libcqlp.a).
+what is by hand to that of ours, so that over 1 is faster than by hand. Batches are also beside a reader by hand that puts the same events, and
+beside `cqlp check`. The program is what cargo compiles over dist/rust, or $CQLP; `-` stands for what is not on this machine (a C compiler, or
+bindings/out/libcqlp.a).
 """
 import os
 import pathlib
@@ -108,13 +109,22 @@ def read_tables(programs, pages, rounds):
     for name in ('rows', 'collections', 'columns', 'blobs'):
         times = least(rounds, [lambda: spent([programs.check, pages[name]]), lambda: spent([programs.cqlp, 'check', pages[name]])])
         tell(name, times)
-    table('batches from C', '`cqlp check`', '256 events', '64 events', 'ratio of 256', 'ratio of 64')
-    for name in ('rows', 'collections', 'columns'):
-        batch = [programs.batches and (lambda room=room: spent([programs.batches, room], pages[name])) for room in ('256', '64')]
-        tell(name, least(rounds, [lambda: spent([programs.cqlp, 'check', '-'], pages[name]), *batch]))
+    batches_table(programs, pages, rounds)
     table('events written alone', '`cqlp check`', 'events of 72 bytes, decoding nothing')
     for name, many in EVENTS.items():
         tell_times(name, least(rounds, [lambda: spent([programs.cqlp, 'check', '-'], pages[name]), programs.events and (lambda: spent([programs.events, str(many), '256']))]))
+
+
+def batches_table(programs, pages, rounds):
+    """Batches of 256 beside three others: by hand, by hand with the same events put, and `cqlp check`; of 64 beside the last."""
+    table('batches from C', 'by hand', 'with events', '`cqlp check`', '256', '64', 'by hand / 256', 'with events / 256', '`check` / 256', '`check` / 64')
+    for name in ('rows', 'collections', 'columns'):
+        page = pages[name]
+        batch = [programs.batches and (lambda room=room: spent([programs.batches, room], page)) for room in ('256', '64')]
+        hand = [lambda more=more: spent([programs.check, page, *more]) for more in ((), ('events',))]
+        times = least(rounds, [*hand, lambda: spent([programs.cqlp, 'check', '-'], page), *batch])
+        ratios = ['-' if times[at] is None else f'{times[base] / times[at]:.2f}' for base, at in ((0, 3), (1, 3), (2, 3), (2, 4))]
+        print(f'| {name} | {" | ".join(told_times(times))} | {" | ".join(ratios)} |', flush=True)
 
 
 def text_table(programs, pages, rounds):
