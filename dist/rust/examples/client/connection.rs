@@ -4,7 +4,6 @@ use crate::reply::{Inbox, Reply};
 use crate::request::Request;
 use cqlp::frame::{Frame, encode};
 use cqlp::session::{ClientOf, ReplyOf};
-use cqlp::text::reason_name;
 use cqlp::{Decoder, Finish, Global, Limits, OfStd, Outcome, TypeTable, run};
 use std::io::Write;
 use std::net::{Ipv4Addr, TcpStream};
@@ -41,7 +40,7 @@ impl Connection {
 
     /// Makes a request, which is sent with the others by the next [`Connection::hear`]. The core gives it its stream id.
     pub fn ask(&mut self, request: Request, number: u32) -> Result<()> {
-        let ticket = self.core.begin(request.kind, number).map_err(|refused| refused.why)?;
+        let ticket = self.core.begin(request.kind, number)?;
         encode(&Frame::plain(ticket.id, request.message), &mut self.unsent)?;
         Ok(())
     }
@@ -73,9 +72,7 @@ impl Connection {
     fn read(&mut self) -> Result<()> {
         match run(&mut self.decoder, &mut OfStd::new(&self.stream), &mut self.inbox, 1) {
             Outcome::Turns => Ok(()),
-            Outcome::Finished(Finish::Refused(refusal)) => {
-                Err(format!("byte {} of what came: {}", refusal.at, reason_name(refusal.why)).into())
-            }
+            Outcome::Finished(Finish::Refused(refusal)) => Err(refusal.into()),
             Outcome::Finished(_) => Err("the connection ended before a reply".into()),
             Outcome::ReadFault => Err("a read of the socket failed".into()),
             Outcome::SinkFault => Err("a reply could not be kept".into()),
@@ -89,7 +86,7 @@ impl Connection {
 
     /// Has the next page that tells no columns be read by these types.
     pub fn type_next_page(&mut self, types: &TypeTable) -> Result<()> {
-        self.decoder.give(types.clone_table()?).map_err(|error| error.why)?;
+        self.decoder.give(types.clone_table()?)?;
         Ok(())
     }
 }
