@@ -1,6 +1,7 @@
 //! Bytes on their way to a target.
 
 ghost use Rattle.std.specs.Prelude.{◌≡◌, ◌+◌, ◌≤◌, ◌++◌, [], length, min, take, ◌-◌, ◌^◌};
+ghost use Rattle.std.specs.Int.{w32, to_be_bytes};
 ghost use Rattle.cqlp_note.specs.Outputs.{written};
 ghost use Rattle.cqlp_encode.specs.Encoding.{Continued};
 ghost use Rattle.cqlp_encode.specs.Progress.{Keeps, Puts, begun, told};
@@ -104,6 +105,21 @@ impl<'a, W: Target> Staged<'a, W> {
             self.put_after_flush(bytes);
         } else {
             self.keep(bytes);
+        }
+    }
+
+    /// Takes a content after its length of four bytes, and asks once whether there is room for both.
+    #[inline(always)]
+    pub fn put_content(&mut self, content: &[u8])
+        ensures { Puts self.old (to_be_bytes w32 (length content.now) ++ content.now) self.new }
+    {
+        if self.len + content.len() > ROOM - 4 {
+            self.put_count32(content.len());
+            self.put(content);
+        } else {
+            let bytes = content.len().to_be_bytes();
+            self.keep(&bytes[4..]);
+            self.keep(content);
         }
     }
 
