@@ -75,6 +75,20 @@ impl<'a, W: Target> Staged<'a, W> {
         }
     }
 
+    /// Takes a content after its length of four bytes, and asks once whether there is room for both.
+    #[inline(always)]
+    pub fn put_content(&mut self, content: &[u8])
+    {
+        if self.len + content.len() > ROOM - 4 {
+            self.put_count32(content.len());
+            self.put(content);
+        } else {
+            let bytes = content.len().to_be_bytes();
+            self.keep(&bytes[4..]);
+            self.keep(content);
+        }
+    }
+
     /// How many bytes wait.
     #[inline(always)]
     pub fn waiting(&self) -> usize
