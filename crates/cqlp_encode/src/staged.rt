@@ -10,7 +10,7 @@ use cqlp_note::{Target, offer};
 use std::marker::Model;
 
 /// How many bytes wait at most before they are passed on.
-const ROOM: usize = 256;
+const ROOM: usize = 512;
 
 /// Gathers small pieces, so that a target gets them in few calls, and counts what it took. After the target failed once
 /// nothing more is passed on.
@@ -42,7 +42,7 @@ impl<'a, W: Target> Model for Staged<'a, W> {
       lender = s.target.ghost_name;
     } };
 
-    ghost invariant = { λ s. (s.len ≤ 256) × (length s.buffer ≡ 256) };
+    ghost invariant = { λ s. (s.len ≤ 512) × (length s.buffer ≡ 512) };
 }
 
 impl<'a, W: Target> Staged<'a, W> {
@@ -218,7 +218,7 @@ impl<'a, W: Target> Staged<'a, W> {
     /// Takes bytes that there is room for.
     #[inline(always)]
     fn keep(&mut self, bytes: &[u8])
-        requires { length self.old.waiting + length bytes.now ≤ 256 }
+        requires { length self.old.waiting + length bytes.now ≤ 512 }
         ensures { self.new ≡ record self.old { waiting = self.old.waiting ++ bytes.now } }
     {
         let end = self.len + bytes.len();

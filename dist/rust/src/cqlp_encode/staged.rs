@@ -4,7 +4,7 @@
 use crate::cqlp_note::{Target, offer};
 
 /// How many bytes wait at most before they are passed on.
-const ROOM: usize = 256;
+const ROOM: usize = 512;
 
 /// Gathers small pieces, so that a target gets them in few calls, and counts what it took. After the target failed once
 /// nothing more is passed on.
