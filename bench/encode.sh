@@ -1,8 +1,8 @@
 #!/usr/bin/env bash
 # Times the encoder on the pages that pages.py makes, as values in memory. The program in pages/, which cargo compiles over dist/rust, writes
 # each page once and 21 times into a Vec, whole or cell by cell, and so does encode.rs, an encoder written by hand, with and without a
-# check of what it writes. A twentieth of the difference, in time of the processor, is the time of one writing; the best of five is
-# told, with its MB/s.
+# check of what it writes. A twentieth of the difference, in time of the processor, is the time of one writing: of the best of five of each,
+# and told with its MB/s.
 set -euo pipefail
 
 here=$(dirname -- "$(readlink -f -- "${BASH_SOURCE[0]}")")
@@ -19,16 +19,16 @@ spent() {
     { time "$1" <<<"$2" >"$room/printed" 2>/dev/null; } 2>&1 | awk '{print ($1 + $2) * 1000}'
 }
 
-# The microseconds of one writing of a page: the best of five.
+# The microseconds of one writing of a page: the best of five with many writings less the best of five with one.
 once() {
-    local best= one many each page=$2 how=${3:-}
+    local least_one= least_many= one many page=$2 how=${3:-}
     for _ in 1 2 3 4 5; do
         one=$(spent "$1" "$page 1 $how")
         many=$(spent "$1" "$page 21 $how")
-        each=$(((many - one) * 50))
-        if [ -z "$best" ] || [ "$each" -lt "$best" ]; then best=$each; fi
+        if [ -z "$least_one" ] || [ "$one" -lt "$least_one" ]; then least_one=$one; fi
+        if [ -z "$least_many" ] || [ "$many" -lt "$least_many" ]; then least_many=$many; fi
     done
-    echo $((best > 0 ? best : 1))
+    echo $((least_many > least_one ? (least_many - least_one) * 50 : 1))
 }
 
 tell() {

@@ -135,17 +135,18 @@ def text_table(programs, pages, rounds):
             tell(f'`{command}` {name}', times)
 
 
-def once(program, programs, page, how):
-    """The milliseconds of one writing of a page: a part of what many writings take more than one."""
-    one, many = (spent([program], programs.task(f'{page} {times} {how}'.strip())) for times in (1, 1 + WRITES))
-    return (many - one) / WRITES
+def writings(program, programs, page, how):
+    """Writes a page once, and as often as WRITES says and once more."""
+    return [lambda times=times: spent([program], programs.task(f'{page} {times} {how}'.strip())) for times in (1, 1 + WRITES)]
 
 
 def encode_table(programs, rounds):
+    """A time of one writing is the least of many of them less the least of one: a difference of one run and another is as often too small as too large."""
     table('writing', 'by hand, checked', 'trusting', '`encode`', 'cell by cell', 'ratio, trusting', 'ratio, `encode`', 'ratio, cell by cell')
     for page in ('rows 1000000', 'collections 200000', 'columns 5000', 'blobs 96'):
         ways = ((programs.encode, 'checked'), (programs.encode, ''), (programs.pages, ''), (programs.pages, 'cells'))
-        tell(page, least(rounds, [lambda it=it: once(it[0], programs, page, it[1]) for it in ways]))
+        times = least(rounds, [task for program, how in ways for task in writings(program, programs, page, how)])
+        tell(page, [(many - one) / WRITES for one, many in zip(times[::2], times[1::2])])
 
 
 def start_line(programs, rounds):

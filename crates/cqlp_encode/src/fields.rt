@@ -76,15 +76,6 @@ impl<'a, W: Target> Staged<'a, W> {
         self.put(content);
     }
 
-    /// Takes a content after its length of four bytes.
-    #[inline(always)]
-    pub fn put_content(&mut self, content: &[u8])
-        ensures { Puts self.old (to_be_bytes w32 (length content.now) ++ content.now) self.new }
-    {
-        self.put_count32(content.len());
-        self.put(content);
-    }
-
     /// Takes the bytes of a number, at most eight, after their length, in one step.
     #[inline(always)]
     pub fn put_number(&mut self, content: &[u8])

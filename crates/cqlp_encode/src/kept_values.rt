@@ -31,7 +31,7 @@ pub fn keep_whole<W: Target>(out: &mut Staged<'_, W>, value: &Value) -> bool
     false
 }
 
-/// A guess whether a value has no more bytes than may wait: as if all its items had as many as the first of them. Where it is wrong a value
+/// A guess whether a value has at most 256 bytes, half as many as may wait: as if all its items had as many as the first. Where it is wrong a value
 /// is tried in vain, or measured, which takes time and nothing else.
 #[inline(always)]
 fn is_short(value: &Value) -> bool {

@@ -1,6 +1,7 @@
 //! Bytes on their way to a target.
 
 ghost use Rattle.std.specs.Prelude.{◌≡◌, ◌+◌, ◌≤◌, ◌++◌, [], length, min, take, ◌-◌, ◌^◌};
+ghost use Rattle.std.specs.Int.{w32, to_be_bytes};
 ghost use Rattle.cqlp_note.specs.Outputs.{written};
 ghost use Rattle.cqlp_encode.specs.Encoding.{Continued};
 ghost use Rattle.cqlp_encode.specs.Progress.{Keeps, Puts, begun, told};
@@ -9,7 +10,7 @@ use cqlp_note::{Target, offer};
 use std::marker::Model;
 
 /// How many bytes wait at most before they are passed on.
-const ROOM: usize = 256;
+const ROOM: usize = 512;
 
 /// Gathers small pieces, so that a target gets them in few calls, and counts what it took. After the target failed once
 /// nothing more is passed on.
@@ -41,7 +42,7 @@ impl<'a, W: Target> Model for Staged<'a, W> {
       lender = s.target.ghost_name;
     } };
 
-    ghost invariant = { λ s. (s.len ≤ 256) × (length s.buffer ≡ 256) };
+    ghost invariant = { λ s. (s.len ≤ 512) × (length s.buffer ≡ 512) };
 }
 
 impl<'a, W: Target> Staged<'a, W> {
@@ -104,6 +105,21 @@ impl<'a, W: Target> Staged<'a, W> {
             self.put_after_flush(bytes);
         } else {
             self.keep(bytes);
+        }
+    }
+
+    /// Takes a content after its length of four bytes, and asks once whether there is room for both.
+    #[inline(always)]
+    pub fn put_content(&mut self, content: &[u8])
+        ensures { Puts self.old (to_be_bytes w32 (length content.now) ++ content.now) self.new }
+    {
+        if self.len + content.len() > ROOM - 4 {
+            self.put_count32(content.len());
+            self.put(content);
+        } else {
+            let bytes = content.len().to_be_bytes();
+            self.keep(&bytes[4..]);
+            self.keep(content);
         }
     }
 
@@ -202,7 +218,7 @@ impl<'a, W: Target> Staged<'a, W> {
     /// Takes bytes that there is room for.
     #[inline(always)]
     fn keep(&mut self, bytes: &[u8])
-        requires { length self.old.waiting + length bytes.now ≤ 256 }
+        requires { length self.old.waiting + length bytes.now ≤ 512 }
         ensures { self.new ≡ record self.old { waiting = self.old.waiting ++ bytes.now } }
     {
         let end = self.len + bytes.len();

@@ -59,14 +59,6 @@ impl<'a, W: Target> Staged<'a, W> {
         self.put(content);
     }
 
-    /// Takes a content after its length of four bytes.
-    #[inline(always)]
-    pub fn put_content(&mut self, content: &[u8])
-    {
-        self.put_count32(content.len());
-        self.put(content);
-    }
-
     /// Takes the bytes of a number, at most eight, after their length, in one step.
     #[inline(always)]
     pub(crate) fn put_number(&mut self, content: &[u8])

@@ -4,7 +4,7 @@
 use crate::cqlp_note::{Target, offer};
 
 /// How many bytes wait at most before they are passed on.
-const ROOM: usize = 256;
+const ROOM: usize = 512;
 
 /// Gathers small pieces, so that a target gets them in few calls, and counts what it took. After the target failed once
 /// nothing more is passed on.
@@ -72,6 +72,20 @@ impl<'a, W: Target> Staged<'a, W> {
             self.put_after_flush(bytes);
         } else {
             self.keep(bytes);
+        }
+    }
+
+    /// Takes a content after its length of four bytes, and asks once whether there is room for both.
+    #[inline(always)]
+    pub fn put_content(&mut self, content: &[u8])
+    {
+        if self.len + content.len() > ROOM - 4 {
+            self.put_count32(content.len());
+            self.put(content);
+        } else {
+            let bytes = content.len().to_be_bytes();
+            self.keep(&bytes[4..]);
+            self.keep(content);
         }
     }
 

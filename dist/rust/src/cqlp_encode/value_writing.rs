@@ -28,7 +28,7 @@ pub enum ValueError {
 ///
 /// It takes no memory. A number goes to the target with its length, by one call, and any other scalar but a decimal by two, of which the first is
 /// for its length: in front of a target whose calls cost much, as a socket, have a buffer. The parts of a collection, a tuple or a
-/// user-defined value go together, at most 256 bytes at a time, and a longer content by a call of its own.
+/// user-defined value go together, at most 512 bytes at a time, and a longer content by a call of its own.
 ///
 /// # Errors
 ///

@@ -21,7 +21,7 @@ pub enum EncodeError {
 /// Writes a frame, and answers how many bytes it has: its header, what its flags announce, and its message. Section 2 of
 /// `native_protocol_v4.spec`. Each null has the length -1, and each true is 01.
 ///
-/// It takes no memory. Small fields go to the target together, and a content longer than 256 bytes by a call of its own.
+/// It takes no memory. Small fields go to the target together, and a content longer than 512 bytes by a call of its own.
 ///
 /// # Errors
 ///
