@@ -3,6 +3,7 @@
 pub struct FromHexError;
 
 /// Writes two lower case digits for each byte.
+#[inline(always)]
 pub fn encode_to_slice(bytes: &[u8], digits: &mut [u8]) -> Result<(), FromHexError> {
     let digit = |n: u8| n + b'0' + u8::from(n > 9) * (b'a' - b'9' - 1);
     if digits.len() != 2 * bytes.len() {

@@ -27,7 +27,9 @@ _CODES: Dict[int, str] = {
     Kind.FLOAT: "f",
     Kind.DOUBLE: "d",
 }
-_FIXED = {int(kind) for kind in (*_CODES, Kind.BOOLEAN, Kind.UUID, Kind.TIMEUUID)}
+# How many bytes the values of a kind have that all have the same.
+_FIXED: Dict[int, int] = {int(kind): array(code).itemsize for kind, code in _CODES.items()}
+_FIXED.update({int(Kind.BOOLEAN): 1, int(Kind.UUID): 16, int(Kind.TIMEUUID): 16})
 _FULL, _REFUSED = int(Stop.FULL), int(Stop.REFUSED)
 _LEAF, _PART, _END = int(Tag.LEAF), int(Tag.PART), int(Tag.END)
 
@@ -134,11 +136,12 @@ class _Arrays:
 
     def sizes_for(self, kinds: Tuple[int, ...], rows: int, body: int) -> Tuple[int, int, int]:
         """How many rows, how many bytes of values before the last row, and how many bytes of one value, such that all columns together have no
-        more than the memory, and none has more than the page needs: values of a fixed length have 16 bytes at most."""
+        more than the memory, and none has more than the page needs."""
         share = self.memory // len(kinds)
         most = max(1, min(self.rows, share // 32, rows))
-        if _FIXED.issuperset(kinds):
-            return most, 16 * most, 16
+        if all(kind in _FIXED for kind in kinds):
+            widest = max(_FIXED[kind] for kind in kinds)
+            return most, widest * most, widest
         return most, max(1, min(64 * self.rows, share // 4, body)), max(16, min(self.limits.cell, share // 4, body))
 
     def take(self, columns: Tuple[Column, ...]) -> List[ColumnArray]:

@@ -33,9 +33,8 @@ _CODES: Dict[int, str] = {
 _LEAF, _NULL, _EMPTY, _PART = map(int, (Tag.LEAF, Tag.NULL, Tag.EMPTY, Tag.PART))
 # The kinds whose values the library puts into arrays.
 _SCALARS = {int(kind) for kind in Kind} - {int(kind) for kind in (Kind.LIST, Kind.SET, Kind.MAP, Kind.TUPLE, Kind.UDT)}
-# How many columns a page has at most whose cells go through these arrays: of more their places are too far apart. How many events come before,
-# and how many rows and bytes the arrays have.
-_WIDEST, _ROOM, _ROWS, _MEMORY = 32, 1024, 4096, 1 << 24
+# How many events of a page come before its cells go through these arrays, and how many rows and bytes the arrays have.
+_ROOM, _ROWS, _MEMORY = 1024, 4096, 1 << 24
 # What the byte of a number says of it.
 _IS_THERE, _IS_NULL, _IS_EMPTY, _IS_ODD = range(4)
 
@@ -175,7 +174,7 @@ class _Columns(_Frames):
     def begin(self, page: Rows) -> None:
         width, types = page.metadata.width, self.types_of(page)
         kinds = tuple(int(type.kind) for type in types)
-        self.count, self.kinds = page.count, kinds if width <= _WIDEST and _SCALARS.issuperset(kinds) else ()
+        self.count, self.kinds = page.count, kinds if _SCALARS.issuperset(kinds) else ()
         if not width:
             self.cells = _cells(0, ())
         elif _pages._compiled is None:
@@ -225,9 +224,12 @@ class _Filling:
 
     def put(self) -> None:
         """Puts the cells of the arrays into the columns, and leaves none there."""
-        handle, cells = self.arrays.handle, self.found.cells
+        handle, cells, get = self.arrays.handle, self.found.cells, _native.library.cqlp_columns_get
+        get(handle, 0, self.views[0])
+        if not self.views[0].cells:
+            return  # as where cells come one by one, of a row that had begun before
         for at, view in enumerate(self.views):
-            _native.library.cqlp_columns_get(handle, at, view)
+            get(handle, at, view)
         if isinstance(cells, _CompiledCells):
             cells.put(ctypes.addressof(self.views), len(self.views))
         _native.library.cqlp_columns_clear(handle)

@@ -1,5 +1,6 @@
 """Passes requests on from standard input to standard output. What asks for the consistency ONE asks for LOCAL_QUORUM there."""
 
+import os
 import sys
 from typing import Iterable, Iterator
 
@@ -23,7 +24,7 @@ def altered(pieces: Iterable[bytes]) -> Iterator[bytes]:
 
 
 def main() -> None:
-    pieces = iter(lambda: sys.stdin.buffer.read1(4096), b"")
+    pieces = iter(lambda: os.read(sys.stdin.fileno(), 4096), b"")
     try:
         for piece in altered(pieces):
             sys.stdout.buffer.write(piece)

@@ -112,6 +112,15 @@ class Columns(unittest.TestCase):
                 self.agrees(page([option], [[cell(content)]] * 3), limits)
             self.agrees(page([option, b"\0\x20" + option], [[NULL, list_of(cell(content), NULL)], [cell(content), list_of()]]))
 
+    def test_pages_of_many_columns(self) -> None:
+        """Of which a row is under way when their cells go into arrays, and some texts are longer than the arrays take."""
+        numbers, words = [cell(b"\0\0\1\2"), NULL, NOTHING, cell(b"\xff" * 4)], [cell(b"text"), NULL, cell(b"x" * 9000), NOTHING]
+        for width in (33, 150, 700):
+            rows = [[(words if at % 2 else numbers)[(at // 2 + row) % 4] for at in range(width)] for row in range(4000 // width)]
+            data = page([VARCHAR if at % 2 else INT for at in range(width)], rows)
+            self.agrees(data, pieces=(1000, 65536))
+            self.assertEqual(sum(found.count for found in cqlp.columns(data)), len(rows))
+
     def test_floats_keep_their_bits(self) -> None:
         for option, form, bits in (
             (b"\0\x07", ">Q", (0, 1 << 63, 0x7FF0 << 48, 0x7FF0 << 48 | 1, 0x7FF8 << 48 | 5, 0xFFF8 << 48, 1, 0x3FF0 << 48)),

@@ -43,6 +43,7 @@ impl<W: Target> TextWriter<LinePen<'_, W>> {
 impl<P: Pen> TextWriter<P> {
     ghost use Rattle.std.specs.Prelude.{◌-ℤ◌, pos};
     ghost use Rattle.std.specs.Fmt.{signed_decimal};
+    ghost use Rattle.hex.specs.Hex.{encode_lower};
     ghost use Rattle.cqlp_text.specs.CellText.{decimal_text, time_text, varint_text};
     ghost use Rattle.cqlp_text.specs.Text.{hex_text};
     ghost use Rattle.cqlp_text.specs.Written.{Writes};
@@ -56,7 +57,7 @@ impl<P: Pen> TextWriter<P> {
             Scalar::Int(number) => self.put_signed(i64::from(number)),
             Scalar::Bigint(number) => self.put_signed(number),
             Scalar::Varchar(text) => self.put_quoted(text),
-            Scalar::Boolean(value) => self.put(boolean_name(value).as_bytes()),
+            Scalar::Boolean(value) => self.put_boolean(value),
             _ => self.put_any_cell(scalar),
         }
     }
@@ -70,7 +71,7 @@ impl<P: Pen> TextWriter<P> {
             Scalar::Custom(bytes) | Scalar::Blob(bytes) | Scalar::Raw(bytes) => {
                 self.put_hex_text(bytes)
             }
-            Scalar::Double(bytes) => self.put_float(bytes),
+            Scalar::Double(bytes) => self.put_double(bytes),
             Scalar::Float(bytes) => self.put_float(bytes),
             Scalar::Varint(bytes) => self.put_varint(bytes),
             Scalar::Decimal { scale, unscaled } => self.put_decimal(scale, unscaled),
@@ -84,16 +85,57 @@ impl<P: Pen> TextWriter<P> {
             Scalar::Tinyint(number) => self.put_signed(i64::from(number)),
             Scalar::Time(nanoseconds) => self.put_time(nanoseconds),
             Scalar::Date(number) => self.put_date(number),
-            Scalar::Boolean(value) => self.put(boolean_name(value).as_bytes()),
+            Scalar::Boolean(value) => self.put_boolean(value),
             Scalar::Inet(address) => self.put_address(address),
         }
     }
 
-    /// Takes the bytes of a floating-point number.
-    fn put_float<const N: usize>(&mut self, bytes: [u8; N]) -> Result<(), SinkFault>
-        ensures { Writes self.old (hex_text bytes.entry) result self.new }
+    /// Takes the name of a truth value, whose length each of the two calls knows.
+    #[inline(always)]
+    pub(crate) fn put_boolean(&mut self, value: bool) -> Result<(), SinkFault>
+        ensures { Writes self.old (boolean_text value) result self.new }
     {
-        self.put_hex_text(&bytes)
+        if value {
+            self.put(b"true")
+        } else {
+            self.put(b"false")
+        }
+    }
+
+    /// Takes the bytes of a floating-point number.
+    fn put_float(&mut self, bytes: [u8; 4]) -> Result<(), SinkFault>
+        ensures { Writes self.old (hex_text bytes) result self.new }
+    {
+        self.put(b"0x")?;
+        self.put_four(&bytes)
+    }
+
+    /// Takes the bytes of a floating-point number of twice as many.
+    fn put_double(&mut self, bytes: [u8; 8]) -> Result<(), SinkFault>
+        ensures { Writes self.old (hex_text bytes) result self.new }
+    {
+        self.put(b"0x")?;
+        self.put_eight(&bytes)
+    }
+
+    /// Takes four bytes as eight hexadecimal digits.
+    #[inline(always)]
+    fn put_four(&mut self, bytes: &[u8; 4]) -> Result<(), SinkFault>
+        ensures { Writes self.old (encode_lower bytes.now) result self.new }
+    {
+        let mut digits = [0; 8];
+        hex::encode_to_slice(bytes, &mut digits).unwrap();
+        self.put(&digits)
+    }
+
+    /// Takes eight bytes as sixteen hexadecimal digits.
+    #[inline(always)]
+    fn put_eight(&mut self, bytes: &[u8; 8]) -> Result<(), SinkFault>
+        ensures { Writes self.old (encode_lower bytes.now) result self.new }
+    {
+        let mut digits = [0; 16];
+        hex::encode_to_slice(bytes, &mut digits).unwrap();
+        self.put(&digits)
     }
 
     /// Takes a number of any length: in decimal digits up to 16 bytes, and else its bytes.
@@ -158,14 +200,6 @@ impl<P: Pen> TextWriter<P> {
         self.put(b".")?;
         self.put_digits(9, nanoseconds % 1_000_000_000)
     }
-}
-
-/// The name of a truth value.
-#[inline(always)]
-pub(crate) fn boolean_name(value: bool) -> &'static str
-    ensures { result.now ≡ boolean_text value }
-{
-    if value { "true" } else { "false" }
 }
 
 /// At most 16 bytes of a two's complement, with their sign extended to 16.

@@ -5,7 +5,6 @@ ghost use Rattle.cqlp_grammar.specs.Events.{event_of};
 ghost use Rattle.cqlp_text.specs.PageText.{page_part as text_of, place_after};
 ghost use Rattle.cqlp_text.specs.Outputs.{AppendsText, written};
 
-use crate::cells::boolean_name;
 use crate::digits::SHORT;
 use crate::gap::Gap;
 use crate::line_pen::LinePen;
@@ -328,7 +327,7 @@ impl<P: Pen> TextWriter<P> {
     ghost use Rattle.cqlp_text.specs.PageText.{value_part, whole_value, part_start, part_end, end_part, opening, with_item};
     ghost use Rattle.cqlp_kind.specs.Contents.{value_of};
     ghost use Rattle.std.specs.Fmt.{signed_decimal};
-    ghost use Rattle.cqlp_text.specs.CellText.{cell_text};
+    ghost use Rattle.cqlp_text.specs.CellText.{boolean_text, cell_text};
     ghost use Rattle.cqlp_text.specs.Text.{quoted};
     ghost use Rattle.cqlp_text.specs.Written.{Writes};
 
@@ -464,7 +463,7 @@ impl<P: Pen> TextWriter<P> {
                 self.put_long_item(place, column, number)
             }
             Scalar::Varchar(text) | Scalar::Ascii(text) => self.put_text_item(place, column, text),
-            Scalar::Boolean(value) => self.put_name_item(place, column, boolean_name(value)),
+            Scalar::Boolean(value) => self.put_boolean_item(place, column, value),
             _ => self.put_any_item(place, column, scalar),
         }
     }
@@ -546,6 +545,22 @@ impl<P: Pen> TextWriter<P> {
         ensures place { place.new ≡ record place.old { column = column; open_values = with_item place.old.open_values } }
     {
         let written = self.put_value(place, column, scalar);
+        place.pass_item(column);
+        written
+    }
+
+    /// The same of a truth value.
+    #[inline(never)]
+    fn put_boolean_item(
+        &mut self,
+        place: &mut PagePlace,
+        column: u32,
+        value: bool,
+    ) -> Result<(), SinkFault>
+        ensures part { Writes self.old (whole_value place.old column (boolean_text value)) result self.new }
+        ensures place { place.new ≡ record place.old { column = column; open_values = with_item place.old.open_values } }
+    {
+        let written = self.put_truth(place, column, value);
         place.pass_item(column);
         written
     }
@@ -670,6 +685,16 @@ impl<P: Pen> TextWriter<P> {
     {
         self.put_before(place, column)?;
         self.put_any_cell(scalar)?;
+        self.put_row_end(place.ends_row(column))
+    }
+
+    /// Takes a truth value, with what stands before and after it.
+    #[inline(always)]
+    fn put_truth(&mut self, place: &PagePlace, column: u32, value: bool) -> Result<(), SinkFault>
+        ensures { Writes self.old (whole_value place.now column (boolean_text value)) result self.new }
+    {
+        self.put_before(place, column)?;
+        self.put_boolean(value)?;
         self.put_row_end(place.ends_row(column))
     }
 

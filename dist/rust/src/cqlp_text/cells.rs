@@ -39,7 +39,7 @@ impl<P: Pen> TextWriter<P> {
             Scalar::Int(number) => self.put_signed(i64::from(number)),
             Scalar::Bigint(number) => self.put_signed(number),
             Scalar::Varchar(text) => self.put_quoted(text),
-            Scalar::Boolean(value) => self.put(boolean_name(value).as_bytes()),
+            Scalar::Boolean(value) => self.put_boolean(value),
             _ => self.put_any_cell(scalar),
         }
     }
@@ -52,7 +52,7 @@ impl<P: Pen> TextWriter<P> {
             Scalar::Custom(bytes) | Scalar::Blob(bytes) | Scalar::Raw(bytes) => {
                 self.put_hex_text(bytes)
             }
-            Scalar::Double(bytes) => self.put_float(bytes),
+            Scalar::Double(bytes) => self.put_double(bytes),
             Scalar::Float(bytes) => self.put_float(bytes),
             Scalar::Varint(bytes) => self.put_varint(bytes),
             Scalar::Decimal { scale, unscaled } => self.put_decimal(scale, unscaled),
@@ -66,15 +66,52 @@ impl<P: Pen> TextWriter<P> {
             Scalar::Tinyint(number) => self.put_signed(i64::from(number)),
             Scalar::Time(nanoseconds) => self.put_time(nanoseconds),
             Scalar::Date(number) => self.put_date(number),
-            Scalar::Boolean(value) => self.put(boolean_name(value).as_bytes()),
+            Scalar::Boolean(value) => self.put_boolean(value),
             Scalar::Inet(address) => self.put_address(address),
         }
     }
 
-    /// Takes the bytes of a floating-point number.
-    fn put_float<const N: usize>(&mut self, bytes: [u8; N]) -> Result<(), SinkFault>
+    /// Takes the name of a truth value, whose length each of the two calls knows.
+    #[inline(always)]
+    pub(crate) fn put_boolean(&mut self, value: bool) -> Result<(), SinkFault>
     {
-        self.put_hex_text(&bytes)
+        if value {
+            self.put(b"true")
+        } else {
+            self.put(b"false")
+        }
+    }
+
+    /// Takes the bytes of a floating-point number.
+    fn put_float(&mut self, bytes: [u8; 4]) -> Result<(), SinkFault>
+    {
+        self.put(b"0x")?;
+        self.put_four(&bytes)
+    }
+
+    /// Takes the bytes of a floating-point number of twice as many.
+    fn put_double(&mut self, bytes: [u8; 8]) -> Result<(), SinkFault>
+    {
+        self.put(b"0x")?;
+        self.put_eight(&bytes)
+    }
+
+    /// Takes four bytes as eight hexadecimal digits.
+    #[inline(always)]
+    fn put_four(&mut self, bytes: &[u8; 4]) -> Result<(), SinkFault>
+    {
+        let mut digits = [0; 8];
+        crate::hex::encode_to_slice(bytes, &mut digits).unwrap();
+        self.put(&digits)
+    }
+
+    /// Takes eight bytes as sixteen hexadecimal digits.
+    #[inline(always)]
+    fn put_eight(&mut self, bytes: &[u8; 8]) -> Result<(), SinkFault>
+    {
+        let mut digits = [0; 16];
+        crate::hex::encode_to_slice(bytes, &mut digits).unwrap();
+        self.put(&digits)
     }
 
     /// Takes a number of any length: in decimal digits up to 16 bytes, and else its bytes.
@@ -133,13 +170,6 @@ impl<P: Pen> TextWriter<P> {
         self.put(b".")?;
         self.put_digits(9, nanoseconds % 1_000_000_000)
     }
-}
-
-/// The name of a truth value.
-#[inline(always)]
-pub(crate) fn boolean_name(value: bool) -> &'static str
-{
-    if value { "true" } else { "false" }
 }
 
 /// At most 16 bytes of a two's complement, with their sign extended to 16.

@@ -1,7 +1,6 @@
 // Written by dist/erase from crates/cqlp_text/src/page_text.rt.
 //! Pages as text.
 
-use crate::cqlp_text::cells::boolean_name;
 use crate::cqlp_text::digits::SHORT;
 use crate::cqlp_text::gap::Gap;
 use crate::cqlp_text::line_pen::LinePen;
@@ -386,7 +385,7 @@ impl<P: Pen> TextWriter<P> {
                 self.put_long_item(place, column, number)
             }
             Scalar::Varchar(text) | Scalar::Ascii(text) => self.put_text_item(place, column, text),
-            Scalar::Boolean(value) => self.put_name_item(place, column, boolean_name(value)),
+            Scalar::Boolean(value) => self.put_boolean_item(place, column, value),
             _ => self.put_any_item(place, column, scalar),
         }
     }
@@ -458,6 +457,20 @@ impl<P: Pen> TextWriter<P> {
     ) -> Result<(), SinkFault>
     {
         let written = self.put_value(place, column, scalar);
+        place.pass_item(column);
+        written
+    }
+
+    /// The same of a truth value.
+    #[inline(never)]
+    fn put_boolean_item(
+        &mut self,
+        place: &mut PagePlace,
+        column: u32,
+        value: bool,
+    ) -> Result<(), SinkFault>
+    {
+        let written = self.put_truth(place, column, value);
         place.pass_item(column);
         written
     }
@@ -568,6 +581,15 @@ impl<P: Pen> TextWriter<P> {
     {
         self.put_before(place, column)?;
         self.put_any_cell(scalar)?;
+        self.put_row_end(place.ends_row(column))
+    }
+
+    /// Takes a truth value, with what stands before and after it.
+    #[inline(always)]
+    fn put_truth(&mut self, place: &PagePlace, column: u32, value: bool) -> Result<(), SinkFault>
+    {
+        self.put_before(place, column)?;
+        self.put_boolean(value)?;
         self.put_row_end(place.ends_row(column))
     }
 

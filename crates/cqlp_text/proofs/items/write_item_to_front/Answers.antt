@@ -1,4 +1,4 @@
-use Rattle.std.proofs.Common.{decimal, arith}
+use Rattle.std.proofs.Common.{decimal}
 use Rattle.cqlp_text.specs.PageText.{item_text}
 use Rattle.cqlp_text.proofs.ItemText.{in_front}
 use Rattle.cqlp_text.proofs.items.write_item_to_front.Goals as goal
