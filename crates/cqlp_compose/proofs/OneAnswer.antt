@@ -7,8 +7,8 @@ use Rattle.cqlp_message.specs.declared.frame.Frame.{Frame as OwnedFrame}
 use Rattle.cqlp_build.specs.declared.error.BuildError.{BuildError}
 use Rattle.cqlp_build.specs.declared.error.BuildError.TheVariants as error
 use Rattle.cqlp_build.specs.Closing.{Ends}
-use Rattle.cqlp_compose.specs.Composing.{ComposerState, IsOfNone, Takes, refusal_of, with_next}
-use Rattle.cqlp_compose.specs.Laws.{AreSameBytes, AreSameFrames, LacksMemory, OneAnswerOfClose, OneAnswerOfTake, OneAnswerOfWrite, Writes}
+use Rattle.cqlp_compose.specs.Composing.{ComposerState, Takes, refusal_of, with_next}
+use Rattle.cqlp_compose.specs.Laws.{AreSameBytes, AreSameFrames, LacksMemory, OneAnswerOfClose, OneAnswerOfTake, OneAnswerOfWrite}
 use Rattle.cqlp_compose.proofs.Once.{one_frame, one_reason, only_memory}
 
 -- ---- take

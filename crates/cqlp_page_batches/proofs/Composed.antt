@@ -1,7 +1,7 @@
 -- What a composer writes of the events of a page.
-use Rattle.std.proofs.Common.{◌≡◌, ℕ, ◌++◌, List, ◌∷◌, refl, sym, ap, ◌∙◌, subst}
+use Rattle.std.proofs.Common.{◌≡◌, ℕ, ◌++◌, List, ◌∷◌, Err, refl, sym, ap, ◌∙◌}
 use Rattle.cqlp_note.specs.declared.header.Header.{Header}
-use Rattle.cqlp_grammar.specs.Events.{Event, Frame, End}
+use Rattle.cqlp_grammar.specs.Events.{Event, Frame}
 use Rattle.cqlp_message.specs.FrameValues.{FrameValue}
 use Rattle.cqlp_message.specs.Frames.{frame_bytes, frame_parts, header_of}
 use Rattle.cqlp_message.specs.Pages.{with_cells}

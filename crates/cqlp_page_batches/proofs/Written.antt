@@ -133,6 +133,9 @@ module _ (h : Header) (fields : List Event) (n : ℕ) (g : FrameValue) (page : i
       ∙ (λ i. record (header_of g m) { response = same_response n g.message i; opcode = same_opcode n g.message i })
       ∙ ap (λ (x : Header). of_length x m) i.header
 
+  built_f : is_built f.message ≡ true
+  built_f = same_built n g.message ∙ built
+
   framed : (es : List Event) (bytes : List ℕ) → FrameIsInRange f → HaveNoParts es → IsPageOf f k es bytes → IsFrameWith h (fields ++ rows_event n ∷ es) bytes
   framed es bytes range none p =
       let g = with_cells f p.cells in
@@ -144,7 +147,7 @@ module _ (h : Header) (fields : List Event) (n : ℕ) (g : FrameValue) (page : i
         are = subst (λ (x : Header). AreEventsOf (Frame x ∷ (fields ++ rows_event n ∷ es) ++ End 0 ∷ []) g 0) (header_is p.cells m)
             (subst (λ (xs : List Event). AreEventsOf (Frame (header_of g m) ∷ xs ++ End 0 ∷ []) g 0) all p.are);
         spelled = p.spelled;
-        built = filled_built f.message p.cells ∙ same_built n g.message ∙ built;
+        built = filled_built f.message p.cells ∙ built_f;
         written = p.written;
         whole = no_parts fields (rows_event n ∷ es) (none_both fields (rows_event 0 ∷ []) whole).0 none;
         range = page_range f p.cells bare_f range p.range;

@@ -2,7 +2,7 @@
 use Rattle.std.proofs.Common.{◌≡◌, ℕ, ◌+◌, ◌≤◌, ◌<◌, List, [], ◌∷◌, ◌++◌, length, take, drop, refl, sym, ap, subst, ◌∙◌, append_assoc, inl, inr, arith}
 use Rattle.std.specs.Prelude.{Option, Some, None, Bool, true, false, ◌⊎◌, ◌==◌, ◌&&◌, if◌then◌else◌, is_none, not}
 use Rattle.std.proofs.lemmas.Bool.{and_from, and_parts, cases_lt, eq-eqb, eqb-true}
-use Rattle.std.proofs.lemmas.List.{append-nil, append_cancel_left, length-append, length-drop, length-take-le, nil_from_length, take-append-drop, take_all}
+use Rattle.std.proofs.lemmas.List.{append-nil, append_cancel_left, length-append, length-drop, length-take-le, nil_from_length, take-append-drop}
 use Rattle.cqlp_note.specs.declared.refusal.Reason.{Reason}
 use Rattle.cqlp_note.specs.declared.refusal.Refusal.{Refusal}
 use Rattle.cqlp_note.specs.Limits.{Rules}
@@ -25,13 +25,14 @@ use Rattle.cqlp_page_columns.specs.declared.filled.Filled.{Filled}
 use Rattle.cqlp_page_columns.specs.declared.filled.Stop.{Stop as Why}
 use Rattle.cqlp_page_columns.specs.declared.filled.Stop.TheVariants as why
 use Rattle.cqlp_page_columns.specs.declared.page_columns.Went.{Went}
-use Rattle.cqlp_page_columns.specs.Filling.{EndsAtEvent, Fills, IsRead, StopsBy, TakesCells, refusal_after, refused_again, went_of}
+use Rattle.cqlp_page_columns.specs.Filling.{EndsAtEvent, IsRead, StopsBy, TakesCells, refusal_after, refused_again, went_of}
 use Rattle.cqlp_page_columns.specs.Laws.{AreOneRead, HasRead, IsTold, OneAnswerOfRead, StopAlike}
 use Rattle.cqlp_page_columns.specs.Sorting.{takes}
 
 -- ---- one reading
 
-no_step : (l : Rules) (q r : Place) (rest rest' : List ℕ) (v : Verdict) (es : List (ℕ × Event)) → Ends (says (step l q) 0 rest) v → Reads l q rest es r rest' → es ≡ []
+no_step : (l : Rules) (q r : Place) (rest rest' : List ℕ) (v : Verdict) (es : List (ℕ × Event)) → Ends (says (step l q) 0 rest) v
+    → Reads l q rest es r rest' → es ≡ []
 no_step l q r rest rest' v [] ends run = refl
 no_step l q r rest rest' v (e ∷ es) ends run = absurd (rw run.2 at ends)
 
@@ -49,13 +50,15 @@ none_more xs more same = nil_from_length more (let e = ap length same in omega (
 
 module _ (gifts : Gifts) (l : Rules) (s : List ℕ) where
   -- of one stream the same events lead to one place
-  place_once : (es : List (ℕ × Event)) (p q : Place) (b c : List ℕ) → Reads l (start_with gifts) s es p b → Reads l (start_with gifts) s es q c → (q ≡ p) × (c ≡ b)
+  place_once : (es : List (ℕ × Event)) (p q : Place) (b c : List ℕ) → Reads l (start_with gifts) s es p b → Reads l (start_with gifts) s es q c
+      → (q ≡ p) × (c ≡ b)
   place_once es p q b c x y =
       let r = runs_compare (step l) (start_with gifts) p q s b c es es x y (omega arith) in
       rw (none_more es r.0 r.1) at r.2
 
   -- no reading of a stream goes further than what it says
-  no_further : (es fs : List (ℕ × Event)) (v : Verdict) (p : Place) (b : List ℕ) → Says l (start_with gifts) s es v → Reads l (start_with gifts) s fs p b → length fs ≤ length es
+  no_further : (es fs : List (ℕ × Event)) (v : Verdict) (p : Place) (b : List ℕ) → Says l (start_with gifts) s es v → Reads l (start_with gifts) s fs p b
+      → length fs ≤ length es
   no_further es fs v p b all run = elim (cases_lt (length es) (length fs)) [
     | inl lt ↦
         let c = runs_compare (step l) (start_with gifts) all.0 p s all.1 b es fs all.2 run (omega arith) in
@@ -73,7 +76,8 @@ module _ (gifts : Gifts) (l : Rules) (s : List ℕ) where
 -- ---- lists
 
 -- the longer of two beginnings of one list goes on after the shorter
-cut_one : {X : Type 0} (xs ys t z : List X) → ys ++ t ≡ xs ++ z → length xs < length ys → (y : X) × (rest : List X) × (ys ≡ xs ++ y ∷ rest) × (z ≡ y ∷ (rest ++ t))
+cut_one : {X : Type 0} (xs ys t z : List X) → ys ++ t ≡ xs ++ z → length xs < length ys → (y : X) × (rest : List X) × (ys ≡ xs ++ y ∷ rest)
+    × (z ≡ y ∷ (rest ++ t))
 cut_one [] [] t z same lt = absurd (omega (arith, lt))
 cut_one [] (y ∷ ys) t z same lt = (y, ys, refl, sym same)
 cut_one (x ∷ xs) [] t z same lt = absurd (omega (arith, lt))
@@ -102,19 +106,23 @@ abbrev events_in : List (ℕ × Event) → List Event
 events_in [] = []
 events_in (e ∷ es) = e.1 ∷ events_in es
 
-taken_all : (kinds : List Kind) (a b : Batch) (had : List Event) (cells : List (ℕ × Event)) → HasTaken a.limits kinds had a → TakesCells a cells b → b ≡ batch_of a.limits kinds (had ++ events_in cells)
+taken_all : (kinds : List Kind) (a b : Batch) (had : List Event) (cells : List (ℕ × Event)) → HasTaken a.limits kinds had a → TakesCells a cells b
+    → b ≡ batch_of a.limits kinds (had ++ events_in cells)
 taken_all kinds a b had [] is t = t ∙ is ∙ ap (batch_of a.limits kinds) (sym (append-nil had))
 taken_all kinds a b had (e ∷ es) is t =
     let next : t.0 ≡ batch_of a.limits kinds (had ++ e.1 ∷ []) = t.1.taken kinds had is in
     let limits : t.0.limits ≡ a.limits = ap (λ (z : Batch). z.limits) next in
     let more = taken_all kinds t.0 b (had ++ e.1 ∷ []) es (subst (λ (l : BatchLimits). t.0 ≡ batch_of l kinds (had ++ e.1 ∷ [])) (sym limits) next) t.2 in
-    more ∙ ap (λ (l : BatchLimits). batch_of l kinds ((had ++ e.1 ∷ []) ++ events_in es)) limits ∙ ap (batch_of a.limits kinds) (append_assoc had (e.1 ∷ []) (events_in es))
+    more ∙ ap (λ (l : BatchLimits). batch_of l kinds ((had ++ e.1 ∷ []) ++ events_in es)) limits ∙ ap (batch_of a.limits kinds) (append_assoc had
+        (e.1 ∷ []) (events_in es))
 
-split_at : (a c : Batch) (xs : List (ℕ × Event)) (y : ℕ × Event) (rest : List (ℕ × Event)) → TakesCells a (xs ++ y ∷ rest) c → (mid : Batch) × TakesCells a xs mid × (takes mid (found_in y.1) ≡ true)
+split_at : (a c : Batch) (xs : List (ℕ × Event)) (y : ℕ × Event) (rest : List (ℕ × Event)) → TakesCells a (xs ++ y ∷ rest) c
+    → (mid : Batch) × TakesCells a xs mid × (takes mid (found_in y.1) ≡ true)
 split_at a c [] y rest t = (a, refl, t.1.free)
 split_at a c (x ∷ xs) y rest t = let r = split_at t.0 c xs y rest t.2 in (r.0, (t.0, t.1, r.1), r.2)
 
-free_parts : (d b : Bool) (o : Option TakeError) → is_none (if d then (if b then Some fault.Full else o) else Some fault.OutOfOrder) ≡ true → (d ≡ true) × (b ≡ false)
+free_parts : (d b : Bool) (o : Option TakeError) → is_none (if d then (if b then Some fault.Full else o) else Some fault.OutOfOrder) ≡ true
+    → (d ≡ true) × (b ≡ false)
 free_parts true true o free = absurd cc
 free_parts true false o free = (refl, refl)
 free_parts false b o free = absurd cc
@@ -140,10 +148,13 @@ module _ (gifts : Gifts) (l : Rules) (s input : List ℕ) (es : List (ℕ × Eve
   abbrev Through : List (ℕ × Event) → Type 0
   Through told = (q : Place) × (rest : List ℕ) × Reads l (start_with gifts) (s ++ input) (es ++ told) q rest
 
-  stay : (used : ℕ) (told : List (ℕ × Event)) (p : Place) (b : List ℕ) → Reads l (start_with gifts) (s ++ take used input) (es ++ told) p b → Reads l (start_with gifts) (s ++ input) (es ++ told) p (b ++ drop used input)
+  stay : (used : ℕ) (told : List (ℕ × Event)) (p : Place) (b : List ℕ) → Reads l (start_with gifts) (s ++ take used input) (es ++ told) p b
+      → Reads l (start_with gifts) (s ++ input) (es ++ told) p (b ++ drop used input)
   stay used told p b run =
-      let there : (s ++ take used input) ++ drop used input ≡ s ++ input = append_assoc s (take used input) (drop used input) ∙ ap (λ (z : List ℕ). s ++ z) (take-append-drop used input) in
-      subst (λ (z : List ℕ). Reads l (start_with gifts) z (es ++ told) p (b ++ drop used input)) there (runs_stay (step l) (start_with gifts) (s ++ take used input) (drop used input) (es ++ told) p b run)
+      let there : (s ++ take used input) ++ drop used input ≡ s ++ input = append_assoc s (take used input) (drop used input)
+          ∙ ap (λ (z : List ℕ). s ++ z) (take-append-drop used input) in
+      subst (λ (z : List ℕ). Reads l (start_with gifts) z (es ++ told) p (b ++ drop used input)) there (runs_stay (step l) (start_with gifts)
+          (s ++ take used input) (drop used input) (es ++ told) p b run)
 
   -- where the reading is after these events, it has at least what was not used
   record Reached (used : ℕ) (told : List (ℕ × Event)) : Type 0 where
@@ -152,15 +163,19 @@ module _ (gifts : Gifts) (l : Rules) (s input : List ℕ) (es : List (ℕ × Eve
     run : Reads l (start_with gifts) (s ++ input) (es ++ told) place rest
     least : length input ≤ length rest + used
 
-  reached_by : (o : Option Refusal) (d : StreamState) (used : ℕ) (told : List (ℕ × Event)) → d.rules ≡ l → AfterBy o gifts d (s ++ take used input) (es ++ told) → Reached used told
-  reached_by None d used told is a = record { place = a.place; rest = a.bytes ++ drop used input; run = stay used told a.place a.bytes (rw is at a.read); least = omega (arith, length-append a.bytes (drop used input), length-drop used input) }
-  reached_by (Some r) d used told is a = record { place = a.place; rest = a.bytes ++ drop used input; run = stay used told a.place a.bytes (rw is at a.read); least = omega (arith, length-append a.bytes (drop used input), length-drop used input) }
+  reached_by : (o : Option Refusal) (d : StreamState) (used : ℕ) (told : List (ℕ × Event)) → d.rules ≡ l → AfterBy o gifts d (s ++ take used input)
+      (es ++ told) → Reached used told
+  reached_by None d used told is a = record { place = a.place; rest = a.bytes ++ drop used input; run = stay used told a.place a.bytes
+      (rw is at a.read); least = omega (arith, length-append a.bytes (drop used input), length-drop used input) }
+  reached_by (Some r) d used told is a = record { place = a.place; rest = a.bytes ++ drop used input; run = stay used told a.place a.bytes
+      (rw is at a.read); least = omega (arith, length-append a.bytes (drop used input), length-drop used input) }
 
   -- the bytes used end with the last of these events, or there are none
   abbrev Stops : (used : ℕ) → (told : List (ℕ × Event)) → Type 0
   Stops used told = (r : Reached used told) × ((used ≡ 0) ⊎ (length r.rest + used ≡ length input))
 
-  stops_there : (used : ℕ) (told : List (ℕ × Event)) → used ≤ length input → Reached used told → EndsAtEvent gifts l s (take used input) (es ++ told) → Stops used told
+  stops_there : (used : ℕ) (told : List (ℕ × Event)) → used ≤ length input → Reached used told → EndsAtEvent gifts l s (take used input) (es ++ told)
+      → Stops used told
   stops_there used told within r (inl none) = (r, inl (omega (arith, ap length none, length-take-le used input within)))
   stops_there used told within r (inr run) =
       let long : length (drop used input) + used ≡ length input = omega (arith, within, length-drop used input) in
@@ -184,7 +199,8 @@ module _ (gifts : Gifts) (l : Rules) (s input : List ℕ) (es : List (ℕ × Eve
 
   compare : (t t' : List (ℕ × Event)) → Through t → Through t' → length t ≤ length t' → (more : List (ℕ × Event)) × (t' ≡ t ++ more)
   compare t t' x y le =
-      let c = runs_compare (step l) (start_with gifts) x.0 y.0 (s ++ input) x.1 y.1 (es ++ t) (es ++ t') x.2 y.2 (omega (arith, le, length-append es t, length-append es t')) in
+      let c = runs_compare (step l) (start_with gifts) x.0 y.0 (s ++ input) x.1 y.1 (es ++ t) (es ++ t') x.2 y.2 (omega
+          (arith, le, length-append es t, length-append es t')) in
       (c.0, append_cancel_left es t' (t ++ c.0) (c.1 ∙ append_assoc es t c.0))
 
   few : (v : Verdict) (t t' : List (ℕ × Event)) → Says l (start_with gifts) (s ++ input) (es ++ t) v → Through t' → length t' ≤ length t
@@ -196,9 +212,12 @@ module _ (gifts : Gifts) (l : Rules) (s input : List ℕ) (es : List (ℕ × Eve
     abbrev EndsBy : (cells other : List (ℕ × Event)) → (c : Batch) → (used : ℕ) → Why → Type 0
     EndsBy cells other c used why.More = (is_full c ≡ false) × (other ≡ []) × (used ≡ length input) × Says l (start_with gifts) (s ++ input) (es ++ cells) Waits
     EndsBy cells other c used why.Full = (is_full c ≡ true) × (other ≡ []) × Stops used cells
-    EndsBy cells other c used why.Other = (is_full c ≡ false) × (x : ℕ × Event) × (other ≡ x ∷ []) × (takes c (found_in x.1) ≡ false) × Stops used (cells ++ x ∷ [])
-    EndsBy cells other c used why.Failed = (is_full c ≡ false) × (x : ℕ × Event) × (other ≡ x ∷ []) × (takes c (found_in x.1) ≡ false) × Stops used (cells ++ x ∷ [])
-    EndsBy cells other c used (why.Refused r) = (is_full c ≡ false) × (other ≡ []) × Stops used cells × Says l (start_with gifts) (s ++ input) (es ++ cells) (Refused r.at r.why)
+    EndsBy cells other c used why.Other = (is_full c ≡ false) × (x : ℕ × Event) × (other ≡ x ∷ []) × (takes c (found_in x.1) ≡ false)
+        × Stops used (cells ++ x ∷ [])
+    EndsBy cells other c used why.Failed = (is_full c ≡ false) × (x : ℕ × Event) × (other ≡ x ∷ []) × (takes c (found_in x.1) ≡ false)
+        × Stops used (cells ++ x ∷ [])
+    EndsBy cells other c used (why.Refused r) = (is_full c ≡ false) × (other ≡ []) × Stops used cells × Says l (start_with gifts) (s ++ input)
+        (es ++ cells) (Refused r.at r.why)
 
     record Outcome (c : Batch) (used : ℕ) (w : Why) : Type 0 where
       cells : List (ℕ × Event)
@@ -211,7 +230,8 @@ module _ (gifts : Gifts) (l : Rules) (s input : List ℕ) (es : List (ℕ × Eve
     same_columns c c' cells x y = taken_all kinds columns c' had cells has y ∙ sym (taken_all kinds columns c had cells has x)
 
     -- a call that read on took the next event
-    goes_on : (c c' : Batch) (used used' : ℕ) (w w' : Why) (x : Outcome c used w) (y : Outcome c' used' w') → length (x.cells ++ x.other) ≤ length (y.cells ++ y.other) → length x.cells < length y.cells
+    goes_on : (c c' : Batch) (used used' : ℕ) (w w' : Why) (x : Outcome c used w) (y : Outcome c' used' w')
+        → length (x.cells ++ x.other) ≤ length (y.cells ++ y.other) → length x.cells < length y.cells
         → (e : ℕ × Event) × (more : List (ℕ × Event)) × (rest : List (ℕ × Event)) × (x.other ++ more ≡ e ∷ rest) × (takes c (found_in e.1) ≡ true)
     goes_on c c' used used' w w' x y le lt =
         let p = compare (x.cells ++ x.other) (y.cells ++ y.other) x.through y.through le in
@@ -219,17 +239,22 @@ module _ (gifts : Gifts) (l : Rules) (s input : List ℕ) (es : List (ℕ × Eve
         let at = split_at columns c' x.cells cut.0 cut.1 (subst (λ (z : List (ℕ × Event)). TakesCells columns z c') cut.2 y.taken) in
         (cut.0, p.0, cut.1 ++ y.other, cut.3, subst (λ (z : Batch). takes z (found_in cut.0.1) ≡ true) (same_columns c at.0 x.cells x.taken at.1) at.2)
 
-    longer_by : (c c' : Batch) (used used' : ℕ) (w' : Why) (y : Outcome c' used' w') (w : Why) (x : Outcome c used w) → EndsBy x.cells x.other c used w → length x.cells < length y.cells → ⊥
-    longer_by c c' used used' w' y why.More x e lt = let le = few Waits x.cells (y.cells ++ y.other) e.3 y.through in omega (arith, le, lt, length-append y.cells y.other)
-    longer_by c c' used used' w' y (why.Refused r) x e lt = let le = few (Refused r.at r.why) x.cells (y.cells ++ y.other) e.3 y.through in omega (arith, le, lt, length-append y.cells y.other)
+    longer_by : (c c' : Batch) (used used' : ℕ) (w' : Why) (y : Outcome c' used' w') (w : Why) (x : Outcome c used w) → EndsBy x.cells x.other c used w
+        → length x.cells < length y.cells → ⊥
+    longer_by c c' used used' w' y why.More x e lt = let le = few Waits x.cells (y.cells ++ y.other) e.3 y.through in omega
+        (arith, le, lt, length-append y.cells y.other)
+    longer_by c c' used used' w' y (why.Refused r) x e lt = let le = few (Refused r.at r.why) x.cells (y.cells ++ y.other) e.3 y.through in omega
+        (arith, le, lt, length-append y.cells y.other)
     longer_by c c' used used' w' y why.Full x e lt =
-        let on = goes_on c c' used used' why.Full w' x y (omega (arith, lt, ap length e.1, length-append x.cells x.other, length-append y.cells y.other)) lt in full_takes c (found_in on.0.1) e.0 on.4
+        let on = goes_on c c' used used' why.Full w' x y (omega
+            (arith, lt, ap length e.1, length-append x.cells x.other, length-append y.cells y.other)) lt in full_takes c (found_in on.0.1) e.0 on.4
     longer_by c c' used used' w' y why.Other x e lt =
         let on = goes_on c c' used used' why.Other w' x y (omega (arith, lt, ap length e.2, length-append x.cells x.other, length-append y.cells y.other)) lt in
         let same : e.1 ≡ on.0 = same_item e.1 on.0 on.1 on.2 (subst (λ (z : List (ℕ × Event)). z ++ on.1 ≡ on.0 ∷ on.2) e.2 on.3) in
         not_both (takes c (found_in on.0.1)) on.4 (subst (λ (z : ℕ × Event). takes c (found_in z.1) ≡ false) same e.3)
     longer_by c c' used used' w' y why.Failed x e lt =
-        let on = goes_on c c' used used' why.Failed w' x y (omega (arith, lt, ap length e.2, length-append x.cells x.other, length-append y.cells y.other)) lt in
+        let on = goes_on c c' used used' why.Failed w' x y (omega
+            (arith, lt, ap length e.2, length-append x.cells x.other, length-append y.cells y.other)) lt in
         let same : e.1 ≡ on.0 = same_item e.1 on.0 on.1 on.2 (subst (λ (z : List (ℕ × Event)). z ++ on.1 ≡ on.0 ∷ on.2) e.2 on.3) in
         not_both (takes c (found_in on.0.1)) on.4 (subst (λ (z : ℕ × Event). takes c (found_in z.1) ≡ false) same e.3)
 
@@ -255,17 +280,21 @@ module _ (gifts : Gifts) (l : Rules) (s input : List ℕ) (es : List (ℕ × Eve
 
     -- ---- two calls
 
-    two : (v w : Verdict) (cells : List (ℕ × Event)) → Says l (start_with gifts) (s ++ input) (es ++ cells) v → Says l (start_with gifts) (s ++ input) (es ++ cells) w → w ≡ v
+    two : (v w : Verdict) (cells : List (ℕ × Event)) → Says l (start_with gifts) (s ++ input) (es ++ cells) v → Says l (start_with gifts) (s ++ input)
+        (es ++ cells) w → w ≡ v
     two v w cells a b = verdict_once gifts l (s ++ input) (es ++ cells) v w a b
 
     same_refusal : (r z : Refusal) → ◌≡◌ {A = Verdict} (Refused z.at z.why) (Refused r.at r.why) → z ≡ r
     same_refusal r z same = let at : z.at ≡ r.at = cc in let why : z.why ≡ r.why = cc in λ i. record { at = at i; why = why i }
 
     -- no further event where the reading says no more
-    no_other : (v : Verdict) (used : ℕ) (cells : List (ℕ × Event)) (x : ℕ × Event) → Says l (start_with gifts) (s ++ input) (es ++ cells) v → Stops used (cells ++ x ∷ []) → ⊥
-    no_other v used cells x all stops = let le = few v cells (cells ++ x ∷ []) all (stops.0.place, stops.0.rest, stops.0.run) in omega (arith, le, length-append cells (x ∷ []))
+    no_other : (v : Verdict) (used : ℕ) (cells : List (ℕ × Event)) (x : ℕ × Event) → Says l (start_with gifts) (s ++ input) (es ++ cells) v
+        → Stops used (cells ++ x ∷ []) → ⊥
+    no_other v used cells x all stops = let le = few v cells (cells ++ x ∷ []) all (stops.0.place, stops.0.rest, stops.0.run) in omega
+        (arith, le, length-append cells (x ∷ []))
 
-    module _ (c : Batch) (used used' : ℕ) (cells other other' : List (ℕ × Event)) (near : ((more : List (ℕ × Event)) × (other' ≡ other ++ more)) ⊎ ((more : List (ℕ × Event)) × (other ≡ other' ++ more))) where
+    module _ (c : Batch) (used used' : ℕ) (cells other other' : List (ℕ × Event)) (near : ((more : List (ℕ × Event))
+        × (other' ≡ other ++ more)) ⊎ ((more : List (ℕ × Event)) × (other ≡ other' ++ more))) where
       one_other : (x x' : ℕ × Event) → other ≡ x ∷ [] → other' ≡ x' ∷ [] → x' ≡ x
       one_other x x' is is' = elim near [
         | inl m ↦ same_item x' x [] m.0 (sym is' ∙ m.1 ∙ ap (λ (z : List (ℕ × Event)). z ++ m.0) is)
@@ -321,7 +350,8 @@ module _ (gifts : Gifts) (l : Rules) (s input : List ℕ) (es : List (ℕ × Eve
           (used_once used used' cells x.2 y.2, ap why.Refused (same_refusal r z (two (Refused r.at r.why) (Refused z.at z.why) cells x.3 y.3)), y.1 ∙ sym x.1)
 
     -- of two calls, how much is used, why they stop, the columns and the other event are one
-    same_outcome : (c c' : Batch) (used used' : ℕ) (w w' : Why) (x : Outcome c used w) (y : Outcome c' used' w') → (c' ≡ c) × (used' ≡ used) × StopAlike w w' × (y.other ≡ x.other) × (y.cells ≡ x.cells)
+    same_outcome : (c c' : Batch) (used used' : ℕ) (w w' : Why) (x : Outcome c used w) (y : Outcome c' used' w')
+        → (c' ≡ c) × (used' ≡ used) × StopAlike w w' × (y.other ≡ x.other) × (y.cells ≡ x.cells)
     same_outcome c c' used used' w w' x y =
         let told = same_told c c' used used' w w' x y in
         let one = same_columns c c' x.cells x.taken (subst (λ (z : List (ℕ × Event)). TakesCells columns z c') told.0 y.taken) in
@@ -332,7 +362,8 @@ module _ (gifts : Gifts) (l : Rules) (s input : List ℕ) (es : List (ℕ × Eve
 
     -- ---- what a call makes
 
-    module _ {S : Type 0} (m : sink.Ghosts S) (old new : StreamState) (none : old.refusal ≡ None) (was_rules : old.rules ≡ l) (rules : new.rules ≡ l) (c : Batch) (before after : S) (used : ℕ) (within : used ≤ length input)
+    module _ {S : Type 0} (m : sink.Ghosts S) (old new : StreamState) (none : old.refusal ≡ None) (was_rules : old.rules ≡ l) (rules : new.rules ≡ l)
+        (c : Batch) (before after : S) (used : ℕ) (within : used ≤ length input)
         (cells : List (ℕ × Event)) (taken : TakesCells columns cells c) where
       through_all : (told : List (ℕ × Event)) → Reached used told → Through told
       through_all told r = (r.place, r.rest, r.run)
@@ -348,12 +379,14 @@ module _ (gifts : Gifts) (l : Rules) (s input : List ℕ) (es : List (ℕ × Eve
       alone : StandsAfter cells → StandsAfter (cells ++ [])
       alone a = subst StandsAfter (sym (append-nil cells)) a
 
-      at_other : (x : ℕ × Event) → AfterGifts gifts new (s ++ take used input) ((es ++ cells) ++ x ∷ []) → IsRead gifts new.rules (s ++ take used input) ((es ++ cells) ++ x ∷ []) → StandsAfter (cells ++ x ∷ []) × Stops used (cells ++ x ∷ []) × Through (cells ++ x ∷ [])
+      at_other : (x : ℕ × Event) → AfterGifts gifts new (s ++ take used input) ((es ++ cells) ++ x ∷ []) → IsRead gifts new.rules (s ++ take used input)
+          ((es ++ cells) ++ x ∷ []) → StandsAfter (cells ++ x ∷ []) × Stops used (cells ++ x ∷ []) × Through (cells ++ x ∷ [])
       at_other x a e =
           let there = append_assoc es cells (x ∷ []) in
           let stands = subst (λ (z : List (ℕ × Event)). AfterGifts gifts new (s ++ take used input) z) there a in
           let r = reached_by new.refusal new used (cells ++ x ∷ []) rules stands in
-          (stands, stops_there used (cells ++ x ∷ []) within r (inr (subst (λ (z : List (ℕ × Event)). IsRead gifts l (s ++ take used input) z) there (rw rules at e))), through_all (cells ++ x ∷ []) r)
+          (stands, stops_there used (cells ++ x ∷ []) within r (inr (subst (λ (z : List (ℕ × Event)). IsRead gifts l (s ++ take used input) z) there
+              (rw rules at e))), through_all (cells ++ x ∷ []) r)
 
       made : (w : Why) → StopsBy (Gets m) (Fails m) gifts old new s input (take used input) (es ++ cells) c before after w → Made w
       made why.More h =
@@ -401,7 +434,8 @@ module _ (gifts : Gifts) (l : Rules) (s input : List ℕ) (es : List (ℕ × Eve
               other = [];
               taken = taken;
               through = subst Through (sym (append-nil cells)) (through_all cells at);
-              ends = (h.0, refl, stops_there used cells within at (rw rules at h.5), rw was_rules at (refuses_new old.refusal gifts old s (es ++ cells) input r none h.4));
+              ends = (h.0, refl, stops_there used cells within at (rw rules at h.5), rw was_rules at (refuses_new old.refusal gifts old s
+                  (es ++ cells) input r none h.4));
             },
             (refl, h.1),
             alone h.3,
@@ -424,8 +458,10 @@ refusal_alike why.Failed why.More same = absurd cc
 refusal_alike why.Failed why.Full same = absurd cc
 refusal_alike why.Failed (why.Refused r) same = absurd cc
 
-module _ {S : Type 0} (m : sink.Ghosts S) (gifts : Gifts) (s : List ℕ) (es : List (ℕ × Event)) (kinds : List Kind) (had : List Event) (old new new' : StreamState) (input : List ℕ) (columns columns' columns'' : Batch) (before after after' : S) (w w' : Went) (f f' : Filled)
-    (a : AfterGifts gifts old s es) (has : HasTaken columns.limits kinds had columns) (x : HasRead m old new input columns columns' before after w f) (y : HasRead m old new' input columns columns'' before after' w' f') where
+module _ {S : Type 0} (m : sink.Ghosts S) (gifts : Gifts) (s : List ℕ) (es : List (ℕ × Event)) (kinds : List Kind) (had : List Event)
+    (old new new' : StreamState) (input : List ℕ) (columns columns' columns'' : Batch) (before after after' : S) (w w' : Went) (f f' : Filled)
+    (a : AfterGifts gifts old s es) (has : HasTaken columns.limits kinds had columns) (x : HasRead m old new input columns columns' before after w f)
+        (y : HasRead m old new' input columns columns'' before after' w' f') where
   abbrev One : Type 0
   One = AreOneRead m gifts s input es new new' columns columns' columns'' before after after' w w' f f'
 
@@ -476,7 +512,8 @@ module _ {S : Type 0} (m : sink.Ghosts S) (gifts : Gifts) (s : List ℕ) (es : L
       let g = x.fills gifts s es a in
       let h = y.fills gifts s es a in
       let p = made gifts l s input es kinds had columns has m old new none refl x.rules columns' before after f.used x.within g.cells g.taken f.stop g.stops in
-      let q = made gifts l s input es kinds had columns has m old new' none refl y.rules columns'' before after' f'.used y.within h.cells h.taken f'.stop h.stops in
+      let q = made gifts l s input es kinds had columns has m old new' none refl y.rules columns'' before after' f'.used y.within h.cells h.taken f'.stop
+          h.stops in
       let same = same_outcome gifts l s input es kinds had columns has columns' columns'' f.used f'.used f.stop f'.stop p.0 q.0 in record {
         used = same.1;
         stop = same.2;
@@ -488,8 +525,10 @@ module _ {S : Type 0} (m : sink.Ghosts S) (gifts : Gifts) (s : List ℕ) (es : L
         told = p.1;
         told' = subst (λ (z : List (ℕ × Event)). IsTold m f'.stop before after' z) same.3 q.1;
         stands = p.2;
-        stands' = subst (λ (n : ℕ). AfterGifts gifts new' (s ++ take n input) (es ++ (p.0.cells ++ p.0.other))) same.1 (subst (λ (z : List (ℕ × Event)). AfterGifts gifts new' (s ++ take f'.used input) (es ++ z)) (λ i. same.4 i ++ same.3 i) q.2);
-        refusal = y.refusal ∙ ap (λ (o : Option Refusal). refusal_after o f'.stop) none ∙ refusal_alike f.stop f'.stop same.2 ∙ sym (x.refusal ∙ ap (λ (o : Option Refusal). refusal_after o f.stop) none);
+        stands' = subst (λ (n : ℕ). AfterGifts gifts new' (s ++ take n input) (es ++ (p.0.cells ++ p.0.other))) same.1 (subst (λ (z : List (ℕ
+            × Event)). AfterGifts gifts new' (s ++ take f'.used input) (es ++ z)) (λ i. same.4 i ++ same.3 i) q.2);
+        refusal = y.refusal ∙ ap (λ (o : Option Refusal). refusal_after o f'.stop) none ∙ refusal_alike f.stop f'.stop same.2 ∙ sym (x.refusal
+            ∙ ap (λ (o : Option Refusal). refusal_after o f.stop) none);
         rules = y.rules ∙ sym x.rules;
         given = y.given ∙ sym x.given;
       }
