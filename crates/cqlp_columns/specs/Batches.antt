@@ -51,6 +51,10 @@ HasTaken l kinds es b = b ≡ batch_of l kinds es
 abbrev pub has_layout : Kind → Bool
 has_layout k = is_some (layout_of k)
 
+-- why no column is made of a kind
+abbrev pub refusal_of_kind : Kind → Option MakeError
+refusal_of_kind k = if has_layout k then None else Some Unsupported
+
 -- why no batch is made of columns of these kinds
 abbrev pub refusal_of_kinds : BatchLimits → List Kind → Option MakeError
 refusal_of_kinds l kinds = if nat_lt l.columns (length kinds) then Some TooManyColumns else (if list_all has_layout kinds then None else Some Unsupported)

@@ -3,6 +3,7 @@
 ghost use Rattle.std.specs.Prelude.{◌≡◌, ◌+◌, ◌*◌, ◌^◌, ◌<◌, ◌≤◌, ◌++◌, ◌∷◌, [], IfOk, length, replicate};
 ghost use Rattle.cqlp_columns.specs.Bits.{Spells, number_of_bytes, worth};
 
+use crate::bytes::zeros;
 use std::alloc::{AllocError, Allocator};
 use std::marker::Model;
 
@@ -15,7 +16,7 @@ pub(crate) struct Bits<A: Allocator> {
 }
 
 impl<A: Allocator> Model for Bits<A> {
-    ghost use Rattle.std.specs.Prelude.{◌<◌, ◌≤◌, ◌^◌, ◌*◌, length};
+    ghost use Rattle.std.specs.Prelude.{◌≡◌, ◌<◌, ◌≤◌, ◌^◌, ◌*◌, length, vec_capacity};
     ghost use Rattle.cqlp_columns.specs.Bits.{Bits, bits, digits, number_of_bytes};
 
     ghost Value = { Bits };
@@ -23,7 +24,7 @@ impl<A: Allocator> Model for Bits<A> {
     ghost view = { λ b. bits (digits b.len (number_of_bytes b.bytes.items)) (8 * length b.bytes.items) };
 
     ghost invariant = { λ b. (number_of_bytes b.bytes.items < 2 ^ b.len) × (b.len ≤ 8 * length b.bytes.items)
-        × (length b.bytes.items < 2 ^ 32) };
+        × (length b.bytes.items < 2 ^ 32) × (vec_capacity b.bytes ≡ length b.bytes.items) };
 }
 
 impl<A: Allocator> Bits<A> {
@@ -35,9 +36,10 @@ impl<A: Allocator> Bits<A> {
         ensures { IfOk result (λ b. b ≡ bits [] (8 * rounded room)) }
     {
         let count = room.div_ceil(8) as usize;
-        let mut bytes = Vec::with_capacity(alloc, count)?;
-        bytes.resize(count, 0).unwrap();
-        Ok(Bits { bytes, len: 0 })
+        Ok(Bits {
+            bytes: zeros(alloc, count)?,
+            len: 0,
+        })
     }
 
     /// How many there are.

@@ -1,6 +1,6 @@
 //! Bytes in a row.
 
-ghost use Rattle.std.specs.Prelude.{◌≡◌, ◌+◌, ◌≤◌, ◌++◌, [], length, replicate, IfOk};
+ghost use Rattle.std.specs.Prelude.{◌≡◌, ◌+◌, ◌≤◌, ◌++◌, [], length, replicate, vec_capacity, IfOk};
 ghost use Rattle.cqlp_columns.specs.Bytes.{bytes};
 
 use crate::bits::fill_zeros;
@@ -16,14 +16,14 @@ pub(crate) struct Bytes<A: Allocator> {
 }
 
 impl<A: Allocator> Model for Bytes<A> {
-    ghost use Rattle.std.specs.Prelude.{◌≤◌, length, take};
+    ghost use Rattle.std.specs.Prelude.{◌≡◌, ◌≤◌, length, take, vec_capacity};
     ghost use Rattle.cqlp_columns.specs.Bytes.{Bytes, bytes};
 
     ghost Value = { Bytes };
 
     ghost view = { λ b. bytes (take b.len b.memory.items) (length b.memory.items) };
 
-    ghost invariant = { λ b. b.len ≤ length b.memory.items };
+    ghost invariant = { λ b. (b.len ≤ length b.memory.items) × (vec_capacity b.memory ≡ length b.memory.items) };
 }
 
 impl<A: Allocator> Bytes<A> {
@@ -31,9 +31,10 @@ impl<A: Allocator> Bytes<A> {
     pub fn new(alloc: A, room: usize) -> Result<Self, AllocError>
         ensures { IfOk result (λ b. b ≡ bytes [] room) }
     {
-        let mut memory = Vec::with_capacity(alloc, room)?;
-        memory.resize(room, 0).unwrap();
-        Ok(Bytes { memory, len: 0 })
+        Ok(Bytes {
+            memory: zeros(alloc, room)?,
+            len: 0,
+        })
     }
 
     /// How many there are.
@@ -78,4 +79,16 @@ impl<A: Allocator> Bytes<A> {
     {
         self.len = 0;
     }
+}
+
+/// This many zeros, in memory for just as many.
+pub(crate) fn zeros<A: Allocator>(alloc: A, count: usize) -> Result<Vec<u8, A>, AllocError>
+    ensures items { IfOk result (λ v. v.items ≡ replicate count 0) }
+    ensures capacity { IfOk result (λ v. vec_capacity v ≡ count) }
+{
+    let mut memory = Vec::with_capacity(alloc, count)?;
+    for _ in 0..count {
+        memory.push_reserved(0);
+    }
+    Ok(memory)
 }

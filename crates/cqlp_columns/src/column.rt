@@ -4,6 +4,7 @@ ghost use Rattle.std.specs.Prelude.{◌≡◌, ◌==◌, ◌+◌, ◌<◌, ◌�
 ghost use Rattle.std.specs.Prelude.{Err, IfOk, IsOk, None, OnErr, OnOk, Some};
 ghost use Rattle.cqlp_kind.specs.Types.{is_kind};
 ghost use Rattle.cqlp_columns.specs.Arrays.{AreBytesOf, HasCells, IsAnswer, column_of, fits, is_long, offset_in, refusal_of, with_cell};
+ghost use Rattle.cqlp_columns.specs.Batches.{IsMade, refusal_of_kind};
 ghost use Rattle.cqlp_columns.specs.Bits.{Spells, bits};
 ghost use Rattle.cqlp_columns.specs.Layouts.{layout_of};
 ghost use Rattle.cqlp_columns.specs.Cells.{Cell as CellValue, blank, cell_bits, cell_bytes, cell_of, is_of};
@@ -57,8 +58,9 @@ pub struct Column<A: Allocator = Global> {
 }
 
 impl<A: Allocator> Model for Column<A> {
-    ghost use Rattle.std.specs.Prelude.{◌≡◌, ◌+◌, ◌≤◌, Some, length, vec_capacity};
+    ghost use Rattle.std.specs.Prelude.{◌≡◌, ◌+◌, ◌*◌, ◌≤◌, Some, length, vec_capacity};
     ghost use Rattle.cqlp_columns.specs.Arrays.{Column};
+    ghost use Rattle.cqlp_columns.specs.Bits.{rounded};
     ghost use Rattle.cqlp_columns.specs.Layouts.{layout_of};
 
     ghost Value = { Column };
@@ -78,7 +80,9 @@ impl<A: Allocator> Model for Column<A> {
     ghost invariant = { λ c. (c.size ≤ c.values.room) × (c.rows + 1 ≤ vec_capacity c.offsets)
         × (c.rows ≤ c.truths.room) × (c.rows ≤ c.valid.room) × (c.rows ≤ c.empty.room)
         × (length c.truths.bits ≤ length c.valid.bits) × (length c.empty.bits ≡ length c.valid.bits)
-        × (length c.offsets.items ≤ length c.valid.bits + 1) × (layout_of c.kind ≡ Some c.layout) };
+        × (length c.offsets.items ≤ length c.valid.bits + 1) × (layout_of c.kind ≡ Some c.layout)
+        × (c.values.room ≡ c.size) × (vec_capacity c.offsets ≡ c.rows + 1) × (c.truths.room ≡ 8 * rounded c.rows)
+        × (c.valid.room ≡ 8 * rounded c.rows) × (c.empty.room ≡ 8 * rounded c.rows) };
 }
 
 impl<A: Allocator> Column<A> {
@@ -92,7 +96,7 @@ impl<A: Allocator> Column<A> {
     where
         A: Clone,
         ensures made { IfOk result (λ column. layout_of kind ≡ Some column.layout × (column ≡ column_of kind column.layout rows size [])) }
-        ensures unsupported { result ≡ Err MakeError.Unsupported → layout_of kind ≡ None }
+        ensures answer { IsMade (refusal_of_kind kind) result }
     {
         match layout_of(kind) {
             None => Err(MakeError::Unsupported),

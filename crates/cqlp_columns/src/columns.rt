@@ -1,6 +1,6 @@
 //! Rows of a page as columns.
 
-ghost use Rattle.std.specs.Prelude.{◌≡◌, ◌+◌, ◌<◌, ◌^◌, ◌&&◌, ◌++◌, ◌∷◌, [], List, IfOk, IsOk, OnErr, None, length, map};
+ghost use Rattle.std.specs.Prelude.{◌≡◌, ◌+◌, ◌<◌, ◌^◌, ◌&&◌, ◌++◌, ◌∷◌, [], List, IfOk, IsOk, OnErr, None, length, map, vec_capacity};
 ghost use Rattle.std.specs.List.{list_all};
 ghost use Rattle.cqlp_grammar.specs.Events.{Event as Told, event_of};
 ghost use Rattle.cqlp_kind.specs.declared.kind.Kind.{Kind as OneKind};
@@ -69,7 +69,7 @@ pub struct Columns<A: Allocator = Global> {
 const NO_TURN: usize = usize::MAX;
 
 impl<A: Allocator> Model for Columns<A> {
-    ghost use Rattle.std.specs.Prelude.{◌≡◌};
+    ghost use Rattle.std.specs.Prelude.{◌≡◌, length, vec_capacity};
     ghost use Rattle.cqlp_columns.specs.Batches.{Batch, batch};
     ghost use Rattle.cqlp_columns.specs.Turns.{IsKept, next_in};
 
@@ -77,7 +77,7 @@ impl<A: Allocator> Model for Columns<A> {
 
     ghost view = { λ c. batch c.limits c.columns.items (next_in c.turn) };
 
-    ghost invariant = { λ c. IsKept c.limits c.columns.items c.turn c.light };
+    ghost invariant = { λ c. IsKept c.limits c.columns.items c.turn c.light × (vec_capacity c.columns ≡ length c.columns.items) };
 }
 
 impl<A: Allocator> Columns<A> {
@@ -220,7 +220,8 @@ fn make_columns<A: Allocator + Clone>(
     limits: BatchLimits,
     kinds: &[Kind],
 ) -> Result<Vec<Column<A>, A>, AllocError>
-    ensures { IfOk result (λ columns. columns.items ≡ empty_columns limits kinds.now) }
+    ensures items { IfOk result (λ columns. columns.items ≡ empty_columns limits kinds.now) }
+    ensures capacity { IfOk result (λ columns. vec_capacity columns ≡ length kinds.now) }
 {
     let mut columns = Vec::with_capacity(alloc.clone()?, kinds.len())?;
     for kind in kinds {

@@ -1,3 +1,4 @@
 mod Taking
 mod Writing
 pub mod Once
+mod OneAnswer

@@ -2,6 +2,7 @@
 #![tactic(auto)]
 
 mod composer;
+pub mod laws;
 mod memory;
 
 pub use composer::Composer;

@@ -2,3 +2,4 @@ pub mod Beginning
 pub mod Putting
 pub mod OneAnswer
 pub mod Written
+pub mod Composed

@@ -16,13 +16,14 @@ use Rattle.cqlp_build_cells.specs.Building.{ends_cell}
 use Rattle.cqlp_page_events.specs.declared.error.PageCellError.{PageCellError}
 use Rattle.cqlp_page_events.specs.declared.error.PageCellError.TheVariants as page_error
 use Rattle.cqlp_page_events.specs.Cells.{CellsState, Takes}
+use Rattle.cqlp_page_events.specs.Laws.{LacksMemory as LacksCell}
 use Rattle.cqlp_page_events.proofs.OneAnswer.{one_answer as one_event}
 use Rattle.cqlp_page_batches.specs.declared.error.BeginError.{BeginError}
 use Rattle.cqlp_page_batches.specs.declared.error.BeginError.TheVariants as error
 use Rattle.cqlp_page_batches.specs.declared.error.PutError.TheVariants as put_error
 use Rattle.cqlp_page_batches.specs.declared.page.BegunPage.{BegunPage}
 use Rattle.cqlp_page_batches.specs.Begun.{Begins, IsBare, frame_with_rows, is_page, rows_event, said_len, without_rows}
-use Rattle.cqlp_page_batches.specs.Laws.{AreSame, OneAnswer, OneAnswerOfBegin, no_memory}
+use Rattle.cqlp_page_batches.specs.Laws.{AreSame, LacksMemory, OneAnswer, OneAnswerOfBegin, no_memory}
 use Rattle.cqlp_page_batches.specs.Put.{Answer, Ended, GoesOn, PutterState, Puts, fresh, within}
 
 -- ---- events of cells
@@ -85,13 +86,26 @@ module _ (old : PutterState) (e : Event) (n : ℕ) where
   both_seen : (a b : Answer) (x y : List ℕ) (s u : PutterState) → Seen a x s → Seen b y u → Alike a b x y s u
   both_seen a b x y s u p q = by (one_event old.cells e p.0 q.0 p.1 q.1 p.2 q.2)
     where
-      by : ((p.0 ≡ q.0) × (p.1 ≡ q.1)) ⊎ ((p.0 ≡ Err (page_error.Cell cell_error.NoMemory)) ⊎ (q.0 ≡ Err (page_error.Cell cell_error.NoMemory))) → Alike a b x y s u
+      by : ((p.0 ≡ q.0) × (p.1 ≡ q.1)) ⊎ (LacksCell old.cells e p.0 p.1 ⊎ LacksCell old.cells e q.0 q.1) → Alike a b x y s u
       by (inl (r, m)) = inl (follows_once p.0 q.0 p.1 q.1 a b x y s u r m p.3 q.3)
-      by (inr (inl r)) = inr (inl (no_memory_by p.0 p.1 a x s r p.3))
-      by (inr (inr r)) = inr (inr (no_memory_by q.0 q.1 b y u r q.3))
+      by (inr (inl r)) = inr (inl (no_memory_by p.0 p.1 a x s r.0 p.3))
+      by (inr (inr r)) = inr (inr (no_memory_by q.0 q.1 b y u r.0 q.3))
 
-pub one_answer : OneAnswer
+-- but where memory is refused
+pub one_answer : (old : PutterState) (e : Event) (n : ℕ) (a b : Answer) (x y : List ℕ) (s u : PutterState) → Puts old e n a x s → Puts old e n b y u → Alike old e n a b x y s u
 one_answer old e n a b x y s u p q = both_seen old e n a b x y s u (seen old e n a x s p) (seen old e n b y u q)
+
+-- what is left then
+lacks : (old : PutterState) (e : Event) (n : ℕ) (a : Answer) (x : List ℕ) (s : PutterState) → Puts old e n a x s → a ≡ no_memory → LacksMemory old a x s
+lacks old e n a x s p is = let q = subst (λ (z : Answer). Puts old e n z x s) is p in (is, q.2, q.3)
+
+pub one_answer_of_take : OneAnswer
+one_answer_of_take old e n a b x y s u p q = by (one_answer old e n a b x y s u p q)
+  where
+    by : Alike old e n a b x y s u → ((a ≡ b) × (x ≡ y) × (s ≡ u)) ⊎ (LacksMemory old a x s ⊎ LacksMemory old b y u)
+    by (inl same) = inl same
+    by (inr (inl none)) = inr (inl (lacks old e n a x s p none))
+    by (inr (inr none)) = inr (inr (lacks old e n b y u q none))
 
 -- ---- a page that is begun
 

@@ -19,7 +19,7 @@ use Rattle.cqlp_message.specs.Parts.{Part, parts_size}
 use Rattle.cqlp_message.proofs.PageFrames.{head_parts, page_rows, parts_bare}
 use Rattle.cqlp_message.proofs.PageFrames.{is_page as can_begin}
 use Rattle.cqlp_message.proofs.Ranges.{page_range}
-use Rattle.cqlp_build.specs.Building.{AreEventsOf, HaveNoParts, is_unbuilt}
+use Rattle.cqlp_build.specs.Building.{AreEventsOf, HaveNoParts, is_built, is_unbuilt}
 use Rattle.cqlp_build.specs.Closing.{ClosesAt, Ends, closed, of_length}
 use Rattle.cqlp_build.specs.Told.{told}
 use Rattle.cqlp_build.proofs.Finishing.{is_frame_of}
@@ -75,6 +75,14 @@ filled_opcode : (m : Message) (vs : List Values) → opcode_of (filled m vs) ≡
 filled_opcode (Rows p) vs = refl
 filled_opcode m vs = refl
 
+filled_built : (m : Message) (vs : List Values) → is_built (filled m vs) ≡ is_built m
+filled_built (Rows p) vs = refl
+filled_built m vs = refl
+
+same_built : (n : ℕ) (m : Message) → is_built (with_rows n m) ≡ is_built m
+same_built n (Rows p) = refl
+same_built n m = refl
+
 -- the parts before a page's count of rows
 abbrev CountsLast : Message → Type 0
 CountsLast m =
@@ -93,7 +101,7 @@ no_parts : (xs ys : List Event) → HaveNoParts xs → HaveNoParts ys → HaveNo
 no_parts xs ys a b = list_all-append (λ e. not (is_unbuilt e)) xs ys ∙ join (list_all (λ e. not (is_unbuilt e)) xs) (list_all (λ e. not (is_unbuilt e)) ys) a b
 
 module _ (h : Header) (fields : List Event) (n : ℕ) (g : FrameValue) (page : is_page g.message ≡ true) (k : ℕ) (begins : page_unfit_of (frame_with_rows n g) k ≡ None)
-    (size : ℕ) (are : AreEventsOf (closed h size (fields ++ rows_event 0 ∷ [])) g 0) (whole : HaveNoParts (fields ++ rows_event 0 ∷ [])) where
+    (size : ℕ) (are : AreEventsOf (closed h size (fields ++ rows_event 0 ∷ [])) g 0) (whole : HaveNoParts (fields ++ rows_event 0 ∷ [])) (built : is_built g.message ≡ true) where
   abbrev f : FrameValue
   f = frame_with_rows n g
 
@@ -125,6 +133,9 @@ module _ (h : Header) (fields : List Event) (n : ℕ) (g : FrameValue) (page : i
       ∙ (λ i. record (header_of g m) { response = same_response n g.message i; opcode = same_opcode n g.message i })
       ∙ ap (λ (x : Header). of_length x m) i.header
 
+  built_f : is_built f.message ≡ true
+  built_f = same_built n g.message ∙ built
+
   framed : (es : List Event) (bytes : List ℕ) → FrameIsInRange f → HaveNoParts es → IsPageOf f k es bytes → IsFrameWith h (fields ++ rows_event n ∷ es) bytes
   framed es bytes range none p =
       let g = with_cells f p.cells in
@@ -136,6 +147,7 @@ module _ (h : Header) (fields : List Event) (n : ℕ) (g : FrameValue) (page : i
         are = subst (λ (x : Header). AreEventsOf (Frame x ∷ (fields ++ rows_event n ∷ es) ++ End 0 ∷ []) g 0) (header_is p.cells m)
             (subst (λ (xs : List Event). AreEventsOf (Frame (header_of g m) ∷ xs ++ End 0 ∷ []) g 0) all p.are);
         spelled = p.spelled;
+        built = filled_built f.message p.cells ∙ built_f;
         written = p.written;
         whole = no_parts fields (rows_event n ∷ es) (none_both fields (rows_event 0 ∷ []) whole).0 none;
         range = page_range f p.cells bare_f range p.range;
@@ -315,5 +327,5 @@ page_is_written s h fields rows len b bs end first begins batches ended =
     let of_page : IsPageOf v k (events_of bs) (b.head.items ++ bytes_of bs) =
     subst (λ (es : List Event). IsPageOf v k es (b.head.items ++ bytes_of bs)) cut.events
     (subst (λ (xs : List ℕ). IsPageOf v k (all_events cut.pieces) xs) bytes law) in
-    framed h fields rows (frame_of g) begins.1.3.0 k (subst (λ (f : FrameValue). page_unfit_of f k ≡ None) is can) closes.size closes.are closes.whole
+    framed h fields rows (frame_of g) begins.1.3.0 k (subst (λ (f : FrameValue). page_unfit_of f k ≡ None) is can) closes.size closes.are closes.whole closes.can.1
     (events_of bs) (b.head.items ++ bytes_of bs) (subst FrameIsInRange begins.1.3.1 begins.2.4) cut.whole (subst (λ (f : FrameValue). IsPageOf f k (events_of bs) (b.head.items ++ bytes_of bs)) is of_page)

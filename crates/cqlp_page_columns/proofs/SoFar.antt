@@ -16,7 +16,7 @@ use Rattle.cqlp_decode.proofs.Taken.{takes_stands, takes_within, told_append}
 use Rattle.cqlp_columns.specs.Batches.{Batch, is_full}
 use Rattle.cqlp_columns.specs.Findings.{found_in}
 use Rattle.cqlp_page_columns.specs.Sorting.{TakesCell, SortsTo, IsOver, takes}
-use Rattle.cqlp_page_columns.specs.Filling.{TakesCells, Fills, EndsAtEvent, IsRead, stopped_at}
+use Rattle.cqlp_page_columns.specs.Filling.{TakesCells, Fills, EndsAtEvent, IsRead, refusal_after, stop_of, stopped_at, went_of}
 use Rattle.cqlp_page_columns.specs.declared.page_columns.Went.{Went}
 use Rattle.cqlp_page_columns.specs.declared.page_columns.Went.TheVariants as went
 
@@ -132,6 +132,31 @@ module _ {P S : Type 0} (Got : P → ℕ → Event → P → Type 0) (columns : 
                 ends = rw h.all (ends_on gifts old new s input es r.cells used h.items h.takes r.ends after);
               },
         )
+
+-- ---- where the last event went
+
+pub went_back : (w : Went) → w ≡ went_of (stop_of w)
+went_back went.Cell = refl
+went_back went.Last = refl
+went_back went.Other = refl
+went_back went.Failed = refl
+
+pub refusal_over : (w : Went) (before after : Option Refusal) → IsOver w → before ≡ None → after ≡ None → after ≡ refusal_after before (stop_of w)
+refusal_over went.Cell before after over b a = absurd over
+refusal_over went.Last before after over b a = a ∙ sym b
+refusal_over went.Other before after over b a = a
+refusal_over went.Failed before after over b a = a
+
+-- while another is taken after each, there is room
+module _ {P : Type 0} (Got : P → ℕ → Event → P → Type 0) (gone : P → Went) (room : (p q : P) (at : ℕ) (e : Event) → Got p at e q → gone q ≡ went.Cell) where
+  pub went_on : (p q : P) (xs : List Item) → GetsAll Got p xs q → gone p ≡ went.Cell → gone q ≡ went.Cell
+  went_on p q [] g is = ap gone g ∙ is
+  went_on p q (x ∷ xs) g is = went_on g.0 q xs g.2 (room p g.0 x.at x.event g.1)
+
+-- before a refusal there is none
+pub never : (o : Option Refusal) → ((r : Refusal) → o ≡ Some r → ⊥) → o ≡ None
+never None some = refl
+never (Some r) some = absurd (some r refl)
 
 -- ---- how a call stops
 

@@ -1,5 +1,6 @@
 -- What a call makes of the input, into columns and the sink beside them.
-use Rattle.std.specs.Prelude.{◌≡◌, ℕ, true, false, ◌++◌, List, [], ◌∷◌, length, take, Some, None, ◌⊎◌}
+use Rattle.std.specs.Prelude.{◌≡◌, ℕ, Bool, true, false, ◌++◌, List, [], ◌∷◌, length, take, Option, Some, None, ◌⊎◌}
+use Rattle.cqlp_note.specs.declared.refusal.Refusal.{Refusal}
 use Rattle.cqlp_note.specs.Limits.{Rules}
 use Rattle.cqlp_decode.specs.Reading.{Event, Gifts, Place, Reads, Says, Waits, start_with}
 use Rattle.cqlp_decode.specs.Progress.{StreamState, IsHeld}
@@ -22,6 +23,27 @@ stop_of went.Failed = stop.Failed
 
 abbrev pub stopped_at : Went → (used : ℕ) → Filled
 stopped_at w used = record { used = used; stop = stop_of w }
+
+-- where the last event went of a call that stops so; the columns took what they have
+abbrev pub went_of : Stop → Went
+went_of stop.More = went.Cell
+went_of stop.Full = went.Last
+went_of stop.Other = went.Other
+went_of stop.Failed = went.Failed
+went_of (stop.Refused r) = went.Cell
+
+-- what the decoder has refused after a call that stops so, given what it had before
+abbrev pub refusal_after : Option Refusal → Stop → Option Refusal
+refusal_after before stop.More = None
+refusal_after before stop.Full = before
+refusal_after before stop.Other = None
+refusal_after before stop.Failed = None
+refusal_after before (stop.Refused r) = Some r
+
+-- what a call makes after this refusal, into columns that are full or not
+abbrev pub refused_again : Refusal → (full : Bool) → Filled
+refused_again r true = record { used = 0; stop = stop.Full }
+refused_again r false = record { used = 0; stop = stop.Refused r }
 
 -- These are cells, which the columns took one after the other.
 abbrev pub TakesCells : Batch → List (ℕ × Event) → Batch → Type 0
@@ -47,6 +69,11 @@ pub record IsOther (gifts : Gifts) (new : StreamState) (s used : List ℕ) (es :
   -- a content that does not lie whole in the bytes used is held
   pub held : IsHeld event (length used) new.held
   pub holds : Holds at event
+
+-- After a refusal a call says it again, unless the columns are full, and nothing changes.
+abbrev pub Repeats : {S : Type 0} → Refusal → (old new : StreamState) → (columns columns' : Batch) → (before after : S) → Filled → Type 0
+Repeats r old new columns columns' before after f =
+    (f ≡ refused_again r (is_full columns)) × (new ≡ old) × (columns' ≡ columns) × (after ≡ before)
 
 -- `Got` and `Failed` say what the other sink leads to that gets an event, or fails at it.
 module _ {S : Type 0} (Got Failed : S → ℕ → Event → S → Type 0) where

@@ -2,6 +2,7 @@
 #![tactic(auto)]
 
 mod filled;
+pub mod laws;
 mod page_columns;
 
 pub use filled::{Filled, Stop};

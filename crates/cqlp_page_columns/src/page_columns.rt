@@ -1,12 +1,13 @@
 //! Columns, and a sink beside them.
 
-ghost use Rattle.std.specs.Prelude.{◌≡◌, ◌≤◌, length, false};
+ghost use Rattle.std.specs.Prelude.{◌≡◌, ◌≤◌, length, false, Some};
+ghost use Rattle.cqlp_note.specs.declared.refusal.Refusal.{Refusal};
 ghost use Rattle.cqlp_grammar.specs.Events.{event_of};
 ghost use Rattle.cqlp_decode.specs.Sinks.{Fails, Gets};
 ghost use Rattle.cqlp_decode.specs.Streams.{state};
 ghost use Rattle.cqlp_columns.specs.Batches.{is_full};
 ghost use Rattle.cqlp_columns.specs.Findings.{found_in};
-ghost use Rattle.cqlp_page_columns.specs.Filling.{FillsOn, stopped_at};
+ghost use Rattle.cqlp_page_columns.specs.Filling.{FillsOn, Repeats, refusal_after, stopped_at, went_of};
 ghost use Rattle.cqlp_page_columns.specs.Sorting.{SortsTo, is_whole};
 
 use crate::filled::{Filled, Stop};
@@ -34,14 +35,15 @@ pub enum Went {
 pub struct PageColumns<S: Sink, A: Allocator = Global> {
     pub columns: Columns<A>,
     pub other: S,
-    /// Where the last event went.
+    /// Where the last event went. After a call of [`PageColumns::read`] it is as its answer says: `Last` where the columns are full, and `Cell` where it
+    /// stopped at no event.
     pub went: Went,
 }
 
 impl<S: Sink, A: Allocator> PageColumns<S, A> {
     /// These columns, with this sink beside them.
     pub fn new(columns: Columns<A>, other: S) -> Self
-        ensures { (result.columns ≡ columns) × (result.other ≡ other) }
+        ensures { (result.columns ≡ columns) × (result.other ≡ other) × (result.went ≡ Went.Cell) }
     {
         PageColumns {
             columns,
@@ -56,9 +58,15 @@ impl<S: Sink, A: Allocator> PageColumns<S, A> {
         ensures fills { FillsOn (Gets S.Sink) (Fails S.Sink) (state decoder.old) (state decoder.new) input.now self.old.columns self.new.columns
             self.old.other self.new.other result }
         ensures within { result.used ≤ length input.now }
+        ensures went { self.new.went ≡ went_of result.stop }
+        ensures refused { (r : Refusal) → (state decoder.old).refusal ≡ Some r
+            → Repeats r (state decoder.old) (state decoder.new) self.old.columns self.new.columns self.old.other self.new.other result }
+        ensures refusal { (state decoder.new).refusal ≡ refusal_after (state decoder.old).refusal result.stop }
         ensures rules { (state decoder.new).rules ≡ (state decoder.old).rules }
+        ensures given { (state decoder.new).given ≡ (state decoder.old).given }
     {
         if self.columns.is_full() {
+            self.went = Went::Last;
             return Filled {
                 used: 0,
                 stop: Stop::Full,
@@ -73,8 +81,14 @@ impl<S: Sink, A: Allocator> PageColumns<S, A> {
         ensures fills { FillsOn (Gets S.Sink) (Fails S.Sink) (state decoder.old) (state decoder.new) input.now self.old.columns self.new.columns
             self.old.other self.new.other result }
         ensures within { result.used ≤ length input.now }
+        ensures went { self.new.went ≡ went_of result.stop }
+        ensures refused { (r : Refusal) → (state decoder.old).refusal ≡ Some r
+            → Repeats r (state decoder.old) (state decoder.new) self.old.columns self.new.columns self.old.other self.new.other result }
+        ensures refusal { (state decoder.new).refusal ≡ refusal_after (state decoder.old).refusal result.stop }
         ensures rules { (state decoder.new).rules ≡ (state decoder.old).rules }
+        ensures given { (state decoder.new).given ≡ (state decoder.old).given }
     {
+        self.went = Went::Cell;
         let mut used = 0;
         'events: loop {
             match decoder.hand_whole(&input[used..], self) {

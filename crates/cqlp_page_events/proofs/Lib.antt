@@ -6,4 +6,4 @@ mod Steps
 mod Pieces
 pub mod Whole
 pub mod OneAnswer
-mod Built
+pub mod Built

@@ -86,6 +86,10 @@ room s = min s.place.free LONGEST_BODY
 abbrev pub IsOfColumn : CellsState → Result Value CellError → Type 0
 IsOfColumn s r = Finishes s.under.events (told_type s.frame (next_column s)) r
 
+-- Memory was refused for the value that has its events, or for the bytes of that value, for which there is room.
+abbrev pub LacksMemory : CellsState → Type 0
+LacksMemory s = IsOfColumn s (Err cell_error.NoMemory) ⊎ ((v : Value) × IsOfColumn s (Ok v) × (values_size (value_of v) ≤ room s))
+
 -- What becomes of the cell under way that ends: the value that has its events, whose numbers are in their ranges, is written, and is the next cell; or there is none, or
 -- it is too long, or memory was refused, and the cell is forgotten.
 abbrev pub Ends : CellsState → Result (Unit {0}) PageCellError → CellsState → Type 0
@@ -93,7 +97,7 @@ Ends old (Ok u) new =
     (v : Value) × IsOfColumn old (Ok v) × (values_size (value_of v) ≤ room old) × (new ≡ with_cell old (value_of v)) × AreInRange (value_of v)
 Ends old (Err error.PastLength) new =
     (v : Value) × IsOfColumn old (Ok v) × (room old < values_size (value_of v)) × (new ≡ without_cell old)
-Ends old (Err (error.Cell cell_error.NoMemory)) new = new ≡ without_cell old
+Ends old (Err (error.Cell cell_error.NoMemory)) new = LacksMemory old × (new ≡ without_cell old)
 Ends old (Err (error.Cell why)) new = IsOfColumn old (Err why) × (new ≡ without_cell old)
 Ends old (Err error.NotEnded) new = ⊥
 

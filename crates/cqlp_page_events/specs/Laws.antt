@@ -12,6 +12,7 @@ use Rattle.cqlp_message.specs.Pages.{page_head, page_unfit_of, with_cells}
 use Rattle.cqlp_build.specs.Building.{AreEventsOf, is_built}
 use Rattle.cqlp_build.specs.Closing.{Ends}
 use Rattle.cqlp_build.specs.Told.{told}
+use Rattle.cqlp_build_cells.specs.Building.{ends_cell}
 use Rattle.cqlp_build_cells.specs.declared.builder.CellLimits.{CellLimits}
 use Rattle.cqlp_build_cells.specs.declared.error.CellError.TheVariants as cell_error
 use Rattle.cqlp_page_events.specs.declared.cells.WrittenCells.{WrittenCells}
@@ -19,18 +20,23 @@ use Rattle.cqlp_page_events.specs.declared.error.PageCellError.{PageCellError}
 use Rattle.cqlp_page_events.specs.declared.error.PageCellError.TheVariants as error
 use Rattle.cqlp_page_events.specs.declared.place.PagePlace.{PagePlace}
 use Rattle.cqlp_page_events.specs.Places.{first_place, is_done}
-use Rattle.cqlp_page_events.specs.Cells.{CellsState, Gives, Takes, begun}
+use Rattle.cqlp_page_events.specs.Cells.{CellsState, Gives, Takes, begun, without_cell}
 use Rattle.cqlp_page_events.specs.Measures.{events_size}
 
 abbrev pub Answer : Type 0
 Answer = Result (Unit {0}) PageCellError
+
+-- Memory was refused, for the event, and nothing changed; or, at the last event of a cell, for the cell, which is forgotten.
+abbrev pub LacksMemory : (old : CellsState) → Event → Answer → (after : CellsState) → Type 0
+LacksMemory old e a after =
+    (a ≡ Err (error.Cell cell_error.NoMemory)) × ((after ≡ old) ⊎ ((ends_cell e ≡ true) × (after ≡ without_cell old)))
 
 -- An event has one answer and leaves one state, unless memory was refused.
 abbrev pub OneAnswer : Type 0
 OneAnswer =
     (old : CellsState) (e : Event) (a b : Answer) (after_a after_b : CellsState)
     → Takes old e a after_a → Takes old e b after_b
-    → ((a ≡ b) × (after_a ≡ after_b)) ⊎ ((a ≡ Err (error.Cell cell_error.NoMemory)) ⊎ (b ≡ Err (error.Cell cell_error.NoMemory)))
+    → ((a ≡ b) × (after_a ≡ after_b)) ⊎ (LacksMemory old e a after_a ⊎ LacksMemory old e b after_b)
 
 -- ---- a page in pieces
 

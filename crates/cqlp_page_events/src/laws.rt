@@ -2,7 +2,7 @@
 
 ghost use Rattle.cqlp_page_events.specs.Laws.{OneAnswer, PageHasItsEvents, PageIsBuilt};
 
-/// An event of a cell has one answer, unless memory was refused.
+/// An event of a cell has one answer, unless memory was refused: then nothing changed, or at the last event of a cell the cell is forgotten.
 pub fn one_answer()
     ensures { OneAnswer }
 {}

@@ -2,6 +2,7 @@
 //! Bits in a row.
 
 use crate::kit_std::prelude::{Vec};
+use crate::cqlp_columns::bytes::zeros;
 use crate::kit_std::alloc::{AllocError, Allocator};
 
 /// Bits in memory that is taken once: eight in a byte, the first of them the least.
@@ -16,9 +17,10 @@ impl<A: Allocator> Bits<A> {
     pub fn new(alloc: A, room: u32) -> Result<Self, AllocError>
     {
         let count = room.div_ceil(8) as usize;
-        let mut bytes = Vec::with_capacity(alloc, count)?;
-        bytes.resize(count, 0).unwrap();
-        Ok(Bits { bytes, len: 0 })
+        Ok(Bits {
+            bytes: zeros(alloc, count)?,
+            len: 0,
+        })
     }
 
     /// How many there are.

@@ -16,9 +16,10 @@ impl<A: Allocator> Bytes<A> {
     /// With room for so many. This is the one call that takes memory.
     pub fn new(alloc: A, room: usize) -> Result<Self, AllocError>
     {
-        let mut memory = Vec::with_capacity(alloc, room)?;
-        memory.resize(room, 0).unwrap();
-        Ok(Bytes { memory, len: 0 })
+        Ok(Bytes {
+            memory: zeros(alloc, room)?,
+            len: 0,
+        })
     }
 
     /// How many there are.
@@ -56,4 +57,14 @@ impl<A: Allocator> Bytes<A> {
     {
         self.len = 0;
     }
+}
+
+/// This many zeros, in memory for just as many.
+pub(crate) fn zeros<A: Allocator>(alloc: A, count: usize) -> Result<Vec<u8, A>, AllocError>
+{
+    let mut memory = Vec::with_capacity(alloc, count)?;
+    for _ in 0..count {
+        memory.push_reserved(0);
+    }
+    Ok(memory)
 }

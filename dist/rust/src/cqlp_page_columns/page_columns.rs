@@ -25,7 +25,8 @@ pub enum Went {
 pub struct PageColumns<S: Sink, A: Allocator = Global> {
     pub columns: Columns<A>,
     pub other: S,
-    /// Where the last event went.
+    /// Where the last event went. After a call of [`PageColumns::read`] it is as its answer says: `Last` where the columns are full, and `Cell` where it
+    /// stopped at no event.
     pub went: Went,
 }
 
@@ -45,6 +46,7 @@ impl<S: Sink, A: Allocator> PageColumns<S, A> {
     pub fn read<B: Allocator>(&mut self, decoder: &mut Decoder<B>, input: &[u8]) -> Filled
     {
         if self.columns.is_full() {
+            self.went = Went::Last;
             return Filled {
                 used: 0,
                 stop: Stop::Full,
@@ -56,6 +58,7 @@ impl<S: Sink, A: Allocator> PageColumns<S, A> {
     /// The same, of columns that are not full.
     fn read_on<B: Allocator>(&mut self, decoder: &mut Decoder<B>, input: &[u8]) -> Filled
     {
+        self.went = Went::Cell;
         let mut used = 0;
         loop {
             match decoder.hand_whole(&input[used..], self) {

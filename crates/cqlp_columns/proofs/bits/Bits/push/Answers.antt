@@ -1,4 +1,4 @@
-use Rattle.std.proofs.Common.{◌≡◌, ◌+◌, ◌*◌, ◌^◌, ◌≤◌, ◌<◌, List, ℕ, Bool, length, arith, ◌∙◌, ap}
+use Rattle.std.proofs.Common.{◌≡◌, ◌+◌, ◌*◌, ◌^◌, ◌≤◌, ◌<◌, List, ℕ, Bool, length, arith, ◌∙◌, ap, sym}
 use Rattle.cqlp_columns.specs.Bits.{bits, number_of_bytes, worth}
 use Rattle.cqlp_columns.proofs.Numbers.{digits_pushed, length-digits, sum_below, written}
 use Rattle.cqlp_columns.proofs.bits.Bits.push.Goals as goal
@@ -26,7 +26,7 @@ invariant_of-self g c =
     let below : number_of_bytes new < 2 ^ (k + 1) = rw sum (sum_below (number_of_bytes items) k c.args.bit c.self.invariant.0) in
     let within : k + 1 ≤ 8 * length new = omega (arith, e, r, long) in
     let few : length new < 2 ^ 32 = omega (arith, long, c.self.invariant.2) in
-    rw (written new items c.self.inside.bytes.len (omega (arith, c.as_mut_slice.ensures.len, c.add_bit.auto.bytes))) (below, within, few)
+    rw (written new items c.self.inside.bytes.len (omega (arith, c.as_mut_slice.ensures.len, c.add_bit.auto.bytes))) (below, within, few, c.self.invariant.3 ∙ sym long)
 
 pub returns : goal.returns
 returns g c =

@@ -1,4 +1,5 @@
 use Rattle.std.proofs.Common.{◌≡◌, ◌++◌, ◌∙◌, List, ap, arith, drop, length, map, subst, sym, take}
+use Rattle.std.proofs.lemmas.List.{length-map}
 use Rattle.cqlp_columns.specs.Arrays.{Column}
 use Rattle.cqlp_columns.specs.Batches.{batch, cleared}
 use Rattle.cqlp_columns.specs.Turns.{AreEven, are_light, next_in, turn_to}
@@ -31,8 +32,9 @@ invariant_of-self g c =
     let back = written_back new items inside.columns.len (omega (arith, c.as_mut_slice.ensures.len, c.clear_all.auto.columns)) in
     let e : new ≡ map cleared items = c.clear_all.ensures ∙ ap (λ (x : List Column). map cleared x) c.as_mut_slice.ensures.value in
     let due = c.first_turn-self-inside.ensures ∙ ap (λ (x : List Column). turn_to (batch inside.limits x 0)) (c.deref.ensures.value ∙ back ∙ e) in
-    let ready = cleared_ready inside.limits items (next_in inside.turn) c.self.invariant.ready in
-    rw (back, e) (kept_first inside.limits (map cleared items) c.first_turn-self-inside.result ready (even_cleared items) (light_cleared inside.limits items) due).0
+    let ready = cleared_ready inside.limits items (next_in inside.turn) c.self.invariant.0.ready in
+    let kept = (kept_first inside.limits (map cleared items) c.first_turn-self-inside.result ready (even_cleared items) (light_cleared inside.limits items) due).0 in
+    rw (back, e) (kept, c.self.invariant.1 ∙ sym (length-map items cleared))
 
 pub returns : goal.returns
 returns g c =

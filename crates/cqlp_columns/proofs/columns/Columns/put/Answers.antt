@@ -26,7 +26,7 @@ put_in-light-requires-clause-takes g c =
     let cell = cell_of c.args.cell.now in
     let none : fault_at k cell b ≡ None = ap (λ (x : Batch). fault_at k cell x) c.self.view_is ∙ sym c.in-None.ensures in
     ap (λ (x : List Column). refusal_among k cell x) c.as_mut_slice.ensures.value
-    ∙ ready_takes inside.limits items (next_in inside.turn) k cell c.self.invariant.ready none
+    ∙ ready_takes inside.limits items (next_in inside.turn) k cell c.self.invariant.0.ready none
 
 pub turn_after-self-inside-requires-clause-there : goal.turn_after-self-inside-requires-clause-there
 turn_after-self-inside-requires-clause-there g c =
@@ -55,7 +55,7 @@ turn_after-self-inside-requires-clause-light g c =
     let more : new ≡ with_cell_in k cell items = c.put_in-light.ensures.more ∙ ap (λ (x : List Column). with_cell_in k cell x) c.as_mut_slice.ensures.value in
     let d : c.deref.result.now ≡ with_cell_in k cell items = c.deref.ensures.value ∙ back ∙ more in
     let it : c.put_in-light.result ≡ is_light_at inside.limits k (with_cell_in k cell items) = c.put_in-light.ensures.light ∙ ap (λ (x : List Column). is_light_at inside.limits k x) more in
-    let weight : c.keep.new.light ≡ are_light inside.limits (with_cell_in k cell items) = c.keep.ensures ∙ light_put inside.limits items inside.light c.put_in-light.result k cell c.self.invariant.weight it in
+    let weight : c.keep.new.light ≡ are_light inside.limits (with_cell_in k cell items) = c.keep.ensures ∙ light_put inside.limits items inside.light c.put_in-light.result k cell c.self.invariant.0.weight it in
     weight ∙ sym (ap (λ (x : List Column). are_light inside.limits x) d)
 
 pub turn_after-self-inside-requires-clause-even : goal.turn_after-self-inside-requires-clause-even
@@ -70,7 +70,7 @@ turn_after-self-inside-requires-clause-even g c =
     let back = written_back new items inside.columns.len (omega (arith, c.as_mut_slice.ensures.len, c.put_in-light.auto.columns)) in
     let more : new ≡ with_cell_in k cell items = c.put_in-light.ensures.more ∙ ap (λ (x : List Column). with_cell_in k cell x) c.as_mut_slice.ensures.value in
     let d : c.deref.result.now ≡ with_cell_in k cell items = c.deref.ensures.value ∙ back ∙ more in
-    subst (λ (x : List Column). AreEven (k + 1) x) (sym d) (even_put inside.limits items inside.turn inside.light k cell c.self.invariant none)
+    subst (λ (x : List Column). AreEven (k + 1) x) (sym d) (even_put inside.limits items inside.turn inside.light k cell c.self.invariant.0 none)
 
 pub invariant_of-self : goal.invariant_of-self
 invariant_of-self g c =
@@ -85,12 +85,12 @@ invariant_of-self g c =
     let more : new ≡ with_cell_in k cell items = c.put_in-light.ensures.more ∙ ap (λ (x : List Column). with_cell_in k cell x) c.as_mut_slice.ensures.value in
     let d : c.deref.result.now ≡ with_cell_in k cell items = c.deref.ensures.value ∙ back ∙ more in
     let it : c.put_in-light.result ≡ is_light_at inside.limits k (with_cell_in k cell items) = c.put_in-light.ensures.light ∙ ap (λ (x : List Column). is_light_at inside.limits k x) more in
-    let weight : c.keep.new.light ≡ are_light inside.limits (with_cell_in k cell items) = c.keep.ensures ∙ light_put inside.limits items inside.light c.put_in-light.result k cell c.self.invariant.weight it in
+    let weight : c.keep.new.light ≡ are_light inside.limits (with_cell_in k cell items) = c.keep.ensures ∙ light_put inside.limits items inside.light c.put_in-light.result k cell c.self.invariant.0.weight it in
     let count : length c.deref.result.now ≡ length items = ap (λ (x : List Column). length x) d ∙ as_long k cell items in
     let low : length c.deref.result.now < 2 ^ 64 = omega (arith, count, inside.columns.small, inside.columns.ok) in
     let due = c.turn_after-self-inside.ensures ∙ ap (λ (x : List Column). turn_to (batch inside.limits x (next_after k (length c.deref.result.now)))) d in
-    let kept = kept_more inside.limits items inside.turn inside.light k cell (length c.deref.result.now) c.turn_after-self-inside.result c.keep.new.light c.self.invariant none count low due weight in
-    rw (back, more) kept.0
+    let kept = kept_more inside.limits items inside.turn inside.light k cell (length c.deref.result.now) c.turn_after-self-inside.result c.keep.new.light c.self.invariant.0 none count low due weight in
+    rw (back, more) (kept.0, c.self.invariant.1 ∙ sym (as_long k cell items))
 
 pub returns-in-None-clause-taken : goal.returns-in-None-clause-taken
 returns-in-None-clause-taken g c =
@@ -105,11 +105,11 @@ returns-in-None-clause-taken g c =
     let more : new ≡ with_cell_in k cell items = c.put_in-light.ensures.more ∙ ap (λ (x : List Column). with_cell_in k cell x) c.as_mut_slice.ensures.value in
     let d : c.deref.result.now ≡ with_cell_in k cell items = c.deref.ensures.value ∙ back ∙ more in
     let it : c.put_in-light.result ≡ is_light_at inside.limits k (with_cell_in k cell items) = c.put_in-light.ensures.light ∙ ap (λ (x : List Column). is_light_at inside.limits k x) more in
-    let weight : c.keep.new.light ≡ are_light inside.limits (with_cell_in k cell items) = c.keep.ensures ∙ light_put inside.limits items inside.light c.put_in-light.result k cell c.self.invariant.weight it in
+    let weight : c.keep.new.light ≡ are_light inside.limits (with_cell_in k cell items) = c.keep.ensures ∙ light_put inside.limits items inside.light c.put_in-light.result k cell c.self.invariant.0.weight it in
     let count : length c.deref.result.now ≡ length items = ap (λ (x : List Column). length x) d ∙ as_long k cell items in
     let low : length c.deref.result.now < 2 ^ 64 = omega (arith, count, inside.columns.small, inside.columns.ok) in
     let due = c.turn_after-self-inside.ensures ∙ ap (λ (x : List Column). turn_to (batch inside.limits x (next_after k (length c.deref.result.now)))) d in
-    let kept = kept_more inside.limits items inside.turn inside.light k cell (length c.deref.result.now) c.turn_after-self-inside.result c.keep.new.light c.self.invariant none count low due weight in
+    let kept = kept_more inside.limits items inside.turn inside.light k cell (length c.deref.result.now) c.turn_after-self-inside.result c.keep.new.light c.self.invariant.0 none count low due weight in
     let left : List Column = take inside.columns.len (new ++ drop (length new) items) in
     λ ok. ap (λ (n : ℕ). batch inside.limits left n) kept.1 ∙ ap (λ (x : List Column). batch inside.limits x (next_after k (length items))) (back ∙ more)
     ∙ ap (λ (x : Batch). with_cell_at k cell x) c.self.view_is

@@ -1,5 +1,6 @@
-use Rattle.std.proofs.Common.{◌+◌, ◌≤◌, ◌++◌, length, drop, take, refl, sym, subst, ◌∙◌, arith}
+use Rattle.std.proofs.Common.{◌≡◌, ◌+◌, ◌≤◌, ◌++◌, length, drop, take, refl, sym, subst, ◌∙◌, arith}
 use Rattle.std.proofs.lemmas.List.{length-drop, length-take-le, take_all}
+use Rattle.std.specs.Prelude.{Some}
 use Rattle.cqlp_note.specs.Limits.{Rules}
 use Rattle.cqlp_grammar.specs.Events.{event_of}
 use Rattle.cqlp_decode.specs.Streams.{state}
@@ -8,7 +9,7 @@ use Rattle.cqlp_decode.proofs.Gets.{rest_is}
 use Rattle.cqlp_page_columns.specs.Filling.{EndsAtEvent}
 use Rattle.cqlp_page_columns.specs.Sorting.{SortsTo}
 use Rattle.cqlp_page_columns.specs.declared.page_columns.Went.{Went}
-use Rattle.cqlp_page_columns.proofs.SoFar.{ends, failed_after, handed_on, held_longer, onward, read_none, read_one, refuses_on, same_refusal, waits_on}
+use Rattle.cqlp_page_columns.proofs.SoFar.{ends, failed_after, handed_on, held_longer, onward, read_none, read_one, refuses_on, same_refusal, waits_on, went_on}
 use Rattle.cqlp_page_columns.proofs.page_columns.PageColumns.read_on.Goals as goal
 
 pub events-init : goal.events-init
@@ -16,6 +17,9 @@ events-init g c = record {
   within = omega arith;
   rules = refl;
   same = refl;
+  given = refl;
+  went = refl;
+  again = λ r is. (refl, refl, refl, refl);
   free = c.requires;
   other = refl;
   read = λ gifts s es a. read_none gifts _ s _ es _ a;
@@ -90,6 +94,16 @@ returns-in-Err-take-clause-fills g c = λ gifts s es a.
     (ends g.S.Sink gifts (state c.args.decoder.now) new s input es r.cells c.args.self.now.columns page.columns after.columns c.args.self.now.other page.other after.other r.taken h.0 (h.1 ∙ i.other) (used + c.in-Event.taken) c.in-Event.at (event_of c.in-Event.event) after.went
     (c.in-Err-take.ensures.err tt) c.in-Err-take.ensures.also leads.1 leads.2 (onward gifts new s input used c.in-Event.taken _ leads.3) (held_longer _ _ c.in-Event.taken _ (omega (arith, long)) goes.5))
 
+pub returns-in-More-clause-went : goal.returns-in-More-clause-went
+returns-in-More-clause-went g c =
+    let h = c.in-Ok.ensures.drains in
+    went_on _ (λ p. p.went) (λ p q at e h. (h.0 tt).1) c.events.self c.hand_whole.new.sink h.items h.got c.events.invariant.went
+
+pub returns-in-Refused-clause-went : goal.returns-in-Refused-clause-went
+returns-in-Refused-clause-went g c =
+    let h = c.in-Ok.ensures.drains in
+    went_on _ (λ p. p.went) (λ p q at e h. (h.0 tt).1) c.events.self c.hand_whole.new.sink h.items h.got c.events.invariant.went
+
 pub events-preserved : goal.events-preserved
 events-preserved g c =
     let i = c.events.invariant in
@@ -109,6 +123,11 @@ events-preserved g c =
     let one = subst (λ (w : Went). SortsTo g.S.Sink w page.columns page.other c.in-Event.at (event_of c.in-Event.event) after.columns after.other) (c.in-Ok-take.ensures.ok tt).1 c.in-Ok-take.ensures.also in record {
       within = omega (arith, taken, first, i.within, length-drop used input, length-drop c.events.used input);
       rules = goes.2 ∙ stays.2 ∙ i.rules;
+      given = goes.4 ∙ stays.3 ∙ i.given;
+      went = (c.in-Ok-take.ensures.ok tt).1;
+      again = λ r is.
+          let before : mid.refusal ≡ Some r = stays.1 ∙ i.same ∙ is in
+          let e = sym c.in-Event.is ∙ (repeated mid new _ mid.refusal r before c.next.follows.holds-at-none.2).0 in absurd cc;
       same = same_refusal mid.refusal (state c.args.decoder.now).refusal (stays.1 ∙ i.same) new.refusal goes.3 (λ r is.
           let again = (repeated mid new _ mid.refusal r is c.next.follows.holds-at-none.2).0 in
           let e = sym c.in-Event.is ∙ again in cc);

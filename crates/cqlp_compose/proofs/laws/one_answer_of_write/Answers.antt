@@ -1,0 +1,5 @@
+use Rattle.cqlp_compose.proofs.OneAnswer.{one_answer_of_write}
+use Rattle.cqlp_compose.proofs.laws.one_answer_of_write.Goals as goal
+
+pub returns : goal.returns
+returns c = one_answer_of_write
