@@ -63,8 +63,10 @@ impl<A: Allocator> Bytes<A> {
 pub(crate) fn zeros<A: Allocator>(alloc: A, count: usize) -> Result<Vec<u8, A>, AllocError>
 {
     let mut memory = Vec::with_capacity(alloc, count)?;
-    for _ in 0..count {
-        memory.push_reserved(0);
+    memory.resize(count, 0)?;
+    // There was room, so `resize` took no more; but its contract does not say so.
+    if memory.capacity() > count {
+        return Err(AllocError);
     }
     Ok(memory)
 }
