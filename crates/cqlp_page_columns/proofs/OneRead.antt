@@ -114,7 +114,7 @@ taken_all kinds a b had (e ∷ es) is t =
     let limits : t.0.limits ≡ a.limits = ap (λ (z : Batch). z.limits) next in
     let more = taken_all kinds t.0 b (had ++ e.1 ∷ []) es (subst (λ (l : BatchLimits). t.0 ≡ batch_of l kinds (had ++ e.1 ∷ [])) (sym limits) next) t.2 in
     more ∙ ap (λ (l : BatchLimits). batch_of l kinds ((had ++ e.1 ∷ []) ++ events_in es)) limits ∙ ap (batch_of a.limits kinds) (append_assoc had
-        (e.1 ∷ []) (events_in es))
+    (e.1 ∷ []) (events_in es))
 
 split_at : (a c : Batch) (xs : List (ℕ × Event)) (y : ℕ × Event) (rest : List (ℕ × Event)) → TakesCells a (xs ++ y ∷ rest) c
     → (mid : Batch) × TakesCells a xs mid × (takes mid (found_in y.1) ≡ true)
@@ -152,9 +152,9 @@ module _ (gifts : Gifts) (l : Rules) (s input : List ℕ) (es : List (ℕ × Eve
       → Reads l (start_with gifts) (s ++ input) (es ++ told) p (b ++ drop used input)
   stay used told p b run =
       let there : (s ++ take used input) ++ drop used input ≡ s ++ input = append_assoc s (take used input) (drop used input)
-          ∙ ap (λ (z : List ℕ). s ++ z) (take-append-drop used input) in
+      ∙ ap (λ (z : List ℕ). s ++ z) (take-append-drop used input) in
       subst (λ (z : List ℕ). Reads l (start_with gifts) z (es ++ told) p (b ++ drop used input)) there (runs_stay (step l) (start_with gifts)
-          (s ++ take used input) (drop used input) (es ++ told) p b run)
+      (s ++ take used input) (drop used input) (es ++ told) p b run)
 
   -- where the reading is after these events, it has at least what was not used
   record Reached (used : ℕ) (told : List (ℕ × Event)) : Type 0 where
@@ -165,10 +165,20 @@ module _ (gifts : Gifts) (l : Rules) (s input : List ℕ) (es : List (ℕ × Eve
 
   reached_by : (o : Option Refusal) (d : StreamState) (used : ℕ) (told : List (ℕ × Event)) → d.rules ≡ l → AfterBy o gifts d (s ++ take used input)
       (es ++ told) → Reached used told
-  reached_by None d used told is a = record { place = a.place; rest = a.bytes ++ drop used input; run = stay used told a.place a.bytes
-      (rw is at a.read); least = omega (arith, length-append a.bytes (drop used input), length-drop used input) }
-  reached_by (Some r) d used told is a = record { place = a.place; rest = a.bytes ++ drop used input; run = stay used told a.place a.bytes
-      (rw is at a.read); least = omega (arith, length-append a.bytes (drop used input), length-drop used input) }
+  reached_by None d used told is a = record {
+    place = a.place;
+    rest = a.bytes ++ drop used input;
+    run = stay used told a.place a.bytes
+        (rw is at a.read);
+    least = omega (arith, length-append a.bytes (drop used input), length-drop used input);
+  }
+  reached_by (Some r) d used told is a = record {
+    place = a.place;
+    rest = a.bytes ++ drop used input;
+    run = stay used told a.place a.bytes
+        (rw is at a.read);
+    least = omega (arith, length-append a.bytes (drop used input), length-drop used input);
+  }
 
   -- the bytes used end with the last of these events, or there are none
   abbrev Stops : (used : ℕ) → (told : List (ℕ × Event)) → Type 0
@@ -200,7 +210,7 @@ module _ (gifts : Gifts) (l : Rules) (s input : List ℕ) (es : List (ℕ × Eve
   compare : (t t' : List (ℕ × Event)) → Through t → Through t' → length t ≤ length t' → (more : List (ℕ × Event)) × (t' ≡ t ++ more)
   compare t t' x y le =
       let c = runs_compare (step l) (start_with gifts) x.0 y.0 (s ++ input) x.1 y.1 (es ++ t) (es ++ t') x.2 y.2 (omega
-          (arith, le, length-append es t, length-append es t')) in
+      (arith, le, length-append es t, length-append es t')) in
       (c.0, append_cancel_left es t' (t ++ c.0) (c.1 ∙ append_assoc es t c.0))
 
   few : (v : Verdict) (t t' : List (ℕ × Event)) → Says l (start_with gifts) (s ++ input) (es ++ t) v → Through t' → length t' ≤ length t
@@ -247,14 +257,14 @@ module _ (gifts : Gifts) (l : Rules) (s input : List ℕ) (es : List (ℕ × Eve
         (arith, le, lt, length-append y.cells y.other)
     longer_by c c' used used' w' y why.Full x e lt =
         let on = goes_on c c' used used' why.Full w' x y (omega
-            (arith, lt, ap length e.1, length-append x.cells x.other, length-append y.cells y.other)) lt in full_takes c (found_in on.0.1) e.0 on.4
+        (arith, lt, ap length e.1, length-append x.cells x.other, length-append y.cells y.other)) lt in full_takes c (found_in on.0.1) e.0 on.4
     longer_by c c' used used' w' y why.Other x e lt =
         let on = goes_on c c' used used' why.Other w' x y (omega (arith, lt, ap length e.2, length-append x.cells x.other, length-append y.cells y.other)) lt in
         let same : e.1 ≡ on.0 = same_item e.1 on.0 on.1 on.2 (subst (λ (z : List (ℕ × Event)). z ++ on.1 ≡ on.0 ∷ on.2) e.2 on.3) in
         not_both (takes c (found_in on.0.1)) on.4 (subst (λ (z : ℕ × Event). takes c (found_in z.1) ≡ false) same e.3)
     longer_by c c' used used' w' y why.Failed x e lt =
         let on = goes_on c c' used used' why.Failed w' x y (omega
-            (arith, lt, ap length e.2, length-append x.cells x.other, length-append y.cells y.other)) lt in
+        (arith, lt, ap length e.2, length-append x.cells x.other, length-append y.cells y.other)) lt in
         let same : e.1 ≡ on.0 = same_item e.1 on.0 on.1 on.2 (subst (λ (z : List (ℕ × Event)). z ++ on.1 ≡ on.0 ∷ on.2) e.2 on.3) in
         not_both (takes c (found_in on.0.1)) on.4 (subst (λ (z : ℕ × Event). takes c (found_in z.1) ≡ false) same e.3)
 
@@ -384,9 +394,12 @@ module _ (gifts : Gifts) (l : Rules) (s input : List ℕ) (es : List (ℕ × Eve
       at_other x a e =
           let there = append_assoc es cells (x ∷ []) in
           let stands = subst (λ (z : List (ℕ × Event)). AfterGifts gifts new (s ++ take used input) z) there a in
-          let r = reached_by new.refusal new used (cells ++ x ∷ []) rules stands in
-          (stands, stops_there used (cells ++ x ∷ []) within r (inr (subst (λ (z : List (ℕ × Event)). IsRead gifts l (s ++ take used input) z) there
-              (rw rules at e))), through_all (cells ++ x ∷ []) r)
+          let r = reached_by new.refusal new used (cells ++ x ∷ []) rules stands in (
+            stands,
+            stops_there used (cells ++ x ∷ []) within r (inr (subst (λ (z : List (ℕ × Event)). IsRead gifts l (s ++ take used input) z) there
+                (rw rules at e))),
+            through_all (cells ++ x ∷ []) r,
+          )
 
       made : (w : Why) → StopsBy (Gets m) (Fails m) gifts old new s input (take used input) (es ++ cells) c before after w → Made w
       made why.More h =
@@ -434,8 +447,13 @@ module _ (gifts : Gifts) (l : Rules) (s input : List ℕ) (es : List (ℕ × Eve
               other = [];
               taken = taken;
               through = subst Through (sym (append-nil cells)) (through_all cells at);
-              ends = (h.0, refl, stops_there used cells within at (rw rules at h.5), rw was_rules at (refuses_new old.refusal gifts old s
-                  (es ++ cells) input r none h.4));
+              ends = (
+                h.0,
+                refl,
+                stops_there used cells within at (rw rules at h.5),
+                rw was_rules at (refuses_new old.refusal gifts old s
+                    (es ++ cells) input r none h.4),
+              );
             },
             (refl, h.1),
             alone h.3,
@@ -461,7 +479,7 @@ refusal_alike why.Failed (why.Refused r) same = absurd cc
 module _ {S : Type 0} (m : sink.Ghosts S) (gifts : Gifts) (s : List ℕ) (es : List (ℕ × Event)) (kinds : List Kind) (had : List Event)
     (old new new' : StreamState) (input : List ℕ) (columns columns' columns'' : Batch) (before after after' : S) (w w' : Went) (f f' : Filled)
     (a : AfterGifts gifts old s es) (has : HasTaken columns.limits kinds had columns) (x : HasRead m old new input columns columns' before after w f)
-        (y : HasRead m old new' input columns columns'' before after' w' f') where
+    (y : HasRead m old new' input columns columns'' before after' w' f') where
   abbrev One : Type 0
   One = AreOneRead m gifts s input es new new' columns columns' columns'' before after after' w w' f f'
 
@@ -513,7 +531,7 @@ module _ {S : Type 0} (m : sink.Ghosts S) (gifts : Gifts) (s : List ℕ) (es : L
       let h = y.fills gifts s es a in
       let p = made gifts l s input es kinds had columns has m old new none refl x.rules columns' before after f.used x.within g.cells g.taken f.stop g.stops in
       let q = made gifts l s input es kinds had columns has m old new' none refl y.rules columns'' before after' f'.used y.within h.cells h.taken f'.stop
-          h.stops in
+      h.stops in
       let same = same_outcome gifts l s input es kinds had columns has columns' columns'' f.used f'.used f.stop f'.stop p.0 q.0 in record {
         used = same.1;
         stop = same.2;
