@@ -48,7 +48,7 @@ impl Nesting {
     }
 
     /// Goes on after an event, for which there is room.
-    pub fn go_on(&mut self, event: &Event<'_>)
+    pub fn pass_event(&mut self, event: &Event<'_>)
         requires { deque_len self.old.left + 1 ≤ deque_capacity self.old.left }
         ensures { self.new.left.items ≡ after_event (event_of event.now) self.old.left.items }
     {

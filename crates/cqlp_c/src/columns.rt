@@ -324,7 +324,7 @@ fn fill_columns(
     let batch = batch_in(filled);
     if batch.events == 1 {
         put_beside(event, other, decoder, &input[..filled.used]);
-        frame.go_on(event);
+        frame.pass_event(event);
     }
     (batch, columns)
 }
@@ -369,7 +369,7 @@ fn read_columns(
         &mut course.frame,
     );
     place_told(course.base, &batch, event);
-    course.go_on(passed + batch.used);
+    course.add_used(passed + batch.used);
     (batch_behind(course, passed, batch), columns)
 }
 

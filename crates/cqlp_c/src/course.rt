@@ -101,7 +101,7 @@ impl CqlpBegun {
     }
 
     /// Goes on to the frame under way after an event that C was told.
-    pub fn go_on(&mut self, told: &CqlpEvent)
+    pub fn pass_event(&mut self, told: &CqlpEvent)
         ensures { self.new ≡ specs.begun_after self.old told.now }
     {
         *self = self.after(told);
@@ -183,7 +183,7 @@ impl CqlpCourse {
 
     /// Goes on by this many bytes.
     #[inline]
-    pub fn go_on(&mut self, count: usize)
+    pub fn add_used(&mut self, count: usize)
         ensures { self.new ≡ specs.gone_on self.old count }
     {
         self.used = self.used.saturating_add(count as u64);

@@ -198,7 +198,7 @@ fn read_behind(
     let passed = course.passed(input.len());
     let batch = fill(decoder, &input[passed..], events, &mut course.frame);
     place(course.base, &mut events[..batch.events]);
-    course.go_on(passed + batch.used);
+    course.add_used(passed + batch.used);
     course.batch(passed, batch)
 }
 
@@ -217,7 +217,7 @@ fn read_on(
         return read_behind(decoder, course, input, events);
     }
     let batch = fill(decoder, input, events, &mut course.frame);
-    course.go_on(batch.used);
+    course.add_used(batch.used);
     batch
 }
 

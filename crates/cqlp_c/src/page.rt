@@ -535,7 +535,7 @@ fn put_cells(
     let put = put_all(&mut cells, events, contents, room);
     let place = cells.place();
     drop(cells);
-    page.go_on(place);
+    page.set_place(place);
     put
 }
 

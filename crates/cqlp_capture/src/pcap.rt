@@ -9,7 +9,7 @@ use crate::file::{ByteOrder, FileForm, Fraction, SectionForm};
 use crate::interfaces::{KnownInterface, TableChange};
 use crate::place::{FARTHEST, Place, RecordForm, Stage};
 use crate::refusal::{CaptureReason, CaptureRefusal};
-use crate::telling::{go_on, refuse};
+use crate::telling::{read_next, refuse};
 
 /// What the first four bytes of a file say. Section 4 of draft-ietf-opsawg-pcap, and section 4.1 of
 /// draft-ietf-opsawg-pcapng.
@@ -19,7 +19,7 @@ pub(crate) fn tell_magic(bytes: &[u8]) -> Result<Told, CaptureRefusal>
 {
     let magic = ByteOrder::BigEndian.read_u32(bytes, 0);
     if magic == 0x0A0D_0D0A {
-        return go_on(4, Stage::SectionLength);
+        return read_next(4, Stage::SectionLength);
     }
     match FileForm::of_magic(magic) {
         Some(form) => Ok(Told {

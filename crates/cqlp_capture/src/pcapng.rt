@@ -13,7 +13,7 @@ use crate::file::{ByteOrder, SectionForm};
 use crate::interfaces::{KnownInterface, TableChange};
 use crate::place::{FARTHEST, Place, Stage};
 use crate::refusal::{CaptureReason, CaptureRefusal};
-use crate::telling::{go_on, refuse};
+use crate::telling::{read_next, refuse};
 
 /// That these bytes, up to this offset, are all of a packet.
 pub(crate) fn tell_data(end: u64, offset: u64, stage: Stage) -> Result<Told, CaptureRefusal>
@@ -32,7 +32,7 @@ pub(crate) fn tell_section_length(bytes: &[u8]) -> Result<Told, CaptureRefusal>
     requires { length bytes.now ≡ 4 }
     ensures { result ≡ told_section_length bytes.now }
 {
-    go_on(8, Stage::SectionBody(read_either_length(bytes, 0)))
+    read_next(8, Stage::SectionBody(read_either_length(bytes, 0)))
 }
 
 /// The length at this index.
@@ -109,7 +109,7 @@ pub(crate) fn tell_block_head(
     }
     let kind = BlockKind::of_type(order.read_u32(bytes, 0));
     if let BlockKind::Section = kind {
-        return go_on(offset + 8, Stage::SectionBody(read_either_length(bytes, 4)));
+        return read_next(offset + 8, Stage::SectionBody(read_either_length(bytes, 4)));
     }
     let block = Block {
         order,
@@ -137,7 +137,7 @@ fn tell_block(kind: BlockKind, block: Block) -> Result<Told, CaptureRefusal>
         BlockKind::SimplePacket => Stage::SimpleBody(block),
         BlockKind::Section | BlockKind::Other => block.passing(offset, block.end()),
     };
-    go_on(offset, stage)
+    read_next(offset, stage)
 }
 
 /// What the numbers of an interface say. Section 4.2.
@@ -175,7 +175,7 @@ fn tell_description(
         length: block.length,
         interface: Some(interface),
     };
-    go_on(offset, block.at_option(offset))
+    read_next(offset, block.at_option(offset))
 }
 
 /// What the code and the length of an option say. Sections 3.5 and 4.2.
@@ -192,7 +192,7 @@ pub(crate) fn tell_option_head(
     let size = block.order.read_u16(bytes, 2);
     let end = block.end();
     if code == 0 {
-        return go_on(offset + 4, block.passing(offset + 4, end));
+        return read_next(offset + 4, block.passing(offset + 4, end));
     }
     if offset + 4 + filled_up(size) > end {
         return refuse(offset + 2, CaptureReason::BadOptionLength);
@@ -206,10 +206,10 @@ fn tell_option(offset: u64, block: Block, code: u16, size: u16) -> Result<Told, 
     ensures { result ≡ told_option offset block code size }
 {
     match (code, size) {
-        (9, 1) => go_on(offset + 4, Stage::TimeUnit(block)),
-        (14, 8) => go_on(offset + 4, Stage::TimeOffset(block)),
+        (9, 1) => read_next(offset + 4, Stage::TimeUnit(block)),
+        (14, 8) => read_next(offset + 4, Stage::TimeOffset(block)),
         (9 | 14, _) => refuse(offset + 2, CaptureReason::BadOptionLength),
-        _ => go_on(
+        _ => read_next(
             offset + 4,
             block.passing(offset + 4, offset + 4 + filled_up(size)),
         ),
@@ -247,7 +247,7 @@ pub(crate) fn tell_time_unit(
                 offset: interface.offset,
             },
         ),
-        None => go_on(offset + 4, block.at_option(offset + 4)),
+        None => read_next(offset + 4, block.at_option(offset + 4)),
     }
 }
 
@@ -295,7 +295,7 @@ pub(crate) fn tell_time_offset(
                 offset: seconds,
             },
         ),
-        None => go_on(offset + 8, block.at_option(offset + 8)),
+        None => read_next(offset + 8, block.at_option(offset + 8)),
     }
 }
 
@@ -433,7 +433,7 @@ pub(crate) fn tell_block_end(
     }
     let stage = Stage::BlockHead(block.order);
     let Some(interface) = block.interface else {
-        return go_on(offset + 4, stage);
+        return read_next(offset + 4, stage);
     };
     let number = known.len() as u32;
     if number >= limit {

@@ -10,7 +10,7 @@ use crate::file::{ByteOrder, FileForm};
 use crate::interfaces::{KnownInterface, TableChange};
 use crate::limits::CaptureLimits;
 use crate::refusal::CaptureRefusal;
-use crate::telling::go_on;
+use crate::telling::read_next;
 use crate::{pcap, pcapng};
 
 /// How the records of a pcap file are written.
@@ -129,7 +129,7 @@ impl Place {
                 let end = offset + size as u64;
                 pcapng::tell_data(end, offset, block.passing(end, block.end()))
             }
-            Stage::Pass(block, until) => go_on(offset + 1, block.passing(offset + 1, until)),
+            Stage::Pass(block, until) => read_next(offset + 1, block.passing(offset + 1, until)),
             Stage::BlockEnd(block) => {
                 pcapng::tell_block_end(limits.interfaces, known, offset, block, bytes)
             }

@@ -9,7 +9,7 @@ use crate::place::{Place, Stage};
 use crate::refusal::{CaptureReason, CaptureRefusal};
 
 /// No event, and this is read next, from this offset on.
-pub(crate) fn go_on(offset: u64, stage: Stage) -> Result<Told, CaptureRefusal>
+pub(crate) fn read_next(offset: u64, stage: Stage) -> Result<Told, CaptureRefusal>
     ensures { result ≡ goes_on offset stage }
 {
     Ok(Told {

@@ -196,7 +196,7 @@ impl<A: Allocator> Direction<A> {
             Heard::Begins(header) => {
                 self.begin(end.saturating_sub(9), &header, transcript, writer)
             }
-            Heard::Body => self.go_on(bytes, transcript, writer),
+            Heard::Body => self.take_body(bytes, transcript, writer),
             Heard::Ends(_) => self.end(transcript, writer),
             Heard::Stray => self.close(transcript, writer),
             Heard::More => Ok(()),
@@ -241,11 +241,11 @@ impl<A: Allocator> Direction<A> {
         self.came = Noted::new();
         self.at = at;
         self.is_open = true;
-        self.go_on(&header.write(), transcript, writer)
+        self.take_body(&header.write(), transcript, writer)
     }
 
     /// Takes bytes which come next of the frame that is read, if one is.
-    fn go_on<T: Transcript<A>, P: Pen>(
+    fn take_body<T: Transcript<A>, P: Pen>(
         &mut self,
         bytes: &[u8],
         transcript: &mut T,

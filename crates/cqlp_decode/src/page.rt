@@ -95,7 +95,7 @@ impl CellCursor {
         ensures { (depth : ℕ) → IsPage table.now.nodes depth self → Turns table.now.nodes depth self result }
     {
         let mut following = self;
-        if following.turn(table) {
+        if following.advance(table) {
             return Some(following);
         }
         None
@@ -103,7 +103,7 @@ impl CellCursor {
 
     /// Goes on to the cell after this one, if there is one.
     #[inline(always)]
-    pub fn turn<A: Allocator>(&mut self, table: &TypeTable<A>) -> bool
+    pub fn advance<A: Allocator>(&mut self, table: &TypeTable<A>) -> bool
         requires { IsSomePage table.now.nodes self.old }
         ensures { (depth : ℕ) → IsPage table.now.nodes depth self.old
             → TurnsTo table.now.nodes depth self.old result self.new }

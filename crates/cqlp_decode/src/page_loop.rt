@@ -111,7 +111,7 @@ fn take_due<S: Sink, A: Allocator>(
             Handed::Left => break 'cells,
             Handed::Taken(taken) => {
                 used += taken;
-                if !page.turn(table) {
+                if !page.advance(table) {
                     progress.offset = start + used as u64;
                     progress.expect_next();
                     return Ok(used);

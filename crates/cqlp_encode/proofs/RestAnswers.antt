@@ -10,7 +10,7 @@ use Rattle.cqlp_encode.specs.declared.page_writer.PageError.{PageError}
 use Rattle.cqlp_encode.specs.declared.page_writer.PageError.TheVariants as error
 use Rattle.cqlp_encode.specs.Encoding.{Continued}
 use Rattle.cqlp_encode.specs.PageWriting.{PageState, AddsRest, RestCut, rest_error, before_cut, one_more, failed_after}
-use Rattle.cqlp_encode.specs.Laws.{OneAnswerOfBeginFrom, OneAnswerOfGoOn}
+use Rattle.cqlp_encode.specs.Laws.{OneAnswerOfBeginFrom, OneAnswerOfResume}
 use Rattle.cqlp_encode.proofs.Attempts.{continued_once}
 use Rattle.cqlp_encode.proofs.PageAnswers.{made_once, head_count, begun_fits, no_both, same_error, no_error}
 
@@ -79,5 +79,5 @@ module _ (p q q' : PageState) (cells : List Values) (v : Values) (old new new' :
   once (whole is none continued after) (whole is' none' continued' after') w =
       (is' ∙ sym is, continued_once p.cut old new new' (values_bytes v) _ _ known refl continued continued', after' ∙ sym after)
 
-pub rests_once : OneAnswerOfGoOn
+pub rests_once : OneAnswerOfResume
 rests_once p q q' cells v old new new' r r' known a b w = once p q q' cells v old new new' r r' known (outcome p cells v old r new q a) (outcome p cells v old r' new' q' b) w

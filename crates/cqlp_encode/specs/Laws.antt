@@ -132,13 +132,13 @@ OneAnswerOfBeginFrom =
     → BeginsFrom f n before old r new → BeginsFrom f n before old r' new' → head_taken r' ≡ head_taken r
     → (r' ≡ r) × (new' ≡ new)
 
-abbrev pub OneAnswerOfGoOn : Type 0
-OneAnswerOfGoOn =
+abbrev pub OneAnswerOfResume : Type 0
+OneAnswerOfResume =
     (p q q' : PageState) (cells : List Values) (v : Values) (old new new' : Output) (r r' : Result ⊤ PageError)
     → IsSome old.given → AddsRest p cells v old r new q → AddsRest p cells v old r' new' q' → q'.written ≡ q.written
     → (r' ≡ r) × (new' ≡ new) × (q' ≡ q)
 
--- A cell within which `cell` stopped, and then `go_on` however often, until it was Ok: the target got the cell's bytes,
+-- A cell within which `cell` stopped, and then `resume` however often, until it was Ok: the target got the cell's bytes,
 -- each once and in order, and the writer is where `cell` leaves it that does not stop.
 abbrev pub CellIsWhole : Type 0
 CellIsWhole =

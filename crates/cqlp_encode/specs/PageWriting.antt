@@ -167,7 +167,7 @@ pub record RestCut (p : PageState) (v : Values) (k : ℕ) (old new : Output) (q 
   pub continued : Continued p.cut old (values_bytes v) taken new
   pub after : q ≡ failed_after (before_cut p) k
 
--- What `go_on` answers after these cells, and what it leaves: the value's bytes behind those that targets took before
+-- What `resume` answers after these cells, and what it leaves: the value's bytes behind those that targets took before
 -- were appended, and it is the next cell; or the target failed in them; or the call is refused, and nothing is changed.
 abbrev pub AddsRest :
     PageState → List Values → Values → (old : Output) → Result ⊤ PageError → (new : Output) → PageState → Type 0

@@ -1,7 +1,7 @@
 //! The laws of the encoder.
 
 ghost use Rattle.cqlp_encode.specs.Laws.{AttemptsAreOne, BoundIsAsWritten, CellIsWhole, OneAnswerOfBegin, OneAnswerOfBeginFrom};
-ghost use Rattle.cqlp_encode.specs.Laws.{OneAnswerOfBindValue, OneAnswerOfCell, OneAnswerOfGoOn};
+ghost use Rattle.cqlp_encode.specs.Laws.{OneAnswerOfBindValue, OneAnswerOfCell, OneAnswerOfResume};
 ghost use Rattle.cqlp_encode.specs.Laws.{OneAnswerOfEncode, OneAnswerOfEncodeFrom};
 ghost use Rattle.cqlp_encode.specs.Laws.{OneAnswerOfFinish, OneAnswerOfRawValue, OneAnswerOfWriteValue, PageIsAsEncoded};
 
@@ -57,13 +57,13 @@ pub fn one_answer_of_begin_from()
     ensures { OneAnswerOfBeginFrom }
 {}
 
-/// One answer of [`PageWriter::go_on`](crate::PageWriter::go_on) meets its clause, and leaves one state, given how many bytes the
-/// target took. It is so with [`PageWriter::go_on_as`](crate::PageWriter::go_on_as).
-pub fn one_answer_of_go_on()
-    ensures { OneAnswerOfGoOn }
+/// One answer of [`PageWriter::resume`](crate::PageWriter::resume) meets its clause, and leaves one state, given how many bytes the
+/// target took. It is so with [`PageWriter::resume_as`](crate::PageWriter::resume_as).
+pub fn one_answer_of_resume()
+    ensures { OneAnswerOfResume }
 {}
 
-/// Where [`PageWriter::cell`](crate::PageWriter::cell) stops within a cell, and [`PageWriter::go_on`](crate::PageWriter::go_on) goes on
+/// Where [`PageWriter::cell`](crate::PageWriter::cell) stops within a cell, and [`PageWriter::resume`](crate::PageWriter::resume) goes on
 /// with it until it is Ok, the target has got the bytes of the cell, each once and in order, and the writer is where a call of
 /// `cell` leaves it that does not stop.
 pub fn cell_is_whole()

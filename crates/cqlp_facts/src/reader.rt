@@ -153,12 +153,12 @@ impl FactsReader {
         if len < self.due.width() {
             self.front = FieldFront::of(bytes, len);
         } else {
-            self.go_on(&bytes[..len]);
+            self.pass_field(&bytes[..len]);
         }
     }
 
     /// Goes on after a field.
-    fn go_on(&mut self, bytes: &[u8])
+    fn pass_field(&mut self, bytes: &[u8])
         requires { width self.old.due ≤ length bytes.now }
         ensures { self.new ≡ gone_on bytes.now self.old }
     {

@@ -31,7 +31,7 @@ use std::alloc::Global;
 ///     }
 /// }
 /// let place = cells.place();
-/// page.go_on(place);
+/// page.set_place(place);
 /// page.end()?;
 /// ```
 #[derive(Drop)]
@@ -80,7 +80,7 @@ impl OpenPage {
     }
 
     /// Goes on to the place after cells that were put.
-    pub fn go_on(&mut self, place: PagePlace)
+    pub fn set_place(&mut self, place: PagePlace)
         ensures { self.new ≡ record self.old { place = place } }
     {
         self.place = place;

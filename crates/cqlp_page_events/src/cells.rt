@@ -97,7 +97,7 @@ impl<'a> PageCells<'a> {
             return Err(PageCellError::Cell(CellError::Misplaced));
         }
         match self.cell.take(event) {
-            Ok(()) => self.go_on(event),
+            Ok(()) => self.pass_event(event),
             Err(why) => Err(PageCellError::Cell(why)),
         }
     }
@@ -179,7 +179,7 @@ impl<'a> PageCells<'a> {
 
     /// An event was taken that is of the next cell: the cell ends after it, or goes on.
     #[tactic(auto, using(crate::proofs::Taking::goes_true, crate::proofs::Taking::goes_false))]
-    fn go_on(&mut self, event: &Event<'_>) -> Result<(), PageCellError>
+    fn pass_event(&mut self, event: &Event<'_>) -> Result<(), PageCellError>
         requires due { self.old.place.cells < cells_wanted (frame_of self.old.frame.now).message }
         requires bounded { self.old.place.cells + 1 < 2 ^ 64 }
         ensures { GoesOn (ends_cell (event_of event.now)) (state self.old) result (state self.new) }

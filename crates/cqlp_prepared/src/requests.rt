@@ -93,14 +93,14 @@ impl Requests {
                 known.forget(header.stream);
                 self.execute = execute_of(&header);
             }
-            Heard::Body => self.go_on(bytes, known),
+            Heard::Body => self.take_body(bytes, known),
             Heard::Ends(_) | Heard::Stray => self.execute = None,
             Heard::More => {}
         }
     }
 
     /// Takes bytes of a body.
-    fn go_on<A: Allocator>(&mut self, bytes: &[u8], known: &mut PreparedTypes<A>)
+    fn take_body<A: Allocator>(&mut self, bytes: &[u8], known: &mut PreparedTypes<A>)
         ensures { asked self.new known.new ≡ body_of bytes.now self.old.execute self.old.heads known.old }
     {
         let Some(mut execute) = self.execute.take() else {

@@ -42,7 +42,7 @@ impl<S, T> Progress<S, T> {
 
 impl<S, T: Target> Progress<S, T> {
     /// So many bytes more were read.
-    fn go_on(&mut self, count: usize)
+    fn add_read(&mut self, count: usize)
         ensures source { self.new.source ≡ self.old.source }
         ensures length { self.new.length ≡ self.old.length }
         ensures read { self.new.read ≡ min (self.old.read + count) (2 ^ 64 - 1) }
@@ -81,7 +81,7 @@ impl<S: Source, T: Target> Source for Progress<S, T> {
     {
         match self.source.read(buffer) {
             Ok(count) => {
-                self.go_on(count);
+                self.add_read(count);
                 Ok(count)
             }
             Err(IoFault) => Err(IoFault),

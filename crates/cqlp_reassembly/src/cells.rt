@@ -71,7 +71,7 @@ pub(crate) fn clear(cells: &mut [Option<u8>], count: usize)
 
 /// Empties the first cells, this many, and moves them behind the others. Only those before `reach` may have bytes.
 #[tactic(auto, using(crate::proofs::Emptied::turned_moves, crate::proofs::Puts::cleared_turns))]
-pub(crate) fn turn(cells: &mut [Option<u8>], count: usize, reach: usize)
+pub(crate) fn rotate(cells: &mut [Option<u8>], count: usize, reach: usize)
     requires { IsEmptyFrom reach cells.old }
     ensures { cells.new ≡ moved count cells.old }
 {
@@ -87,5 +87,5 @@ pub(crate) fn forget(cells: &mut [Option<u8>], reach: usize)
     requires { IsEmptyFrom reach cells.old }
     ensures { cells.new ≡ replicate (length cells.old) None }
 {
-    turn(cells, reach, reach);
+    rotate(cells, reach, reach);
 }

@@ -142,7 +142,7 @@ impl<A: Allocator> Stream<A> {
         match self.stage {
             Stage::Over | Stage::Unseen => StreamStep::Done,
             Stage::Open => {
-                if let Some(step) = self.settle() {
+                if let Some(step) = self.next_step() {
                     return step;
                 }
                 let lost = if self.is_lost(number) { self.hole() } else { 0 };
@@ -274,7 +274,7 @@ impl<A: Allocator> Stream<A> {
         ensures told { told result self.new ≡ kept_early self.old number len }
         ensures within { IsWithin result 0 }
     {
-        if let Some(step) = self.settle() {
+        if let Some(step) = self.next_step() {
             return step;
         }
         let lacking = self.lacking(distance_to(number, self.window.next()), len);
@@ -282,7 +282,7 @@ impl<A: Allocator> Stream<A> {
     }
 
     /// Bytes that came, or the end, if either is next.
-    fn settle(&mut self) -> Option<StreamStep>
+    fn next_step(&mut self) -> Option<StreamStep>
         ensures told { settling result self.new ≡ settled self.old }
         ensures within { MatchOption result ⊤ (λ step. IsWithin step 0) }
     {

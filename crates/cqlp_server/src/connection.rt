@@ -35,7 +35,7 @@ impl Connection {
     }
 
     /// Answers what the client sends, until the socket has to be waited for. An error ends the connection.
-    pub fn turn(&mut self, alloc: Global, database: &mut Database) -> Turn {
+    pub fn answer(&mut self, alloc: Global, database: &mut Database) -> Turn {
         for _ in 0..u64::MAX {
             let turn = match self.step(alloc, database) {
                 Ok(turn) => turn,

@@ -60,7 +60,7 @@ fn serve(hub: &mut Hub, poll: &mut Poll, listener: &TcpListener) -> io::Result<(
         for event in events.iter() {
             match event.token() {
                 LISTENER => hub.accept(poll, listener)?,
-                Token(place) => hub.turn(place),
+                Token(place) => hub.answer(place),
             }
         }
     }
@@ -111,14 +111,17 @@ impl Hub {
     }
 
     /// Has the connection at a place go on.
-    fn turn(&mut self, place: usize) {
+    fn answer(&mut self, place: usize) {
         let Some(slot) = self.connections.get_mut(place) else {
             return;
         };
         let Some(connection) = slot else {
             return;
         };
-        if matches!(connection.turn(self.alloc, &mut self.database), Turn::Ends) {
+        if matches!(
+            connection.answer(self.alloc, &mut self.database),
+            Turn::Ends
+        ) {
             *slot = None;
             self.open = self.open.saturating_sub(1);
         }

@@ -60,8 +60,8 @@ fn mutated_streams() {
         let (lines, headers) = rendered(limits, &stream);
         assert_eq!(lines, whole, "case {case}: {stream:02x?}");
         for header in headers {
-            caller.go_on(&mut numbers, &header);
-            responder.go_on(&mut numbers, &header);
+            caller.follow(&mut numbers, &header);
+            responder.follow(&mut numbers, &header);
         }
         if numbers.below(50) == 0 {
             (caller, responder) = (Caller::new(slots), Responder::new(slots));

@@ -46,7 +46,7 @@ impl Caller {
     }
 
     /// Begins requests, cancels some, and takes this header, or one that answers what is open.
-    pub fn go_on(&mut self, numbers: &mut Numbers, header: &Header) {
+    pub fn follow(&mut self, numbers: &mut Numbers, header: &Header) {
         let kind = numbers.one_of(&KINDS);
         self.begin(kind);
         let (id, number) = (numbers.below(4) as i16, 1 + numbers.below(self.begun as usize + 1) as u64);
@@ -112,7 +112,7 @@ impl Responder {
     }
 
     /// Takes this header, and another, and answers some request.
-    pub fn go_on(&mut self, numbers: &mut Numbers, header: &Header) {
+    pub fn follow(&mut self, numbers: &mut Numbers, header: &Header) {
         self.accept(header);
         let (stream, opcode) = (numbers.below(4) as i16, numbers.one_of(&KINDS).opcode());
         self.accept(&Header { response: false, flags: 0, stream, opcode, length: 0 });

@@ -34,10 +34,10 @@ impl Cell {
     }
 
     /// Goes on with it.
-    fn go_on(&self, page: &mut PageWriter<'_>, socket: &mut OfSocket<Stops>) -> Result<(), PageError> {
+    fn resume(&self, page: &mut PageWriter<'_>, socket: &mut OfSocket<Stops>) -> Result<(), PageError> {
         match &self.of {
-            Some(tree) => page.go_on_as(&self.value, tree, socket),
-            None => page.go_on(&self.value, socket),
+            Some(tree) => page.resume_as(&self.value, tree, socket),
+            None => page.resume(&self.value, socket),
         }
     }
 }
@@ -91,7 +91,7 @@ fn stops(plan: &Plan, wanted: Result<u32, PageError>, bytes: &[u8], first: usize
 fn write_on(plan: &Plan, socket: &mut OfSocket<Stops>) -> Result<u32, PageError> {
     let mut page = begin_on(plan, socket)?;
     for cell in &plan.cells {
-        if cell.go_on(&mut page, socket) != Err(PageError::OutOfTurn) {
+        if cell.resume(&mut page, socket) != Err(PageError::OutOfTurn) {
             return Err(PageError::OutOfTurn);
         }
         put_on(cell, &mut page, socket);
@@ -120,7 +120,7 @@ fn put_on(cell: &Cell, page: &mut PageWriter<'_>, socket: &mut OfSocket<Stops>) 
         if !is_told(socket, written) || cell.put(page, socket) != answer {
             break;
         }
-        answer = cell.go_on(page, socket);
+        answer = cell.resume(page, socket);
     }
 }
 

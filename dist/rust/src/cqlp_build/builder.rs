@@ -184,7 +184,7 @@ impl FrameBuilder {
             return Err(BuildError::NoMemory);
         };
         self.held.items.push_back_reserved(item);
-        self.nesting.go_on(event);
+        self.nesting.pass_event(event);
         self.room -= size;
         Ok(None)
     }

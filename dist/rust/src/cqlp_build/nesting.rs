@@ -38,7 +38,7 @@ impl Nesting {
     }
 
     /// Goes on after an event, for which there is room.
-    pub(crate) fn go_on(&mut self, event: &Event<'_>)
+    pub(crate) fn pass_event(&mut self, event: &Event<'_>)
     {
         match *event {
             Event::TypeNode(kind) => self.begin(kind),

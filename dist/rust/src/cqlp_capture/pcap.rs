@@ -6,7 +6,7 @@ use crate::cqlp_capture::file::{ByteOrder, FileForm, Fraction, SectionForm};
 use crate::cqlp_capture::interfaces::{KnownInterface, TableChange};
 use crate::cqlp_capture::place::{FARTHEST, Place, RecordForm, Stage};
 use crate::cqlp_capture::refusal::{CaptureReason, CaptureRefusal};
-use crate::cqlp_capture::telling::{go_on, refuse};
+use crate::cqlp_capture::telling::{read_next, refuse};
 
 /// What the first four bytes of a file say. Section 4 of draft-ietf-opsawg-pcap, and section 4.1 of
 /// draft-ietf-opsawg-pcapng.
@@ -14,7 +14,7 @@ pub(crate) fn tell_magic(bytes: &[u8]) -> Result<Told, CaptureRefusal>
 {
     let magic = ByteOrder::BigEndian.read_u32(bytes, 0);
     if magic == 0x0A0D_0D0A {
-        return go_on(4, Stage::SectionLength);
+        return read_next(4, Stage::SectionLength);
     }
     match FileForm::of_magic(magic) {
         Some(form) => Ok(Told {

@@ -7,7 +7,7 @@ use crate::cqlp_capture::file::{ByteOrder, SectionForm};
 use crate::cqlp_capture::interfaces::{KnownInterface, TableChange};
 use crate::cqlp_capture::place::{FARTHEST, Place, Stage};
 use crate::cqlp_capture::refusal::{CaptureReason, CaptureRefusal};
-use crate::cqlp_capture::telling::{go_on, refuse};
+use crate::cqlp_capture::telling::{read_next, refuse};
 
 /// That these bytes, up to this offset, are all of a packet.
 pub(crate) fn tell_data(end: u64, offset: u64, stage: Stage) -> Result<Told, CaptureRefusal>
@@ -23,7 +23,7 @@ pub(crate) fn tell_data(end: u64, offset: u64, stage: Stage) -> Result<Told, Cap
 /// What the length of the first block says. Section 4.1 of draft-ietf-opsawg-pcapng.
 pub(crate) fn tell_section_length(bytes: &[u8]) -> Result<Told, CaptureRefusal>
 {
-    go_on(8, Stage::SectionBody(read_either_length(bytes, 0)))
+    read_next(8, Stage::SectionBody(read_either_length(bytes, 0)))
 }
 
 /// The length at this index.
@@ -88,7 +88,7 @@ pub(crate) fn tell_block_head(
     }
     let kind = BlockKind::of_type(order.read_u32(bytes, 0));
     if let BlockKind::Section = kind {
-        return go_on(offset + 8, Stage::SectionBody(read_either_length(bytes, 4)));
+        return read_next(offset + 8, Stage::SectionBody(read_either_length(bytes, 4)));
     }
     let block = Block {
         order,
@@ -113,7 +113,7 @@ fn tell_block(kind: BlockKind, block: Block) -> Result<Told, CaptureRefusal>
         BlockKind::SimplePacket => Stage::SimpleBody(block),
         BlockKind::Section | BlockKind::Other => block.passing(offset, block.end()),
     };
-    go_on(offset, stage)
+    read_next(offset, stage)
 }
 
 /// What the numbers of an interface say. Section 4.2.
@@ -146,7 +146,7 @@ fn tell_description(
         length: block.length,
         interface: Some(interface),
     };
-    go_on(offset, block.at_option(offset))
+    read_next(offset, block.at_option(offset))
 }
 
 /// What the code and the length of an option say. Sections 3.5 and 4.2.
@@ -160,7 +160,7 @@ pub(crate) fn tell_option_head(
     let size = block.order.read_u16(bytes, 2);
     let end = block.end();
     if code == 0 {
-        return go_on(offset + 4, block.passing(offset + 4, end));
+        return read_next(offset + 4, block.passing(offset + 4, end));
     }
     if offset + 4 + filled_up(size) > end {
         return refuse(offset + 2, CaptureReason::BadOptionLength);
@@ -172,10 +172,10 @@ pub(crate) fn tell_option_head(
 fn tell_option(offset: u64, block: Block, code: u16, size: u16) -> Result<Told, CaptureRefusal>
 {
     match (code, size) {
-        (9, 1) => go_on(offset + 4, Stage::TimeUnit(block)),
-        (14, 8) => go_on(offset + 4, Stage::TimeOffset(block)),
+        (9, 1) => read_next(offset + 4, Stage::TimeUnit(block)),
+        (14, 8) => read_next(offset + 4, Stage::TimeOffset(block)),
         (9 | 14, _) => refuse(offset + 2, CaptureReason::BadOptionLength),
-        _ => go_on(
+        _ => read_next(
             offset + 4,
             block.passing(offset + 4, offset + 4 + filled_up(size)),
         ),
@@ -209,7 +209,7 @@ pub(crate) fn tell_time_unit(
                 offset: interface.offset,
             },
         ),
-        None => go_on(offset + 4, block.at_option(offset + 4)),
+        None => read_next(offset + 4, block.at_option(offset + 4)),
     }
 }
 
@@ -253,7 +253,7 @@ pub(crate) fn tell_time_offset(
                 offset: seconds,
             },
         ),
-        None => go_on(offset + 8, block.at_option(offset + 8)),
+        None => read_next(offset + 8, block.at_option(offset + 8)),
     }
 }
 
@@ -376,7 +376,7 @@ pub(crate) fn tell_block_end(
     }
     let stage = Stage::BlockHead(block.order);
     let Some(interface) = block.interface else {
-        return go_on(offset + 4, stage);
+        return read_next(offset + 4, stage);
     };
     let number = known.len() as u32;
     if number >= limit {

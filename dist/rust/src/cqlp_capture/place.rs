@@ -7,7 +7,7 @@ use crate::cqlp_capture::file::{ByteOrder, FileForm};
 use crate::cqlp_capture::interfaces::{KnownInterface};
 use crate::cqlp_capture::limits::CaptureLimits;
 use crate::cqlp_capture::refusal::CaptureRefusal;
-use crate::cqlp_capture::telling::go_on;
+use crate::cqlp_capture::telling::read_next;
 use crate::cqlp_capture::{pcap, pcapng};
 
 /// How the records of a pcap file are written.
@@ -119,7 +119,7 @@ impl Place {
                 let end = offset + size as u64;
                 pcapng::tell_data(end, offset, block.passing(end, block.end()))
             }
-            Stage::Pass(block, until) => go_on(offset + 1, block.passing(offset + 1, until)),
+            Stage::Pass(block, until) => read_next(offset + 1, block.passing(offset + 1, until)),
             Stage::BlockEnd(block) => {
                 pcapng::tell_block_end(limits.interfaces, known, offset, block, bytes)
             }

@@ -7,7 +7,7 @@ use crate::cqlp_capture::place::{Place, Stage};
 use crate::cqlp_capture::refusal::{CaptureReason, CaptureRefusal};
 
 /// No event, and this is read next, from this offset on.
-pub(crate) fn go_on(offset: u64, stage: Stage) -> Result<Told, CaptureRefusal>
+pub(crate) fn read_next(offset: u64, stage: Stage) -> Result<Told, CaptureRefusal>
 {
     Ok(Told {
         at: offset,

@@ -78,7 +78,7 @@ impl CellCursor {
     pub(crate) fn next<A: Allocator>(self, table: &TypeTable<A>) -> Option<Self>
     {
         let mut following = self;
-        if following.turn(table) {
+        if following.advance(table) {
             return Some(following);
         }
         None
@@ -86,7 +86,7 @@ impl CellCursor {
 
     /// Goes on to the cell after this one, if there is one.
     #[inline(always)]
-    pub(crate) fn turn<A: Allocator>(&mut self, table: &TypeTable<A>) -> bool
+    pub(crate) fn advance<A: Allocator>(&mut self, table: &TypeTable<A>) -> bool
     {
         if let Some(index) = self.next_column(table) {
             self.column += 1;

@@ -147,7 +147,7 @@ impl<'a> PageWriter<'a> {
     /// In this order, with nothing changed: [`PageError::OutOfTurn`] where no call stopped within a cell; [`PageError::Unfit`] and
     /// [`PageError::PastLength`] as [`cell`](Self::cell) says them; [`PageError::OutOfTurn`] where the value has no more bytes than targets
     /// took. Then [`PageError::Write`] at the first call of the target that fails or takes nothing; this may be called again.
-    pub fn go_on<W: Target>(&mut self, value: &Value, target: &mut W) -> Result<(), PageError>
+    pub fn resume<W: Target>(&mut self, value: &Value, target: &mut W) -> Result<(), PageError>
     {
         let size = self.frame.column_size(self.column, value);
         self.put_rest(value, size, target)
@@ -157,8 +157,8 @@ impl<'a> PageWriter<'a> {
     ///
     /// # Errors
     ///
-    /// Those of [`go_on`](Self::go_on); [`PageError::Unfit`] as [`cell_as`](Self::cell_as) says it.
-    pub fn go_on_as<W: Target>(
+    /// Those of [`resume`](Self::resume); [`PageError::Unfit`] as [`cell_as`](Self::cell_as) says it.
+    pub fn resume_as<W: Target>(
         &mut self,
         value: &Value,
         of: &TypeTree,

@@ -27,7 +27,7 @@ use crate::kit_std::alloc::Global;
 ///     }
 /// }
 /// let place = cells.place();
-/// page.go_on(place);
+/// page.set_place(place);
 /// page.end()?;
 /// ```
 pub struct OpenPage {
@@ -71,7 +71,7 @@ impl OpenPage {
     }
 
     /// Goes on to the place after cells that were put.
-    pub fn go_on(&mut self, place: PagePlace)
+    pub fn set_place(&mut self, place: PagePlace)
     {
         self.place = place;
     }

@@ -85,7 +85,7 @@ impl<'a> PageCells<'a> {
             return Err(PageCellError::Cell(CellError::Misplaced));
         }
         match self.cell.take(event) {
-            Ok(()) => self.go_on(event),
+            Ok(()) => self.pass_event(event),
             Err(why) => Err(PageCellError::Cell(why)),
         }
     }
@@ -159,7 +159,7 @@ impl<'a> PageCells<'a> {
     }
 
     /// An event was taken that is of the next cell: the cell ends after it, or goes on.
-    fn go_on(&mut self, event: &Event<'_>) -> Result<(), PageCellError>
+    fn pass_event(&mut self, event: &Event<'_>) -> Result<(), PageCellError>
     {
         if ends_cell(event) {
             self.end()

@@ -59,7 +59,7 @@ pub(crate) fn clear(cells: &mut [Option<u8>], count: usize)
 }
 
 /// Empties the first cells, this many, and moves them behind the others. Only those before `reach` may have bytes.
-pub(crate) fn turn(cells: &mut [Option<u8>], count: usize, reach: usize)
+pub(crate) fn rotate(cells: &mut [Option<u8>], count: usize, reach: usize)
 {
     let there = count.min(reach);
     let held = &mut cells[..reach];
@@ -70,5 +70,5 @@ pub(crate) fn turn(cells: &mut [Option<u8>], count: usize, reach: usize)
 /// Empties all cells, of which only those before `reach` may have bytes.
 pub(crate) fn forget(cells: &mut [Option<u8>], reach: usize)
 {
-    turn(cells, reach, reach);
+    rotate(cells, reach, reach);
 }

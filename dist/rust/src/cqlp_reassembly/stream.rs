@@ -117,7 +117,7 @@ impl<A: Allocator> Stream<A> {
         match self.stage {
             Stage::Over | Stage::Unseen => StreamStep::Done,
             Stage::Open => {
-                if let Some(step) = self.settle() {
+                if let Some(step) = self.next_step() {
                     return step;
                 }
                 let lost = if self.is_lost(number) { self.hole() } else { 0 };
@@ -226,7 +226,7 @@ impl<A: Allocator> Stream<A> {
     /// What is told after a payload of this length was put with those that came early.
     fn keep_early(&mut self, number: u32, len: usize) -> StreamStep
     {
-        if let Some(step) = self.settle() {
+        if let Some(step) = self.next_step() {
             return step;
         }
         let lacking = self.lacking(distance_to(number, self.window.next()), len);
@@ -234,7 +234,7 @@ impl<A: Allocator> Stream<A> {
     }
 
     /// Bytes that came, or the end, if either is next.
-    fn settle(&mut self) -> Option<StreamStep>
+    fn next_step(&mut self) -> Option<StreamStep>
     {
         let count = self.held();
         if count > 0 {

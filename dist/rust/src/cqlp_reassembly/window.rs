@@ -82,7 +82,7 @@ impl<A: Allocator> Window<A> {
     pub fn pass(&mut self, count: usize)
     {
         let reach = self.reach;
-        cells::turn(self.cells.as_mut_slice(), count, reach);
+        cells::rotate(self.cells.as_mut_slice(), count, reach);
         self.reach = reach.saturating_sub(count);
         self.next = self.next.wrapping_add((count % 0x1_0000_0000) as u32);
     }

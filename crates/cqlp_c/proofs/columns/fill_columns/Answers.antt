@@ -26,7 +26,7 @@ returns c =
                 (rw c.new-page.ensures.0 at (c.read-filled.ensures.fills gifts s es a));
             within = within;
             none = λ none. absurd (omega (arith, none, one));
-            frame = rw (one, w.event-is, w.frame-is) w.go_on.ensures;
+            frame = rw (one, w.event-is, w.frame-is) w.pass_event.ensures;
             rules = c.read-filled.ensures.rules;
           }
       | else-batch-eq1 w ↦

@@ -14,7 +14,7 @@ use Rattle.cqlp_c.proofs.Placing.{placed_further, reached, used_from}
 use Rattle.cqlp_c.proofs.handle.read_behind.Goals as goal
 
 pub batch-requires-clause-further : goal.batch-requires-clause-further
-batch-requires-clause-further c = omega (arith, c.requires, ap (λ (z : CqlpCourse). z.base) c.go_on.ensures)
+batch-requires-clause-further c = omega (arith, c.requires, ap (λ (z : CqlpCourse). z.base) c.add_used.ensures)
 
 pub returns : goal.returns
 returns c =
@@ -28,7 +28,7 @@ returns c =
     let there : as_ptr rest ≡ begins = ap (block_ptr c.args.input.ref_ptr.0) (omega arith) in
     let fills : FillsOn (state c.args.decoder.now) (state c.fill-batch.new.decoder) (drop p input) (as_ptr rest) (buffer_in c.fill-batch.new.decoder) (length c.args.events.now) b c.fill-batch.new.events = rw rest_is at f.fills in
     let within = rw rest_is at f.within in
-    let same : c.batch.result ≡ batch_from from.base p b = c.batch.ensures ∙ ap (λ (n : ℕ). batch_from n p b) (ap (λ (z : CqlpCourse). z.base) c.go_on.ensures) in
+    let same : c.batch.result ≡ batch_from from.base p b = c.batch.ensures ∙ ap (λ (n : ℕ). batch_from n p b) (ap (λ (z : CqlpCourse). z.base) c.add_used.ensures) in
     let used : c.batch.result.used ≡ p + b.used = ap (λ (z : Batch). z.used) same ∙ used_from from.base p b (λ none. omega (arith, none, c.passed-passed.ensures.is)) in
     record {
       passed = p;
@@ -46,5 +46,5 @@ returns c =
       };
       placed = ap (λ (z : List CqlpEvent). z ++ drop b.events c.fill-batch.new.events) (c.place.ensures ∙ placed_further from.base (take b.events c.fill-batch.new.events) c.requires);
       batch = same;
-      course = reached from c.go_on.new.self (p + b.used) c.batch.result.used c.fill-batch.new.frame _ c.go_on.ensures f.frame used;
+      course = reached from c.add_used.new.self (p + b.used) c.batch.result.used c.fill-batch.new.frame _ c.add_used.ensures f.frame used;
     }

@@ -29,5 +29,5 @@ returns c =
       };
       placed = placed_none from.base b.events c.fill-batch.new.events none;
       batch = batch_none from.base b none;
-      course = reached from c.go_on.new.self b.used b.used c.fill-batch.new.frame _ c.go_on.ensures f.frame refl;
+      course = reached from c.add_used.new.self b.used b.used c.fill-batch.new.frame _ c.add_used.ensures f.frame refl;
     }

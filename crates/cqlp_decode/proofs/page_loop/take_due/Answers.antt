@@ -21,14 +21,14 @@ cells-preserved g c =
     let room = s.stop - s.offset in
     let i = c.cells.invariant in
     let p = c.cells.page in
-    let next = c.turn.new.self in
+    let next = c.advance.new.self in
     let used = c.cells.used in
     let offset = s.offset + used in
     let front = c.front_of-within.ensures.is in
     let nodes = c.page_table-table.ensures ∙ ap (λ (z : Columns). nodes_of q z) (sym i.columns) in
     let kind = (rw nodes at c.kind-kind.ensures) s.limits.depth i.lawful.stage.0 in
-    let turned = (rw nodes at c.turn.ensures) s.limits.depth i.lawful.stage.0 in
-    let turns = rw c.if-not-turn.false at turned in
+    let turned = (rw nodes at c.advance.ensures) s.limits.depth i.lawful.stage.0 in
+    let turns = rw c.if-not-advance.false at turned in
     let within : used ≤ length (take room input) = rw (← front) i.within in
     let small : length (drop used (take room input)) ≤ s.stop - offset = let n = c.front_of-within.ensures.bound in omega (arith, length-drop used (take room input), rw front at n) in
     let place : offset + c.in-Taken.taken ≡ s.offset + (used + c.in-Taken.taken) = omega arith in
@@ -44,8 +44,8 @@ cells-preserved g c =
           (cell_drains s q p next offset i.lawful c.requires.unrefused c.requires.empty c.kind-kind.result kind turns input used c.in-Taken.taken _ hands (Gets g.S.Sink) (state_of s q) _ _ _ i.drained hands.holds);
     }
 
-pub returns-then-not-turn-clause-drains : goal.returns-then-not-turn-clause-drains
-returns-then-not-turn-clause-drains g c =
+pub returns-then-not-advance-clause-drains : goal.returns-then-not-advance-clause-drains
+returns-then-not-advance-clause-drains g c =
     let s = c.args.progress.now in
     let q = parts_state c.args.parts.now in
     let input = c.args.input.now in
@@ -59,8 +59,8 @@ returns-then-not-turn-clause-drains g c =
     let kind = (rw nodes at c.kind-kind.ensures) s.limits.depth i.lawful.stage.0 in
     let within : used ≤ length (take room input) = rw (← front) i.within in
     let small : length (drop used (take room input)) ≤ s.stop - offset = let n = c.front_of-within.ensures.bound in omega (arith, length-drop used (take room input), rw front at n) in
-    let turned = (rw nodes at c.turn.ensures) s.limits.depth i.lawful.stage.0 in
-    let none = rw c.if-not-turn.true at turned in
+    let turned = (rw nodes at c.advance.ensures) s.limits.depth i.lawful.stage.0 in
+    let none = rw c.if-not-advance.true at turned in
     let taken = c.in-Taken.taken in
     let place : s.offset + (used + taken) ≡ offset + taken = omega arith in
     let short = rw (rest_is, front) at c.in-Taken.ensures.hands in

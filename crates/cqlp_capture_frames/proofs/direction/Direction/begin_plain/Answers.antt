@@ -30,8 +30,8 @@ returns-clause-told g c =
     let is : goes_on t.manner c.write.result (opened a.at (nodes_of new.given) c.new-self-inside.result.bytes) (t.state c.begin.new.self) (direction new.rules old.responses old.heads None)
     ≡ goes_on t.manner (header_bytes a.header.now) (opened a.at (taken first.rules types) []) (t.manner.after known (Begins a.at a.header.now)) (direction first.rules old.responses old.heads None) =
     λ i. goes_on t.manner (c.write.ensures.bytes i) (opened a.at (given i) (c.new-self-inside.ensures i)) (c.in_ok-types.ensures.after i) (direction (c.begin_frame.ensures.rules i) old.responses old.heads None) in
-    subst (λ (d : Direction). IsTold t.refuses (begins_plain t.manner a.at a.header.now known d) c.go_on.result a.writer.now c.go_on.new.writer c.go_on.new.self (t.state c.go_on.new.transcript)) c.self.view_is
-    (then_told t.refuses a.writer.now c.begin.new.writer c.go_on.new.writer (t.manner.text known (Begins a.at a.header.now))
+    subst (λ (d : Direction). IsTold t.refuses (begins_plain t.manner a.at a.header.now known d) c.take_body.result a.writer.now c.take_body.new.writer c.take_body.new.self (t.state c.take_body.new.transcript)) c.self.view_is
+    (then_told t.refuses a.writer.now c.begin.new.writer c.take_body.new.writer (t.manner.text known (Begins a.at a.header.now))
     (goes_on t.manner (header_bytes a.header.now) (opened a.at (taken first.rules types) []) (t.manner.after known (Begins a.at a.header.now)) (direction first.rules old.responses old.heads None))
-    c.go_on.new.self (t.state c.go_on.new.transcript) c.go_on.result c.in_ok-types.ensures.text
-    (subst (λ (z : Telling t.State). IsTold t.refuses z c.go_on.result c.begin.new.writer c.go_on.new.writer c.go_on.new.self (t.state c.go_on.new.transcript)) is c.go_on.ensures.told))
+    c.take_body.new.self (t.state c.take_body.new.transcript) c.take_body.result c.in_ok-types.ensures.text
+    (subst (λ (z : Telling t.State). IsTold t.refuses z c.take_body.result c.begin.new.writer c.take_body.new.writer c.take_body.new.self (t.state c.take_body.new.transcript)) is c.take_body.ensures.told))

@@ -4,7 +4,7 @@ use Rattle.cqlp_capture_frames.specs.Frames.{nodes_of, opened}
 use Rattle.cqlp_capture_frames.specs.Reading.{frame_if}
 use Rattle.cqlp_capture_frames.specs.Directions.{Direction, IsTold, Telling, body, direction}
 use Rattle.cqlp_capture_frames.proofs.Directions.{body_refused, body_stops, body_waits, whole}
-use Rattle.cqlp_capture_frames.proofs.direction.Direction.go_on.Goals as goal
+use Rattle.cqlp_capture_frames.proofs.direction.Direction.take_body.Goals as goal
 
 pub returns-in_err-drain-clause-told : goal.returns-in_err-drain-clause-told
 returns-in_err-drain-clause-told g c =

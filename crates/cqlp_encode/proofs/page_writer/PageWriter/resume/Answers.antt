@@ -5,7 +5,7 @@ use Rattle.cqlp_encode.specs.PagePlaces.{StandsFor}
 use Rattle.cqlp_encode.specs.PageWriting.{After}
 use Rattle.cqlp_encode.proofs.PageRests.{after_rest}
 use Rattle.cqlp_encode.proofs.PageSteps.{stands}
-use Rattle.cqlp_encode.proofs.page_writer.PageWriter.go_on.Goals as goal
+use Rattle.cqlp_encode.proofs.page_writer.PageWriter.resume.Goals as goal
 
 pub returns-clause-adds : goal.returns-clause-adds
 returns-clause-adds g c n cells a =

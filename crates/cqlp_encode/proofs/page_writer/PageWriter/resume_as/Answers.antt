@@ -6,7 +6,7 @@ use Rattle.cqlp_encode.specs.PageWriting.{After, page}
 use Rattle.cqlp_encode.specs.UntoldPages.{cell_of}
 use Rattle.cqlp_encode.proofs.PageRests.{after_rest}
 use Rattle.cqlp_encode.proofs.UntoldCells.{stands_untold}
-use Rattle.cqlp_encode.proofs.page_writer.PageWriter.go_on_as.Goals as goal
+use Rattle.cqlp_encode.proofs.page_writer.PageWriter.resume_as.Goals as goal
 
 pub returns-clause-adds : goal.returns-clause-adds
 returns-clause-adds g c n cells a =
