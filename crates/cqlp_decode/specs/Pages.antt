@@ -1,6 +1,6 @@
 -- The cells that are still to be read of a page (section 4.2.5.2 of native_protocol_v4.spec).
 use Rattle.std.specs.Prelude.{◌≡◌, ℕ, ◌+◌, ◌-◌, ◌<◌, ◌≤◌, ◌^◌, ◌++◌, Bool, true, false, List, [], ◌∷◌, length, drop, Option, Some, None}
-use Rattle.std.specs.Prelude.{if◌then◌else◌, ⊤}
+use Rattle.std.specs.Prelude.{if◌then◌else◌, ⊤, slice_get}
 use Rattle.cqlp_note.specs.Field.{FieldValue}
 use Rattle.cqlp_kind.specs.declared.kind.Kind.{Kind}
 use Rattle.cqlp_kind.specs.declared.node.Node.{Node}
@@ -83,6 +83,11 @@ IsPage nodes depth p = IsColumn nodes depth p.columns p.column p.index × (p.row
 -- the kind of a column's type
 abbrev pub IsKind : List Node → CellCursor → Kind → Type 0
 IsKind nodes p k = (inner others : Types) × (types_left nodes p ≡ Type_and k inner others)
+
+-- how many nodes a column's type takes, where it stands in the table
+abbrev pub IsSpan : List Node → Columns → (index span : ℕ) → Type 0
+IsSpan nodes (columns.Raw n) index span = ⊤
+IsSpan nodes c index span = (x : Node) → slice_get nodes index ≡ Some x → span ≡ x.span
 
 abbrev pub IsSomePage : List Node → CellCursor → Type 0
 IsSomePage nodes p = (depth : ℕ) × IsPage nodes depth p

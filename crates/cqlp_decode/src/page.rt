@@ -7,7 +7,7 @@ ghost use Rattle.cqlp_type.specs.Forests.{Forest};
 ghost use Rattle.cqlp_kind.specs.Types.{NoMore};
 ghost use Rattle.cqlp_type.specs.Table.{beginnings};
 ghost use Rattle.cqlp_decode.specs.Reading.{serves_after};
-ghost use Rattle.cqlp_decode.specs.Pages.{AreColumns, Begins, FindsColumn, FindsPage, HoldsForest, IsKind, IsPage, IsSomePage, Turns, TurnsTo};
+ghost use Rattle.cqlp_decode.specs.Pages.{AreColumns, Begins, FindsColumn, FindsPage, HoldsForest, IsKind, IsPage, IsSomePage, IsSpan, Turns, TurnsTo};
 ghost use Rattle.cqlp_decode.specs.Pages.{column_types, given_of, node_by, page_nodes};
 ghost use Rattle.cqlp_decode.specs.declared.given.GivenUse.{GivenUse as Use};
 
@@ -38,6 +38,13 @@ pub struct CellCursor {
     /// Where the type of the column stands in the table, if that is known.
     pub index: u32,
     pub left: u32,
+}
+
+/// The head of a column's type: its kind, and how many nodes of the table the type takes.
+#[derive(Clone, Copy, Debug, PartialEq, Eq)]
+pub struct ColumnHead {
+    pub kind: Kind,
+    pub span: u32,
 }
 
 impl Columns {
@@ -83,9 +90,28 @@ impl CellCursor {
         requires { IsSomePage table.now.nodes self.now }
         ensures { (depth : ℕ) → IsPage table.now.nodes depth self.now → IsKind table.now.nodes self.now result }
     {
+        self.head(table).kind
+    }
+
+    /// The head of the column's type.
+    #[inline(always)]
+    pub fn head<A: Allocator>(&self, table: &TypeTable<A>) -> ColumnHead
+        requires { IsSomePage table.now.nodes self.now }
+        ensures kind { (depth : ℕ) → IsPage table.now.nodes depth self.now → IsKind table.now.nodes self.now result.kind }
+        ensures span { IsSpan table.now.nodes self.now.columns self.now.index result.span }
+    {
         match self.columns {
-            Columns::Typed | Columns::Given => table.node(self.index).unwrap().kind,
-            Columns::Raw(_) => Kind::Raw,
+            Columns::Typed | Columns::Given => {
+                let node = table.node(self.index).unwrap();
+                ColumnHead {
+                    kind: node.kind,
+                    span: node.span,
+                }
+            }
+            Columns::Raw(_) => ColumnHead {
+                kind: Kind::Raw,
+                span: 0,
+            },
         }
     }
 
@@ -94,21 +120,23 @@ impl CellCursor {
         requires { IsSomePage table.now.nodes self }
         ensures { (depth : ℕ) → IsPage table.now.nodes depth self → Turns table.now.nodes depth self result }
     {
+        let head = self.head(table);
         let mut following = self;
-        if following.advance(table) {
+        if following.advance(head.span, table) {
             return Some(following);
         }
         None
     }
 
-    /// Goes on to the cell after this one, if there is one.
+    /// Goes on to the cell after this one, whose column's type takes this many nodes, if there is one.
     #[inline(always)]
-    pub fn advance<A: Allocator>(&mut self, table: &TypeTable<A>) -> bool
-        requires { IsSomePage table.now.nodes self.old }
+    pub fn advance<A: Allocator>(&mut self, span: u32, table: &TypeTable<A>) -> bool
+        requires page { IsSomePage table.now.nodes self.old }
+        requires span { IsSpan table.now.nodes self.old.columns self.old.index span }
         ensures { (depth : ℕ) → IsPage table.now.nodes depth self.old
             → TurnsTo table.now.nodes depth self.old result self.new }
     {
-        if let Some(index) = self.next_column(table) {
+        if let Some(index) = self.next_column(span, table) {
             self.column += 1;
             self.index = index;
             return true;
@@ -123,15 +151,16 @@ impl CellCursor {
         true
     }
 
-    /// Where the type of the next column stands, if this row has one.
-    fn next_column<A: Allocator>(&self, table: &TypeTable<A>) -> Option<u32>
-        requires { IsSomePage table.now.nodes self.now }
+    /// Where the type of the next column stands, if this row has one; that of this one takes so many nodes.
+    fn next_column<A: Allocator>(&self, span: u32, table: &TypeTable<A>) -> Option<u32>
+        requires page { IsSomePage table.now.nodes self.now }
+        requires span { IsSpan table.now.nodes self.now.columns self.now.index span }
         ensures { FindsColumn table.now.nodes self.now result }
     {
         match self.columns {
             Columns::Typed | Columns::Given => {
                 let end = table.len();
-                let index = self.index + table.node(self.index).unwrap().span;
+                let index = self.index + span;
                 (index < end).then_some(index)
             }
             Columns::Raw(columns) => (self.column + 1 < columns).then_some(0),

@@ -30,6 +30,13 @@ pub struct CellCursor {
     pub left: u32,
 }
 
+/// The head of a column's type: its kind, and how many nodes of the table the type takes.
+#[derive(Clone, Copy, Debug, PartialEq, Eq)]
+pub struct ColumnHead {
+    pub kind: Kind,
+    pub span: u32,
+}
+
 impl Columns {
     fn are_none<A: Allocator>(self, table: &TypeTable<A>) -> bool
     {
@@ -68,27 +75,44 @@ impl CellCursor {
     /// The kind of the column's type.
     pub(crate) fn kind<A: Allocator>(&self, table: &TypeTable<A>) -> Kind
     {
+        self.head(table).kind
+    }
+
+    /// The head of the column's type.
+    #[inline(always)]
+    pub(crate) fn head<A: Allocator>(&self, table: &TypeTable<A>) -> ColumnHead
+    {
         match self.columns {
-            Columns::Typed | Columns::Given => table.node(self.index).unwrap().kind,
-            Columns::Raw(_) => Kind::Raw,
+            Columns::Typed | Columns::Given => {
+                let node = table.node(self.index).unwrap();
+                ColumnHead {
+                    kind: node.kind,
+                    span: node.span,
+                }
+            }
+            Columns::Raw(_) => ColumnHead {
+                kind: Kind::Raw,
+                span: 0,
+            },
         }
     }
 
     /// The cell after this one, if there is one.
     pub(crate) fn next<A: Allocator>(self, table: &TypeTable<A>) -> Option<Self>
     {
+        let head = self.head(table);
         let mut following = self;
-        if following.advance(table) {
+        if following.advance(head.span, table) {
             return Some(following);
         }
         None
     }
 
-    /// Goes on to the cell after this one, if there is one.
+    /// Goes on to the cell after this one, whose column's type takes this many nodes, if there is one.
     #[inline(always)]
-    pub(crate) fn advance<A: Allocator>(&mut self, table: &TypeTable<A>) -> bool
+    pub(crate) fn advance<A: Allocator>(&mut self, span: u32, table: &TypeTable<A>) -> bool
     {
-        if let Some(index) = self.next_column(table) {
+        if let Some(index) = self.next_column(span, table) {
             self.column += 1;
             self.index = index;
             return true;
@@ -103,13 +127,13 @@ impl CellCursor {
         true
     }
 
-    /// Where the type of the next column stands, if this row has one.
-    fn next_column<A: Allocator>(&self, table: &TypeTable<A>) -> Option<u32>
+    /// Where the type of the next column stands, if this row has one; that of this one takes so many nodes.
+    fn next_column<A: Allocator>(&self, span: u32, table: &TypeTable<A>) -> Option<u32>
     {
         match self.columns {
             Columns::Typed | Columns::Given => {
                 let end = table.len();
-                let index = self.index + table.node(self.index).unwrap().span;
+                let index = self.index + span;
                 (index < end).then_some(index)
             }
             Columns::Raw(columns) => (self.column + 1 < columns).then_some(0),

@@ -18,6 +18,9 @@ use crate::cqlp_kind::content::read_array;
 use crate::cqlp_note::Asked;
 use crate::kit_std::alloc::Allocator;
 
+/// The most bytes that a content has of a kind whose contents all have one length: those of a uuid.
+const LONGEST_FIXED: u32 = 16;
+
 /// What became of the cell that is due.
 #[derive(Clone, Copy, Debug, PartialEq, Eq)]
 pub enum Handed {
@@ -55,8 +58,12 @@ pub(crate) fn take_cells<S: Sink, A: Allocator>(
     if let Some(_) = progress.refusal {
         return Ok(0);
     }
-    // An arm for each, so that each has a loop of its own: that over columns of unknown types looks at no table.
+    // An arm for each, so that each has a loop of its own: that over columns of unknown types looks at no table, and that
+    // where the limit on cells admits each content of a fixed length compares none with it.
     match due.columns {
+        Columns::Typed | Columns::Given if progress.limits.cell >= LONGEST_FIXED => {
+            take_due(progress, parts, due, input, sink)
+        }
         Columns::Typed | Columns::Given => take_due(progress, parts, due, input, sink),
         Columns::Raw(_) => take_due(progress, parts, due, input, sink),
     }
@@ -79,13 +86,13 @@ fn take_due<S: Sink, A: Allocator>(
     let mut page = due;
     let mut used = 0;
     'cells: loop {
-        let kind = page.kind(table);
+        let head = page.head(table);
         let at = start + used as u64;
-        match hand_cell(&limits, kind, page, at, &within[used..], sink) {
+        match hand_cell(&limits, head.kind, page, at, &within[used..], sink) {
             Handed::Left => break 'cells,
             Handed::Taken(taken) => {
                 used += taken;
-                if !page.advance(table) {
+                if !page.advance(head.span, table) {
                     progress.offset = start + used as u64;
                     progress.expect_next();
                     return Ok(used);
