@@ -19,14 +19,14 @@ module _ (a b : Limits) (lenient : Bool) (wide : AreNoWider a b) (gifts : Gifts)
   said_wide : (fs : List (ℕ × Event)) (w : Verdict) → HaveSameParts lenient a b → Says (with_lenient lenient (rules_of b)) (start_with gifts) bytes fs w → SaidWide fs w
   said_wide fs w (inr cell) y =
       let same : with_lenient lenient (rules_of b) ≡ with_limits narrow b.text b.cell b.entries b.depth =
-          λ i. record { text = b.text; cell = b.cell; entries = b.entries; depth = b.depth; part = cell i; types = wide.types i; parts = wide.parts i; lenient = lenient } in
+      λ i. record { text = b.text; cell = b.cell; entries = b.entries; depth = b.depth; part = cell i; types = wide.types i; parts = wide.parts i; lenient = lenient } in
       subst (λ (l : Rules). Says l (start_with gifts) bytes fs w) same y
   said_wide fs w (inl off) y =
       let parts : b.parts ≡ false = wide.parts ∙ off.0 in
       let here : with_lenient lenient (rules_of b) ≡ strict b.text b.cell b.entries b.depth a.types b.cell =
-          λ i. record { text = b.text; cell = b.cell; entries = b.entries; depth = b.depth; part = b.cell; types = wide.types i; parts = parts i; lenient = off.1 i } in
+      λ i. record { text = b.text; cell = b.cell; entries = b.entries; depth = b.depth; part = b.cell; types = wide.types i; parts = parts i; lenient = off.1 i } in
       let there : with_limits narrow b.text b.cell b.entries b.depth ≡ strict b.text b.cell b.entries b.depth a.types a.cell =
-          λ i. record { text = b.text; cell = b.cell; entries = b.entries; depth = b.depth; part = a.cell; types = a.types; parts = off.0 i; lenient = off.1 i } in
+      λ i. record { text = b.text; cell = b.cell; entries = b.entries; depth = b.depth; part = a.cell; types = a.types; parts = off.0 i; lenient = off.1 i } in
       subst (λ (l : Rules). Says l (start_with gifts) bytes fs w) (sym there)
       (says_alike b.text b.cell b.entries b.depth a.types b.cell a.cell gifts bytes fs w
       (subst (λ (l : Rules). Says l (start_with gifts) bytes fs w) here y))

@@ -94,9 +94,9 @@ module _ {V : Type 0} (f : V → ℕ → Event → V) (faulted : V → ℕ → E
   alike d d' x x' w w' t t' m m' k k' h h' used bytes same refused =
       let base : d'.base ≡ d.base = k'.place.0 ∙ sym k.place.0 in
       let there : AfterGifts gifts (stream d') (drop d.base t) (events ++ m) =
-          subst (λ (n : ℕ). AfterGifts gifts (stream d') (drop n t) (events ++ m)) base
-          (subst (λ (z : List ℕ). AfterGifts gifts (stream d') (drop d'.base z) (events ++ m)) bytes
-          (subst (λ (z : List (ℕ × Event)). AfterGifts gifts (stream d') (drop d'.base t') (events ++ z)) same h'.stands)) in
+      subst (λ (n : ℕ). AfterGifts gifts (stream d') (drop n t) (events ++ m)) base
+      (subst (λ (z : List ℕ). AfterGifts gifts (stream d') (drop d'.base z) (events ++ m)) bytes
+      (subst (λ (z : List (ℕ × Event)). AfterGifts gifts (stream d') (drop d'.base t') (events ++ z)) same h'.stands)) in
       let stand = stand_once (rules_in old) gifts (stream d) (stream d') (drop d.base t) (events ++ m) k.rules k'.rules (stream d).refusal (stream d').refusal refused h.stands there in
       record {
         stretch = record { rules = k'.rules ∙ sym k.rules; refusal = refused; nodes = stand.0; given = k'.given ∙ sym k.given; held = stand.1 };
@@ -114,7 +114,7 @@ module _ {V : Type 0} (f : V → ℕ → Event → V) (faulted : V → ℕ → E
   ends_up d n more base same (inr e) = inr (
     e.0,
     subst (λ (k : ℕ). Reads (rules_in old) (start_with gifts) (drop k (s ++ take n input)) (events ++ more) e.0 []) base
-    (subst (λ (l : Rules). Reads l (start_with gifts) (drop d.base (s ++ take n input)) (events ++ more) e.0 []) same e.1),
+        (subst (λ (l : Rules). Reads l (start_with gifts) (drop d.base (s ++ take n input)) (events ++ more) e.0 []) same e.1),
   )
 
   one_feed : (x x' : Fed) → Fed_on f faulted old new input x before after → Fed_on f faulted old new' input x' before after' → IsSound x → IsSound x' → AreAlike x x' × (after' ≡ after) × StandAlike new new'

@@ -195,7 +195,7 @@ still_in (x ∷ xs) s h = still_in xs (after_byte x s) (stays_in x s h)
 few_before : (xs : List ℕ) (s : FactsReader) → before xs s ≤ length xs
 few_before [] s = omega arith
 few_before (x ∷ xs) s =
-    let one : (t : Bool) → cond t 1 0 ≤ 1 = λ t. elim t as (λ u. cond u 1 0 ≤ 1) [ | true ↦ omega arith | false ↦ omega arith ] in
+    let one : (t : Bool) → cond t 1 0 ≤ 1 = λ t. elim t as (λ u. cond u 1 0 ≤ 1) [ true ↦ omega arith | false ↦ omega arith ] in
     omega (arith, one (is_before s), few_before xs (after_byte x s))
 
 by_first : (x : ℕ) (xs ys : List ℕ) (s : FactsReader) (t : Bool) → is_before s ≡ t → before (x ∷ xs) s < length (x ∷ xs)
@@ -239,6 +239,6 @@ joined n m b c few none = elim (cases_lt n (length b)) [
 pub are_kept : FrontsAreKept
 are_kept h heads b c = (
   joined (before b (begun h)) (before c (read b (begun h))) b c (few_before b (begun h)) (comes_last b c (begun h))
-  ∙ ap (λ (n : ℕ). take 256 (drop n (b ++ c))) (sym (before_pieces b c (begun h))),
+      ∙ ap (λ (n : ℕ). take 256 (drop n (b ++ c))) (sym (before_pieces b c (begun h))),
   sym (read_pieces b c (begun h)),
 )
