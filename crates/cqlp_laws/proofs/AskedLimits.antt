@@ -1,10 +1,10 @@
 -- What callers ask for: wider limits only let a stream go on.
-use Rattle.std.proofs.Common.{◌≡◌, ℕ, Bool, true, false, List, sym, ◌∙◌, subst, inl, inr}
+use Rattle.std.proofs.Common.{◌≡◌, ℕ, Bool, false, List, sym, ◌∙◌, subst, inl, inr}
 use Rattle.cqlp_note.specs.declared.limits.Limits.{Limits}
 use Rattle.cqlp_note.specs.Limits.{Rules, rules_of, with_lenient}
 use Rattle.cqlp_decode.specs.Reading.{Event, Gifts, Verdict, Says, start_with}
 use Rattle.cqlp_laws.specs.Excess.{with_limits}
-use Rattle.cqlp_laws.specs.Limits.{AreNoWider, AskedLimitsOnlyCut, HaveSameParts, IsSameOrCut}
+use Rattle.cqlp_laws.specs.Limits.{AreNoWider, AskedLimitsOnlyCut, HaveSameParts}
 use Rattle.cqlp_laws.proofs.NoParts.{says_alike, strict}
 use Rattle.cqlp_laws.proofs.WiderLimits.{only_cut}
 

@@ -1,7 +1,7 @@
 -- Where no content comes in parts, how many bytes a part would have changes nothing that is read.
-use Rattle.std.proofs.Common.{◌≡◌, ℕ, zero, suc, ◌+◌, ◌-◌, ◌<◌, ◌≤◌, ◌^◌, Bool, true, false, ◌&&◌, eqb, ltb, leb, cond, min, bytes_eq, List, [], ◌∷◌, ◌++◌, length, take, drop, Option, Some, None, Ok, Err, refl, sym, ap, ◌∙◌, subst, arith}
-use Rattle.std.specs.Int.{Width, w8, w16, w32, w64, from_be_bytes}
-use Rattle.std.proofs.lemmas.List.{length-append, length-drop, take_at}
+use Rattle.std.proofs.Common.{◌≡◌, ℕ, zero, suc, ◌+◌, ◌-◌, ◌^◌, Bool, true, false, eqb, ltb, leb, cond, bytes_eq, List, [], ◌∷◌, ◌++◌, length, take, drop, Option, Some, None, Ok, Err, refl, sym, ap, ◌∙◌, subst, arith}
+use Rattle.std.specs.Int.{w16, w32, from_be_bytes}
+use Rattle.std.proofs.lemmas.List.{take_at}
 use Rattle.cqlp_note.specs.declared.field.Field.TheVariants as field
 use Rattle.cqlp_note.specs.declared.field.Notation.{Notation}
 use Rattle.cqlp_note.specs.declared.field.Notation.TheVariants as notation
@@ -10,8 +10,8 @@ use Rattle.cqlp_note.specs.declared.opcode.Opcode.TheVariants as opcode
 use Rattle.cqlp_note.specs.declared.header.Header.{Header}
 use Rattle.cqlp_note.specs.declared.refusal.Reason.{Reason}
 use Rattle.cqlp_note.specs.declared.refusal.Reason.TheVariants.{Overrun}
-use Rattle.cqlp_note.specs.Reader.{Said, More, Bad, Reader, Gives, Refuses, Takes, Idles, Got, says, number_of}
-use Rattle.cqlp_note.specs.Field.{FieldValue, FieldReader, field_of, is_negative}
+use Rattle.cqlp_note.specs.Reader.{Reader, Gives, Refuses, Takes, Idles, Got, says, number_of}
+use Rattle.cqlp_note.specs.Field.{FieldValue, field_of, is_negative}
 use Rattle.cqlp_note.specs.Step.{Emitted, Step, Emit, after_field, map_step}
 use Rattle.cqlp_note.specs.Limits.{Rules, limit_of}
 use Rattle.cqlp_note.specs.Heading.{Heading, heading, has, beside_number}
