@@ -1,4 +1,4 @@
-use Rattle.std.proofs.Common.{ℕ, ◌≡◌, ◌+◌, ◌-◌, ◌/◌, ◌^◌, length, ap, ◌∙◌, arith, None, Option}
+use Rattle.std.proofs.Common.{ℕ, ◌+◌, ◌-◌, ◌/◌, ◌^◌, length, ap, ◌∙◌, arith, None, Option}
 use Rattle.std.proofs.lemmas.List.{length-replicate}
 use Rattle.cqlp_session.specs.declared.streams.OpenRequest.{OpenRequest}
 use Rattle.cqlp_session.proofs.Marked.{marks_empty}
