@@ -1,6 +1,7 @@
 -- One answer of calls that make what a handle has, give it, take it back, and tell of it.
 use Rattle.std.proofs.Common.{◌≡◌, ℕ, Bool, true, false, List, [], ◌∷◌, length, nat_lt, refl, ap, sym, ◌∙◌, inl, inr, ◌⊎◌, slice_get, subst}
 use Rattle.std.specs.Prelude.{Option, Some, None, Result, Ok, Err}
+use Rattle.std.specs.Ptr.{Ptr}
 use Rattle.cqlp_kind.specs.declared.kind.Kind.{Kind}
 use Rattle.cqlp_kind.specs.declared.node.Node.{Node}
 use Rattle.cqlp_type.specs.Table.{Table}
@@ -163,17 +164,29 @@ one_size Bits values truths u v p q = p.length ∙ sym q.length
 one_size (Fixed n) values truths u v p q = ap (λ (x : List ℕ). length x) (p ∙ sym q)
 one_size Variable values truths u v p q = ap (λ (x : List ℕ). length x) (p ∙ sym q)
 
+abbrev column_at : (values offsets validity empties : Ptr) (size bounds cells kind : ℕ) → CqlpColumn
+column_at values offsets validity empties size bounds cells kind = record {
+  values = values;
+  offsets = offsets;
+  validity = validity;
+  empties = empties;
+  size = size;
+  bounds = bounds;
+  cells = cells;
+  kind = kind;
+}
+
+one_column :
+    (v v' o o' w w' e e' : Ptr) (n n' m m' k k' i i' : ℕ)
+    → v ≡ v' → o ≡ o' → w ≡ w' → e ≡ e' → n ≡ n' → m ≡ m' → k ≡ k' → i ≡ i' → column_at v o w e n m k i ≡ column_at v' o' w' e' n' m' k' i'
+one_column v v' o o' w w' e e' n n' m m' k k' i i' a b c d f g h j = rw (a, b, c, d, f, g, h, j) refl
+
 one_shown : (c : Column) (t u : CqlpColumn) → Shows c t → Shows c u → t ≡ u
 one_shown c t u p q =
-    let values = p.values ∙ sym q.values in
-    let offsets = p.offsets ∙ sym q.offsets in
-    let validity = p.validity ∙ sym q.validity in
-    let empties = p.empties ∙ sym q.empties in
-    let size = p.size.2 ∙ one_size c.layout c.values c.truths p.size.0 q.size.0 p.size.1 q.size.1 ∙ sym q.size.2 in
-    let bounds = p.bounds ∙ sym q.bounds in
-    let cells = p.cells ∙ sym q.cells in
-    let kind = p.kind ∙ sym q.kind in
-    cc
+    one_column t.values u.values t.offsets u.offsets t.validity u.validity t.empties u.empties t.size u.size t.bounds u.bounds t.cells u.cells t.kind u.kind
+    (p.values ∙ sym q.values) (p.offsets ∙ sym q.offsets) (p.validity ∙ sym q.validity) (p.empties ∙ sym q.empties)
+    (p.size.2 ∙ one_size c.layout c.values c.truths p.size.0 q.size.0 p.size.1 q.size.1 ∙ sym q.size.2)
+    (p.bounds ∙ sym q.bounds) (p.cells ∙ sym q.cells) (p.kind ∙ sym q.kind)
 
 one_shown_of : (o : Option Column) (a b : ℕ) (was t u : CqlpColumn) → ShowsOne o a was t → ShowsOne o b was u → (a ≡ b) × (t ≡ u)
 one_shown_of None a b was t u p q = (p.0 ∙ sym q.0, p.1 ∙ sym q.1)
