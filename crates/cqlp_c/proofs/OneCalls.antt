@@ -1,5 +1,5 @@
 -- One answer of calls that make what a handle has, give it, take it back, and tell of it.
-use Rattle.std.proofs.Common.{◌≡◌, ℕ, Bool, true, false, List, [], ◌∷◌, length, nat_lt, refl, ap, sym, ◌∙◌, inl, inr, ◌⊎◌, slice_get, subst}
+use Rattle.std.proofs.Common.{◌≡◌, ℕ, Bool, true, false, List, length, nat_lt, refl, ap, sym, ◌∙◌, inl, inr, ◌⊎◌, slice_get}
 use Rattle.std.specs.Prelude.{Option, Some, None, Result, Ok, Err}
 use Rattle.std.specs.Ptr.{Ptr}
 use Rattle.cqlp_kind.specs.declared.kind.Kind.{Kind}
@@ -13,7 +13,7 @@ use Rattle.cqlp_columns.specs.declared.column.MakeError.{MakeError}
 use Rattle.cqlp_columns.specs.declared.layout.Layout.{Layout}
 use Rattle.cqlp_columns.specs.declared.layout.Layout.TheVariants.{Bits, Fixed, Variable}
 use Rattle.cqlp_columns.specs.Arrays.{AreBytes, Column}
-use Rattle.cqlp_columns.specs.Batches.{Batch, HasTaken, refusal_of_kinds}
+use Rattle.cqlp_columns.specs.Batches.{Batch, refusal_of_kinds}
 use Rattle.cqlp_decode.specs.declared.given.GiveReason.{GiveReason}
 use Rattle.cqlp_decode.specs.Giving.{free_table, reason_against}
 use Rattle.cqlp_decode.specs.Streams.{Decoding, state}
@@ -22,7 +22,7 @@ use Rattle.cqlp_c.specs.declared.numbers.TheConstants as numbers
 use Rattle.cqlp_c.specs.CallsLaws.{AreAtStart, AreLeftAlike, AreMadeAlike, HaveSameNodes, IsOneAnswerOfColumnsClear, IsOneAnswerOfColumnsGet}
 use Rattle.cqlp_c.specs.CallsLaws.{IsOneAnswerOfColumnsNew, IsOneAnswerOfGive, IsOneAnswerOfHeld, IsOneAnswerOfNew, IsOneAnswerOfTakeGiven}
 use Rattle.cqlp_c.specs.CallsLaws.{IsOneAnswerOfTypesOf, LacksMemory}
-use Rattle.cqlp_c.specs.Columns.{MakesAnew, MakesBy, MakesNumbered, MakesOf, Shows, ShowsHeld, ShowsOne, columns_in, kinds_numbered, limits_of}
+use Rattle.cqlp_c.specs.Columns.{MakesAnew, MakesBy, MakesOf, Shows, ShowsHeld, ShowsOne, columns_in, kinds_numbered, limits_of}
 use Rattle.cqlp_c.specs.Given.{CopiesFrom, GivesBy, GivesHeld, GivesTo, TakesAnew, TakesBy, TakesFrom, TakesHeld, table_in}
 use Rattle.cqlp_c.specs.Handle as handle
 
