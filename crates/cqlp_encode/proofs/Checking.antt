@@ -69,11 +69,11 @@ passed_on before p p' t t' ps part h tally short w =
 
 -- ---- a frame
 
-nine : List ℕ
+abbrev pub nine : List ℕ
 nine = replicate 9 0
 
 module _ {X : Type 0} (o : X → Output) (first : X) (f : FrameValue) (lender : ℕ) where
-  start : Start
+  abbrev pub start : Start
   start = record { output = o first; skip = 0 }
 
   pub before : Before
@@ -98,7 +98,7 @@ module _ {X : Type 0} (o : X → Output) (first : X) (f : FrameValue) (lender : 
     all = nine ++ parts_bytes h.passed
 
     passed_long : length all ≡ 9 + parts_size h.passed
-    unfolding all nine
+    unfolding all
     passed_long = omega (arith, length-append nine (parts_bytes h.passed), h.taken.size)
 
     taken_so : HasTaken start all c
@@ -106,7 +106,7 @@ module _ {X : Type 0} (o : X → Output) (first : X) (f : FrameValue) (lender : 
     taken_so = subst (λ (x : List ℕ). HasTaken start x c) (append-nil all) (rest.taken start all (h.taken.taken h.small))
 
     sent_so : Continued 0 (o first) all c.taken (o end) × (c.taken < 2 ^ 32)
-    unfolding before start
+    unfolding before
     sent_so = sent o start last end all c taken_so none (omega (arith, passed_long, h.small)) left (is_last (rest.lender ∙ h.taken.lender))
 
     pub few_taken : c.taken < 2 ^ 32
@@ -119,11 +119,11 @@ module _ {X : Type 0} (o : X → Output) (first : X) (f : FrameValue) (lender : 
     not_whole = record { bytes = take c.taken all; given = given_so; fit = tt; whole = tt }
 
     pub whole_frame : is_whole t ≡ true → c.taken ≡ t.size + 9 → WritesChecked f (o first) (Some c.taken) (o end)
-    unfolding all nine
-    whole_frame yes size =
+    unfolding all
+    whole_frame fit size =
         let is : IsTally t (frame_parts f) = h.tally in
-        let tests = tests_of t.counts t.texts t.cells (nat_le t.size LONGEST_BODY) yes in
-        let small : parts_size (frame_parts f) ≤ LONGEST_BODY = small_parts t (frame_parts f) is yes in
+        let tests = tests_of t.counts t.texts t.cells (nat_le t.size LONGEST_BODY) fit in
+        let small : parts_size (frame_parts f) ≤ LONGEST_BODY = small_parts t (frame_parts f) is fit in
         let same : parts_size h.passed ≡ parts_size (frame_parts f) = ap parts_size (h.all small) in
         let long : length (parts_bytes (frame_parts f)) ≡ parts_size (frame_parts f) = subst (λ (ps : List Part). length (parts_bytes ps) ≡ parts_size ps) (h.all small) h.taken.size in
         let many : c.taken ≡ frame_size f 0 = omega (arith, size, is.size, small) in
@@ -145,3 +145,12 @@ none_of a b c d e g n ha hb hc hd he hg small =
 pub nothing_in_the_way : (f : FrameValue) (n : ℕ) → is_directed f ≡ true → frame_agrees f ≡ true → has_its_cells f.message ≡ true → PartsFit f n → unfit_of f ≡ None
 nothing_in_the_way f n directed agrees cells fit =
     none_of (is_directed f) (frame_agrees f) (list_all counts_fit (frame_parts f)) (list_all texts_fit (frame_parts f)) (has_its_cells f.message) (list_all cell_fits (frame_parts f)) (parts_size (frame_parts f)) directed agrees fit.counts fit.texts cells fit.cells fit.small
+
+-- if there is an answer
+pub none_if_some : (f : FrameValue) (r : Option ℕ) → is_directed f ≡ true → frame_agrees f ≡ true → has_its_cells f.message ≡ true → IfSome r (λ n. PartsFit f n) → IfSome r (λ n. unfit_of f ≡ None)
+none_if_some f None directed agrees cells fit = tt
+none_if_some f (Some n) directed agrees cells fit = nothing_in_the_way f n directed agrees cells fit
+
+-- what was put behind the bytes is cut off
+pub cut_back : (old new bytes left : List ℕ) (start : ℕ) → start ≡ length old → new ≡ old ++ bytes → left ≡ take start new → left ≡ old
+cut_back old new bytes left start long more cut = cut ∙ ap (take start) more ∙ take_at old bytes start (sym long)

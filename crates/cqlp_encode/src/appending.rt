@@ -1,14 +1,15 @@
 //! A frame behind bytes in memory, written while it is checked.
 
-ghost use Rattle.std.specs.Prelude.{◌≡◌, ◌++◌, List, ℕ, length, take};
+ghost use Rattle.std.specs.Prelude.{◌≡◌};
 ghost use Rattle.cqlp_note.specs.Outputs.{written};
-ghost use Rattle.std.specs.Prelude.{Some};
 ghost use Rattle.cqlp_message.specs.Owned.{frame_of};
 ghost use Rattle.cqlp_encode.specs.Appending.{AppendsFrame, Extends, WritesChecked, is_whole as is_whole_of};
 
+use crate::binding::Gathered;
 use crate::staged::Staged;
 use cqlp_message::{Frame, PartRef, TakesParts, Tally, Unfit};
-use cqlp_note::{Header, IoFault, Target};
+use cqlp_note::{Header, Target};
+use std::mem::replace;
 use thiserror::Error;
 
 /// The longest body of a frame.
@@ -60,8 +61,11 @@ fn extend(frame: &Frame, bytes: &mut Vec<u8>) -> Option<u32>
     if !frame.is_directed() || !frame.agrees() || !frame.message.has_its_cells() {
         return None;
     }
-    let mut target = Growing { bytes, failures: 0 };
-    write_checked(frame, &mut target)
+    let none = Vec::new(*bytes.allocator());
+    let mut target = Gathered::behind(replace(bytes, none));
+    let len = write_checked(frame, &mut target);
+    *bytes = target.into_bytes();
+    len
 }
 
 /// Writes nine bytes and the parts of a frame, each once it is measured, and answers how many bytes these are, if all parts fit and the
@@ -115,30 +119,4 @@ fn is_whole(tally: &Tally) -> bool
     ensures { result ≡ is_whole_of tally.now }
 {
     tally.counts && tally.texts && tally.cells && tally.size <= LONGEST
-}
-
-/// Bytes in memory that others are put behind.
-#[derive(Drop)]
-struct Growing<'a> {
-    bytes: &'a mut Vec<u8>,
-    /// How many calls found no memory, up to 2^64 - 1.
-    failures: u64,
-}
-
-impl<'a> Target for Growing<'a> {
-    ghost use Rattle.std.specs.Prelude.{Some};
-
-    ghost contents = { λ target. Some target.bytes.now.items };
-
-    ghost failures = { λ target. target.failures };
-
-    fn write(&mut self, bytes: &[u8]) -> Result<usize, IoFault> {
-        match self.bytes.extend_from_slice(bytes) {
-            Ok(()) => Ok(bytes.len()),
-            Err(_) => {
-                self.failures = self.failures.saturating_add(1);
-                Err(IoFault)
-            }
-        }
-    }
 }
