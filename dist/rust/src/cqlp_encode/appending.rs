@@ -2,9 +2,11 @@
 //! A frame behind bytes in memory, written while it is checked.
 
 use crate::kit_std::prelude::{Vec};
+use crate::cqlp_encode::binding::Gathered;
 use crate::cqlp_encode::staged::Staged;
 use crate::cqlp_message::{Frame, PartRef, TakesParts, Tally, Unfit};
-use crate::cqlp_note::{Header, IoFault, Target};
+use crate::cqlp_note::{Header, Target};
+use core::mem::replace;
 
 /// The longest body of a frame.
 const LONGEST: u64 = Header::LONGEST_BODY as u64;
@@ -55,8 +57,11 @@ fn extend(frame: &Frame, bytes: &mut Vec<u8>) -> Option<u32>
     if !frame.is_directed() || !frame.agrees() || !frame.message.has_its_cells() {
         return None;
     }
-    let mut target = Growing { bytes, failures: 0 };
-    write_checked(frame, &mut target)
+    let none = Vec::new(*bytes.allocator());
+    let mut target = Gathered::behind(replace(bytes, none));
+    let len = write_checked(frame, &mut target);
+    *bytes = target.into_bytes();
+    len
 }
 
 /// Writes nine bytes and the parts of a frame, each once it is measured, and answers how many bytes these are, if all parts fit and the
@@ -100,23 +105,4 @@ impl<'a, W: Target> TakesParts for Checked<'a, W> {
 fn is_whole(tally: &Tally) -> bool
 {
     tally.counts && tally.texts && tally.cells && tally.size <= LONGEST
-}
-
-/// Bytes in memory that others are put behind.
-struct Growing<'a> {
-    bytes: &'a mut Vec<u8>,
-    /// How many calls found no memory, up to 2^64 - 1.
-    failures: u64,
-}
-
-impl<'a> Target for Growing<'a> {
-    fn write(&mut self, bytes: &[u8]) -> Result<usize, IoFault> {
-        match self.bytes.extend_from_slice(bytes) {
-            Ok(()) => Ok(bytes.len()),
-            Err(_) => {
-                self.failures = self.failures.saturating_add(1);
-                Err(IoFault)
-            }
-        }
-    }
 }
