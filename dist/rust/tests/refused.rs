@@ -5,8 +5,8 @@ use cqlp::capture::{CaptureEnd, CaptureLimits, CaptureReader, CaptureStep, Contr
 use cqlp::cells::{CellError, CellLimits, PageCellError, PageCells, PagePlace};
 use cqlp::columns::{BatchLimits, Columns, MakeError, TakeError};
 use cqlp::frame::{
-    AppendError, Atom, BindError, BuildError, BuildLimits, Composer, Frame, FrameBuilder, Message, Metadata, OwnedBound, ReadError, Rows, Spec, TypeTree, Value, append,
-    bind_value, raw_value, read_value,
+    AppendError, Atom, BindError, BuildError, BuildLimits, Composer, Frame, FrameBuilder, Message, Metadata, OwnedBound, ReadError, Rows, Spec, TypeTree,
+    Value, append, bind_value, raw_value, read_value,
 };
 use cqlp::memory::{AllocError, Box, String, Vec};
 use cqlp::{Event, Field, Global, Header, Kind, Limits, Opcode, Scalar, TableError, table_of, table_of_specs};
