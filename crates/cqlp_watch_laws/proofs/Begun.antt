@@ -1,8 +1,7 @@
 -- The message proper begins once, and what is kept of it does not depend on pieces.
 use Rattle.std.proofs.Common.{◌≡◌, ℕ, zero, suc, ◌+◌, ◌-◌, ◌<◌, ◌≤◌, ◌^◌, Bool, true, false, ◌&&◌, ◌||◌, eqb, ltb, cond, List, [], ◌∷◌, ◌++◌, length, take, drop, Option, Some, None, refl, sym, ap, ◌∙◌, inl, inr, arith}
 use Rattle.std.proofs.lemmas.Bool.{cases_lt}
-use Rattle.std.proofs.lemmas.List.{append-nil, drop-append-le, drop_all, length-take}
-use Rattle.cqlp_note.specs.declared.header.Header.{Header}
+use Rattle.std.proofs.lemmas.List.{drop-append-le, drop_all}
 use Rattle.cqlp_note.specs.declared.opcode.Opcode.{Opcode}
 use Rattle.cqlp_note.specs.Field.{is_negative}
 use Rattle.cqlp_note.specs.Heading.{has}
@@ -17,18 +16,17 @@ use Rattle.cqlp_facts.specs.declared.reader.FactsReader.{FactsReader}
 use Rattle.cqlp_facts.specs.declared.rows.RowsField.{RowsField}
 use Rattle.cqlp_facts.specs.declared.rows.RowsField.TheVariants as rows
 use Rattle.cqlp_facts.specs.declared.types.Types.{Types}
-use Rattle.cqlp_facts.specs.Batches.{batch_following, entries_due, entry_values_due, kind_following}
-use Rattle.cqlp_facts.specs.Bodies.{following, result_kind, width}
+use Rattle.cqlp_facts.specs.Batches.{batch_following, entries_due, entry_values_due}
+use Rattle.cqlp_facts.specs.Bodies.{following, width}
 use Rattle.cqlp_facts.specs.Contents.{past_bytes, past_text, past_value}
 use Rattle.cqlp_facts.specs.Due.{at, is_idle, is_opening, past}
 use Rattle.cqlp_facts.specs.Numbers.{byte, int, short}
-use Rattle.cqlp_facts.specs.Queries.{flags_following, page_size_due, query_following, values_due}
+use Rattle.cqlp_facts.specs.Queries.{page_size_due, query_following, values_due}
 use Rattle.cqlp_facts.specs.Reading.{after_byte, before, begun, filled, gone_on, is_announced, is_before, passed, read, taken, waiting}
-use Rattle.cqlp_facts.specs.Rows.{after_option, columns_due, columns_following, due_of, fields_due, fields_within, is_plain, names_due, paged_columns_due, row_count, rows_following, types_due, udt_due}
+use Rattle.cqlp_facts.specs.Rows.{after_option, columns_due, due_of, fields_within, is_plain, names_due, paged_columns_due, rows_following, types_due}
 use Rattle.cqlp_facts.specs.Types.{columns_of, innermost, with_fields, with_types}
 use Rattle.cqlp_facts.proofs.Pieces.{before_pieces, read_pieces}
-use Rattle.cqlp_watch.specs.declared.heads.Heads.{Heads}
-use Rattle.cqlp_watch_laws.specs.Fronts.{FrontComesLast, FrontsAreKept, front_of}
+use Rattle.cqlp_watch_laws.specs.Fronts.{FrontComesLast, FrontsAreKept}
 
 -- ---- fields of the message proper, but its first one
 
