@@ -2,11 +2,12 @@
 use Rattle.std.specs.Prelude.{◌≡◌, ◌==◌, ℕ, false, List, Option, Some, None, ⊤}
 use Rattle.cqlp_note.specs.Limits.{Rules, with_lenient}
 use Rattle.cqlp_kind.specs.declared.kind.Kind.{Kind}
+use Rattle.cqlp_kind.specs.declared.node.Node.{Node}
 use Rattle.cqlp_kind.specs.Scalars.{ScalarValue, allows_size}
 use Rattle.cqlp_kind.specs.CellStep.{CellEvent}
 use Rattle.cqlp_kind.specs.CellStep as cell
 use Rattle.cqlp_cell.specs.Fronts.{SaysScalar}
-use Rattle.cqlp_cell.specs.Levels.{level_of, with_level}
+use Rattle.cqlp_cell.specs.Levels.{level_of, passed, with_level}
 use Rattle.cqlp_cell.specs.Progress.{CellState}
 use Rattle.cqlp_cell.specs.declared.whole.BareItem.{BareItem}
 use Rattle.cqlp_cell.specs.declared.whole.Entered.{Entered}
@@ -60,6 +61,12 @@ HandsLeaf l k room level input row column HasGot Failed (handed.Taken used) =
     SaysLeaf l k room level input row column used HasGot
 HandsLeaf l k room level input row column HasGot Failed (handed.Fault used) =
     SaysLeaf l k room level input row column used Failed
+
+-- The level goes on after an item that was handed out.
+abbrev pub PassesItem : List Node → (old : Level) → Handed → (new : Level) → Type 0
+PassesItem nodes old handed.Left new = new ≡ old
+PassesItem nodes old (handed.Taken used) new = new ≡ passed nodes old used
+PassesItem nodes old (handed.Fault used) new = new ≡ passed nodes old used
 
 -- An item was taken, and of its offset and its event this holds.
 pub record TakesOne (old : StreamState) (input : List ℕ) (used : ℕ) (Holds : ℕ → Event → Type 0) (new : StreamState)

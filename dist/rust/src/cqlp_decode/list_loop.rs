@@ -5,16 +5,17 @@
 //! in the loop's hands. What stands elsewhere is left, with the reading where it would stand: its items to the loop over
 //! the items of cells, and all else to `Decoder::next`.
 
-use crate::cqlp_decode::item_loop::{ItemsHanded, hand_part};
+use crate::cqlp_decode::item_loop::{ItemsHanded, due_in, hand_part, stop_at};
 use crate::cqlp_decode::leaf::hand_leaf;
 use crate::cqlp_decode::page::{CellCursor, page_table};
-use crate::cqlp_decode::page_loop::Handed;
+use crate::cqlp_decode::page_loop::{Handed, front_of};
 use crate::cqlp_decode::parts::Parts;
 use crate::cqlp_decode::progress::{StreamProgress, StreamStage};
 use crate::cqlp_decode::step::FaultAfter;
 use crate::cqlp_cell::{BareItem, Entered, Level, PairKinds};
 use crate::cqlp_grammar::{Sink, SinkFault};
 use crate::cqlp_kind::Kind;
+use crate::cqlp_note::Asked;
 use crate::kit_std::alloc::Allocator;
 
 /// Hands the cells that are due to the sink, as far as each is a list, a set or a map of scalars and lies in the input, and
@@ -72,6 +73,57 @@ pub(crate) fn is_counted(kind: Kind) -> bool
     matches!(kind, Kind::List | Kind::Set | Kind::Map)
 }
 
+/// Hands the key of a map that is next to the sink, if it is a scalar of this kind and lies in these bytes, which reach no
+/// further than the map, and goes on after it.
+#[inline(always)]
+fn hand_key<S: Sink>(
+    limits: &Asked,
+    kind: Kind,
+    here: &mut Level,
+    page: CellCursor,
+    rest: &[u8],
+    sink: &mut S,
+) -> Handed
+{
+    let due = due_in(rest, here.due_in_pair(kind));
+    match hand_leaf(limits, due, page, rest, sink) {
+        Handed::Left => Handed::Left,
+        Handed::Taken(taken) => {
+            here.pass_key(taken);
+            Handed::Taken(taken)
+        }
+        Handed::Fault(taken) => {
+            here.pass_key(taken);
+            Handed::Fault(taken)
+        }
+    }
+}
+
+/// The same of the value that a key has.
+#[inline(always)]
+fn hand_value<S: Sink>(
+    limits: &Asked,
+    kind: Kind,
+    here: &mut Level,
+    page: CellCursor,
+    rest: &[u8],
+    sink: &mut S,
+) -> Handed
+{
+    let due = due_in(rest, here.due_in_pair(kind));
+    match hand_leaf(limits, due, page, rest, sink) {
+        Handed::Left => Handed::Left,
+        Handed::Taken(taken) => {
+            here.pass_value(taken);
+            Handed::Taken(taken)
+        }
+        Handed::Fault(taken) => {
+            here.pass_value(taken);
+            Handed::Fault(taken)
+        }
+    }
+}
+
 impl StreamProgress {
     /// Begins the cell that is due, if it is a list, a set or a map.
     #[inline(always)]
@@ -121,6 +173,15 @@ impl StreamProgress {
         let Some(kinds) = level.pair_kinds(table) else {
             return self.hand_inside(parts, level, page, input, sink);
         };
+        // Most keys are texts, so that maps of these have a loop of their own.
+        if kinds.key == Kind::Varchar {
+            let value = kinds.value;
+            let kinds = PairKinds {
+                key: Kind::Varchar,
+                value,
+            };
+            return self.hand_pairs(parts, kinds, level, page, input, sink);
+        }
         self.hand_pairs(parts, kinds, level, page, input, sink)
     }
 
@@ -138,49 +199,27 @@ impl StreamProgress {
     {
         let limits = self.limits;
         let mut here = *level;
-        let mut used = 0;
+        if !here.has_key() {
+            return stop_at(level, here, input, input, false);
+        }
+        let within = front_of(input, here.due_in_pair(kinds.key).room);
+        let mut rest = within;
         'pairs: loop {
             if !here.has_key() {
                 break 'pairs;
             }
-            let due = here.due_in_pair(kinds.key);
-            match hand_leaf(&limits, due, page, &input[used..], sink) {
+            match hand_key(&limits, kinds.key, &mut here, page, rest, sink) {
                 Handed::Left => break 'pairs,
-                Handed::Taken(taken) => {
-                    here.pass_key(taken);
-                    used += taken;
-                }
-                Handed::Fault(taken) => {
-                    here.pass_key(taken);
-                    *level = here;
-                    return ItemsHanded {
-                        used: used + taken,
-                        failed: true,
-                    };
-                }
+                Handed::Taken(taken) => rest = &rest[taken..],
+                Handed::Fault(taken) => return stop_at(level, here, &rest[taken..], within, true),
             }
-            let due = here.due_in_pair(kinds.value);
-            match hand_leaf(&limits, due, page, &input[used..], sink) {
+            match hand_value(&limits, kinds.value, &mut here, page, rest, sink) {
                 Handed::Left => break 'pairs,
-                Handed::Taken(taken) => {
-                    here.pass_value(taken);
-                    used += taken;
-                }
-                Handed::Fault(taken) => {
-                    here.pass_value(taken);
-                    *level = here;
-                    return ItemsHanded {
-                        used: used + taken,
-                        failed: true,
-                    };
-                }
+                Handed::Taken(taken) => rest = &rest[taken..],
+                Handed::Fault(taken) => return stop_at(level, here, &rest[taken..], within, true),
             }
         }
-        *level = here;
-        ItemsHanded {
-            used,
-            failed: false,
-        }
+        stop_at(level, here, rest, within, false)
     }
 
     /// Goes on where a level stands, and leaves the cell, where that is at its end.
