@@ -1,26 +1,23 @@
 -- Parts that are checked and then written.
-use Rattle.std.proofs.Common.{◌≡◌, ◌+◌, ◌-◌, ◌≤◌, ◌<◌, ◌^◌, ◌&&◌, ℕ, Bool, true, false, List, [], ◌∷◌, ◌++◌, length, take, drop, min, nat_le, nat_lt, Option, Some, None, refl, sym, ap, ◌∙◌, subst, append-nil, append_assoc, arith}
-use Rattle.std.proofs.lemmas.Bool.{and_parts}
+use Rattle.std.proofs.Common.{◌≡◌, ◌+◌, ◌≤◌, ◌<◌, ◌^◌, ◌&&◌, ℕ, Bool, true, false, List, [], ◌∷◌, ◌++◌, length, take, nat_le, nat_lt, Option, Some, None, refl, sym, ap, ◌∙◌, subst, append-nil, arith}
 use Rattle.std.proofs.lemmas.Bool.Decides.{nat_tests}
 use Rattle.std.proofs.lemmas.List.{length-append, take_all, take_at}
 use Rattle.std.specs.Prelude.{IfSome, not, replicate}
 use Rattle.std.specs.List.{list_all}
 use Rattle.std.specs.Io.KnownBytes.{Appends}
 use Rattle.cqlp_note.specs.Outputs.{Output}
-use Rattle.cqlp_note.specs.Heading.{IsLawful, header_bytes}
 use Rattle.cqlp_note.specs.declared.header.TheConstants.Header.{LONGEST_BODY}
 use Rattle.cqlp_message.specs.declared.tally.Tally.{Tally}
-use Rattle.cqlp_message.specs.declared.unfit.Unfit.{Unfit}
 use Rattle.cqlp_message.specs.declared.unfit.Unfit.TheVariants as unfit
 use Rattle.cqlp_message.specs.Agreement.{is_directed, frame_agrees, has_its_cells}
 use Rattle.cqlp_message.specs.FrameValues.{FrameValue}
 use Rattle.cqlp_message.specs.Parts.{Part, parts_size, parts_bytes, counts_fit, texts_fit, cell_fits}
 use Rattle.cqlp_message.specs.PartRefs.{Takes}
 use Rattle.cqlp_message.specs.Tallies.{IsTally}
-use Rattle.cqlp_message.specs.Frames.{frame_parts, unfit_of, frame_size, frame_bytes, first_of, header_of}
-use Rattle.cqlp_encode.specs.Encoding.{CanBeWritten, Continued}
+use Rattle.cqlp_message.specs.Frames.{frame_parts, unfit_of, frame_size, first_of}
+use Rattle.cqlp_encode.specs.Encoding.{Continued}
 use Rattle.cqlp_encode.specs.Progress.{Start, Before, Progress, HasTaken, HasTakenParts, Puts, begun}
-use Rattle.cqlp_encode.specs.Appending.{is_whole, HasCheckedParts, PartsFit, WritesChecked, room_and_parts}
+use Rattle.cqlp_encode.specs.Appending.{is_whole, HasCheckedParts, PartsFit, WritesChecked}
 use Rattle.cqlp_message.proofs.Tallies.{size_more}
 use Rattle.cqlp_encode.proofs.Continuing.{anew}
 use Rattle.cqlp_encode.proofs.FramesTaken.{nothing_more, nothing_taken, sent}

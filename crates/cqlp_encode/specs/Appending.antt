@@ -5,7 +5,6 @@ use Rattle.std.specs.Io.KnownBytes.{Appends}
 use Rattle.cqlp_note.specs.declared.header.TheConstants.Header.{LONGEST_BODY}
 use Rattle.cqlp_note.specs.Outputs.{Output}
 use Rattle.cqlp_message.specs.declared.tally.Tally.{Tally}
-use Rattle.cqlp_message.specs.Agreement.{is_directed, frame_agrees, has_its_cells}
 use Rattle.cqlp_message.specs.FrameValues.{FrameValue}
 use Rattle.cqlp_message.specs.Parts.{Part, parts_size, parts_bytes, counts_fit, texts_fit, cell_fits}
 use Rattle.cqlp_message.specs.Tallies.{IsTally}

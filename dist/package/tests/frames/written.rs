@@ -3,7 +3,8 @@
 use crate::again::{cells_again, frame_again};
 use crate::sockets::{Narrow, Stops, is_told};
 use crate::words::all_of;
-use cqlp::frame::{EncodeError, Frame, encode, encode_from};
+use cqlp::frame::{AppendError, EncodeError, Frame, append, encode, encode_from};
+use cqlp::memory;
 use cqlp::text::{Ending, ending_line, render_events};
 use cqlp::{Decoder, Event, Global, Limits, OfStd, Outcome, Sink, SinkFault, run};
 
@@ -24,11 +25,25 @@ pub fn said(name: &str, line: &str) -> String {
     format!("== {name}\n{said}")
 }
 
-/// What is answered where there is room for all of a frame, and the bytes that came.
+/// What is answered where there is room for all of a frame, and the bytes that came; the same where they are appended.
 pub fn write(frame: &Frame) -> (Result<u32, EncodeError>, Vec<u8>) {
     let mut target = OfStd::new(Vec::new());
     let answer = encode(frame, &mut target);
-    (answer, target.into_inner())
+    let bytes = target.into_inner();
+    assert_eq!(appended(frame), (answer, bytes.clone()));
+    (answer, bytes)
+}
+
+/// What is answered where a frame is appended to other bytes, and the bytes that came behind these.
+fn appended(frame: &Frame) -> (Result<u32, EncodeError>, Vec<u8>) {
+    let mut bytes = memory::Vec::from(vec![1, 2, 3]);
+    let answer = append(frame, &mut bytes).map_err(|error| match error {
+        AppendError::Unfit(why) => EncodeError::Unfit(why),
+        AppendError::NoMemory => panic!("no memory"),
+    });
+    let (before, came) = bytes.split_at(3);
+    assert_eq!(before, [1, 2, 3]);
+    (answer, came.to_vec())
 }
 
 /// The answer, the bytes, the lines of their events, the verdict, how many rests of the bytes are written after a stop, how many stops

@@ -1,4 +1,4 @@
-use Rattle.std.proofs.Common.{◌≡◌, ◌++◌, ◌∙◌, ℕ, List, sym, ap, arith}
+use Rattle.std.proofs.Common.{◌∙◌, sym}
 use Rattle.cqlp_message.specs.Owned.{frame_of}
 use Rattle.cqlp_encode.proofs.Checking.{none_if_some}
 use Rattle.cqlp_encode.proofs.appending.extend.Goals as goal
