@@ -1,4 +1,5 @@
 pub mod CommandLines
+pub mod Matched
 pub mod NoTasks
 pub mod Ports
 pub mod Reported

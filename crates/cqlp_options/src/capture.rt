@@ -1,6 +1,8 @@
 //! What is asked for with a capture.
 
-ghost use Rattle.std.specs.Prelude.{◌≡◌, ◌≤◌, IfSome, length};
+ghost use Rattle.std.specs.Prelude.{◌≡◌, ◌≤◌, IfSome, Some, codes, length};
+ghost use Rattle.clap.specs.Words.{first_value, found_of};
+ghost use Rattle.cqlp_options.specs.Matched.{AreExchangesOf, IsCaptureTaskOf, IsExchangesForm};
 ghost use Rattle.cqlp_options.specs.Ports.{AreWithin, named};
 
 use clap::ArgMatches;
@@ -65,7 +67,9 @@ pub enum ExchangesAs {
 }
 
 impl ExchangesAs {
-    fn matched(matches: &ArgMatches<'_>) -> ExchangesAs {
+    fn matched(matches: &ArgMatches<'_>) -> ExchangesAs
+        ensures { IsExchangesForm matches.now result }
+    {
         if matches.get_flag("summary") {
             ExchangesAs::Summary
         } else if matches.get_flag("json") {
@@ -89,7 +93,9 @@ pub struct ExchangeOptions {
 }
 
 impl ExchangeOptions {
-    fn matched(matches: &ArgMatches<'_>) -> ExchangeOptions {
+    fn matched(matches: &ArgMatches<'_>) -> ExchangeOptions
+        ensures { AreExchangesOf matches.now result }
+    {
         ExchangeOptions {
             slow: matches.get_one::<u32>("slow"),
             errors: matches.get_flag("errors"),
@@ -115,7 +121,9 @@ pub enum CaptureTask<'a> {
 
 impl<'a> CaptureTask<'a> {
     /// What the words were matched to, if a connection is named whose pages are asked for.
-    fn matched(matches: &ArgMatches<'a>) -> Option<CaptureTask<'a>> {
+    fn matched(matches: &ArgMatches<'a>) -> Option<CaptureTask<'a>>
+        ensures { IfSome result (IsCaptureTaskOf matches.now) }
+    {
         let connection = matches.get_one::<u64>("connection");
         if let Some(folder) = matches.get_str("streams") {
             return Some(CaptureTask::Streams { folder });
@@ -143,7 +151,9 @@ pub struct CaptureOptions<'a> {
 impl<'a> CaptureOptions<'a> {
     /// What the words were matched to, if there are not too many ports.
     pub(crate) fn matched(matches: &ArgMatches<'a>) -> Option<CaptureOptions<'a>>
-        ensures { IfSome result (λ options. AreWithin options.ports) }
+        ensures within { IfSome result (λ options. AreWithin options.ports) }
+        ensures task { IfSome result (λ options. IsCaptureTaskOf matches.now options.task) }
+        ensures file { IfSome result (λ options. first_value (found_of matches.now) (codes "file") ≡ Some options.file.now) }
     {
         let file = matches.get_str("file")?;
         let task = CaptureTask::matched(matches)?;
