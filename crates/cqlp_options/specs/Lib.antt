@@ -1,5 +1,4 @@
 pub mod CommandLines
-pub mod Matched
 pub mod NoTasks
 pub mod Ports
 pub mod Reported

@@ -1,8 +1,6 @@
 //! What is asked for with a capture.
 
-ghost use Rattle.std.specs.Prelude.{◌≡◌, ◌≤◌, IfSome, Some, codes, length};
-ghost use Rattle.clap.specs.Words.{first_value, found_of};
-ghost use Rattle.cqlp_options.specs.Matched.{AreExchangesOf, IsCaptureTaskOf, IsExchangesForm};
+ghost use Rattle.std.specs.Prelude.{◌≡◌, ◌≤◌, IfSome, length};
 ghost use Rattle.cqlp_options.specs.Ports.{AreWithin, named};
 
 use clap::ArgMatches;
@@ -67,9 +65,7 @@ pub enum ExchangesAs {
 }
 
 impl ExchangesAs {
-    fn matched(matches: &ArgMatches<'_>) -> ExchangesAs
-        ensures { IsExchangesForm matches.now result }
-    {
+    fn matched(matches: &ArgMatches<'_>) -> ExchangesAs {
         if matches.get_flag("summary") {
             ExchangesAs::Summary
         } else if matches.get_flag("json") {
@@ -93,9 +89,7 @@ pub struct ExchangeOptions {
 }
 
 impl ExchangeOptions {
-    fn matched(matches: &ArgMatches<'_>) -> ExchangeOptions
-        ensures { AreExchangesOf matches.now result }
-    {
+    fn matched(matches: &ArgMatches<'_>) -> ExchangeOptions {
         ExchangeOptions {
             slow: matches.get_one::<u32>("slow"),
             errors: matches.get_flag("errors"),
@@ -121,9 +115,7 @@ pub enum CaptureTask<'a> {
 
 impl<'a> CaptureTask<'a> {
     /// What the words were matched to, if a connection is named whose pages are asked for.
-    fn matched(matches: &ArgMatches<'a>) -> Option<CaptureTask<'a>>
-        ensures { IfSome result (IsCaptureTaskOf matches.now) }
-    {
+    fn matched(matches: &ArgMatches<'a>) -> Option<CaptureTask<'a>> {
         let connection = matches.get_one::<u64>("connection");
         if let Some(folder) = matches.get_str("streams") {
             return Some(CaptureTask::Streams { folder });
@@ -151,9 +143,7 @@ pub struct CaptureOptions<'a> {
 impl<'a> CaptureOptions<'a> {
     /// What the words were matched to, if there are not too many ports.
     pub(crate) fn matched(matches: &ArgMatches<'a>) -> Option<CaptureOptions<'a>>
-        ensures within { IfSome result (λ options. AreWithin options.ports) }
-        ensures task { IfSome result (λ options. IsCaptureTaskOf matches.now options.task) }
-        ensures file { IfSome result (λ options. first_value (found_of matches.now) (codes "file") ≡ Some options.file.now) }
+        ensures { IfSome result (λ options. AreWithin options.ports) }
     {
         let file = matches.get_str("file")?;
         let task = CaptureTask::matched(matches)?;

@@ -1,8 +1,7 @@
 //! What is asked for with a stream.
 
-ghost use Rattle.std.specs.Prelude.{◌≡◌, IfSome, Ok, codes, not};
+ghost use Rattle.std.specs.Prelude.{◌≡◌, IfSome, Ok};
 ghost use Rattle.cqlp_note.specs.Limits.{first_bad};
-ghost use Rattle.cqlp_options.specs.Matched.{AreOptionsOf, IsFlag, IsRowsForm, IsTaskOf, is_json, skips};
 
 use clap::ArgMatches;
 use cqlp_note::Limits;
@@ -17,9 +16,7 @@ pub enum AtRefusal {
 }
 
 impl AtRefusal {
-    fn matched(matches: &ArgMatches<'_>) -> AtRefusal
-        ensures { IsFlag matches.now (codes "skip") (skips result) }
-    {
+    fn matched(matches: &ArgMatches<'_>) -> AtRefusal {
         if matches.get_flag("skip") {
             AtRefusal::Skip
         } else {
@@ -38,9 +35,7 @@ pub enum EventsAs {
 }
 
 impl EventsAs {
-    fn matched(matches: &ArgMatches<'_>) -> EventsAs
-        ensures { IsFlag matches.now (codes "json") (is_json result) }
-    {
+    fn matched(matches: &ArgMatches<'_>) -> EventsAs {
         if matches.get_flag("json") {
             EventsAs::Json
         } else {
@@ -61,9 +56,7 @@ pub enum RowsAs {
 }
 
 impl RowsAs {
-    fn matched(matches: &ArgMatches<'_>) -> RowsAs
-        ensures { IsRowsForm matches.now result }
-    {
+    fn matched(matches: &ArgMatches<'_>) -> RowsAs {
         if matches.get_flag("json") {
             RowsAs::Json
         } else if matches.get_flag("csv") {
@@ -87,9 +80,7 @@ pub enum Task {
 
 impl Task {
     /// The task that a subcommand names, with what its words were matched to.
-    fn matched(name: &str, matches: &ArgMatches<'_>) -> Option<Task>
-        ensures { IfSome result (IsTaskOf name.now matches.now) }
-    {
+    fn matched(name: &str, matches: &ArgMatches<'_>) -> Option<Task> {
         let at_refusal = AtRefusal::matched(matches);
         match name {
             "show" => Some(Task::Show(EventsAs::matched(matches), at_refusal)),
@@ -118,8 +109,7 @@ pub struct Options<'a> {
 impl<'a> Options<'a> {
     /// What the words of the task with this name were matched to, if its limits are in their ranges.
     pub(crate) fn matched(name: &str, matches: &ArgMatches<'a>) -> Option<Options<'a>>
-        ensures within { IfSome result (λ options. first_bad options.limits ≡ Ok tt) }
-        ensures matched { IfSome result (λ options. AreOptionsOf name.now matches.now options) }
+        ensures { IfSome result (λ options. first_bad options.limits ≡ Ok tt) }
     {
         let task = Task::matched(name, matches)?;
         let file = matches.get_str("file")?;
@@ -138,10 +128,7 @@ impl<'a> Options<'a> {
 }
 
 /// The limits that are given, and those of `Limits::DEFAULT` in place of the others.
-fn limits_of(matches: &ArgMatches<'_>) -> Limits
-    ensures raw { IsFlag matches.now (codes "raw") (not result.types) }
-    ensures parts { IsFlag matches.now (codes "parts") result.parts }
-{
+fn limits_of(matches: &ArgMatches<'_>) -> Limits {
     let Limits {
         text,
         cell,
