@@ -8,8 +8,9 @@ use Rattle.cqlp_streams.specs.Captures.{ReadsMade}
 use Rattle.cqlp_streams.specs.Sayings.{Saying}
 use Rattle.cqlp_streams.specs.Streams.{ReadsCapture}
 use Rattle.cqlp_streams.proofs.Causes.{EndedIfFault, FailsSo, ended_by, fault_cause}
+use Rattle.cqlp_capture_events.specs.declared.limits.TheConstants.{CONNECTIONS, CONNECTION_LIMITS}
 use Rattle.cqlp_capture_events.specs.Listening.{Listening, StopsAt, new_listening, with_saying}
-use Rattle.cqlp_capture_events.specs.Capturing.{FaultsHaveCauses, connection_limits, connections}
+use Rattle.cqlp_capture_events.specs.Capturing.{FaultsHaveCauses}
 
 abbrev failures_of : Listening → ℕ
 failures_of w = w.output.failures
@@ -21,9 +22,9 @@ stops v w s fault.NoMemory a = absurd a
 stops v w s fault.TooManyTurns a = absurd a
 stops v w s (fault.File f) a = absurd a
 
-ended : (asked : Option ℕ) (ports xs : List ℕ) (m : ReadsMade) (left : Option (List ℕ)) (out : Output) (w : Listening) (r : Result CaptureRead StreamsFault) → ReadsCapture with_saying StopsAt connection_limits ports xs m r left (new_listening connections asked out) w → EndedIfFault m r out.failures w.output.failures
+ended : (asked : Option ℕ) (ports xs : List ℕ) (m : ReadsMade) (left : Option (List ℕ)) (out : Output) (w : Listening) (r : Result CaptureRead StreamsFault) → ReadsCapture with_saying StopsAt CONNECTION_LIMITS ports xs m r left (new_listening CONNECTIONS asked out) w → EndedIfFault m r out.failures w.output.failures
 ended asked ports xs m left out w (Ok x) a = tt
-ended asked ports xs m left out w (Err e) a = fault_cause with_saying StopsAt failures_of (λ v s. refl) stops connection_limits ports xs m e left (new_listening connections asked out) w a
+ended asked ports xs m left out w (Err e) a = fault_cause with_saying StopsAt failures_of (λ v s. refl) stops CONNECTION_LIMITS ports xs m e left (new_listening CONNECTIONS asked out) w a
 
 pub events_causes : FaultsHaveCauses
 events_causes asked ports xs m left out err out' err' (r, (w, reads, is), ends) =

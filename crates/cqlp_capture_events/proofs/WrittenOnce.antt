@@ -1,10 +1,11 @@
 -- Two runs are one.
 use Rattle.std.proofs.Common.{◌∙◌, codes, sym, ap}
 use Rattle.cqlp_streams.proofs.OneAnswer.{runs_once}
+use Rattle.cqlp_capture_events.specs.declared.limits.TheConstants.{CONNECTIONS, CONNECTION_LIMITS}
 use Rattle.cqlp_capture_events.specs.Listening.{Listening, StopsAt, new_listening, with_saying}
-use Rattle.cqlp_capture_events.specs.Capturing.{OneAnswerOfWriteEvents, connection_limits, connections}
+use Rattle.cqlp_capture_events.specs.Capturing.{OneAnswerOfWriteEvents}
 
 pub events_once : OneAnswerOfWriteEvents
 events_once asked ports xs out err made made' left left' status status' out' out'' err' err'' (r, (w, reads, is), ends) well (r', (w', reads', is'), ends') well' =
-    let one = runs_once with_saying StopsAt (λ (z : Listening). codes "events") connection_limits ports xs (new_listening connections asked out) w w' made made' left left' r r' err err' err'' status status' reads ends well reads' ends' well' in
+    let one = runs_once with_saying StopsAt (λ (z : Listening). codes "events") CONNECTION_LIMITS ports xs (new_listening CONNECTIONS asked out) w w' made made' left left' r r' err err' err'' status status' reads ends well reads' ends' well' in
     (one.0, is' ∙ ap (λ (z : Listening). z.output) one.1 ∙ sym is, one.2)

@@ -1,28 +1,20 @@
 -- What becomes of a capture whose frames are written.
 use Rattle.std.specs.Prelude.{◌≡◌, ◌≢◌, ℕ, List, codes, Option, Result}
 use Rattle.cqlp_text.specs.Outputs.{Output}
-use Rattle.cqlp_connections.specs.declared.limits.ConnectionLimits.{ConnectionLimits}
 use Rattle.cqlp_streams.specs.declared.capturing.CaptureRead.{CaptureRead}
 use Rattle.cqlp_streams.specs.declared.fault.StreamsFault.{StreamsFault}
 use Rattle.cqlp_streams.specs.Captures.{ReadsMade}
 use Rattle.cqlp_streams.specs.Streams.{ReadsCapture}
 use Rattle.cqlp_streams.specs.Endings.{Concludes}
 use Rattle.cqlp_streams.specs.Causes.{HasCause}
+use Rattle.cqlp_capture_events.specs.declared.limits.TheConstants.{CONNECTIONS, CONNECTION_LIMITS}
 use Rattle.cqlp_capture_events.specs.Listening.{Listening, StopsAt, new_listening, with_saying}
-
--- how many connections are watched at one time
-abbrev pub connections : ℕ
-connections = 256
-
--- so many connections, and bytes of each direction that came early
-abbrev pub connection_limits : ConnectionLimits
-connection_limits = record { connections = connections; early = 16384 }
 
 -- What was heard of an input with the bytes xs by so many reads, what that was, and the lines that were written.
 abbrev pub Listens : (asked : Option ℕ) → (ports : List ℕ) → (xs : List ℕ) → ReadsMade → Result CaptureRead StreamsFault
     → (left : Option (List ℕ)) → (out : Output) → (out' : Output) → Type 0
 Listens asked ports xs m r left out out' =
-    (w : Listening) × ReadsCapture with_saying StopsAt connection_limits ports xs m r left (new_listening connections asked out) w
+    (w : Listening) × ReadsCapture with_saying StopsAt CONNECTION_LIMITS ports xs m r left (new_listening CONNECTIONS asked out) w
     × (out' ≡ w.output)
 
 -- The lines of its frames were written, and then the line of how it ended, with its status.

@@ -1,20 +1,16 @@
 -- Lines that say of which connection and direction they are: its number, and `>` for requests, `<` for responses.
-use Rattle.std.specs.Prelude.{ℕ, Bool, true, if◌then◌else◌, List, [], ◌∷◌, ◌++◌, codes, decimal, None}
-use Rattle.cqlp_note.specs.declared.limits.Limits.{Limits}
+use Rattle.std.specs.Prelude.{ℕ, Bool, if◌then◌else◌, List, [], ◌∷◌, ◌++◌, codes, decimal, None}
 use Rattle.cqlp_note.specs.declared.refusal.Reason.{Reason}
 use Rattle.cqlp_note.specs.Limits.{Rules, rules_of}
 use Rattle.cqlp_grammar.specs.Events.{Event}
 use Rattle.cqlp_text.specs.Lines.{line}
 use Rattle.cqlp_text.specs.Names.{reason_name}
 use Rattle.cqlp_capture_frames.specs.Happenings.{Happening, Manner, Begins, Says, Fails, Compressed, Gap, Ends, Closes}
+use Rattle.cqlp_capture_events.specs.declared.limits.TheConstants.{LIMITS}
 use Rattle.cqlp_capture_events.specs.declared.lines.Lines.{Lines}
 
--- the limits on each frame
-abbrev pub limits : Limits
-limits = record { text = 65536; cell = 65536; entries = 1024; depth = 16; types = true; parts = true }
-
 abbrev pub rules : Rules
-rules = rules_of limits
+rules = rules_of LIMITS
 
 abbrev pub joined : List (List ℕ) → List ℕ
 joined [] = []

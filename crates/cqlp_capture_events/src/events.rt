@@ -4,7 +4,7 @@ ghost use Rattle.std.specs.Prelude.{◌≡◌, ◌≤◌, [], IfErr, IfOk, IsSom
 ghost use Rattle.cqlp_text.specs.Outputs.{written};
 ghost use Rattle.cqlp_text.specs.Written.{Writes};
 ghost use Rattle.cqlp_capture_events.specs.Tables.{fresh, tells};
-ghost use Rattle.cqlp_capture_events.specs.Capturing.{connections};
+ghost use Rattle.cqlp_capture_events.specs.declared.limits.TheConstants.{CONNECTIONS};
 
 use crate::limits::CONNECTIONS;
 use crate::table::Table;
@@ -50,7 +50,7 @@ impl<O: Target, A: Allocator> Events<O, A> {
     pub fn new(alloc: A, asked: Option<u64>, out: O) -> Result<Self, O>
     where
         A: Clone,
-        ensures ok { IfOk result (λ e. e ≡ new_listening connections asked (written O.Target out)) }
+        ensures ok { IfOk result (λ e. e ≡ new_listening CONNECTIONS asked (written O.Target out)) }
         ensures err { IfErr result (λ o. written O.Target o ≡ written O.Target out) }
     {
         match take_memory(alloc) {
@@ -139,7 +139,7 @@ fn put_told<W: Target, A: Allocator, B: Allocator>(
 
 /// A table of free slots, and a buffer.
 fn take_memory<A: Allocator + Clone>(alloc: A) -> Result<(Table<A>, Vec<u8, A>), AllocError>
-    ensures table { IfOk result (λ p. p.0 ≡ replicate connections (fresh None)) }
+    ensures table { IfOk result (λ p. p.0 ≡ replicate CONNECTIONS (fresh None)) }
     ensures buffer { IfOk result (λ p. 128 ≤ vec_len p.1) }
 {
     let table = Table::new(alloc.clone()?, CONNECTIONS)?;

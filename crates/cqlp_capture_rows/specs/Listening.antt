@@ -11,6 +11,7 @@ use Rattle.cqlp_prepared.specs.declared.requests.Requests.{Requests}
 use Rattle.cqlp_prepared.specs.Keeping.{new_keeping}
 use Rattle.cqlp_prepared.specs.Requests.{Asked, asked, silent, step_asked}
 use Rattle.cqlp_capture_rows.specs.declared.fault.TellFault.{TellFault}
+use Rattle.cqlp_capture_rows.specs.declared.limits.TheConstants.{EXECUTES, STATEMENTS}
 use Rattle.cqlp_capture_rows.specs.Faults.{Faults, WritesFront}
 use Rattle.cqlp_capture_frames.specs.Directions.{Direction, Telling, begun, closes, step_told}
 use Rattle.cqlp_capture_rows.specs.Responses.{Responses, new_responses, page_manner, rules, with_known}
@@ -27,15 +28,8 @@ abbrev pub listening : ℕ → Requests → Direction → Responses → Output �
 listening asked requests direction responses output =
     record { asked = asked; requests = requests; direction = direction; responses = responses; output = output }
 
--- how many statements are known at most, and how many EXECUTEs wait
-abbrev pub statements : ℕ
-statements = 256
-
-abbrev pub executes : ℕ
-executes = 1024
-
 abbrev pub new_listening : (asked : ℕ) → Output → Listening
-new_listening asked out = listening asked (silent false) (begun rules true false) (new_responses asked (new_keeping statements executes)) out
+new_listening asked out = listening asked (silent false) (begun rules true false) (new_responses asked (new_keeping STATEMENTS EXECUTES)) out
 
 -- ---- what a saying does: the text, and the requests and the responses after it
 

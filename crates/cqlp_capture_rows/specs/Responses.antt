@@ -3,22 +3,18 @@ use Rattle.std.specs.Prelude.{ℕ, Bool, true, false, if◌then◌else◌, List,
 use Rattle.cqlp_note.specs.declared.header.Header.{Header}
 use Rattle.cqlp_note.specs.declared.opcode.Opcode.{Opcode}
 use Rattle.cqlp_note.specs.declared.opcode.Opcode.TheVariants as opcode
-use Rattle.cqlp_note.specs.declared.limits.Limits.{Limits}
 use Rattle.cqlp_note.specs.Limits.{Rules, rules_of}
 use Rattle.cqlp_kind.specs.declared.node.Node.{Node}
 use Rattle.cqlp_prepared.specs.Keeping.{Keeping, answered, prepared, types_for}
 use Rattle.cqlp_capture_frames.specs.Happenings.{Happening, Manner, Begins, Says, Fails, Compressed, Gap, Ends, Closes}
+use Rattle.cqlp_capture_rows.specs.declared.limits.TheConstants.{LIMITS}
 use Rattle.cqlp_capture_rows.specs.declared.responses.TheConstants.{NO_HEADER}
 use Rattle.cqlp_capture_rows.specs.declared.spot.FrameSpot.{FrameSpot}
 use Rattle.cqlp_capture_rows.specs.Spots.{compressed_line, frame_spot, gap_line, refused_line, spot}
 use Rattle.cqlp_capture_rows.specs.Pages.{Page, cut_text, no_rows, page_after, rows_part}
 
--- the limits on each frame
-abbrev pub limits : Limits
-limits = record { text = 1048576; cell = 1048576; entries = 4096; depth = 16; types = true; parts = true }
-
 abbrev pub rules : Rules
-rules = rules_of limits
+rules = rules_of LIMITS
 
 -- the number of the connection, what is known of its statements, where the frame that began last begins, and its page
 pub record Responses : Type 0 where
