@@ -1,8 +1,7 @@
 -- Laws: two answers are the same.
-use Rattle.std.specs.Prelude.{◌≡◌, true, ℕ, Option, Ok}
+use Rattle.std.specs.Prelude.{◌≡◌, ℕ, Option, Ok}
 use Rattle.cqlp_text.specs.Outputs.{Output}
 use Rattle.cqlp_streams.specs.Sayings.{Saying}
-use Rattle.cqlp_capture_events.specs.declared.limits.TheConstants.{CONNECTIONS, CONNECTION_LIMITS, LIMITS}
 use Rattle.cqlp_capture_events.specs.Listening.{Hears, Listening, new_listening}
 
 abbrev pub OneAnswerOfNew : Type 0
@@ -14,9 +13,3 @@ OneAnswerOfNew =
 abbrev pub OneAnswerOfHear : Type 0
 OneAnswerOfHear =
     (before e f : Listening) (s : Saying) (u v : Unit {0}) → Hears before s (Ok u) e → Hears before s (Ok v) f → f ≡ e
-
--- so many connections are watched, with windows of so many bytes that came early, and each frame is read within these limits
-abbrev pub PromisedNumbers : Type 0
-PromisedNumbers =
-    (CONNECTIONS ≡ 256) × (CONNECTION_LIMITS ≡ record { connections = 256; early = 16384 })
-    × (LIMITS ≡ record { text = 65536; cell = 65536; entries = 1024; depth = 16; types = true; parts = true })

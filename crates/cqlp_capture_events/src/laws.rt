@@ -1,7 +1,7 @@
 //! Laws of what is written of frames. No code needs them.
 
 ghost use Rattle.cqlp_capture_events.specs.Capturing.{FaultsHaveCauses, OneAnswerOfWriteEvents};
-ghost use Rattle.cqlp_capture_events.specs.Laws.{OneAnswerOfHear, OneAnswerOfNew, PromisedNumbers};
+ghost use Rattle.cqlp_capture_events.specs.Laws.{OneAnswerOfHear, OneAnswerOfNew};
 
 /// Where memory is granted `Events::new` has one answer, and so has `hear` where the output does not fail.
 pub fn one_answer()
@@ -18,9 +18,4 @@ pub fn one_answer_of_write_events()
 /// reads.
 pub fn faults_have_causes()
     ensures { FaultsHaveCauses }
-{}
-
-/// The numbers that are promised: how many connections are watched, how many early bytes each of their directions holds, and the limits on each frame.
-pub fn promised_numbers()
-    ensures { PromisedNumbers }
 {}

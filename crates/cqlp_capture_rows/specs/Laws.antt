@@ -1,8 +1,7 @@
 -- Laws: two answers are the same.
-use Rattle.std.specs.Prelude.{◌≡◌, true, ℕ, Ok}
+use Rattle.std.specs.Prelude.{◌≡◌, ℕ, Ok}
 use Rattle.cqlp_text.specs.Outputs.{Output}
 use Rattle.cqlp_streams.specs.Sayings.{Saying}
-use Rattle.cqlp_capture_rows.specs.declared.limits.TheConstants.{EXECUTES, LIMITS, STATEMENTS}
 use Rattle.cqlp_capture_rows.specs.Listening.{Hears, Listening, new_listening}
 
 abbrev pub OneAnswerOfNew : Type 0
@@ -14,9 +13,3 @@ OneAnswerOfNew =
 abbrev pub OneAnswerOfHear : Type 0
 OneAnswerOfHear =
     (before e f : Listening) (s : Saying) (u v : Unit {0}) → Hears before s (Ok u) e → Hears before s (Ok v) f → f ≡ e
-
--- so many statements are known, so many EXECUTEs wait, and each frame is read within these limits
-abbrev pub PromisedNumbers : Type 0
-PromisedNumbers =
-    (STATEMENTS ≡ 256) × (EXECUTES ≡ 1024)
-    × (LIMITS ≡ record { text = 1048576; cell = 1048576; entries = 4096; depth = 16; types = true; parts = true })

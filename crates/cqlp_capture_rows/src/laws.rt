@@ -1,7 +1,7 @@
 //! Laws of what is written of pages. No code needs them.
 
 ghost use Rattle.cqlp_capture_rows.specs.Capturing.{FaultsHaveCauses, OneAnswerOfWriteRows};
-ghost use Rattle.cqlp_capture_rows.specs.Laws.{OneAnswerOfHear, OneAnswerOfNew, PromisedNumbers};
+ghost use Rattle.cqlp_capture_rows.specs.Laws.{OneAnswerOfHear, OneAnswerOfNew};
 
 /// Where memory is granted `Rows::new` has one answer, and so has `hear` where the output does not fail.
 pub fn one_answer()
@@ -18,9 +18,4 @@ pub fn one_answer_of_write_rows()
 /// reads.
 pub fn faults_have_causes()
     ensures { FaultsHaveCauses }
-{}
-
-/// The numbers that are promised: how many statements are known, how many EXECUTEs wait, and the limits on each frame.
-pub fn promised_numbers()
-    ensures { PromisedNumbers }
 {}
