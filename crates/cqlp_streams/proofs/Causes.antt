@@ -1,7 +1,7 @@
 -- What ends the reading of a capture early.
-use Rattle.std.proofs.Common.{◌≡◌, ◌≢◌, ◌∙◌, ℕ, true, List, [], ◌∷◌, ◌++◌, Option, Result, Ok, Err, ◌⊎◌, refl, sym, ap, subst, inl, inr}
+use Rattle.std.proofs.Common.{◌≡◌, ◌≢◌, ◌∙◌, ℕ, true, List, [], ◌∷◌, Option, Result, Ok, Err, refl, sym, ap, subst, inl, inr}
 use Rattle.cqlp_note.specs.Streams.{counted}
-use Rattle.cqlp_text.specs.Outputs.{Output, with_text, StopsWithin}
+use Rattle.cqlp_text.specs.Outputs.{Output, with_text}
 use Rattle.cqlp_capture.specs.declared.event.CaptureEnd.{CaptureEnd}
 use Rattle.cqlp_capture.specs.declared.event.CaptureEnd.TheVariants as end
 use Rattle.cqlp_connections.specs.declared.limits.ConnectionLimits.{ConnectionLimits}
@@ -11,9 +11,9 @@ use Rattle.cqlp_streams.specs.declared.fault.StreamsFault.TheVariants as fault
 use Rattle.cqlp_streams.specs.Sayings.{Saying}
 use Rattle.cqlp_streams.specs.Listening.{FailsAtLast, after_all}
 use Rattle.cqlp_streams.specs.Packets.{SplitState}
-use Rattle.cqlp_streams.specs.Captures.{EndsTo, IsOfReads, ReadsMade, SplitsTo}
+use Rattle.cqlp_streams.specs.Captures.{IsOfReads, ReadsMade, SplitsTo}
 use Rattle.cqlp_streams.specs.Endings.{Concludes, end_status, fault_line}
-use Rattle.cqlp_streams.specs.Streams.{ReadsCapture, default_limits, no_connections, read_of, turns}
+use Rattle.cqlp_streams.specs.Streams.{ReadsCapture, default_limits, no_connections, turns}
 use Rattle.cqlp_streams.specs.Causes.{HasCause}
 
 -- what a fault of a listener to which an output belongs leaves: one more failure of that, where that is the fault

@@ -90,7 +90,7 @@ pub record TellsLeaving (l : CaptureLimits) (t : Table) (bytes : List ℕ) (ss :
 
 -- ---- reads
 
--- how many were made of an input, and whether the last of them failed, which is the only one that may
+-- how many were made of an input, and whether one of them failed, which no more than one may
 pub record ReadsMade : Type 0 where
   pub made : ℕ
   pub failed : Bool
@@ -98,7 +98,7 @@ pub record ReadsMade : Type 0 where
 abbrev pub no_reads : ReadsMade
 no_reads = record { made = 0; failed = false }
 
--- An input counts that many calls more, and a failed one more if the last one failed.
+-- An input counts that many calls more, and a failed one more if one failed.
 abbrev pub AreCounted : ReadsMade → (calls calls' failures failures' : ℕ) → Type 0
 AreCounted m calls calls' failures failures' = CountsUp m.made calls calls' × (failures' ≡ counted m.failed failures)
 
@@ -106,7 +106,7 @@ AreCounted m calls calls' failures failures' = CountsUp m.made calls calls' × (
 abbrev pub most_read : ℕ
 most_read = 65536
 
--- Before the last read the bytes read so far had said all their events, and more were wanted: nothing was refused.
+-- The bytes read but the last, no more than one read asks for, had said all their events, and more were wanted: nothing was refused.
 pub record ReadsOn (l : CaptureLimits) (read : List ℕ) : Type 0 where
   pub earlier : List ℕ
   pub last : List ℕ
@@ -133,7 +133,7 @@ IsAtEndBy (Some r) d read s es = Says d.limits start read es (Refused r)
 abbrev pub IsAtEndOf : CaptureState → (read s : List ℕ) → List (ℕ × Event) → Type 0
 IsAtEndOf d read s es = IsAtEndBy d.refusal d read s es
 
--- the last read failed, or all were made that may be
+-- a read failed, or all were made that may be
 abbrev pub IsOfReads : (turns : ℕ) → ReadsMade → StreamsFault → Type 0
 IsOfReads turns m fault.Read = m.failed ≡ true
 IsOfReads turns m fault.TooManyTurns = m.made ≡ turns
@@ -167,8 +167,8 @@ module _ {V : Type 0} (after : V → Saying → V) where
         × (length f.later ≤ most_read))
         ⊎ (TellsLeaving l t read ss u × FailsAtLast after faulted (AreEndless ss) before ss e v)))
 
-    -- Of the bytes xs of an input these were read, by so many reads of at most `turns`, none after one that failed; it has got this of
-    -- them, and the others are left.
+    -- Of the bytes xs of an input these were read, by so many reads of at most `turns`, of which one failed only where that is the answer;
+    -- it has got this of them, and the others are left.
     pub record SplitsTo (l : CaptureLimits) (t : Table) (turns : ℕ) (m : ReadsMade) (before : V) (xs : List ℕ)
         (r : Result CaptureEnd StreamsFault) (left : Option (List ℕ)) (u : SplitState) (v : V) : Type 0 where
       pub few : m.made ≤ turns

@@ -13,7 +13,7 @@ use Rattle.cqlp_streams.specs.Files.{Call}
 use Rattle.cqlp_streams.specs.Sayings.{Saying}
 use Rattle.cqlp_streams.specs.Recordings.{StopsAt, no_sums, recording, with_saying}
 use Rattle.cqlp_streams.specs.Packets.{SplitState}
-use Rattle.cqlp_streams.specs.Captures.{AreCounted, ReadsMade, SplitsTo, no_reads}
+use Rattle.cqlp_streams.specs.Captures.{ReadsMade, SplitsTo, no_reads}
 use Rattle.cqlp_streams.specs.Endings.{Concludes, sums_words}
 
 -- the limits on a capture where none are given
