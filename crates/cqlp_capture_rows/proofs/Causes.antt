@@ -1,5 +1,5 @@
 -- A fault has its cause.
-use Rattle.std.proofs.Common.{◌≡◌, ℕ, List, codes, Option, Result, Ok, Err, refl, sym, subst}
+use Rattle.std.proofs.Common.{ℕ, List, codes, Option, Result, Ok, Err, refl, sym, subst}
 use Rattle.cqlp_text.specs.Outputs.{Output}
 use Rattle.cqlp_streams.specs.declared.capturing.CaptureRead.{CaptureRead}
 use Rattle.cqlp_streams.specs.declared.fault.StreamsFault.{StreamsFault}
