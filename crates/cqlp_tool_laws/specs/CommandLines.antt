@@ -177,8 +177,8 @@ module _ (before : Streams) (status status' : ℕ) (after after' : Streams) wher
   IsCaptureMetAlike (capture_task.Events asked) ports does does' = (status ≢ 3) × (status' ≢ 3)
   IsCaptureMetAlike (capture_task.Rows asked) ports does does' = (status ≢ 3) × (status' ≢ 3)
 
--- A read of the input failed, or the output, or the error output; or the line that was written says that there was no memory, or that all
--- reads were made that may be.
+-- A read of the input failed, or the output, or the error output; or the line that was written says that there was no memory, or too
+-- many turns: all reads were made that may be, or there was no end to what is told.
 abbrev pub HasFault : (before after : Streams) → Type 0
 HasFault before after =
     (after.input.failures ≡ counted true before.input.failures)

@@ -13,7 +13,8 @@ use Rattle.cqlp_streams.specs.Streams.{ReadsCapture, default_limits, no_connecti
 use Rattle.cqlp_capture_events.specs.declared.limits.TheConstants as events
 use Rattle.cqlp_capture_rows.specs.declared.limits.TheConstants as rows
 
--- A reading of a capture makes at most 2^32 reads, and ends with too many turns after no fewer; or there was no memory for it.
+-- A reading of a capture makes at most 2^32 reads, and ends with too many turns after no fewer, or where there is no end to what is told; or there was
+-- no memory for it.
 abbrev pub TurnsOfCaptures : Type 0
 TurnsOfCaptures =
     (limits : ConnectionLimits) (ports xs : List ℕ) (m : ReadsMade) (r : Result CaptureRead StreamsFault) (left : Option (List ℕ))
