@@ -1,3 +1,4 @@
 pub mod Parts
 pub mod Heard
 pub mod WrittenOnce
+pub mod Causes

@@ -3,3 +3,4 @@ pub mod Pages
 pub mod Faults
 pub mod Heard
 pub mod WrittenOnce
+pub mod Causes

@@ -1,9 +1,9 @@
 //! A capture whose pages are written.
 
 ghost use Rattle.std.specs.Prelude.{◌≡◌, ℕ, List, IsSome, Some};
-ghost use Rattle.cqlp_note.specs.Streams.{CountsUp};
 ghost use Rattle.cqlp_text.specs.Endings.{IsStatusOfTask};
 ghost use Rattle.cqlp_text.specs.Outputs.{written};
+ghost use Rattle.cqlp_streams.specs.Captures.{AreCounted, ReadsMade};
 ghost use Rattle.cqlp_capture_rows.specs.Capturing.{Listens, WritesRows};
 
 use crate::rows::Rows;
@@ -26,8 +26,8 @@ pub fn write_rows<R: Source, O: Target, E: Target>(
 ) -> (u8, O, E)
     ensures task { IsStatusOfTask result.0 }
     ensures rows { (xs : List ℕ) → R.left input.old ≡ Some xs → IsSome (O.contents out) → IsSome (E.contents err) →
-        (made : ℕ) × CountsUp made (R.reads input.old) (R.reads input.new)
-        × WritesRows connection ports.now xs made (R.left input.new) (written O.Target out) (written E.Target err)
+        (m : ReadsMade) × AreCounted m (R.reads input.old) (R.reads input.new) (R.failures input.old) (R.failures input.new)
+        × WritesRows connection ports.now xs m (R.left input.new) (written O.Target out) (written E.Target err)
         result.0 (written O.Target result.1) (written E.Target result.2) }
 {
     let (answer, out) = listen(alloc, ports, connection, input, out);
@@ -44,8 +44,8 @@ fn listen<R: Source, O: Target>(
     out: O,
 ) -> (Result<CaptureRead, StreamsFault>, O)
     ensures { (xs : List ℕ) → R.left input.old ≡ Some xs → IsSome (O.contents out) →
-        (made : ℕ) × CountsUp made (R.reads input.old) (R.reads input.new)
-        × Listens connection ports.now xs made result.0 (R.left input.new) (written O.Target out) (written O.Target result.1) }
+        (m : ReadsMade) × AreCounted m (R.reads input.old) (R.reads input.new) (R.failures input.old) (R.failures input.new)
+        × Listens connection ports.now xs m result.0 (R.left input.new) (written O.Target out) (written O.Target result.1) }
 {
     let mut rows = match Rows::new(alloc, connection, out) {
         Ok(rows) => rows,

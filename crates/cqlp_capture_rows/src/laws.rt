@@ -1,6 +1,6 @@
 //! Laws of what is written of pages. No code needs them.
 
-ghost use Rattle.cqlp_capture_rows.specs.Capturing.{OneAnswerOfWriteRows};
+ghost use Rattle.cqlp_capture_rows.specs.Capturing.{FaultsHaveCauses, OneAnswerOfWriteRows};
 ghost use Rattle.cqlp_capture_rows.specs.Laws.{OneAnswerOfHear, OneAnswerOfNew};
 
 /// Where memory is granted `Rows::new` has one answer, and so has `hear` where the output does not fail.
@@ -12,4 +12,10 @@ pub fn one_answer()
 /// Where nothing outside fails, `write_rows` has one answer: from the same bytes, ports and connection the same text and the same status.
 pub fn one_answer_of_write_rows()
     ensures { OneAnswerOfWriteRows }
+{}
+
+/// `write_rows` answers the status of a fault only where a read or an output failed, or where it has written that there is no memory, or no end of
+/// reads.
+pub fn faults_have_causes()
+    ensures { FaultsHaveCauses }
 {}

@@ -1,4 +1,5 @@
 pub mod Accounts
+pub mod Causes
 pub mod Heard
 pub mod Members
 pub mod Talks

@@ -5,8 +5,10 @@ use Rattle.cqlp_connections.specs.declared.limits.ConnectionLimits.{ConnectionLi
 use Rattle.cqlp_streams.specs.declared.capturing.CaptureRead.{CaptureRead}
 use Rattle.cqlp_streams.specs.declared.fault.StreamsFault.{StreamsFault}
 use Rattle.cqlp_streams.specs.declared.fault.StreamsFault.TheVariants as fault
+use Rattle.cqlp_streams.specs.Captures.{ReadsMade}
 use Rattle.cqlp_streams.specs.Streams.{ReadsCapture}
 use Rattle.cqlp_streams.specs.Endings.{Concludes}
+use Rattle.cqlp_streams.specs.Causes.{HasCause}
 use Rattle.cqlp_exchanges.specs.declared.exchanges.ExchangeLimits.{ExchangeLimits}
 use Rattle.cqlp_exchanges.specs.declared.filter.ExchangeFilter.{ExchangeFilter}
 use Rattle.cqlp_exchanges.specs.declared.form.ExchangeForm.{ExchangeForm}
@@ -35,26 +37,32 @@ Closes a (Ok x) (Ok y) out = (y ≡ x) × (out ≡ with_text a.output (ending a)
 Closes a (Ok x) (Err f) out = (f ≡ fault.Write) × StopsWithin a.output (ending a) out
 
 -- What was heard of an input with the bytes xs by so many reads, what that was, and what was written.
-abbrev pub Listens : ExchangeFilter → ExchangeForm → (ports : List ℕ) → (xs : List ℕ) → (made : ℕ) → Result CaptureRead StreamsFault
+abbrev pub Listens : ExchangeFilter → ExchangeForm → (ports : List ℕ) → (xs : List ℕ) → ReadsMade → Result CaptureRead StreamsFault
     → (left : Option (List ℕ)) → (out : Output) → ExchangeSums → (out' : Output) → Type 0
-Listens filter form ports xs made r left out sums out' =
+Listens filter form ports xs m r left out sums out' =
     (w : Listening) × (read : Result CaptureRead StreamsFault)
-    × ReadsCapture with_saying StopsAt connection_limits ports xs made read left (new_listening default_limits filter form out) w
+    × ReadsCapture with_saying StopsAt connection_limits ports xs m read left (new_listening default_limits filter form out) w
     × (sums ≡ w.account.sums) × Closes w.account read r out'
 
 -- Its exchanges were written, and then the line of how it ended, with its status.
-abbrev pub WritesExchanges : ExchangeFilter → ExchangeForm → (ports : List ℕ) → (xs : List ℕ) → (made : ℕ) → (left : Option (List ℕ)) → (out err : Output)
+abbrev pub WritesExchanges : ExchangeFilter → ExchangeForm → (ports : List ℕ) → (xs : List ℕ) → ReadsMade → (left : Option (List ℕ)) → (out err : Output)
     → (status : ℕ) → (out' err' : Output) → Type 0
-WritesExchanges filter form ports xs made left out err status out' err' =
-    (r : Result CaptureRead StreamsFault) × (sums : ExchangeSums) × Listens filter form ports xs made r left out sums out'
+WritesExchanges filter form ports xs m left out err status out' err' =
+    (r : Result CaptureRead StreamsFault) × (sums : ExchangeSums) × Listens filter form ports xs m r left out sums out'
     × Concludes (sums_words sums) r err status err'
 
 -- Where nothing outside fails, so that the status is not that of a fault, the same bytes, ports, filter, form and outputs lead to the
 -- same status, the same text and the same last line.
 abbrev pub OneAnswerOfWriteExchanges : Type 0
 OneAnswerOfWriteExchanges =
-    (filter : ExchangeFilter) (form : ExchangeForm) (ports xs : List ℕ) (out err : Output) (made made' : ℕ) (left left' : Option (List ℕ))
+    (filter : ExchangeFilter) (form : ExchangeForm) (ports xs : List ℕ) (out err : Output) (m n : ReadsMade) (left left' : Option (List ℕ))
     (status status' : ℕ) (out' out'' err' err'' : Output)
-    → WritesExchanges filter form ports xs made left out err status out' err' → status ≢ 3
-    → WritesExchanges filter form ports xs made' left' out err status' out'' err'' → status' ≢ 3
+    → WritesExchanges filter form ports xs m left out err status out' err' → status ≢ 3
+    → WritesExchanges filter form ports xs n left' out err status' out'' err'' → status' ≢ 3
     → (status' ≡ status) × (out'' ≡ out') × (err'' ≡ err')
+
+-- The status is that of a fault only where something outside failed, or the line says that there was no memory or no end.
+abbrev pub FaultsHaveCauses : Type 0
+FaultsHaveCauses =
+    (filter : ExchangeFilter) (form : ExchangeForm) (ports xs : List ℕ) (m : ReadsMade) (left : Option (List ℕ)) (out err out' err' : Output)
+    → WritesExchanges filter form ports xs m left out err 3 out' err' → HasCause m out err out' err'

@@ -1,9 +1,9 @@
 //! A capture whose exchanges are written.
 
 ghost use Rattle.std.specs.Prelude.{◌≡◌, ℕ, List, IfOk, IsSome, OnOk, Some, string_bytes};
-ghost use Rattle.cqlp_note.specs.Streams.{CountsUp};
 ghost use Rattle.cqlp_text.specs.Endings.{IsStatusOfTask};
 ghost use Rattle.cqlp_text.specs.Outputs.{written};
+ghost use Rattle.cqlp_streams.specs.Captures.{AreCounted, ReadsMade};
 ghost use Rattle.cqlp_streams.specs.Endings.{Concludes};
 ghost use Rattle.cqlp_exchanges.specs.Capturing.{Closes, Listens, WritesExchanges, sums_words};
 
@@ -38,8 +38,8 @@ pub fn write_exchanges<R: Source, O: Target, E: Target>(
 ) -> (u8, O, E)
     ensures task { IsStatusOfTask result.0 }
     ensures exchanges { (xs : List ℕ) → R.left input.old ≡ Some xs → IsSome (O.contents out) → IsSome (E.contents err) →
-        (made : ℕ) × CountsUp made (R.reads input.old) (R.reads input.new)
-        × WritesExchanges filter form ports.now xs made (R.left input.new) (written O.Target out) (written E.Target err)
+        (m : ReadsMade) × AreCounted m (R.reads input.old) (R.reads input.new) (R.failures input.old) (R.failures input.new)
+        × WritesExchanges filter form ports.now xs m (R.left input.new) (written O.Target out) (written E.Target err)
         result.0 (written O.Target result.1) (written E.Target result.2) }
 {
     let (answer, sums, out) = listen(alloc, ports, filter, form, input, out);
@@ -57,8 +57,8 @@ fn listen<R: Source, O: Target>(
     out: O,
 ) -> (Result<CaptureRead, StreamsFault>, ExchangeSums, O)
     ensures { (xs : List ℕ) → R.left input.old ≡ Some xs → IsSome (O.contents out) →
-        (made : ℕ) × CountsUp made (R.reads input.old) (R.reads input.new)
-        × Listens filter form ports.now xs made result.0 (R.left input.new) (written O.Target out) result.1 (written O.Target result.2) }
+        (m : ReadsMade) × AreCounted m (R.reads input.old) (R.reads input.new) (R.failures input.old) (R.failures input.new)
+        × Listens filter form ports.now xs m result.0 (R.left input.new) (written O.Target out) result.1 (written O.Target result.2) }
 {
     let mut exchanges = match Exchanges::new(alloc, ExchangeLimits::DEFAULT, filter, form, out) {
         Ok(exchanges) => exchanges,

@@ -1,5 +1,5 @@
 -- What draining a piece leaves.
-use Rattle.std.proofs.Common.{◌≡◌, ◌∙◌, ℕ, ◌+◌, ◌≤◌, arith, List, ◌++◌, length, take, drop, Option, Some, None, Ok, Err, ◌⊎◌, true, false, sym, ap, subst, append_assoc}
+use Rattle.std.proofs.Common.{◌≡◌, ◌∙◌, ℕ, ◌+◌, ◌≤◌, arith, List, ◌++◌, length, take, drop, Option, Some, None, Ok, Err, ◌⊎◌, true, false, sym, ap, subst, append_assoc, length-drop}
 use Rattle.cqlp_note.specs.Reader.{More, says}
 use Rattle.cqlp_capture.specs.declared.event.CaptureEvent.{CaptureEvent}
 use Rattle.cqlp_capture.specs.declared.event.CaptureStep.TheVariants as answer
@@ -82,12 +82,12 @@ drained_refused after faulted l t before s piece k d d' u v r h same none answer
 pub drain_fails : {V : Type 0} (after : V → Saying → V) (faulted : V → Saying → StreamsFault → V → Type 0) (l : CaptureLimits) (t : Table) (before : V) (s piece : List ℕ) (k : ℕ) (d d' : CaptureState) (u u' : SplitState) (v v' : V) (at used : ℕ) (e : CaptureEvent) (ts : List Saying) (f' : StreamsFault) → (h : Has after t before (s ++ take k piece) d u v) → d.limits ≡ l → AnswersFrom d.refusal d (drop k piece) (answer.Event at used e) d' → Leads d (s ++ take k piece) h.events (drop k piece) (answer.Event at used e) d' → TellsEvent false u (event_of e) ts u' → FailsAtLast after faulted (AreEndless ts) v ts f' v' → DrainsTo after faulted l t before s piece (Err f') d' u' v'
 drain_fails after faulted l t before s piece k d d' u u' v v' at used e ts f' h same answers leads tells fails =
     let first = fails_at after faulted l t before (s ++ take k piece) (drop k piece) d d' u u' v v' at used e ts f' h leads (same_limits d.refusal d d' (drop k piece) (answer.Event at used e) answers ∙ same) tells fails in
-    let there = subst (λ z. (f : TellsFirst l t z first.0 u') × FailsAtLast after faulted (AreEndless first.0 ⊎ AreEndless f.events) before first.0 f' v') (parted_at s piece k) (first.1, first.2) in
-    (first.0, there.0, there.1)
+    let there = subst (λ z. (f : TellsFirst l t z first.0 u') × FailsAtLast after faulted (AreEndless first.0 ⊎ AreEndless f.events) before first.0 f' v' × (length f.later ≤ length piece)) (parted_at s piece k) (first.1, first.2, omega (arith, first.3, length-drop k piece)) in
+    (first.0, there.0, there.1, there.2)
 
 -- there was no end to its events
 pub never_drained : {V : Type 0} (after : V → Saying → V) (faulted : V → Saying → StreamsFault → V → Type 0) (l : CaptureLimits) (t : Table) (before : V) (s piece : List ℕ) (k : ℕ) (d : CaptureState) (u : SplitState) (v : V) → (h : Has after t before (s ++ take k piece) d u v) → AreEndless h.events → d.refusal ≡ None → d.limits ≡ l → DrainsTo after faulted l t before s piece (Err fault.TooManyTurns) d u v
 never_drained after faulted l t before s piece k d u v h many none same =
     let first = never_ends after faulted l t before (s ++ take k piece) (drop k piece) d u v h many none same in
-    let there = subst (λ z. (f : TellsFirst l t z first.0 u) × FailsAtLast after faulted (AreEndless first.0 ⊎ AreEndless f.events) before first.0 fault.TooManyTurns v) (parted_at s piece k) (first.1, first.2) in
-    (first.0, there.0, there.1)
+    let there = subst (λ z. (f : TellsFirst l t z first.0 u) × FailsAtLast after faulted (AreEndless first.0 ⊎ AreEndless f.events) before first.0 fault.TooManyTurns v × (length f.later ≤ length piece)) (parted_at s piece k) (first.1, first.2, omega (arith, first.3, length-drop k piece)) in
+    (first.0, there.0, there.1, there.2)

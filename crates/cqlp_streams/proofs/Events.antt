@@ -1,5 +1,5 @@
 -- What events tell, one after the other, and what a listener has got of them.
-use Rattle.std.proofs.Common.{◌≡◌, ◌∙◌, ◌⊎◌, ℕ, ◌+◌, ◌&&◌, true, false, List, [], ◌∷◌, ◌++◌, length, take, drop, Option, Some, None, Ok, Err, refl, sym, ap, subst, inl, inr, append_assoc, append-nil, cond, Bool}
+use Rattle.std.proofs.Common.{◌≡◌, ◌∙◌, ◌⊎◌, ℕ, ◌+◌, ◌≤◌, ◌&&◌, true, false, List, [], ◌∷◌, ◌++◌, length, take, drop, Option, Some, None, Ok, Err, refl, sym, ap, subst, inl, inr, append_assoc, append-nil, cond, Bool, length-drop, arith}
 use Rattle.std.proofs.lemmas.List.{take-append-drop}
 use Rattle.cqlp_note.specs.Reader.{More, says}
 use Rattle.cqlp_capture.specs.declared.event.CaptureEnd.{CaptureEnd}
@@ -18,7 +18,7 @@ use Rattle.cqlp_streams.specs.declared.fault.StreamsFault.TheVariants as fault
 use Rattle.cqlp_streams.specs.Sayings.{Saying}
 use Rattle.cqlp_streams.specs.Listening.{AreEndless, FailsAtLast, after_all}
 use Rattle.cqlp_streams.specs.Packets.{Finishes, SplitState, TellsEvent, TellsEvents, new_split}
-use Rattle.cqlp_streams.specs.Captures.{EndsSo, EndsTo, Has, HearsAll, IsAtEndBy, IsAtEndOf, TellsFirst}
+use Rattle.cqlp_streams.specs.Captures.{EndsSo, EndsTo, Has, HearsAll, IsAtEndBy, IsAtEndOf, ReadsMade, TellsFirst}
 use Rattle.cqlp_streams.proofs.Getting.{after_others, endless_more, fails_others, one_longer}
 
 -- one event more
@@ -68,7 +68,7 @@ pub parted_at : (s piece : List ℕ) (n : ℕ) → (s ++ take n piece) ++ drop n
 parted_at s piece n = append_assoc s (take n piece) (drop n piece) ∙ ap (λ z. s ++ z) (take-append-drop n piece)
 
 -- at one event something failed
-pub fails_at : {V : Type 0} (after : V → Saying → V) (faulted : V → Saying → StreamsFault → V → Type 0) (l : CaptureLimits) (t : Table) (before : V) (s input : List ℕ) (d d' : CaptureState) (u u' : SplitState) (v v' : V) (at used : ℕ) (e : CaptureEvent) (ts : List Saying) (f : StreamsFault) → (h : Has after t before s d u v) → Leads d s h.events input (answer.Event at used e) d' → d'.limits ≡ l → TellsEvent false u (event_of e) ts u' → FailsAtLast after faulted (AreEndless ts) v ts f v' → (ss : List Saying) × (first : TellsFirst l t (s ++ input) ss u') × FailsAtLast after faulted (AreEndless ss ⊎ AreEndless first.events) before ss f v'
+pub fails_at : {V : Type 0} (after : V → Saying → V) (faulted : V → Saying → StreamsFault → V → Type 0) (l : CaptureLimits) (t : Table) (before : V) (s input : List ℕ) (d d' : CaptureState) (u u' : SplitState) (v v' : V) (at used : ℕ) (e : CaptureEvent) (ts : List Saying) (f : StreamsFault) → (h : Has after t before s d u v) → Leads d s h.events input (answer.Event at used e) d' → d'.limits ≡ l → TellsEvent false u (event_of e) ts u' → FailsAtLast after faulted (AreEndless ts) v ts f v' → (ss : List Saying) × (first : TellsFirst l t (s ++ input) ss u') × FailsAtLast after faulted (AreEndless ss ⊎ AreEndless first.events) before ss f v' × (length first.later ≤ length input)
 fails_at after faulted l t before s input d d' u u' v v' at used e ts f h leads same tells fails = (
   h.sayings ++ ts,
   record {
@@ -82,10 +82,11 @@ fails_at after faulted l t before s input d d' u u' v v' at used e ts f h leads 
     tells = inr (h.events, (at, event_of e), refl, u, h.sayings, ts, refl, h.tells, tells);
   },
   fails_others after faulted (AreEndless ts) _ before v v' h.sayings ts f (λ many. inl (endless_more h.sayings ts many)) h.got fails,
+  omega (arith, length-drop used input),
 )
 
 -- there was no end to it
-pub never_ends : {V : Type 0} (after : V → Saying → V) (faulted : V → Saying → StreamsFault → V → Type 0) (l : CaptureLimits) (t : Table) (before : V) (s later : List ℕ) (d : CaptureState) (u : SplitState) (v : V) → (h : Has after t before s d u v) → AreEndless h.events → d.refusal ≡ None → d.limits ≡ l → (ss : List Saying) × (first : TellsFirst l t (s ++ later) ss u) × FailsAtLast after faulted (AreEndless ss ⊎ AreEndless first.events) before ss fault.TooManyTurns v
+pub never_ends : {V : Type 0} (after : V → Saying → V) (faulted : V → Saying → StreamsFault → V → Type 0) (l : CaptureLimits) (t : Table) (before : V) (s later : List ℕ) (d : CaptureState) (u : SplitState) (v : V) → (h : Has after t before s d u v) → AreEndless h.events → d.refusal ≡ None → d.limits ≡ l → (ss : List Saying) × (first : TellsFirst l t (s ++ later) ss u) × FailsAtLast after faulted (AreEndless ss ⊎ AreEndless first.events) before ss fault.TooManyTurns v × (length first.later ≤ length later)
 never_ends after faulted l t before s later d u v h many none same = (
   h.sayings,
   record {
@@ -99,6 +100,7 @@ never_ends after faulted l t before s later d u v h many none same = (
     tells = inl h.tells;
   },
   inl (refl, inr many, h.got),
+  omega arith,
 )
 
 -- ---- the end of the file
@@ -117,8 +119,8 @@ ends_by None d s read es e a at is f =
     subst (λ z. EndsSo d.limits z es e) at.0 (ends_at (is_between d.spot.place.stage && is_empty d.pending) d s es e refl is (record { hears = a; wants = at.1 }) f)
 
 -- all connections left
-pub ends_ok : {V : Type 0} (after : V → Saying → V) (faulted : V → Saying → StreamsFault → V → Type 0) (t : Table) (turns made : ℕ) (before : V) (s read : List ℕ) (d : CaptureState) (u u' : SplitState) (v v' : V) (e : CaptureEnd) (last : List Saying) → (h : Has after t before s d u v) → IsAtEndOf d read s h.events → e ≡ ending d → EndsAs d e → Finishes true u last u' → v' ≡ after_all after v last → EndsTo after faulted d.limits t turns made before read (Ok e) u' v'
-ends_ok after faulted t turns made before s read d u u' v v' e last h at is f leave got = (
+pub ends_ok : {V : Type 0} (after : V → Saying → V) (faulted : V → Saying → StreamsFault → V → Type 0) (t : Table) (turns : ℕ) (m : ReadsMade) (before : V) (s read : List ℕ) (d : CaptureState) (u u' : SplitState) (v v' : V) (e : CaptureEnd) (last : List Saying) → (h : Has after t before s d u v) → IsAtEndOf d read s h.events → e ≡ ending d → EndsAs d e → Finishes true u last u' → v' ≡ after_all after v last → EndsTo after faulted d.limits t turns m before read (Ok e) u' v'
+ends_ok after faulted t turns m before s read d u u' v v' e last h at is f leave got = (
   h.sayings ++ last,
   record {
     events = h.events;
@@ -134,8 +136,8 @@ ends_ok after faulted t turns made before s read d u u' v v' e last h at is f le
 )
 
 -- something failed while they left
-pub ends_err : {V : Type 0} (after : V → Saying → V) (faulted : V → Saying → StreamsFault → V → Type 0) (t : Table) (turns made : ℕ) (before : V) (s read : List ℕ) (d : CaptureState) (u u' : SplitState) (v v' : V) (e : CaptureEnd) (f : StreamsFault) (last : List Saying) → (h : Has after t before s d u v) → IsAtEndOf d read s h.events → e ≡ ending d → EndsAs d e → Finishes false u last u' → FailsAtLast after faulted (AreEndless last) v last f v' → EndsTo after faulted d.limits t turns made before read (Err f) u' v'
-ends_err after faulted t turns made before s read d u u' v v' e f last h at is ends leave fails = (
+pub ends_err : {V : Type 0} (after : V → Saying → V) (faulted : V → Saying → StreamsFault → V → Type 0) (t : Table) (turns : ℕ) (m : ReadsMade) (before : V) (s read : List ℕ) (d : CaptureState) (u u' : SplitState) (v v' : V) (e : CaptureEnd) (f : StreamsFault) (last : List Saying) → (h : Has after t before s d u v) → IsAtEndOf d read s h.events → e ≡ ending d → EndsAs d e → Finishes false u last u' → FailsAtLast after faulted (AreEndless last) v last f v' → EndsTo after faulted d.limits t turns m before read (Err f) u' v'
+ends_err after faulted t turns m before s read d u u' v v' e f last h at is ends leave fails = (
   h.sayings ++ last,
   inr (inr (
     record {

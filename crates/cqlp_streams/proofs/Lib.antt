@@ -9,3 +9,4 @@ pub mod Once
 pub mod Gotten
 pub mod OneAnswer
 pub mod Pushed
+pub mod Causes

@@ -16,15 +16,14 @@ use Rattle.cqlp_capture.proofs.Whole.{always_said, refusal_stays, says_once}
 use Rattle.cqlp_connections.specs.declared.limits.ConnectionLimits.{ConnectionLimits}
 use Rattle.cqlp_connections.specs.Tables.{Table}
 use Rattle.cqlp_streams.specs.declared.capturing.CaptureRead.{CaptureRead}
-use Rattle.cqlp_streams.specs.declared.capturing.TheConstants.{LIMITS}
 use Rattle.cqlp_streams.specs.declared.fault.StreamsFault.{StreamsFault}
 use Rattle.cqlp_streams.specs.Sayings.{Saying}
 use Rattle.cqlp_streams.specs.Listening.{after_all}
 use Rattle.cqlp_streams.specs.Recordings.{Recording, StopsAt, no_sums, recording, with_saying}
 use Rattle.cqlp_streams.specs.Packets.{Finishes, SplitState, TellsEvents, new_split}
-use Rattle.cqlp_streams.specs.Captures.{EndsSo, HearsAll, IsAll, SplitsTo}
+use Rattle.cqlp_streams.specs.Captures.{EndsSo, HearsAll, IsAll, ReadsMade, SplitsTo}
 use Rattle.cqlp_streams.specs.Endings.{Concludes, line_of, status_of, sums_words}
-use Rattle.cqlp_streams.specs.Streams.{ReadsCapture, default_limits, no_connections, read_of}
+use Rattle.cqlp_streams.specs.Streams.{ReadsCapture, default_limits, no_connections, read_of, streams_limits}
 use Rattle.cqlp_streams.specs.Laws.{OneAnswerOfReadCapture, OneAnswerOfWriteStreams}
 use Rattle.cqlp_streams.proofs.Once.{events_once, finishes_once}
 
@@ -110,7 +109,7 @@ ok_same : (x y : CaptureRead) → ◌≡◌ {A = Result CaptureRead StreamsFault
 ok_same x y e = cc
 
 module _ {V : Type 0} (after : V → Saying → V) (faulted : V → Saying → StreamsFault → V → Type 0) where
-  pub splits_once : (l : CaptureLimits) → Fits l → (t : Table) (turns made made' : ℕ) (before : V) (xs : List ℕ) (e e' : CaptureEnd) (left left' : Option (List ℕ)) (u u' : SplitState) (v w : V) → SplitsTo after faulted l t turns made before xs (Ok e) left u v → SplitsTo after faulted l t turns made' before xs (Ok e') left' u' w → (e' ≡ e) × (u' ≡ u) × (w ≡ v)
+  pub splits_once : (l : CaptureLimits) → Fits l → (t : Table) (turns : ℕ) (made made' : ReadsMade) (before : V) (xs : List ℕ) (e e' : CaptureEnd) (left left' : Option (List ℕ)) (u u' : SplitState) (v w : V) → SplitsTo after faulted l t turns made before xs (Ok e) left u v → SplitsTo after faulted l t turns made' before xs (Ok e') left' u' w → (e' ≡ e) × (u' ≡ u) × (w ≡ v)
   splits_once l fits t turns made made' before xs e e' left left' u u' v w a b =
       let f = a.ends.1 in
       let g = b.ends.1 in
@@ -144,7 +143,7 @@ well_read (Ok x) well = (x, refl)
 well_read (Err f) well = absurd (well refl)
 
 -- Two runs that end with words of the view, and no fault.
-module _ {V : Type 0} (after : V → Saying → V) (faulted : V → Saying → StreamsFault → V → Type 0) (words : V → List ℕ) (limits : ConnectionLimits) (ports xs : List ℕ) (before v w : V) (made made' : ℕ) (left left' : Option (List ℕ)) (r r' : Result CaptureRead StreamsFault) (err err' err'' : Output) (status status' : ℕ) where
+module _ {V : Type 0} (after : V → Saying → V) (faulted : V → Saying → StreamsFault → V → Type 0) (words : V → List ℕ) (limits : ConnectionLimits) (ports xs : List ℕ) (before v w : V) (made made' : ReadsMade) (left left' : Option (List ℕ)) (r r' : Result CaptureRead StreamsFault) (err err' err'' : Output) (status status' : ℕ) where
   pub runs_once : ReadsCapture after faulted limits ports xs made r left before v → Concludes (words v) r err status err' → status ≢ 3 → ReadsCapture after faulted limits ports xs made' r' left' before w → Concludes (words w) r' err status' err'' → status' ≢ 3 → (status' ≡ status) × (w ≡ v) × (err'' ≡ err')
   runs_once reads ends well reads' ends' well' =
       let c = concluded (words v) r err err' status ends well in
@@ -162,5 +161,5 @@ module _ {V : Type 0} (after : V → Saying → V) (faulted : V → Saying → S
 
 pub streams_once : OneAnswerOfWriteStreams
 streams_once ports xs calls out err left left' status status' made made' out' out'' err' err'' (n, (r, sums, reads, ends)) well (n', (r', sums', reads', ends')) well' =
-    let one = runs_once with_saying StopsAt (λ (z : Recording). sums_words z.sums) LIMITS ports xs (recording calls out no_sums) (recording made out' sums) (recording made' out'' sums') n n' left left' r r' err err' err'' status status' reads ends well reads' ends' well' in
+    let one = runs_once with_saying StopsAt (λ (z : Recording). sums_words z.sums) streams_limits ports xs (recording calls out no_sums) (recording made out' sums) (recording made' out'' sums') n n' left left' r r' err err' err'' status status' reads ends well reads' ends' well' in
     (one.0, ap (λ (z : Recording). z.calls) one.1, ap (λ (z : Recording). z.output) one.1, one.2)

@@ -1,5 +1,5 @@
 -- What a listener has got of an input after some reads.
-use Rattle.std.proofs.Common.{◌≡◌, ◌∙◌, ℕ, ◌<◌, ◌≤◌, List, [], ◌++◌, length, take, Option, Some, None, Result, Ok, Err, IfOk, OnOk, refl, sym, ap, subst, inl, inr, append_assoc}
+use Rattle.std.proofs.Common.{◌≡◌, ◌∙◌, ℕ, ◌<◌, ◌≤◌, true, false, List, [], ◌++◌, length, take, Option, Some, None, Result, Ok, Err, IfOk, OnOk, refl, sym, ap, subst, inl, inr, append_assoc, append-nil, arith}
 use Rattle.std.specs.Io.KnownBytes.{Consumes, IsAtEnd, Keeps}
 use Rattle.cqlp_note.specs.Reader.{More, says}
 use Rattle.cqlp_capture.specs.declared.event.CaptureEnd.{CaptureEnd}
@@ -15,9 +15,16 @@ use Rattle.cqlp_streams.specs.declared.running.Drained.{Drained}
 use Rattle.cqlp_streams.specs.declared.running.Drained.TheVariants as drained
 use Rattle.cqlp_streams.specs.Sayings.{Saying}
 use Rattle.cqlp_streams.specs.Packets.{SplitState, new_split}
-use Rattle.cqlp_streams.specs.Captures.{DrainsTo, EndsTo, Has, IsAll, IsAtEndBy, IsRefused, SplitsTo, TellsSoFar}
+use Rattle.cqlp_streams.specs.Captures.{DrainsTo, EndsTo, Has, HearsAll, IsAll, IsAtEndBy, IsRefused, ReadsMade, ReadsOn, SplitsTo, TellsSoFar, most_read}
 use Rattle.cqlp_streams.specs.Streams.{read_of}
 use Rattle.cqlp_streams.proofs.Events.{hears_here}
+
+-- so many reads, of which none failed, or the last one
+abbrev pub well_made : ℕ → ReadsMade
+well_made n = record { made = n; failed = false }
+
+abbrev pub badly_made : ℕ → ReadsMade
+badly_made n = record { made = n; failed = true }
 
 pub record SoFar {V : Type 0} (after : V → Saying → V) (l : CaptureLimits) (t : Table) (before : V) (xs : List ℕ)
     (left : Option (List ℕ)) (d : CaptureState) (u : SplitState) (v : V) : Type 0 where
@@ -83,72 +90,99 @@ pub refused_all : (d : CaptureState) (r : Result CaptureEnd StreamsFault) (rest 
 refused_all d r rest some is = refused_by d.refusal d some.0 r rest some.1 is
 
 module _ {V : Type 0} (after : V → Saying → V) (faulted : V → Saying → StreamsFault → V → Type 0) (l : CaptureLimits) (t : Table) (before : V) (xs : List ℕ) (left left' : Option (List ℕ)) (d : CaptureState) (u : SplitState) (v : V) (f : SoFar after l t before xs left d u v) (turns made : ℕ) (few : made ≤ turns) where
+  so_far_heard : HearsAll l f.read f.has.events d.spot d.pending
+  so_far_heard = record {
+    hears = subst (λ (z : CaptureLimits). Hears z start f.read f.has.events d.spot d.pending) f.limits (hears_here d f.read f.has.events f.free f.has.stands);
+    wants = subst (λ (z : CaptureLimits). says (step z d.spot) 0 d.pending ≡ More) f.limits f.wants;
+  }
+
   so_far_told : TellsSoFar l t f.read f.has.sayings u
   so_far_told = record {
     events = f.has.events;
     spot = d.spot;
     rest = d.pending;
-    hears = record {
-      hears = subst (λ (z : CaptureLimits). Hears z start f.read f.has.events d.spot d.pending) f.limits (hears_here d f.read f.has.events f.free f.has.stands);
-      wants = subst (λ (z : CaptureLimits). says (step z d.spot) 0 d.pending ≡ More) f.limits f.wants;
-    };
+    hears = so_far_heard;
     tells = f.has.tells;
   }
 
+  -- with what the last read gave
+  reads_on : (piece : List ℕ) → length piece ≤ most_read → ReadsOn l (f.read ++ piece)
+  reads_on piece short = record {
+    earlier = f.read;
+    last = piece;
+    parts = refl;
+    few = short;
+    events = f.has.events;
+    spot = d.spot;
+    rest = d.pending;
+    hears = so_far_heard;
+  }
+
+  none_more : ReadsOn l f.read
+  none_more = subst (λ z. ReadsOn l z) (append-nil f.read) (reads_on [] (omega arith))
+
   -- the input failed
-  pub read_fails : Keeps left left' → SplitsTo after faulted l t turns made before xs (Err fault.Read) left' u v
+  pub read_fails : Keeps left left' → SplitsTo after faulted l t turns (badly_made made) before xs (Err fault.Read) left' u v
   read_fails k = record {
     few = few;
+    failed = λ bad. refl;
     read = f.read;
     rest = f.rest;
     parts = f.parts;
     others = keeps_some left left' f.rest f.others k;
+    on = none_more;
     all = tt;
     ends = (
       f.has.sayings,
-      inl (tt, so_far_told, f.has.got),
+      inl (refl, so_far_told, f.has.got),
     );
   }
 
   -- no more reads are to be made
-  pub turns_end : made ≡ turns → SplitsTo after faulted l t turns made before xs (Err fault.TooManyTurns) left u v
+  pub turns_end : made ≡ turns → SplitsTo after faulted l t turns (well_made made) before xs (Err fault.TooManyTurns) left u v
   turns_end all = record {
     few = few;
+    failed = λ bad. absurd (let no = bad in cc);
     read = f.read;
     rest = f.rest;
     parts = f.parts;
     others = f.others;
+    on = none_more;
     all = tt;
     ends = (f.has.sayings, inl (all, so_far_told, f.has.got));
   }
 
-  module _ (piece rest : List ℕ) (is : left' ≡ Some rest) (reads : f.rest ≡ piece ++ rest) (d' : CaptureState) (u' : SplitState) (v' : V) where
+  module _ (piece rest : List ℕ) (is : left' ≡ Some rest) (reads : f.rest ≡ piece ++ rest) (short : length piece ≤ most_read) (d' : CaptureState) (u' : SplitState) (v' : V) where
     split_at : xs ≡ (f.read ++ piece) ++ rest
     split_at = f.parts ∙ ap (λ z. f.read ++ z) reads ∙ sym (append_assoc f.read piece rest)
 
     -- something failed within the piece
-    pub drain_fails : (e : StreamsFault) → DrainsTo after faulted d.limits t before f.read piece (Err e) d' u' v' → SplitsTo after faulted l t turns made before xs (Err e) left' u' v'
+    pub drain_fails : (e : StreamsFault) → DrainsTo after faulted d.limits t before f.read piece (Err e) d' u' v' → SplitsTo after faulted l t turns (well_made made) before xs (Err e) left' u' v'
     drain_fails e a =
         let b = subst (λ (z : CaptureLimits). DrainsTo after faulted z t before f.read piece (Err e) d' u' v') f.limits a in record {
           few = few;
+          failed = λ bad. absurd (let no = bad in cc);
           read = f.read ++ piece;
           rest = rest;
           parts = split_at;
           others = is;
+          on = reads_on piece short;
           all = tt;
-          ends = (b.0, inr (inl (b.1, b.2)));
+          ends = (b.0, inr (inl (b.1, b.2, omega (arith, b.3, short))));
         }
 
     -- the file ends after it, or is refused in it
-    pub file_ends : (x : Drained) (r : Result CaptureEnd StreamsFault) (u'' : SplitState) (v'' : V) → DrainsTo after faulted d.limits t before f.read piece (Ok x) d' u' v' → IsAll r rest → EndsTo after faulted d'.limits t turns made before (f.read ++ piece) r u'' v'' → SplitsTo after faulted l t turns made before xs r left' u'' v''
+    pub file_ends : (x : Drained) (r : Result CaptureEnd StreamsFault) (u'' : SplitState) (v'' : V) → DrainsTo after faulted d.limits t before f.read piece (Ok x) d' u' v' → IsAll r rest → EndsTo after faulted d'.limits t turns (well_made made) before (f.read ++ piece) r u'' v'' → SplitsTo after faulted l t turns (well_made made) before xs r left' u'' v''
     file_ends x r u'' v'' a all ends = record {
       few = few;
+      failed = λ bad. absurd (let no = bad in cc);
       read = f.read ++ piece;
       rest = rest;
       parts = split_at;
       others = is;
+      on = reads_on piece short;
       all = all;
-      ends = subst (λ (z : CaptureLimits). EndsTo after faulted z t turns made before (f.read ++ piece) r u'' v'') (a.0 ∙ f.limits) ends;
+      ends = subst (λ (z : CaptureLimits). EndsTo after faulted z t turns (well_made made) before (f.read ++ piece) r u'' v'') (a.0 ∙ f.limits) ends;
     }
 
     -- more is wanted after it
@@ -166,10 +200,10 @@ module _ {V : Type 0} (after : V → Saying → V) (faulted : V → Saying → S
         }
 
 -- the same under other names
-pub splits_as : {V : Type 0} (after : V → Saying → V) (faulted : V → Saying → StreamsFault → V → Type 0) (l l' : CaptureLimits) (t t' : Table) (turns made : ℕ) (before : V) (xs : List ℕ) (r : Result CaptureEnd StreamsFault) (left : Option (List ℕ)) (u : SplitState) (v : V) → l ≡ l' → t ≡ t' → SplitsTo after faulted l t turns made before xs r left u v → SplitsTo after faulted l' t' turns made before xs r left u v
-splits_as after faulted l l' t t' turns made before xs r left u v el et a =
-    let one = subst (λ (z : Table). SplitsTo after faulted l z turns made before xs r left u v) et a in
-    subst (λ (z : CaptureLimits). SplitsTo after faulted z t' turns made before xs r left u v) el one
+pub splits_as : {V : Type 0} (after : V → Saying → V) (faulted : V → Saying → StreamsFault → V → Type 0) (l l' : CaptureLimits) (t t' : Table) (turns : ℕ) (m : ReadsMade) (before : V) (xs : List ℕ) (r : Result CaptureEnd StreamsFault) (left : Option (List ℕ)) (u : SplitState) (v : V) → l ≡ l' → t ≡ t' → SplitsTo after faulted l t turns m before xs r left u v → SplitsTo after faulted l' t' turns m before xs r left u v
+splits_as after faulted l l' t t' turns m before xs r left u v el et a =
+    let one = subst (λ (z : Table). SplitsTo after faulted l z turns m before xs r left u v) et a in
+    subst (λ (z : CaptureLimits). SplitsTo after faulted z t' turns m before xs r left u v) el one
 
 -- a capture that was read is one that was split
 pub read_on : (P : Type 0) (r : Result CaptureEnd StreamsFault) (u : SplitState) → OnOk r P → OnOk (read_of r u) P

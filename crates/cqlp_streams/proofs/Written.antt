@@ -4,7 +4,6 @@ use Rattle.std.specs.Io.KnownBytes.{append_known}
 use Rattle.cqlp_text.specs.Outputs.{Output, with_text, StopsWithin}
 use Rattle.cqlp_connections.specs.declared.totals.ConnectionTotals.{ConnectionTotals}
 use Rattle.cqlp_streams.specs.declared.capturing.CaptureRead.{CaptureRead}
-use Rattle.cqlp_streams.specs.declared.capturing.TheConstants.{LIMITS}
 use Rattle.cqlp_streams.specs.declared.fault.StreamsFault.{StreamsFault}
 use Rattle.cqlp_streams.specs.declared.fault.StreamsFault.TheVariants as fault
 use Rattle.cqlp_streams.specs.declared.recorder.Sums.{Sums}
@@ -13,7 +12,8 @@ use Rattle.cqlp_streams.specs.Lines.{connection_line}
 use Rattle.cqlp_streams.specs.Sayings.{Saying, Left}
 use Rattle.cqlp_streams.specs.Recordings.{Recording, Puts, Records, StopsAt, lined, line_of, no_sums, recording, summed, sums_with, with_saying}
 use Rattle.cqlp_streams.specs.Endings.{Concludes, sums_words}
-use Rattle.cqlp_streams.specs.Streams.{ReadsCapture, WritesStreamsBy}
+use Rattle.cqlp_streams.specs.Captures.{ReadsMade}
+use Rattle.cqlp_streams.specs.Streams.{ReadsCapture, WritesStreamsBy, streams_limits}
 
 -- a text, if it was made, is another way of writing it
 pub said : {T E : Type 0} (r : Result T E) (text : T → List ℕ) (a b : List ℕ) → IfOk r (λ s. text s ≡ a) → a ≡ b → IfOk r (λ s. text s ≡ b)
@@ -58,7 +58,7 @@ heard_err old new s (Err e) a = a
 
 -- ---- a capture whose streams are written
 
-pub writes_by : (made : ℕ) (ports xs : List ℕ) (r : Result CaptureRead StreamsFault) (left : Option (List ℕ)) (calls calls' : Option (List Call)) (out out' err err' : Output) (sums : Sums) (status : ℕ) (old new : Recording) → old ≡ recording calls out no_sums → recording calls' out' sums ≡ new → ReadsCapture with_saying StopsAt LIMITS ports xs made r left old new → Concludes (sums_words sums) r err status err' → WritesStreamsBy made ports xs left calls out err status calls' out' err'
-writes_by made ports xs r left calls calls' out out' err err' sums status old new first last reads ends =
-    let from = subst (λ (z : Recording). ReadsCapture with_saying StopsAt LIMITS ports xs made r left z new) first reads in
-    (r, sums, subst (λ (z : Recording). ReadsCapture with_saying StopsAt LIMITS ports xs made r left (recording calls out no_sums) z) (sym last) from, ends)
+pub writes_by : (m : ReadsMade) (ports xs : List ℕ) (r : Result CaptureRead StreamsFault) (left : Option (List ℕ)) (calls calls' : Option (List Call)) (out out' err err' : Output) (sums : Sums) (status : ℕ) (old new : Recording) → old ≡ recording calls out no_sums → recording calls' out' sums ≡ new → ReadsCapture with_saying StopsAt streams_limits ports xs m r left old new → Concludes (sums_words sums) r err status err' → WritesStreamsBy m ports xs left calls out err status calls' out' err'
+writes_by m ports xs r left calls calls' out out' err err' sums status old new first last reads ends =
+    let from = subst (λ (z : Recording). ReadsCapture with_saying StopsAt streams_limits ports xs m r left z new) first reads in
+    (r, sums, subst (λ (z : Recording). ReadsCapture with_saying StopsAt streams_limits ports xs m r left (recording calls out no_sums) z) (sym last) from, ends)

@@ -1,6 +1,7 @@
 -- What a whole capture tells, and what a listener has got of it.
-use Rattle.std.specs.Prelude.{◌≡◌, ℕ, ◌≤◌, ◌&&◌, true, false, List, [], ◌∷◌, ◌++◌, length, Option, Some, None, Result, Ok, Err, ◌⊎◌, ⊤}
+use Rattle.std.specs.Prelude.{◌≡◌, ℕ, ◌≤◌, Bool, ◌&&◌, true, false, List, [], ◌∷◌, ◌++◌, length, Option, Some, None, Result, Ok, Err, ◌⊎◌, ⊤}
 use Rattle.cqlp_note.specs.Reader.{More, says}
+use Rattle.cqlp_note.specs.Streams.{CountsUp, counted}
 use Rattle.cqlp_capture.specs.declared.event.CaptureEnd.{CaptureEnd}
 use Rattle.cqlp_capture.specs.declared.event.CaptureEnd.TheVariants as end
 use Rattle.cqlp_capture.specs.declared.limits.CaptureLimits.{CaptureLimits}
@@ -87,6 +88,35 @@ pub record TellsLeaving (l : CaptureLimits) (t : Table) (bytes : List ℕ) (ss :
   pub leave : Finishes false mid last u
   pub all : ss ≡ front ++ last
 
+-- ---- reads
+
+-- how many were made of an input, and whether one of them failed, which no more than one may
+pub record ReadsMade : Type 0 where
+  pub made : ℕ
+  pub failed : Bool
+
+abbrev pub no_reads : ReadsMade
+no_reads = record { made = 0; failed = false }
+
+-- An input counts that many calls more, and a failed one more if one failed.
+abbrev pub AreCounted : ReadsMade → (calls calls' failures failures' : ℕ) → Type 0
+AreCounted m calls calls' failures failures' = CountsUp m.made calls calls' × (failures' ≡ counted m.failed failures)
+
+-- how many bytes a read asks for
+abbrev pub most_read : ℕ
+most_read = 65536
+
+-- The bytes read but the last, no more than one read asks for, had said all their events, and more were wanted: nothing was refused.
+pub record ReadsOn (l : CaptureLimits) (read : List ℕ) : Type 0 where
+  pub earlier : List ℕ
+  pub last : List ℕ
+  pub parts : read ≡ earlier ++ last
+  pub few : length last ≤ most_read
+  pub events : List (ℕ × Event)
+  pub spot : Spot
+  pub rest : List ℕ
+  pub hears : HearsAll l earlier events spot rest
+
 -- ---- what a listener has got of it
 
 -- all was read, unless it is refused
@@ -103,11 +133,11 @@ IsAtEndBy (Some r) d read s es = Says d.limits start read es (Refused r)
 abbrev pub IsAtEndOf : CaptureState → (read s : List ℕ) → List (ℕ × Event) → Type 0
 IsAtEndOf d read s es = IsAtEndBy d.refusal d read s es
 
--- the input failed, or all reads were made that may be
-abbrev pub IsOfReads : (turns made : ℕ) → StreamsFault → Type 0
-IsOfReads turns made fault.Read = ⊤
-IsOfReads turns made fault.TooManyTurns = made ≡ turns
-IsOfReads turns made e = ⊥
+-- a read failed, or all were made that may be
+abbrev pub IsOfReads : (turns : ℕ) → ReadsMade → StreamsFault → Type 0
+IsOfReads turns m fault.Read = m.failed ≡ true
+IsOfReads turns m fault.TooManyTurns = m.made ≡ turns
+IsOfReads turns m e = ⊥
 
 abbrev pub IsRefused : Drained → Option CaptureRefusal → Type 0
 IsRefused drained.More r = r ≡ None
@@ -124,28 +154,32 @@ module _ {V : Type 0} (after : V → Saying → V) where
 
   module _ (faulted : V → Saying → StreamsFault → V → Type 0) where
     -- What it has got of a file with these bytes, after so many reads of at most `turns`. A fault ends it: one of the input, or that no
-    -- more reads are to be made, after all that was told of the bytes read; any other within what they tell, and nothing more is told
-    -- to it.
-    abbrev pub EndsTo : CaptureLimits → Table → (turns made : ℕ) → (before : V) → (read : List ℕ) → Result CaptureEnd StreamsFault
+    -- more reads are to be made, after all that was told of the bytes read; any other within what they tell, so that at most the bytes of
+    -- one read are not told, and nothing more is told to it.
+    abbrev pub EndsTo : CaptureLimits → Table → (turns : ℕ) → ReadsMade → (before : V) → (read : List ℕ) → Result CaptureEnd StreamsFault
         → SplitState → V → Type 0
-    EndsTo l t turns made before read (Ok e) u v =
+    EndsTo l t turns m before read (Ok e) u v =
         (ss : List Saying) × TellsFile l t read e ss u × (v ≡ after_all after before ss)
-    EndsTo l t turns made before read (Err e) u v =
+    EndsTo l t turns m before read (Err e) u v =
         (ss : List Saying)
-        × ((IsOfReads turns made e × TellsSoFar l t read ss u × (v ≡ after_all after before ss))
-        ⊎ (((f : TellsFirst l t read ss u) × FailsAtLast after faulted (AreEndless ss ⊎ AreEndless f.events) before ss e v)
+        × ((IsOfReads turns m e × TellsSoFar l t read ss u × (v ≡ after_all after before ss))
+        ⊎ (((f : TellsFirst l t read ss u) × FailsAtLast after faulted (AreEndless ss ⊎ AreEndless f.events) before ss e v
+        × (length f.later ≤ most_read))
         ⊎ (TellsLeaving l t read ss u × FailsAtLast after faulted (AreEndless ss) before ss e v)))
 
-    -- Of the bytes xs of an input these were read, by so many reads of at most `turns`; it has got this of them, and the others are left.
-    pub record SplitsTo (l : CaptureLimits) (t : Table) (turns made : ℕ) (before : V) (xs : List ℕ) (r : Result CaptureEnd StreamsFault)
-        (left : Option (List ℕ)) (u : SplitState) (v : V) : Type 0 where
-      pub few : made ≤ turns
+    -- Of the bytes xs of an input these were read, by so many reads of at most `turns`, of which one failed only where that is the answer;
+    -- it has got this of them, and the others are left.
+    pub record SplitsTo (l : CaptureLimits) (t : Table) (turns : ℕ) (m : ReadsMade) (before : V) (xs : List ℕ)
+        (r : Result CaptureEnd StreamsFault) (left : Option (List ℕ)) (u : SplitState) (v : V) : Type 0 where
+      pub few : m.made ≤ turns
+      pub failed : m.failed ≡ true → r ≡ Err fault.Read
       pub read : List ℕ
       pub rest : List ℕ
       pub parts : xs ≡ read ++ rest
       pub others : left ≡ Some rest
+      pub on : ReadsOn l read
       pub all : IsAll r rest
-      pub ends : EndsTo l t turns made before read r u v
+      pub ends : EndsTo l t turns m before read r u v
 
     -- What draining a piece after the bytes s leaves.
     abbrev pub DrainsTo : CaptureLimits → Table → (before : V) → (s piece : List ℕ) → Result Drained StreamsFault → CaptureState
@@ -155,4 +189,4 @@ module _ {V : Type 0} (after : V → Saying → V) where
         × IsAtEndOf d (s ++ piece) used h.events
     DrainsTo l t before s piece (Err e) d u v =
         (ss : List Saying) × (f : TellsFirst l t (s ++ piece) ss u)
-        × FailsAtLast after faulted (AreEndless ss ⊎ AreEndless f.events) before ss e v
+        × FailsAtLast after faulted (AreEndless ss ⊎ AreEndless f.events) before ss e v × (length f.later ≤ length piece)

@@ -12,6 +12,7 @@ use Rattle.cqlp_streams.specs.declared.files.StreamFile.{StreamFile}
 use Rattle.cqlp_streams.specs.Files.{Call, Made, Appended, Kept}
 use Rattle.cqlp_streams.specs.Sayings.{Saying, Packet, New, Of, Left}
 use Rattle.cqlp_streams.specs.Recordings.{Recording, file_of, with_sayings}
+use Rattle.cqlp_streams.specs.Captures.{ReadsMade}
 use Rattle.cqlp_streams.specs.Streams.{ReadsCapture, WritesStreams}
 
 -- ---- one answer
@@ -20,9 +21,9 @@ use Rattle.cqlp_streams.specs.Streams.{ReadsCapture, WritesStreams}
 module _ {V : Type 0} (after : V → Saying → V) (faulted : V → Saying → StreamsFault → V → Type 0) where
   abbrev pub OneAnswerOfReadCapture : Type 0
   OneAnswerOfReadCapture =
-      (limits : ConnectionLimits) (ports xs : List ℕ) (before v w : V) (made made' : ℕ) (left left' : Option (List ℕ)) (r r' : CaptureRead)
-      → ReadsCapture after faulted limits ports xs made (Ok r) left before v
-      → ReadsCapture after faulted limits ports xs made' (Ok r') left' before w
+      (limits : ConnectionLimits) (ports xs : List ℕ) (before v w : V) (m n : ReadsMade) (left left' : Option (List ℕ)) (r r' : CaptureRead)
+      → ReadsCapture after faulted limits ports xs m (Ok r) left before v
+      → ReadsCapture after faulted limits ports xs n (Ok r') left' before w
       → (r' ≡ r) × (w ≡ v)
 
 -- Where nothing outside fails, so that the status is not that of a fault, the same bytes, ports and outputs lead to the same status,

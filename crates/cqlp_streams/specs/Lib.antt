@@ -8,4 +8,5 @@ pub mod Packets
 pub mod Endings
 pub mod Captures
 pub mod Streams
+pub mod Causes
 pub mod Laws

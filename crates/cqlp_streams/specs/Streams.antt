@@ -6,7 +6,6 @@ use Rattle.cqlp_capture.specs.declared.limits.CaptureLimits.{CaptureLimits}
 use Rattle.cqlp_connections.specs.declared.limits.ConnectionLimits.{ConnectionLimits}
 use Rattle.cqlp_connections.specs.Tables.{Table, new_table}
 use Rattle.cqlp_streams.specs.declared.capturing.CaptureRead.{CaptureRead}
-use Rattle.cqlp_streams.specs.declared.capturing.TheConstants.{LIMITS, TURNS}
 use Rattle.cqlp_streams.specs.declared.fault.StreamsFault.{StreamsFault}
 use Rattle.cqlp_streams.specs.declared.fault.StreamsFault.TheVariants as fault
 use Rattle.cqlp_streams.specs.declared.recorder.Sums.{Sums}
@@ -14,12 +13,20 @@ use Rattle.cqlp_streams.specs.Files.{Call}
 use Rattle.cqlp_streams.specs.Sayings.{Saying}
 use Rattle.cqlp_streams.specs.Recordings.{StopsAt, no_sums, recording, with_saying}
 use Rattle.cqlp_streams.specs.Packets.{SplitState}
-use Rattle.cqlp_streams.specs.Captures.{SplitsTo}
+use Rattle.cqlp_streams.specs.Captures.{ReadsMade, SplitsTo, no_reads}
 use Rattle.cqlp_streams.specs.Endings.{Concludes, sums_words}
 
 -- the limits on a capture where none are given
 abbrev pub default_limits : CaptureLimits
 default_limits = record { packet = 262144; interfaces = 256 }
+
+-- the limits on connections where streams are written
+abbrev pub streams_limits : ConnectionLimits
+streams_limits = record { connections = 256; early = 32768 }
+
+-- how many reads are made at most: 2 to the power of 32
+abbrev pub turns : ℕ
+turns = 4294967296
 
 -- no connections yet, for nodes that listen on these ports
 abbrev pub no_connections : ConnectionLimits → (ports : List ℕ) → Table
@@ -32,24 +39,24 @@ read_of (Err f) u = Err f
 -- What a listener has got of an input with the bytes xs, under these limits on connections, by so many reads, and what that was; or memory was wanting, and nothing was read
 -- or told. A listener's view goes on by `after`, and a fault leaves what `faulted` says.
 abbrev pub ReadsCapture : {V : Type 0} → (after : V → Saying → V) → (faulted : V → Saying → StreamsFault → V → Type 0)
-    → ConnectionLimits → (ports : List ℕ) → (xs : List ℕ) → (made : ℕ) → Result CaptureRead StreamsFault → (left : Option (List ℕ))
+    → ConnectionLimits → (ports : List ℕ) → (xs : List ℕ) → ReadsMade → Result CaptureRead StreamsFault → (left : Option (List ℕ))
     → (before v : V) → Type 0
-ReadsCapture after faulted limits ports xs made r left before v =
+ReadsCapture after faulted limits ports xs m r left before v =
     ((e : Result CaptureEnd StreamsFault) × (u : SplitState)
-    × SplitsTo after faulted default_limits (no_connections limits ports) TURNS made before xs e left u v × (r ≡ read_of e u))
-    ⊎ ((r ≡ Err fault.NoMemory) × (made ≡ 0) × (left ≡ Some xs) × (v ≡ before))
+    × SplitsTo after faulted default_limits (no_connections limits ports) turns m before xs e left u v × (r ≡ read_of e u))
+    ⊎ ((r ≡ Err fault.NoMemory) × (m ≡ no_reads) × (left ≡ Some xs) × (v ≡ before))
 
 -- The streams of an input with the bytes xs were written, by so many reads: the calls that files got and what the output was given, and
 -- then the line of how it ended, with its status.
-abbrev pub WritesStreamsBy : (made : ℕ) → (ports : List ℕ) → (xs : List ℕ) → (left : Option (List ℕ)) → (calls : Option (List Call))
+abbrev pub WritesStreamsBy : ReadsMade → (ports : List ℕ) → (xs : List ℕ) → (left : Option (List ℕ)) → (calls : Option (List Call))
     → (out err : Output) → (status : ℕ) → (calls' : Option (List Call)) → (out' err' : Output) → Type 0
-WritesStreamsBy made ports xs left calls out err status calls' out' err' =
+WritesStreamsBy m ports xs left calls out err status calls' out' err' =
     (r : Result CaptureRead StreamsFault) × (sums : Sums)
-    × ReadsCapture with_saying StopsAt LIMITS ports xs made r left (recording calls out no_sums) (recording calls' out' sums)
+    × ReadsCapture with_saying StopsAt streams_limits ports xs m r left (recording calls out no_sums) (recording calls' out' sums)
     × Concludes (sums_words sums) r err status err'
 
 -- by some reads
 abbrev pub WritesStreams : (ports : List ℕ) → (xs : List ℕ) → (left : Option (List ℕ)) → (calls : Option (List Call)) → (out err : Output)
     → (status : ℕ) → (calls' : Option (List Call)) → (out' err' : Output) → Type 0
 WritesStreams ports xs left calls out err status calls' out' err' =
-    (made : ℕ) × WritesStreamsBy made ports xs left calls out err status calls' out' err'
+    (m : ReadsMade) × WritesStreamsBy m ports xs left calls out err status calls' out' err'

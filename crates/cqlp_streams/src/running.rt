@@ -1,11 +1,10 @@
 //! A reader's capture, split into the streams of its connections.
 
-ghost use Rattle.std.specs.Prelude.{◌≡◌, ◌<◌, IfOk, OnOk, List, ℕ, None, Some, length};
-ghost use Rattle.cqlp_note.specs.Streams.{CountsUp};
+ghost use Rattle.std.specs.Prelude.{◌≡◌, IfOk, OnOk, List, ℕ, None, Some, length};
 ghost use Rattle.cqlp_capture.specs.Progress.{ending, new_state};
 ghost use Rattle.cqlp_connections.specs.Tables.{Table};
 ghost use Rattle.cqlp_streams.specs.Packets.{new_split};
-ghost use Rattle.cqlp_streams.specs.Captures.{DrainsTo, EndsTo, Has, IsAtEndOf, SplitsTo};
+ghost use Rattle.cqlp_streams.specs.Captures.{AreCounted, DrainsTo, EndsTo, Has, IsAtEndOf, ReadsMade, SplitsTo, most_read};
 
 use crate::fault::StreamsFault;
 use crate::listener::Listener;
@@ -32,13 +31,13 @@ pub(crate) fn split<R: Source, L: Listener, A: Allocator, B: Allocator>(
     listener: &mut L,
     turns: u64,
 ) -> Result<CaptureEnd, StreamsFault>
-    requires room { 0 < length buffer.old }
+    requires room { length buffer.old ≡ most_read }
     requires reader { reader.old ≡ new_state reader.old.limits }
     requires splitter { splitter.old ≡ new_split splitter.old.table }
     ensures tells { L.tells listener.old → OnOk result (L.tells listener.new) }
     ensures splits { (xs : List ℕ) → R.left input.old ≡ Some xs → L.tells listener.old →
-        (made : ℕ) × CountsUp made (R.reads input.old) (R.reads input.new)
-        × SplitsTo L.after L.faulted reader.old.limits splitter.old.table turns made (L.view listener.old) xs result
+        (m : ReadsMade) × AreCounted m (R.reads input.old) (R.reads input.new) (R.failures input.old) (R.failures input.new)
+        × SplitsTo L.after L.faulted reader.old.limits splitter.old.table turns m (L.view listener.old) xs result
         (R.left input.new) splitter.new (L.view listener.new) }
 {
     for turn in 0..turns {
@@ -96,9 +95,9 @@ fn end_all<L: Listener, A: Allocator, B: Allocator>(
     listener: &mut L,
 ) -> Result<CaptureEnd, StreamsFault>
     ensures tells { L.tells listener.old → OnOk result (L.tells listener.new) }
-    ensures ends { (t : Table) (turns : ℕ) (made : ℕ) (before : L.View) (s : List ℕ) (read : List ℕ) → L.tells listener.old →
+    ensures ends { (t : Table) (turns : ℕ) (m : ReadsMade) (before : L.View) (s : List ℕ) (read : List ℕ) → L.tells listener.old →
         (h : Has L.after t before s reader.now splitter.old (L.view listener.old)) → IsAtEndOf reader.now read s h.events →
-        EndsTo L.after L.faulted reader.now.limits t turns made before read result splitter.new (L.view listener.new) }
+        EndsTo L.after L.faulted reader.now.limits t turns m before read result splitter.new (L.view listener.new) }
     ensures end { IfOk result (λ e. e ≡ ending reader.now) }
 {
     let end = reader.finish();

@@ -1,9 +1,9 @@
 //! A capture whose streams are written.
 
 ghost use Rattle.std.specs.Prelude.{◌≡◌, ℕ, List, IsSome, Some};
-ghost use Rattle.cqlp_note.specs.Streams.{CountsUp};
 ghost use Rattle.cqlp_text.specs.Endings.{IsStatusOfTask};
 ghost use Rattle.cqlp_text.specs.Outputs.{written};
+ghost use Rattle.cqlp_streams.specs.Captures.{AreCounted, ReadsMade};
 ghost use Rattle.cqlp_streams.specs.Endings.{Concludes, sums_words};
 ghost use Rattle.cqlp_streams.specs.Streams.{WritesStreams, WritesStreamsBy};
 
@@ -33,8 +33,8 @@ pub fn write_streams<R: Source, F: StreamFiles, O: Target, E: Target>(
         WritesStreams ports.now xs (R.left input.new) (F.calls files) (written O.Target out) (written E.Target err)
         result.0 (F.calls result.1) (written O.Target result.2) (written E.Target result.3) }
     ensures reads { (xs : List ℕ) → R.left input.old ≡ Some xs → IsSome (O.contents out) → IsSome (E.contents err) →
-        (made : ℕ) × CountsUp made (R.reads input.old) (R.reads input.new)
-        × WritesStreamsBy made ports.now xs (R.left input.new) (F.calls files) (written O.Target out) (written E.Target err)
+        (m : ReadsMade) × AreCounted m (R.reads input.old) (R.reads input.new) (R.failures input.old) (R.failures input.new)
+        × WritesStreamsBy m ports.now xs (R.left input.new) (F.calls files) (written O.Target out) (written E.Target err)
         result.0 (F.calls result.1) (written O.Target result.2) (written E.Target result.3) }
 {
     let mut recorder = Recorder::new(alloc, files, out);

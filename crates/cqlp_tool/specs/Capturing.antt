@@ -1,6 +1,5 @@
 -- What the program does with a capture.
 use Rattle.std.specs.Prelude.{◌≡◌, ℕ, ◌*◌, List, Option, None, IsSome, ◌⊎◌, codes, option_map}
-use Rattle.cqlp_note.specs.Streams.{CountsUp}
 use Rattle.cqlp_options.specs.declared.capture.CaptureOptions.{CaptureOptions}
 use Rattle.cqlp_options.specs.declared.capture.CaptureTask.{CaptureTask}
 use Rattle.cqlp_options.specs.declared.capture.CaptureTask.TheVariants as task
@@ -9,7 +8,8 @@ use Rattle.cqlp_options.specs.declared.capture.ExchangesAs.{ExchangesAs}
 use Rattle.cqlp_options.specs.declared.capture.ExchangesAs.TheVariants as asked_as
 use Rattle.cqlp_text.specs.Endings.{cannot_open_line}
 use Rattle.cqlp_render.specs.Streams.{Streams, IfKnown}
-use Rattle.cqlp_streams.specs.Streams.{WritesStreams}
+use Rattle.cqlp_streams.specs.Captures.{AreCounted, ReadsMade}
+use Rattle.cqlp_streams.specs.Streams.{WritesStreamsBy}
 use Rattle.cqlp_exchanges.specs.declared.filter.ExchangeFilter.{ExchangeFilter}
 use Rattle.cqlp_exchanges.specs.declared.form.ExchangeForm.{ExchangeForm}
 use Rattle.cqlp_exchanges.specs.declared.form.ExchangeForm.TheVariants as form
@@ -22,12 +22,18 @@ use Rattle.cqlp_tool.specs.Faults.{ReportsFault}
 abbrev pub IsCaptureOfInput : CaptureOptions → Type 0
 IsCaptureOfInput options = options.file.now ≡ codes "-"
 
+-- So many reads were made of the input.
+abbrev pub ReadsInput : ReadsMade → (before after : Streams) → Type 0
+ReadsInput m before after =
+    AreCounted m before.input.reads after.input.reads before.input.failures after.input.failures
+
 -- The streams of the input's connections were written to a folder, of whose files nothing is known; the lines went to the output, and how
--- it ended was reported with its status.
+-- it ended was reported with its status, after so many reads.
 abbrev pub SplitsToFolder : (ports : List ℕ) → (before : Streams) → (status : ℕ) → (after : Streams) → Type 0
 SplitsToFolder ports before status after =
     IfKnown before.input before.out (λ xs. IsSome before.err.given →
-    WritesStreams ports xs after.input.left None before.out before.err status None after.out after.err)
+    (m : ReadsMade) × ReadsInput m before after
+    × WritesStreamsBy m ports xs after.input.left None before.out before.err status None after.out after.err)
 
 -- There is no such folder: nothing was read and nothing printed, and this was reported.
 abbrev pub MissesFolder : (folder : List ℕ) → (before : Streams) → (status : ℕ) → (after : Streams) → Type 0
@@ -55,23 +61,23 @@ form_of asked_as.Summary = form.Summary
 abbrev pub TellsExchanges : ExchangeOptions → (ports : List ℕ) → (before : Streams) → (status : ℕ) → (after : Streams) → Type 0
 TellsExchanges asked ports before status after =
     IfKnown before.input before.out (λ xs. IsSome before.err.given →
-    (made : ℕ) × CountsUp made before.input.reads after.input.reads
-    × WritesExchanges (filter_of asked) (form_of asked.form) ports xs made after.input.left before.out before.err status after.out after.err)
+    (m : ReadsMade) × ReadsInput m before after
+    × WritesExchanges (filter_of asked) (form_of asked.form) ports xs m after.input.left before.out before.err status after.out after.err)
 
 -- The lines of the input's frames went to the output, those of one connection if one is asked for, and how it ended was reported with its
 -- status, after so many reads.
 abbrev pub TellsEvents : (asked : Option ℕ) → (ports : List ℕ) → (before : Streams) → (status : ℕ) → (after : Streams) → Type 0
 TellsEvents asked ports before status after =
     IfKnown before.input before.out (λ xs. IsSome before.err.given →
-    (made : ℕ) × CountsUp made before.input.reads after.input.reads
-    × WritesEvents asked ports xs made after.input.left before.out before.err status after.out after.err)
+    (m : ReadsMade) × ReadsInput m before after
+    × WritesEvents asked ports xs m after.input.left before.out before.err status after.out after.err)
 
 -- The pages of the input's connection with this number went to the output, and how it ended was reported with its status, after so many reads.
 abbrev pub TellsRows : (asked : ℕ) → (ports : List ℕ) → (before : Streams) → (status : ℕ) → (after : Streams) → Type 0
 TellsRows asked ports before status after =
     IfKnown before.input before.out (λ xs. IsSome before.err.given →
-    (made : ℕ) × CountsUp made before.input.reads after.input.reads
-    × WritesRows asked ports xs made after.input.left before.out before.err status after.out after.err)
+    (m : ReadsMade) × ReadsInput m before after
+    × WritesRows asked ports xs m after.input.left before.out before.err status after.out after.err)
 
 -- What a task does with a capture, the input, of nodes that listen on these ports.
 abbrev pub DoesCaptureTask : CaptureTask → (ports : List ℕ) → (before : Streams) → (status : ℕ) → (after : Streams) → Type 0

@@ -1,8 +1,9 @@
 -- One answer of a command line.
-use Rattle.std.proofs.Common.{◌≡◌, ℕ, List, [], ◌++◌, Option, Some, None, IsSome, Result, Ok, Err, ◌⊎◌, sym, ap, ◌∙◌, inl, inr, subst, append_assoc}
+use Rattle.std.proofs.Common.{◌≡◌, ℕ, Bool, List, [], ◌++◌, Option, Some, None, IsSome, Result, Ok, Err, ◌⊎◌, sym, ap, ◌∙◌, inl, inr, subst, append_assoc}
 use Rattle.std.specs.Prelude.{string_bytes}
 use Rattle.std.specs.Io.KnownBytes.{Appends, append_known}
 use Rattle.cqlp_note.specs.Limits.{Rules}
+use Rattle.cqlp_note.specs.Streams.{counted}
 use Rattle.cqlp_options.specs.Ports.{named}
 use Rattle.cqlp_options.specs.declared.capture.CaptureTask.{CaptureTask}
 use Rattle.cqlp_options.specs.declared.capture.CaptureTask.TheVariants as capture_task
@@ -25,17 +26,22 @@ use Rattle.cqlp_render.specs.declared.text_form.TextForm.{TextForm}
 use Rattle.cqlp_render.specs.Showing.{ShowsBytes, ChecksBytes}
 use Rattle.cqlp_render.specs.Streams.{Streams}
 use Rattle.cqlp_render.proofs.Renders.{known_nothing}
+use Rattle.cqlp_streams.specs.Captures.{ReadsMade}
+use Rattle.cqlp_streams.specs.Causes.{HasCause}
 use Rattle.cqlp_streams.proofs.OneAnswer.{streams_once}
+use Rattle.cqlp_exchanges.proofs.Causes.{exchanges_causes}
 use Rattle.cqlp_exchanges.proofs.WrittenOnce.{exchanges_once}
+use Rattle.cqlp_capture_events.proofs.Causes.{events_causes}
 use Rattle.cqlp_capture_events.proofs.WrittenOnce.{events_once}
+use Rattle.cqlp_capture_rows.proofs.Causes.{rows_causes}
 use Rattle.cqlp_capture_rows.proofs.WrittenOnce.{rows_once}
-use Rattle.cqlp_tool.specs.Capturing.{DoesCaptureTask, SplitsCapture, filter_of, form_of}
+use Rattle.cqlp_tool.specs.Capturing.{DoesCaptureTask, ReadsInput, SplitsCapture, filter_of, form_of}
 use Rattle.cqlp_tool.specs.Faults.{ReportsFault}
 use Rattle.cqlp_tool.specs.CommandLines.{DoesTask, Executes, Complains, Helps, Shows, form_of_events, form_of_rows, rules_for, turns}
 use Rattle.cqlp_tool.specs.Conversing.{ConversesWithItself, Reports, ending_of}
 use Rattle.cqlp_tool_laws.specs.Text.{FailsAlike, GoesOnFromOther}
 use Rattle.cqlp_tool_laws.specs.Tool.{IsOneOutput}
-use Rattle.cqlp_tool_laws.specs.CommandLines.{AreCheckedAlike, AreMetAlike, AreKnown, AreSplitAlike, IsCaptureMetAlike, AreShownAlike, AreLoopsAlike, IsExecutedOnce, IsLoopDecided, IsOneAnswer, IsTaskMetAlike, IsTextMetAlike, LoopGoesOn}
+use Rattle.cqlp_tool_laws.specs.CommandLines.{CaptureFaultsHaveCauses, HasFault, AreCheckedAlike, AreMetAlike, AreKnown, AreSplitAlike, IsCaptureMetAlike, AreShownAlike, AreLoopsAlike, IsExecutedOnce, IsLoopDecided, IsOneAnswer, IsTaskMetAlike, IsTextMetAlike, LoopGoesOn}
 use Rattle.cqlp_tool_laws.proofs.OneText.{counts_up, stops_once}
 use Rattle.cqlp_tool_laws.proofs.SkippedOnce.{skipping_once, checking_skipping_once}
 use Rattle.cqlp_tool_laws.proofs.OneAnswer.{commands_end_once, checks_end_once, concludes_once, shown_once, checked_once}
@@ -168,7 +174,9 @@ module _ (before : Streams) (status status' : ℕ) (after after' : Streams) wher
   split_once folder ports known (inl a) (inr b) alike = absurd alike
   split_once folder ports known (inr a) (inl b) alike = absurd alike
   split_once folder ports known (inr a) (inr b) alike =
-      let one = streams_once ports known.bytes None before.out before.err after.input.left after'.input.left status status' None None after.out after'.out after.err after'.err (a known.bytes known.left known.out known.err) alike.0 (b known.bytes known.left known.out known.err) alike.1 in
+      let x = a known.bytes known.left known.out known.err in
+      let y = b known.bytes known.left known.out known.err in
+      let one = streams_once ports known.bytes None before.out before.err after.input.left after'.input.left status status' None None after.out after'.out after.err after'.err (x.0, x.2) alike.0 (y.0, y.2) alike.1 in
       (one.0, inl one.2, inl one.3)
 
   capture_once : (t : CaptureTask) (ports : List ℕ) (known : AreKnown before) (a : DoesCaptureTask t ports before status after) (b : DoesCaptureTask t ports before status' after') → IsCaptureMetAlike before status status' after after' t ports a b → IsOneAnswer before status status' after after'
@@ -188,6 +196,24 @@ module _ (before : Streams) (status status' : ℕ) (after after' : Streams) wher
       let y = b known.bytes known.left known.out known.err in
       let one = rows_once asked ports known.bytes before.out before.err x.0 y.0 after.input.left after'.input.left status status' after.out after'.out after.err after'.err x.2 alike.0 y.2 alike.1 in
       (one.0, inl one.1, inl one.2)
+
+-- ---- a fault of it
+
+caused : (before after : Streams) (m : ReadsMade) → ReadsInput m before after → HasCause m before.out before.err after.out after.err → HasFault before after
+caused before after m reads (inl failed) = inl (reads.1 ∙ ap (λ (b : Bool). counted b before.input.failures) failed)
+caused before after m reads (inr x) = inr x
+
+pub captures_caused : CaptureFaultsHaveCauses
+captures_caused (capture_task.Streams folder) ports before after known does = tt
+captures_caused (capture_task.Exchanges asked) ports before after known does =
+    let x = does known.bytes known.left known.out known.err in
+    caused before after x.0 x.1 (exchanges_causes (filter_of asked) (form_of asked.form) ports known.bytes x.0 after.input.left before.out before.err after.out after.err x.2)
+captures_caused (capture_task.Events asked) ports before after known does =
+    let x = does known.bytes known.left known.out known.err in
+    caused before after x.0 x.1 (events_causes asked ports known.bytes x.0 after.input.left before.out before.err after.out after.err x.2)
+captures_caused (capture_task.Rows asked) ports before after known does =
+    let x = does known.bytes known.left known.out known.err in
+    caused before after x.0 x.1 (rows_causes asked ports known.bytes x.0 after.input.left before.out before.err after.out after.err x.2)
 
 -- ---- a command line
 

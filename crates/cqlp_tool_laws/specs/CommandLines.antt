@@ -1,8 +1,9 @@
 -- The law of one answer of a command line that was read: what is written, and the status, are decided by the line and by
 -- what comes of the outside, but for what only the outside decides.
-use Rattle.std.specs.Prelude.{◌≡◌, ◌≢◌, ℕ, List, Some, IsSome, Result, Ok, Err}
+use Rattle.std.specs.Prelude.{◌≡◌, ◌≢◌, ◌⊎◌, ℕ, true, List, Some, IsSome, Result, Ok, Err}
 use Rattle.std.proofs.Common.{inl, inr}
 use Rattle.cqlp_note.specs.Limits.{Rules}
+use Rattle.cqlp_note.specs.Streams.{counted}
 use Rattle.cqlp_options.specs.Ports.{named}
 use Rattle.cqlp_options.specs.declared.capture.CaptureTask.{CaptureTask}
 use Rattle.cqlp_options.specs.declared.capture.CaptureTask.TheVariants as capture_task
@@ -15,7 +16,7 @@ use Rattle.cqlp_options.specs.declared.options.AtRefusal.TheVariants as at
 use Rattle.cqlp_options.specs.declared.options.Task.{Task}
 use Rattle.cqlp_options.specs.declared.options.Task.TheVariants as task
 use Rattle.cqlp_text.specs.declared.ending.Ending.TheVariants as ending
-use Rattle.cqlp_text.specs.Outputs.{Output}
+use Rattle.cqlp_text.specs.Outputs.{HasFailed, Output, with_text}
 use Rattle.cqlp_loop.specs.declared.fault.LoopFault.{LoopFault}
 use Rattle.cqlp_loop.specs.Script.{Wires}
 use Rattle.cqlp_loop_laws.specs.OneAnswer.{IsDecided}
@@ -26,6 +27,8 @@ use Rattle.cqlp_render.specs.Streams.{Streams}
 use Rattle.cqlp_render_skip.specs.Showing as skipping
 use Rattle.cqlp_render_skip.specs.Showing.{outputs_of}
 use Rattle.cqlp_render_skip_laws.specs.Laws.{IsPlain}
+use Rattle.cqlp_streams.specs.declared.fault.StreamsFault.TheVariants as fault
+use Rattle.cqlp_streams.specs.Endings.{fault_line, no_memory_line}
 use Rattle.cqlp_tool.specs.Capturing.{DoesCaptureTask, IsCaptureOfInput, SplitsCapture}
 use Rattle.cqlp_tool.specs.CommandLines.{DoesTask, Executes, IsOfInput, Shows, form_of_events, form_of_rows, rules_for, turns}
 use Rattle.cqlp_tool.specs.Conversing.{ConversesAndReports, ConversesWithItself}
@@ -173,6 +176,29 @@ module _ (before : Streams) (status status' : ℕ) (after after' : Streams) wher
   IsCaptureMetAlike (capture_task.Exchanges asked) ports does does' = (status ≢ 3) × (status' ≢ 3)
   IsCaptureMetAlike (capture_task.Events asked) ports does does' = (status ≢ 3) × (status' ≢ 3)
   IsCaptureMetAlike (capture_task.Rows asked) ports does does' = (status ≢ 3) × (status' ≢ 3)
+
+-- A read of the input failed, or the output, or the error output; or the line that was written says that there was no memory, or too
+-- many turns: all reads were made that may be, or there was no end to what is told.
+abbrev pub HasFault : (before after : Streams) → Type 0
+HasFault before after =
+    (after.input.failures ≡ counted true before.input.failures)
+    ⊎ (HasFailed before.out after.out
+    ⊎ (HasFailed before.err after.err
+    ⊎ ((after.err ≡ with_text before.err no_memory_line)
+    ⊎ (after.err ≡ with_text before.err (fault_line fault.TooManyTurns)))))
+
+-- Of a task that splits a capture into files nothing is said, since of files nothing is known.
+abbrev pub IsCaused : CaptureTask → (before after : Streams) → Type 0
+IsCaused (capture_task.Streams folder) before after = Unit {0}
+IsCaused (capture_task.Exchanges asked) before after = HasFault before after
+IsCaused (capture_task.Events asked) before after = HasFault before after
+IsCaused (capture_task.Rows asked) before after = HasFault before after
+
+-- The status of a task with a capture is that of a fault only where one came.
+abbrev pub CaptureFaultsHaveCauses : Type 0
+CaptureFaultsHaveCauses =
+    (t : CaptureTask) (ports : List ℕ) (before after : Streams)
+    → AreKnown before → DoesCaptureTask t ports before 3 after → IsCaused t before after
 
 -- ---- a command line
 

@@ -6,21 +6,22 @@ use Rattle.cqlp_streams.specs.declared.capturing.CaptureRead.{CaptureRead}
 use Rattle.cqlp_streams.specs.declared.capturing.TheConstants as streams
 use Rattle.cqlp_streams.specs.declared.fault.StreamsFault.{StreamsFault}
 use Rattle.cqlp_streams.specs.declared.fault.StreamsFault.TheVariants as fault
-use Rattle.cqlp_streams.specs.Captures.{SplitsTo}
+use Rattle.cqlp_streams.specs.Captures.{ReadsMade, SplitsTo}
 use Rattle.cqlp_streams.specs.Packets.{SplitState}
 use Rattle.cqlp_streams.specs.Recordings.{Recording, StopsAt, with_saying}
 use Rattle.cqlp_streams.specs.Streams.{ReadsCapture, default_limits, no_connections, read_of}
 use Rattle.cqlp_capture_events.specs.declared.limits.TheConstants as events
 use Rattle.cqlp_capture_rows.specs.declared.limits.TheConstants as rows
 
--- A reading of a capture makes at most 2^32 reads, and ends with too many turns after no fewer; or there was no memory for it.
+-- A reading of a capture makes at most 2^32 reads, and ends with too many turns after no fewer, or where there is no end to what is told; or there was
+-- no memory for it.
 abbrev pub TurnsOfCaptures : Type 0
 TurnsOfCaptures =
-    (limits : ConnectionLimits) (ports xs : List ℕ) (made : ℕ) (r : Result CaptureRead StreamsFault) (left : Option (List ℕ))
+    (limits : ConnectionLimits) (ports xs : List ℕ) (m : ReadsMade) (r : Result CaptureRead StreamsFault) (left : Option (List ℕ))
     (before v : Recording)
-    → ReadsCapture with_saying StopsAt limits ports xs made r left before v
+    → ReadsCapture with_saying StopsAt limits ports xs m r left before v
     → ((e : Result CaptureEnd StreamsFault) × (u : SplitState)
-    × SplitsTo with_saying StopsAt default_limits (no_connections limits ports) 4294967296 made before xs e left u v × (r ≡ read_of e u))
+    × SplitsTo with_saying StopsAt default_limits (no_connections limits ports) 4294967296 m before xs e left u v × (r ≡ read_of e u))
     ⊎ (r ≡ Err fault.NoMemory)
 
 -- Where its streams are split, and where pages are written, there are so many connections at one time, with so many early bytes of each direction.

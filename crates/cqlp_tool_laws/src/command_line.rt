@@ -1,6 +1,6 @@
-//! The law of one answer of a command line that was read.
+//! Laws of a command line that was read: it has one answer, and a fault of it has a cause.
 
-ghost use Rattle.cqlp_tool_laws.specs.CommandLines.{IsExecutedOnce, LoopGoesOn};
+ghost use Rattle.cqlp_tool_laws.specs.CommandLines.{CaptureFaultsHaveCauses, IsExecutedOnce, LoopGoesOn};
 
 /// Two executions of one command line that names no file, to which the outside did the same, end with one status, and have
 /// one text on each output; where an output failed, one was given what the other was, and then perhaps more.
@@ -12,4 +12,11 @@ ghost use Rattle.cqlp_tool_laws.specs.CommandLines.{IsExecutedOnce, LoopGoesOn};
 pub fn one_answer_of_execute()
     ensures once { IsExecutedOnce }
     ensures goes_on { LoopGoesOn }
+{}
+
+/// Where the exchanges, events or rows of a capture on standard input are written, the status is that of a fault only where a read of the input
+/// or an output failed, or where the line on standard error says that there was no memory, or too many turns: 2^32
+/// reads, or no end to what is told.
+pub fn faults_of_captures_have_causes()
+    ensures { CaptureFaultsHaveCauses }
 {}

@@ -1,5 +1,6 @@
 use Rattle.std.proofs.Common.{arith, IsSome, refl, sym, subst, inr}
 use Rattle.cqlp_text.specs.Outputs.{written}
+use Rattle.cqlp_streams.specs.Captures.{no_reads}
 use Rattle.cqlp_streams.specs.Streams.{ReadsCapture}
 use Rattle.cqlp_capture_events.specs.declared.limits.TheConstants.{CONNECTIONS, CONNECTION_LIMITS}
 use Rattle.cqlp_capture_events.specs.Listening.{Listening, StopsAt, new_listening, with_saying}
@@ -7,7 +8,7 @@ use Rattle.cqlp_capture_events.proofs.capturing.listen.Goals as goal
 
 pub returns-in-Err : goal.returns-in-Err
 returns-in-Err g c = λ xs is known.
-    (0, λ fits. omega arith, (new_listening CONNECTIONS c.args.connection (written g.O.Target c.args.out), inr (refl, refl, is, refl), c.in-Err.ensures.err))
+    (no_reads, (λ fits. omega arith, refl), (new_listening CONNECTIONS c.args.connection (written g.O.Target c.args.out), inr (refl, refl, is, refl), c.in-Err.ensures.err))
 
 pub returns : goal.returns
 returns g c = λ xs is known.

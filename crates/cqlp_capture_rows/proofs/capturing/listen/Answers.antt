@@ -1,13 +1,13 @@
 use Rattle.std.proofs.Common.{arith, IsSome, refl, sym, subst, inr}
 use Rattle.cqlp_text.specs.Outputs.{written}
-use Rattle.cqlp_streams.specs.declared.capturing.TheConstants.{LIMITS}
-use Rattle.cqlp_streams.specs.Streams.{ReadsCapture}
+use Rattle.cqlp_streams.specs.Captures.{no_reads}
+use Rattle.cqlp_streams.specs.Streams.{ReadsCapture, streams_limits}
 use Rattle.cqlp_capture_rows.specs.Listening.{Listening, StopsAt, new_listening, with_saying}
 use Rattle.cqlp_capture_rows.proofs.capturing.listen.Goals as goal
 
 pub returns-in-Err : goal.returns-in-Err
 returns-in-Err g c = λ xs is known.
-    (0, λ fits. omega arith, (new_listening c.args.connection (written g.O.Target c.args.out), inr (refl, refl, is, refl), c.in-Err.ensures.err))
+    (no_reads, (λ fits. omega arith, refl), (new_listening c.args.connection (written g.O.Target c.args.out), inr (refl, refl, is, refl), c.in-Err.ensures.err))
 
 pub returns : goal.returns
 returns g c = λ xs is known.
@@ -18,7 +18,7 @@ returns g c = λ xs is known.
       a.1,
       (
         c.read_capture-answer.new.listener,
-        subst (λ (w : Listening). ReadsCapture with_saying StopsAt LIMITS c.args.ports.now xs a.0 c.read_capture-answer.result (g.R.Source.left c.read_capture-answer.new.input) w c.read_capture-answer.new.listener) c.in-Ok.ensures.ok a.2,
+        subst (λ (w : Listening). ReadsCapture with_saying StopsAt streams_limits c.args.ports.now xs a.0 c.read_capture-answer.result (g.R.Source.left c.read_capture-answer.new.input) w c.read_capture-answer.new.listener) c.in-Ok.ensures.ok a.2,
         c.into_output.ensures,
       ),
     )

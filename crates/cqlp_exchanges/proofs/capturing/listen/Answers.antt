@@ -1,5 +1,6 @@
 use Rattle.std.proofs.Common.{◌∙◌, arith, IsSome, refl, sym, subst, inr}
 use Rattle.cqlp_text.specs.Outputs.{Output, written}
+use Rattle.cqlp_streams.specs.Captures.{no_reads}
 use Rattle.cqlp_streams.specs.Streams.{ReadsCapture}
 use Rattle.cqlp_exchanges.specs.Listening.{Listening, StopsAt, new_listening, with_saying}
 use Rattle.cqlp_exchanges.specs.Capturing.{Closes, connection_limits, default_limits}
@@ -7,7 +8,7 @@ use Rattle.cqlp_exchanges.proofs.capturing.listen.Goals as goal
 
 pub returns-in-Err : goal.returns-in-Err
 returns-in-Err g c = λ xs is known.
-    (0, λ fits. omega arith, (new_listening default_limits c.args.filter c.args.form (written g.O.Target c.args.out), _, inr (refl, refl, is, refl), c.none.ensures, (refl, c.in-Err.ensures.err)))
+    (no_reads, (λ fits. omega arith, refl), (new_listening default_limits c.args.filter c.args.form (written g.O.Target c.args.out), _, inr (refl, refl, is, refl), c.none.ensures, (refl, c.in-Err.ensures.err)))
 
 pub returns : goal.returns
 returns g c = λ xs is known.

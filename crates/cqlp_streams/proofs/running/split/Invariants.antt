@@ -8,6 +8,7 @@ abbrev pub invariant-loop-turn : goal.invariant-loop-turn
 invariant-loop-turn g l = record {
   long : length l.buffer ≡ length l.fn.buffer;
   tells : g.L.Listener.tells l.fn.listener → g.L.Listener.tells l.listener;
+  failures : g.R.Source.failures l.input ≡ g.R.Source.failures l.fn.input;
   counted : CountsUp l.turn (g.R.Source.reads l.fn.input) (g.R.Source.reads l.input);
   so_far : (xs : List ℕ) → g.R.Source.left l.fn.input ≡ Some xs → g.L.Listener.tells l.fn.listener → SoFar g.L.Listener.after l.fn.reader.limits l.fn.splitter.table (g.L.Listener.view l.fn.listener) xs (g.R.Source.left l.input) l.reader l.splitter (g.L.Listener.view l.listener);
 }
