@@ -1,8 +1,11 @@
 //! What is asked for with a capture.
 
 ghost use Rattle.std.specs.Prelude.{◌≡◌, ◌≤◌, IfSome, length};
+ghost use Rattle.clap.specs.Words.{found_of, rows_of};
+ghost use Rattle.cqlp_options.specs.Matched.{AreCaptureOptions, AreExchanges, IsCaptureTask, IsExchangesForm};
 ghost use Rattle.cqlp_options.specs.Ports.{AreWithin, named};
 
+use crate::matched::{flag, long_number, number, path};
 use clap::ArgMatches;
 
 /// How many ports may be named.
@@ -65,10 +68,12 @@ pub enum ExchangesAs {
 }
 
 impl ExchangesAs {
-    fn matched(matches: &ArgMatches<'_>) -> ExchangesAs {
-        if matches.get_flag("summary") {
+    fn matched(matches: &ArgMatches<'_>) -> ExchangesAs
+        ensures { IsExchangesForm (rows_of (found_of matches.now)) result }
+    {
+        if flag(matches, "summary") {
             ExchangesAs::Summary
-        } else if matches.get_flag("json") {
+        } else if flag(matches, "json") {
             ExchangesAs::Json
         } else {
             ExchangesAs::Lines
@@ -89,11 +94,13 @@ pub struct ExchangeOptions {
 }
 
 impl ExchangeOptions {
-    fn matched(matches: &ArgMatches<'_>) -> ExchangeOptions {
+    fn matched(matches: &ArgMatches<'_>) -> ExchangeOptions
+        ensures { AreExchanges (rows_of (found_of matches.now)) result }
+    {
         ExchangeOptions {
-            slow: matches.get_one::<u32>("slow"),
-            errors: matches.get_flag("errors"),
-            connection: matches.get_one::<u64>("connection"),
+            slow: number(matches, "slow"),
+            errors: flag(matches, "errors"),
+            connection: long_number(matches, "connection"),
             form: ExchangesAs::matched(matches),
         }
     }
@@ -115,15 +122,17 @@ pub enum CaptureTask<'a> {
 
 impl<'a> CaptureTask<'a> {
     /// What the words were matched to, if a connection is named whose pages are asked for.
-    fn matched(matches: &ArgMatches<'a>) -> Option<CaptureTask<'a>> {
-        let connection = matches.get_one::<u64>("connection");
-        if let Some(folder) = matches.get_str("streams") {
+    fn matched(matches: &ArgMatches<'a>) -> Option<CaptureTask<'a>>
+        ensures { IfSome result (IsCaptureTask (rows_of (found_of matches.now))) }
+    {
+        let connection = long_number(matches, "connection");
+        if let Some(folder) = path(matches, "streams") {
             return Some(CaptureTask::Streams { folder });
         }
-        if matches.get_flag("rows") {
+        if flag(matches, "rows") {
             return connection.map(|connection| CaptureTask::Rows { connection });
         }
-        Some(if matches.get_flag("events") {
+        Some(if flag(matches, "events") {
             CaptureTask::Events { connection }
         } else {
             CaptureTask::Exchanges(ExchangeOptions::matched(matches))
@@ -143,9 +152,10 @@ pub struct CaptureOptions<'a> {
 impl<'a> CaptureOptions<'a> {
     /// What the words were matched to, if there are not too many ports.
     pub(crate) fn matched(matches: &ArgMatches<'a>) -> Option<CaptureOptions<'a>>
-        ensures { IfSome result (λ options. AreWithin options.ports) }
+        ensures within { IfSome result (λ options. AreWithin options.ports) }
+        ensures words { IfSome result (AreCaptureOptions (rows_of (found_of matches.now))) }
     {
-        let file = matches.get_str("file")?;
+        let file = path(matches, "file")?;
         let task = CaptureTask::matched(matches)?;
         let ports = ports_of(matches)?;
         Some(CaptureOptions { task, ports, file })

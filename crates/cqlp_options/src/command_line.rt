@@ -1,9 +1,12 @@
 //! Command lines.
 
-ghost use Rattle.std.specs.Prelude.{◌≤◌, IfOk, IfSome};
+ghost use Rattle.std.specs.Prelude.{◌≤◌, IfOk, IfSome, Some, codes, map};
+ghost use Rattle.clap.specs.Words.{found_of, rows_of, subcommand_rows_of};
 ghost use Rattle.cqlp_options.specs.CommandLines.{IsWithin};
+ghost use Rattle.cqlp_options.specs.Matched.{AskFor, IsLineOf, IsNumber};
 
 use crate::capture::CaptureOptions;
+use crate::matched::short_number;
 use crate::no_task::{NoTask, no_task_of};
 use crate::options::Options;
 use crate::program::program;
@@ -35,7 +38,8 @@ impl<'a> CommandLine<'a> {
     /// Reads the words after the program's name. What is no command line of the program, and a request for help or the
     /// version, is an error, whose text says what is wrong or what was asked for.
     pub fn parse(alloc: Global, words: &'a [&'a str]) -> Result<CommandLine<'a>, NoTask>
-        ensures { IfOk result IsWithin }
+        ensures within { IfOk result IsWithin }
+        ensures words { IfOk result (AskFor (map (λ word. word.now) words.entry.now)) }
     {
         match parsed(alloc, words) {
             Ok(line) => Ok(line),
@@ -57,7 +61,8 @@ fn no_task(alloc: Global, words: &[&str], error: &Error) -> NoTask {
 }
 
 fn parsed<'a, S: AsStr>(alloc: Global, words: &'a [S]) -> Result<CommandLine<'a>, Error>
-    ensures { IfOk result IsWithin }
+    ensures within { IfOk result IsWithin }
+    ensures words { IfOk result (AskFor (map S.text words.entry.now)) }
 {
     let mut program = program(alloc)?;
     let matches = program.try_get_matches_from_mut(words)?;
@@ -76,7 +81,8 @@ fn out_of_range(program: &mut Command<'_>) -> Error {
 
 /// What the words of a command line were matched to, if its numbers are in their ranges.
 fn line_of<'a>(matches: &ArgMatches<'a>) -> Option<CommandLine<'a>>
-    ensures { IfSome result IsWithin }
+    ensures within { IfSome result IsWithin }
+    ensures words { IfSome result (IsLineOf (subcommand_rows_of matches.now)) }
 {
     match matches.subcommand()? {
         ("loop", matches) => {
@@ -95,9 +101,10 @@ fn line_of<'a>(matches: &ArgMatches<'a>) -> Option<CommandLine<'a>>
 }
 
 fn queries_of(matches: &ArgMatches<'_>) -> Option<u16>
-    ensures { IfSome result (λ queries. (1 ≤ queries) × (queries ≤ 1000)) }
+    ensures within { IfSome result (λ queries. (1 ≤ queries) × (queries ≤ 1000)) }
+    ensures number { IfSome result (λ queries. IsNumber 16 (codes "queries") (rows_of (found_of matches.now)) (Some queries)) }
 {
-    let queries = matches.get_one::<u16>("queries")?;
+    let queries = short_number(matches, "queries")?;
     if QUERIES.contains(u32::from(queries)) {
         Some(queries)
     } else {

@@ -4,6 +4,7 @@
 mod capture;
 mod command_line;
 pub mod laws;
+mod matched;
 mod no_task;
 mod options;
 mod program;

@@ -1,8 +1,11 @@
 //! What is asked for with a stream.
 
-ghost use Rattle.std.specs.Prelude.{◌≡◌, IfSome, Ok};
+ghost use Rattle.std.specs.Prelude.{◌≡◌, IfSome, Ok, codes, not};
+ghost use Rattle.clap.specs.Words.{found_of, rows_of};
 ghost use Rattle.cqlp_note.specs.Limits.{first_bad};
+ghost use Rattle.cqlp_options.specs.Matched.{AreOptions, IsFlag, IsLimit, IsRowsForm, IsTask, is_json, skips};
 
+use crate::matched::{flag, number, path};
 use clap::ArgMatches;
 use cqlp_note::Limits;
 
@@ -16,8 +19,10 @@ pub enum AtRefusal {
 }
 
 impl AtRefusal {
-    fn matched(matches: &ArgMatches<'_>) -> AtRefusal {
-        if matches.get_flag("skip") {
+    fn matched(matches: &ArgMatches<'_>) -> AtRefusal
+        ensures { IsFlag (codes "skip") (rows_of (found_of matches.now)) (skips result) }
+    {
+        if flag(matches, "skip") {
             AtRefusal::Skip
         } else {
             AtRefusal::End
@@ -35,8 +40,10 @@ pub enum EventsAs {
 }
 
 impl EventsAs {
-    fn matched(matches: &ArgMatches<'_>) -> EventsAs {
-        if matches.get_flag("json") {
+    fn matched(matches: &ArgMatches<'_>) -> EventsAs
+        ensures { IsFlag (codes "json") (rows_of (found_of matches.now)) (is_json result) }
+    {
+        if flag(matches, "json") {
             EventsAs::Json
         } else {
             EventsAs::Lines
@@ -56,10 +63,12 @@ pub enum RowsAs {
 }
 
 impl RowsAs {
-    fn matched(matches: &ArgMatches<'_>) -> RowsAs {
-        if matches.get_flag("json") {
+    fn matched(matches: &ArgMatches<'_>) -> RowsAs
+        ensures { IsRowsForm (rows_of (found_of matches.now)) result }
+    {
+        if flag(matches, "json") {
             RowsAs::Json
-        } else if matches.get_flag("csv") {
+        } else if flag(matches, "csv") {
             RowsAs::Csv
         } else {
             RowsAs::Text
@@ -80,7 +89,9 @@ pub enum Task {
 
 impl Task {
     /// The task that a subcommand names, with what its words were matched to.
-    fn matched(name: &str, matches: &ArgMatches<'_>) -> Option<Task> {
+    fn matched(name: &str, matches: &ArgMatches<'_>) -> Option<Task>
+        ensures { IfSome result (IsTask name.now (rows_of (found_of matches.now))) }
+    {
         let at_refusal = AtRefusal::matched(matches);
         match name {
             "show" => Some(Task::Show(EventsAs::matched(matches), at_refusal)),
@@ -109,12 +120,13 @@ pub struct Options<'a> {
 impl<'a> Options<'a> {
     /// What the words of the task with this name were matched to, if its limits are in their ranges.
     pub(crate) fn matched(name: &str, matches: &ArgMatches<'a>) -> Option<Options<'a>>
-        ensures { IfSome result (λ options. first_bad options.limits ≡ Ok tt) }
+        ensures within { IfSome result (λ options. first_bad options.limits ≡ Ok tt) }
+        ensures words { IfSome result (AreOptions name.now (rows_of (found_of matches.now))) }
     {
         let task = Task::matched(name, matches)?;
-        let file = matches.get_str("file")?;
+        let file = path(matches, "file")?;
         let limits = limits_of(matches);
-        let lenient = matches.get_flag("lenient");
+        let lenient = flag(matches, "lenient");
         match limits.check() {
             Ok(()) => Some(Options {
                 task,
@@ -128,7 +140,14 @@ impl<'a> Options<'a> {
 }
 
 /// The limits that are given, and those of `Limits::DEFAULT` in place of the others.
-fn limits_of(matches: &ArgMatches<'_>) -> Limits {
+fn limits_of(matches: &ArgMatches<'_>) -> Limits
+    ensures text { IsLimit (codes "text") 1048576 (rows_of (found_of matches.now)) result.text }
+    ensures cell { IsLimit (codes "cell") 1048576 (rows_of (found_of matches.now)) result.cell }
+    ensures entries { IsLimit (codes "entries") 4096 (rows_of (found_of matches.now)) result.entries }
+    ensures depth { IsLimit (codes "depth") 16 (rows_of (found_of matches.now)) result.depth }
+    ensures raw { IsFlag (codes "raw") (rows_of (found_of matches.now)) (not result.types) }
+    ensures parts { IsFlag (codes "parts") (rows_of (found_of matches.now)) result.parts }
+{
     let Limits {
         text,
         cell,
@@ -137,11 +156,11 @@ fn limits_of(matches: &ArgMatches<'_>) -> Limits {
         ..
     } = Limits::DEFAULT;
     Limits {
-        text: matches.get_one::<u32>("text").unwrap_or(text),
-        cell: matches.get_one::<u32>("cell").unwrap_or(cell),
-        entries: matches.get_one::<u32>("entries").unwrap_or(entries),
-        depth: matches.get_one::<u32>("depth").unwrap_or(depth),
-        types: !matches.get_flag("raw"),
-        parts: matches.get_flag("parts"),
+        text: number(matches, "text").unwrap_or(text),
+        cell: number(matches, "cell").unwrap_or(cell),
+        entries: number(matches, "entries").unwrap_or(entries),
+        depth: number(matches, "depth").unwrap_or(depth),
+        types: !flag(matches, "raw"),
+        parts: flag(matches, "parts"),
     }
 }

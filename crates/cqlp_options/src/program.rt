@@ -1,5 +1,11 @@
 //! The program's command line, as its parser is told of it.
 
+ghost use Rattle.std.specs.Prelude.{◌≡◌, IfOk, false, map};
+ghost use Rattle.clap.specs.Words.{app_of, new_rule, rule_of, with_subcommand};
+ghost use Rattle.clap.specs.declared.builder.command.Command.TheViews.{out-Command as fields_of};
+ghost use Rattle.cqlp_options.specs.Program.{program as the_program, without_tasks as no_tasks};
+ghost use Rattle.cqlp_options.specs.Tables.{parser_in, rule_for, rule_in, shape_for, with_rules, with_tasks as with_all};
+
 use crate::command_line::QUERIES;
 use clap::builder::ValueParser;
 use clap::{Arg, ArgAction, Command, value_parser};
@@ -25,15 +31,25 @@ const HELP: &str = "Each of show, rows and check takes a FILE, where - is standa
     Example: cqlp rows capture.bin";
 
 /// The program's command line.
-pub(crate) fn program<'a>(alloc: Global) -> Result<Command<'a>, AllocError> {
+pub(crate) fn program<'a>(alloc: Global) -> Result<Command<'a>, AllocError>
+    ensures { IfOk result (λ program. app_of program ≡ the_program) }
+{
+    with_tasks(alloc, &TASKS)
+}
+
+fn with_tasks<'a>(alloc: Global, tasks: &[Task]) -> Result<Command<'a>, AllocError>
+    ensures { IfOk result (λ program. app_of program ≡ with_all no_tasks tasks.now) }
+{
     let mut program = without_tasks(alloc)?;
-    for task in &TASKS {
+    for task in tasks {
         program = with_task(alloc, program, task)?;
     }
     Ok(program)
 }
 
-fn without_tasks<'a>(alloc: Global) -> Result<Command<'a>, AllocError> {
+fn without_tasks<'a>(alloc: Global) -> Result<Command<'a>, AllocError>
+    ensures { IfOk result (λ program. app_of program ≡ no_tasks) }
+{
     let program = Command::new(alloc, "cqlp")
         .about(
             "Reads streams of the CQL native protocol v4 and packet captures, and has a client and a server talk",
@@ -49,7 +65,9 @@ fn with_task<'a>(
     alloc: Global,
     program: Command<'a>,
     task: &Task,
-) -> Result<Command<'a>, AllocError> {
+) -> Result<Command<'a>, AllocError>
+    ensures { IfOk result (λ command. app_of command ≡ with_subcommand (app_of program.entry) (shape_for task.now)) }
+{
     let mut command = Command::new(alloc, task.name)
         .about(task.about)
         .after_help(task.example);
@@ -63,7 +81,10 @@ fn with_words<'a>(
     alloc: Global,
     task: Command<'a>,
     words: &[Word],
-) -> Result<Command<'a>, AllocError> {
+) -> Result<Command<'a>, AllocError>
+    ensures words { IfOk result (λ command. app_of command ≡ with_rules (app_of task.entry) (map rule_for words.now)) }
+    ensures local { IfOk result (λ command. (fields_of command).has_globals ≡ (fields_of task.entry).has_globals) }
+{
     let mut task = task;
     for word in words {
         task = task.arg(word_of(alloc, word)?)?;
@@ -72,14 +93,20 @@ fn with_words<'a>(
 }
 
 /// A word as the parser is told of it.
-fn word_of<'a>(alloc: Global, word: &Word) -> Result<Arg<'a>, AllocError> {
+fn word_of<'a>(alloc: Global, word: &Word) -> Result<Arg<'a>, AllocError>
+    ensures rule { IfOk result (λ arg. rule_of arg ≡ rule_for word.now) }
+    ensures local { IfOk result (λ arg. arg.global ≡ false) }
+{
     let arg = Arg::new(alloc, word.name).help(word.help);
     formed(arg, word.name, word.form)
         .requires_all(word.with)?
         .conflicts_with_all(word.without)
 }
 
-fn formed<'a>(arg: Arg<'a>, name: &'static str, form: Form) -> Arg<'a> {
+fn formed<'a>(arg: Arg<'a>, name: &'static str, form: Form) -> Arg<'a>
+    ensures rule { rule_of arg.entry ≡ new_rule name.now → rule_of result ≡ rule_in name.now form }
+    ensures local { result.global ≡ arg.entry.global }
+{
     match form {
         Form::File => arg.value_name("FILE").required(true),
         Form::Count(range) => arg
@@ -105,7 +132,9 @@ fn formed<'a>(arg: Arg<'a>, name: &'static str, form: Form) -> Arg<'a> {
     }
 }
 
-fn in_range<'a>(range: LimitRange) -> ValueParser<'a> {
+fn in_range<'a>(range: LimitRange) -> ValueParser<'a>
+    ensures { result ≡ parser_in range }
+{
     value_parser!(u32).range(i64::from(range.least)..=i64::from(range.greatest))
 }
 

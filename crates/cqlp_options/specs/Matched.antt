@@ -1,0 +1,134 @@
+-- What a command line asks for, by its words. `rows` are what the parser found at the names of a task's options.
+use Rattle.std.specs.Prelude.{◌≡◌, ℕ, ◌^◌, ◌<◌, Bool, true, false, not, List, Option, Some, None, IfSome, IsSomeAnd, codes, unwrap_or}
+use Rattle.std.specs.Str.Parse.{IsNumeral, digits_value, without_leading_plus}
+use Rattle.clap.specs.Words.{Row, Text, first_of, one_of, subcommand_of}
+use Rattle.cqlp_options.specs.Program.{program}
+use Rattle.cqlp_options.specs.declared.capture.CaptureOptions.{CaptureOptions}
+use Rattle.cqlp_options.specs.declared.capture.CaptureTask.{CaptureTask}
+use Rattle.cqlp_options.specs.declared.capture.CaptureTask.TheVariants as capture
+use Rattle.cqlp_options.specs.declared.capture.ExchangeOptions.{ExchangeOptions}
+use Rattle.cqlp_options.specs.declared.capture.ExchangesAs.{ExchangesAs}
+use Rattle.cqlp_options.specs.declared.capture.ExchangesAs.TheVariants as exchanges_as
+use Rattle.cqlp_options.specs.declared.command_line.CommandLine.{CommandLine}
+use Rattle.cqlp_options.specs.declared.command_line.CommandLine.TheVariants as line
+use Rattle.cqlp_options.specs.declared.options.AtRefusal.{AtRefusal}
+use Rattle.cqlp_options.specs.declared.options.AtRefusal.TheVariants as at
+use Rattle.cqlp_options.specs.declared.options.EventsAs.{EventsAs}
+use Rattle.cqlp_options.specs.declared.options.EventsAs.TheVariants as events_as
+use Rattle.cqlp_options.specs.declared.options.Options.{Options}
+use Rattle.cqlp_options.specs.declared.options.RowsAs.{RowsAs}
+use Rattle.cqlp_options.specs.declared.options.RowsAs.TheVariants as rows_as
+use Rattle.cqlp_options.specs.declared.options.Task.{Task}
+use Rattle.cqlp_options.specs.declared.options.Task.TheVariants as task
+
+-- ---- one option
+
+-- an option that stands alone is set where it is given, and not where it is left out
+pub record IsFlag (option : Text) (rows : List Row) (set : Bool) : Type 0 where
+  pub given : one_of option rows ≡ Some (codes "true") → set ≡ true
+  pub left_out : one_of option rows ≡ Some (codes "false") → set ≡ false
+  pub unknown : one_of option rows ≡ None → set ≡ false
+
+-- the text is a number of so many bits
+abbrev pub Writes : (bits : ℕ) → Text → ℕ → Type 0
+Writes bits text n =
+    IsNumeral 10 (without_leading_plus text) × (n ≡ digits_value 10 (without_leading_plus text)) × (n < 2 ^ bits)
+
+-- the number that a text is, where there is a text and it is a number
+abbrev pub ReadsNumber : (bits : ℕ) → Option Text → Option ℕ → Type 0
+ReadsNumber bits found (Some n) = IsSomeAnd found (λ text. Writes bits text n)
+ReadsNumber bits found None = IfSome found (λ text. (n : ℕ) → Writes bits text n → ⊥)
+
+-- the number of an option, where it has one
+abbrev pub IsNumber : (bits : ℕ) → (option : Text) → List Row → Option ℕ → Type 0
+IsNumber bits option rows = ReadsNumber bits (one_of option rows)
+
+-- a limit is the number that is given, and else its default
+abbrev pub IsLimit : (option : Text) → (default : ℕ) → List Row → ℕ → Type 0
+IsLimit option default rows n = (given : Option ℕ) × IsNumber 32 option rows given × (n ≡ unwrap_or given default)
+
+-- a path
+abbrev pub IsPath : (option : Text) → List Row → Text → Type 0
+IsPath option rows path = first_of option rows ≡ Some path
+
+-- ---- a task with a stream
+
+abbrev pub skips : AtRefusal → Bool
+skips at.End = false
+skips at.Skip = true
+
+abbrev pub is_json : EventsAs → Bool
+is_json events_as.Lines = false
+is_json events_as.Json = true
+
+-- where both are asked for it is JSON
+abbrev pub IsRowsForm : List Row → RowsAs → Type 0
+IsRowsForm rows rows_as.Json = IsFlag (codes "json") rows true
+IsRowsForm rows rows_as.Csv = IsFlag (codes "json") rows false × IsFlag (codes "csv") rows true
+IsRowsForm rows rows_as.Text = IsFlag (codes "json") rows false × IsFlag (codes "csv") rows false
+
+abbrev pub IsTask : (name : Text) → List Row → Task → Type 0
+IsTask name rows (task.Show form at_refusal) =
+    (name ≡ codes "show") × IsFlag (codes "json") rows (is_json form) × IsFlag (codes "skip") rows (skips at_refusal)
+IsTask name rows (task.Rows form at_refusal) =
+    (name ≡ codes "rows") × IsRowsForm rows form × IsFlag (codes "skip") rows (skips at_refusal)
+IsTask name rows (task.Check at_refusal) = (name ≡ codes "check") × IsFlag (codes "skip") rows (skips at_refusal)
+
+-- each option, the field that it sets, and what that is where no word gives it
+pub record AreOptions (name : Text) (rows : List Row) (options : Options) : Type 0 where
+  pub task : IsTask name rows options.task
+  pub text : IsLimit (codes "text") 1048576 rows options.limits.text
+  pub cell : IsLimit (codes "cell") 1048576 rows options.limits.cell
+  pub entries : IsLimit (codes "entries") 4096 rows options.limits.entries
+  pub depth : IsLimit (codes "depth") 16 rows options.limits.depth
+  pub raw : IsFlag (codes "raw") rows (not options.limits.types)
+  pub parts : IsFlag (codes "parts") rows options.limits.parts
+  pub lenient : IsFlag (codes "lenient") rows options.lenient
+  pub file : IsPath (codes "file") rows options.file.now
+
+-- ---- a task with a capture
+
+-- where both are asked for it is a summary
+abbrev pub IsExchangesForm : List Row → ExchangesAs → Type 0
+IsExchangesForm rows exchanges_as.Summary = IsFlag (codes "summary") rows true
+IsExchangesForm rows exchanges_as.Json = IsFlag (codes "summary") rows false × IsFlag (codes "json") rows true
+IsExchangesForm rows exchanges_as.Lines = IsFlag (codes "summary") rows false × IsFlag (codes "json") rows false
+
+pub record AreExchanges (rows : List Row) (asked : ExchangeOptions) : Type 0 where
+  pub slow : IsNumber 32 (codes "slow") rows asked.slow
+  pub errors : IsFlag (codes "errors") rows asked.errors
+  pub connection : IsNumber 64 (codes "connection") rows asked.connection
+  pub form : IsExchangesForm rows asked.form
+
+-- a folder goes first, then rows, and then events
+abbrev pub HasNoFolder : List Row → Type 0
+HasNoFolder rows = first_of (codes "streams") rows ≡ None
+
+abbrev pub IsCaptureTask : List Row → CaptureTask → Type 0
+IsCaptureTask rows (capture.Streams folder) = IsPath (codes "streams") rows folder.now
+IsCaptureTask rows (capture.Rows connection) =
+    HasNoFolder rows × IsFlag (codes "rows") rows true × IsNumber 64 (codes "connection") rows (Some connection)
+IsCaptureTask rows (capture.Events connection) =
+    HasNoFolder rows × IsFlag (codes "rows") rows false × IsFlag (codes "events") rows true
+    × IsNumber 64 (codes "connection") rows connection
+IsCaptureTask rows (capture.Exchanges asked) =
+    HasNoFolder rows × IsFlag (codes "rows") rows false × IsFlag (codes "events") rows false × AreExchanges rows asked
+
+pub record AreCaptureOptions (rows : List Row) (options : CaptureOptions) : Type 0 where
+  pub task : IsCaptureTask rows options.task
+  pub file : IsPath (codes "file") rows options.file.now
+
+-- ---- a command line
+
+-- by the name of the task and what was found at its options
+abbrev pub IsLine : (name : Text) → List Row → CommandLine → Type 0
+IsLine name rows (line.Stream options) = AreOptions name rows options
+IsLine name rows (line.Loop queries) = (name ≡ codes "loop") × IsNumber 16 (codes "queries") rows (Some queries)
+IsLine name rows (line.Capture options) = (name ≡ codes "capture") × AreCaptureOptions rows options
+
+abbrev pub IsLineOf : Option (Text × List Row) → CommandLine → Type 0
+IsLineOf found line = IsSomeAnd found (λ task. IsLine task.0 task.1 line)
+
+-- the words ask for this
+abbrev pub AskFor : (words : List Text) → CommandLine → Type 0
+AskFor words = IsLineOf (subcommand_of program words)
