@@ -1,5 +1,5 @@
 -- From what the parser met to what a command line asks for.
-use Rattle.std.proofs.Common.{◌≡◌, Bool, true, List, Option, Some, None, Box, refl, sym, ap, ap₂, subst, option_map, is_some, unwrap_or, ◌∙◌}
+use Rattle.std.proofs.Common.{◌≡◌, true, List, Option, Some, None, Box, refl, ap, subst, option_map, is_some, unwrap_or, ◌∙◌}
 use Rattle.std.proofs.lemmas.Bool.{true≢false}
 use Rattle.std.specs.Box.{box_value}
 use Rattle.clap.proofs.OnLiterals.{clap_on_literals}

@@ -2,7 +2,7 @@
 use Rattle.std.proofs.Common.{◌≡◌, ℕ, ◌^◌, ◌<◌, List, Option, Some, None, Result, Ok, Err, sym, subst}
 use Rattle.std.specs.Str.Parse.{ParsesUnsigned}
 use Rattle.clap.specs.Words.{ReadsOne, Text}
-use Rattle.cqlp_options.specs.Matched.{ReadsNumber, Writes}
+use Rattle.cqlp_options.specs.Matched.{ReadsNumber}
 
 pub number_read : {E : Type 0} {G : List ℕ → Result ℕ E → Type 0} (bits : ℕ) (found one : Option Text) (n : Option ℕ)
     → one ≡ found → (one ≡ None → n ≡ None) → ((t : List ℕ) → one ≡ Some t → ReadsOne G t n)

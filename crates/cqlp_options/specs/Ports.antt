@@ -1,5 +1,5 @@
 -- The ports that a command line names.
-use Rattle.std.specs.Prelude.{ℕ, ◌≤◌, List, length, take}
+use Rattle.std.specs.Prelude.{ℕ, ◌≤◌, List, take}
 use Rattle.cqlp_options.specs.declared.capture.Ports.{Ports}
 
 abbrev pub named : Ports → List ℕ

@@ -1,5 +1,5 @@
 -- What the program's own tables of tasks and words say to the parser.
-use Rattle.std.specs.Prelude.{◌&&◌, ◌==◌, ◌++◌, ℕ, List, [], ◌∷◌, length, map, pos}
+use Rattle.std.specs.Prelude.{◌&&◌, ◌==◌, List, [], ◌∷◌, length, map, pos}
 use Rattle.std.specs.List.{flat_map}
 use Rattle.clap.specs.Words.{App, Rule, Shape, Text, with_rule, with_subcommand}
 use Rattle.clap.specs.declared.builder.value_parser.ValueParser.{ValueParser}
