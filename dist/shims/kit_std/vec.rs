@@ -18,8 +18,7 @@ impl<T, A: Allocator> Vec<T, A> {
     /// With memory for this many items.
     pub fn with_capacity(alloc: A, capacity: usize) -> Result<Self, AllocError> {
         let mut items = ::alloc::vec::Vec::new();
-        items.try_reserve_exact(capacity).map_err(|_| AllocError)?;
-        Ok(Vec { items, alloc })
+        items.try_reserve_exact(capacity).map(|()| Vec { items, alloc }).map_err(|_| AllocError)
     }
 
     /// As Rust's own. It takes no memory.
@@ -51,10 +50,7 @@ impl<T, A: Allocator> Vec<T, A> {
     /// Takes the last item away where there is one, as is proved at each call. Without one it ends the process.
     #[inline]
     pub(crate) fn take_last(&mut self) -> T {
-        match self.items.pop() {
-            Some(item) => item,
-            None => unreachable!(),
-        }
+        self.items.pop().unwrap()
     }
 
     /// Takes the last item away.
