@@ -39,7 +39,7 @@ impl<A: Allocator> CellReader<A> {
     ghost use Rattle.cqlp_cell.specs.Reading.{Answers, Empties, HaveCome, Joined, Moves};
     ghost use Rattle.cqlp_cell.specs.Pushing.{Continues, Pushes, Uses, begun, is_done, new_reader};
     ghost use Rattle.cqlp_cell.specs.Levels.{IsInLevel, level_of, with_level};
-    ghost use Rattle.cqlp_cell.specs.Whole.{Enters, Leaves, TakesBare};
+    ghost use Rattle.cqlp_cell.specs.Whole.{Enters, EntersNext, Leaves, TakesBare, next_begun};
 
     /// With room for the nesting that the limits allow. Parts have at least one byte.
     pub fn new(alloc: A, limits: &Limits) -> Result<Self, NoMemory>
@@ -195,6 +195,25 @@ impl<A: Allocator> CellReader<A> {
         ensures left { result ≡ None → self.new ≡ with_level self.old level }
     {
         self.progress.leave_value(level)
+    }
+
+    /// Looks into the cell after the one that is under way, of the type at this node, where a level stands at the end of this
+    /// one: the beginning of a list, a set or a map, if its length and its count are lawful and lie in the input. A reader
+    /// that is set to the level that is answered has ended the one cell and entered the other.
+    #[inline(always)]
+    pub fn enter_next(
+        &self,
+        level: Level,
+        node: u32,
+        table: &TypeTable<A>,
+        input: &[u8],
+    ) -> Option<Entered>
+        requires inside { IsInLevel self.now level }
+        requires alone { level.level ≤ 1 }
+        requires stands { Stands table.now.nodes (next_begun self.now level node) }
+        ensures { EntersNext table.now.nodes self.now level node input.now result }
+    {
+        self.progress.enter_next(level, node, table, input)
     }
 
     /// Takes the next bytes of the cell that is under way. A content that lies whole in them is lent from them.

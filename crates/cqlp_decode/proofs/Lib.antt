@@ -19,3 +19,4 @@ pub mod Rooms
 pub mod Lists
 pub mod FieldLoop
 pub mod Gathering
+pub mod Onward
