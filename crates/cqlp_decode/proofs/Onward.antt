@@ -1,5 +1,5 @@
 -- From a cell that is a list, a set or a map, at its end, to the cell after it.
-use Rattle.std.proofs.Common.{◌≡◌, ℕ, ◌+◌, ◌<◌, ◌≤◌, ◌++◌, List, [], ◌∷◌, length, Some, None, refl, sym, ap, subst, suc, ◌∙◌, arith}
+use Rattle.std.proofs.Common.{◌≡◌, ℕ, ◌+◌, ◌<◌, ◌≤◌, ◌++◌, false, List, [], ◌∷◌, length, Some, None, refl, sym, ap, subst, suc, ◌∙◌, arith}
 use Rattle.cqlp_kind.specs.declared.node.Node.{Node}
 use Rattle.cqlp_cell.specs.declared.level.Level.{Level}
 use Rattle.cqlp_cell.specs.declared.open_values.OpenValue.{OpenValue}
@@ -8,7 +8,7 @@ use Rattle.cqlp_cell.specs.declared.whole.Entered.{Entered}
 use Rattle.cqlp_cell.specs.OpenValues.{with_last}
 use Rattle.cqlp_cell.specs.Progress.{CellState, Stands, ended}
 use Rattle.cqlp_cell.specs.Levels.{IsInLevel, with_level}
-use Rattle.cqlp_cell.specs.Pushing.{begun}
+use Rattle.cqlp_cell.specs.Pushing.{begun, is_done}
 use Rattle.cqlp_cell.specs.Whole.{Ends, Enters, next_begun}
 use Rattle.cqlp_cell.proofs.Levels.{level_own}
 use Rattle.cqlp_grammar.specs.Productions.{Symbol}
@@ -18,7 +18,7 @@ use Rattle.cqlp_decode.specs.declared.progress.StreamStage.{StreamStage}
 use Rattle.cqlp_decode.specs.declared.progress.StreamStage.TheVariants as stage
 use Rattle.cqlp_decode.specs.declared.progress.StreamProgress.{StreamProgress}
 use Rattle.cqlp_decode.specs.Pages.{IsPage, Turns, cells_after, cells_from, node_by}
-use Rattle.cqlp_decode.specs.Progress.{StreamState, PartsState, GoesOn, IsCell, IsConsistent, StageHolds, nodes_of, parts, rest_of, state_of}
+use Rattle.cqlp_decode.specs.Progress.{StreamState, PartsState, GoesOn, IsBounded, IsCell, IsConsistent, StageHolds, nodes_of, parts, rest_of, state_of}
 use Rattle.cqlp_decode.specs.Items.{TakesItem, at_level, part_told}
 use Rattle.cqlp_decode.proofs.CellSteps.{cell_begun_lawful, begun_same}
 use Rattle.cqlp_decode.proofs.ItemLoop.{going_lawful, going_takes, over_lawful, over_takes}
@@ -32,6 +32,20 @@ length_with (x ∷ y ∷ os) o = ap suc (length_with (y ∷ os) o)
 -- the level of a reader that stands in another of its levels
 pub inside_with : (d : CellState) (l m : Level) → IsInLevel d l → IsInLevel (with_level d m) m → IsInLevel d m
 inside_with d l m here there = record { fresh = here.fresh; items = here.items; some = here.some; level = there.level ∙ length_with d.open_values m.value }
+
+-- a cell under way, where the frame's own offset lags behind
+lagging : (s : StreamProgress) (q : PartsState) (p : CellCursor) (n : ℕ) → IsConsistent (record s { offset = n; stage = stage.InCell p }) q → IsBounded s → s.offset ≤ q.cells.offset → IsConsistent (record s { stage = stage.InCell p }) q
+lagging s q p n law b le =
+    let c = law.stage.0 in
+    record {
+      bounded = record { long = b.long; inside = b.inside; size = b.size; bound = b.bound };
+      parts = record { room = law.parts.room; rules = law.parts.rules; cells = law.parts.cells; table = law.parts.table; few = law.parts.few };
+      stage = (record { under_way = c.under_way; stands = c.stands; joined = c.joined; some = c.some; is = c.is; page = c.page; stop = c.stop; after = le; came = c.came }, law.stage.1);
+      quiet = record { types = law.quiet.types; cells = law.quiet.cells };
+      table = law.table;
+      given = law.given;
+      uses = law.uses;
+    }
 
 module _ (s : StreamProgress) (q : PartsState) (p : CellCursor) (here : s.stage ≡ stage.InCell p) (l : Level) (law : IsConsistent s (at_level q l)) (empty : q.partial.content ≡ []) (unrefused : s.refusal ≡ None) (item : BareItem) (ends : Ends (nodes_of q p.columns) q.cells l (Some item))
     (p' : CellCursor) (turns : Turns (nodes_of q p.columns) s.limits.depth p (Some p')) where
@@ -83,14 +97,20 @@ module _ (s : StreamProgress) (q : PartsState) (p : CellCursor) (here : s.stage 
     next_stands = next_law.stage.0.stands
 
     module _ (input : List ℕ) (t : Entered) (enters : Enters (nodes_of q p'.columns) (next_begun q.cells l node) input (Some t) (with_level q.cells t.level)) where
-      not_done : _
+      not_done : is_done (with_level q.cells t.level) ≡ false
       not_done = level_goes (with_level q.cells t.level) t.level enters.1
 
       pub next_inside : IsInLevel q.cells l → IsInLevel q.cells t.level
       next_inside inside = inside_with q.cells l t.level inside (level_own (with_level q.cells t.level) t.level enters.1).0
 
-      pub next_lawful : IsConsistent within (at_level q t.level)
-      next_lawful = going_lawful within next_parts p' refl next_law empty input (with_level q.cells t.level) t.item enters.0 not_done
+      abbrev pub onward : StreamProgress
+      onward = record s { stage = stage.InCell p' }
 
-      pub next_takes : TakesItem (state_of after idle) input t.item.at t.item.used (part_told p'.row p'.column t.item.part) (state_of within (at_level q t.level))
+      at_next : IsConsistent within (at_level q t.level)
+      at_next = going_lawful within next_parts p' refl next_law empty input (with_level q.cells t.level) t.item enters.0 not_done
+
+      pub next_lawful : IsConsistent onward (at_level q t.level)
+      next_lawful = lagging s (at_level q t.level) p' l.offset at_next law.bounded (omega (arith, cell_here.after, at_next.stage.0.after))
+
+      pub next_takes : TakesItem (state_of after idle) input t.item.at t.item.used (part_told p'.row p'.column t.item.part) (state_of onward (at_level q t.level))
       next_takes = subst (λ (z : StreamState). TakesItem z input t.item.at t.item.used (part_told p'.row p'.column t.item.part) (state_of within (at_level q t.level))) next_state (going_takes within next_parts p' refl next_law empty input (with_level q.cells t.level) t.item enters.0 not_done)

@@ -55,8 +55,9 @@ pub fn take_lists<S: Sink, A: Allocator>(
         return Ok(0);
     };
     let used = entered.item.used;
-    if let Err(SinkFault) = hand_part(page, entered.item, sink) {
-        return Err(FaultAfter { used });
+    match hand_part(page, entered.item, sink) {
+        Ok(()) => {}
+        Err(SinkFault) => return Err(FaultAfter { used }),
     }
     match progress.hand_lists(parts, page, entered.level, &input[used..], sink) {
         Ok(more) => Ok(used + more),
@@ -265,9 +266,13 @@ impl StreamProgress {
                 parts.cells.set_level(level);
                 return Ok(used);
             };
-            if let Err(SinkFault) = hand_part(page, end, sink) {
-                self.end_list(parts, page, level, end);
-                return Err(FaultAfter { used });
+            used += end.used;
+            match hand_part(page, end, sink) {
+                Ok(()) => {}
+                Err(SinkFault) => {
+                    self.end_list(parts, page, level, end);
+                    return Err(FaultAfter { used });
+                }
             }
             let Some(next) = self.next_list(parts, page, level, end, &input[used..]) else {
                 self.end_list(parts, page, level, end);
@@ -276,9 +281,12 @@ impl StreamProgress {
             page = next.page;
             level = next.entered.level;
             used += next.entered.item.used;
-            if let Err(SinkFault) = hand_part(page, next.entered.item, sink) {
-                parts.cells.set_level(level);
-                return Err(FaultAfter { used });
+            match hand_part(page, next.entered.item, sink) {
+                Ok(()) => {}
+                Err(SinkFault) => {
+                    parts.cells.set_level(level);
+                    return Err(FaultAfter { used });
+                }
             }
         }
     }
@@ -337,7 +345,6 @@ impl StreamProgress {
         let Some(entered) = parts.cells.enter_next(level, node, table, input) else {
             return None;
         };
-        self.offset = end.at;
         self.stage = StreamStage::InCell(following);
         Some(NextList {
             page: following,

@@ -26,7 +26,7 @@ enter_beside-requires-clause-decided g c =
     subst (λ (n : ℕ). Decided nodes b n s) (sym h.can.0) (value_decided nodes b c.value_at-value.result c.from_be_bytes-len.result s c.value_at-value.ensures h)
 
 pub enter_beside-requires-clause-room : goal.enter_beside-requires-clause-room
-enter_beside-requires-clause-room g c = 
+enter_beside-requires-clause-room g c =
     let e = ap (λ (v : DueValue). v.stop) c.value_at-value.ensures in
     omega (arith, e)
 
