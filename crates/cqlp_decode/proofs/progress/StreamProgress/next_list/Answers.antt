@@ -15,8 +15,8 @@ enter_next-requires-clause-stands g c =
     let turns = (rw c.page_table-table.ensures at c.in-Some.ensures) s.limits.depth page in
     rw (c.page_table-table.ensures, sym turns.2) (next_stands s q p r.here c.args.level r.lawful r.empty r.unrefused c.args.end r.ends c.in-Some.following turns c.in-Some-node.node (sym c.in-Some-node.ensures))
 
-pub returns-clause-goes : goal.returns-clause-goes
-returns-clause-goes g c =
+pub returns : goal.returns
+returns g c =
     let s = c.args.self.now in
     let q = parts_state c.args.parts.now in
     let p = c.args.page in
@@ -29,7 +29,8 @@ returns-clause-goes g c =
     let column = sym c.in-Some-node.ensures in
     let t = c.in-Some-enter_next.entered in
     let enters = rw (c.page_table-table.ensures, sym turns.2) at c.in-Some-enter_next.ensures in
-    let input = c.args.input.now in (
+    let input = c.args.input.now in
+    record { goes = (
       state_of (after s q p r.here l r.lawful r.empty r.unrefused c.args.end r.ends f turns) (idle s q p r.here l r.lawful r.empty r.unrefused c.args.end r.ends f turns),
       after_takes s q p r.here l r.lawful r.empty r.unrefused c.args.end r.ends f turns,
       next_takes s q p r.here l r.lawful r.empty r.unrefused c.args.end r.ends f turns node column input t enters,
@@ -37,4 +38,4 @@ returns-clause-goes g c =
       next_inside s q p r.here l r.lawful r.empty r.unrefused c.args.end r.ends f turns node column input t enters r.inside,
       refl,
       refl,
-    )
+    ) }
