@@ -156,7 +156,7 @@ returns-in_default-next_list-clause-stays g c =
     let handed = stood_items (Gets g.S.Sink) old input sink here u _ i.stood behind m.result.used (rw rest_is at m.ensures.within) refl refl refl _ (rw (rest_is, c.if-handed.false) at m.ensures.drains) in
     let e = c.in-Some.end in
     let told = part_told p.row p.column e.part in
-    let leaves = c.end_list-in_default-next_list.ensures.leaves (drop k input) in
+    let leaves = rw c.in_default-next_list.ensures.goes at (c.end_list-in_default-next_list.ensures.leaves (drop k input)) in
     let new = state_with c.end_list-in_default-next_list.new.self c.end_list-in_default-next_list.new.parts in
     stood_stays (Gets g.S.Sink) old input sink new (k + e.used) _ (stood_item (Gets g.S.Sink) old input sink behind k _ handed new e.used e.at told leaves _ c.in-Ok.ensures.ok)
 
@@ -177,7 +177,7 @@ returns-in_default-next_list-clause-drains g c =
     let handed = stood_items (Gets g.S.Sink) old input sink here u _ i.stood behind m.result.used (rw rest_is at m.ensures.within) refl refl refl _ (rw (rest_is, c.if-handed.false) at m.ensures.drains) in
     let e = c.in-Some.end in
     let told = part_told p.row p.column e.part in
-    let leaves = c.end_list-in_default-next_list.ensures.leaves (drop k input) in
+    let leaves = rw c.in_default-next_list.ensures.goes at (c.end_list-in_default-next_list.ensures.leaves (drop k input)) in
     let new = state_with c.end_list-in_default-next_list.new.self c.end_list-in_default-next_list.new.parts in
     (stood_item (Gets g.S.Sink) old input sink behind k _ handed new e.used e.at told leaves _ c.in-Ok.ensures.ok).drained
 
@@ -261,7 +261,7 @@ lists-preserved g c =
     record {
       lawful = goes.3;
       inside = goes.4;
-      here = goes.5.0;
+      here = goes.5;
       empty = i.empty;
       stood = stood_item (Gets g.S.Sink) old input sink goes.0 (k + e.used) _ left on n.entered.item.used n.entered.item.at begins takes _ c.in-Ok-hand_part.ensures.ok;
     }
