@@ -680,7 +680,8 @@ uint32_t cqlp_columns_new(const cqlp_batch_limits *limits, const uint8_t *kinds,
  * Answers CQLP_DONE; else nothing changes: CQLP_NO_DECODER, or CQLP_NO_COLUMNS. */
 uint32_t cqlp_columns_next(cqlp_decoder *decoder, cqlp_columns *columns, const uint8_t *input, size_t length, cqlp_event *event, cqlp_batch *batch);
 
-/* Tells where the arrays of a column lie, the first of number 0. They stay as they are until the next call on the handle but this one.
+/* Tells where the arrays of a column lie, the first of number 0. They lie there for as long as the handle has columns, and stay as they are until the
+ * next call on the handle but this one.
  * Answers CQLP_DONE; else `view` is as it was: CQLP_NO_COLUMNS, or CQLP_NO_COLUMN. */
 uint32_t cqlp_columns_get(cqlp_columns *columns, size_t column, cqlp_column *view);
 

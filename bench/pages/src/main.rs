@@ -1,5 +1,6 @@
 //! Builds pages in memory and writes them there, as the lines of its standard input say: the name of a page, how many rows
-//! it has, how many times it is written, and `cells` where it is written cell by cell. bench/encode.sh times it.
+//! it has, how many times it is written, and `cells` where it is written cell by cell, or `append` where it is appended to bytes in
+//! memory. bench/encode.sh times it.
 //!
 //! With the word `count` it writes instead how many events the stream on standard input says, which it reads in pieces of 4,096
 //! bytes. With the digits of a stream after it, the types of the last metadata of that stream are given for the first page
@@ -11,17 +12,25 @@ mod pages;
 
 use crate::count::print_count;
 use crate::pages::{Column, cells, columns_of, page};
-use cqlp::OfStd;
-use cqlp::frame::{Frame, PageError, PageWriter, Value, encode, value_size};
+use cqlp::frame::{Frame, PageError, PageWriter, Value, append, encode, value_size};
+use cqlp::memory::Vec as Bytes;
+use cqlp::{Global, OfStd};
 use std::error::Error;
 use std::io::{Write, stdin, stdout};
+
+/// How a page is written.
+enum Way {
+    Whole,
+    ByCell,
+    Appended,
+}
 
 /// What a line asks for.
 struct Task {
     columns: &'static [Column],
     rows: u32,
     times: u32,
-    by_cell: bool,
+    way: Way,
 }
 
 fn main() -> Result<(), Box<dyn Error>> {
@@ -49,19 +58,33 @@ fn task_of(line: &str) -> Option<Task> {
     let columns = columns_of(words.next()?)?;
     let rows = words.next()?.parse().ok()?;
     let times = words.next()?.parse().ok()?;
-    Some(Task { columns, rows, times, by_cell: words.next().is_some() })
+    let way = match words.next() {
+        None => Way::Whole,
+        Some("append") => Way::Appended,
+        Some(_) => Way::ByCell,
+    };
+    Some(Task { columns, rows, times, way })
 }
 
 /// The bytes of a page that is written as often as is asked for, each time into the same room.
 fn written(task: &Task) -> Result<Vec<u8>, Box<dyn Error>> {
     let cells = cells(task.columns, task.rows);
     let mut target = OfStd::new(Vec::new());
-    if task.by_cell {
-        write_by_cell(&page(task.columns, task.rows, Vec::new())?, &cells, task.times, &mut target)?;
-    } else {
-        write_whole(&page(task.columns, task.rows, cells)?, task.times, &mut target)?;
+    match task.way {
+        Way::Appended => return appended(&page(task.columns, task.rows, cells)?, task.times),
+        Way::ByCell => write_by_cell(&page(task.columns, task.rows, Vec::new())?, &cells, task.times, &mut target)?,
+        Way::Whole => write_whole(&page(task.columns, task.rows, cells)?, task.times, &mut target)?,
     }
     Ok(target.into_inner())
+}
+
+fn appended(frame: &Frame, times: u32) -> Result<Vec<u8>, Box<dyn Error>> {
+    let mut bytes = Bytes::new(Global);
+    for _ in 0..times {
+        bytes.clear();
+        append(frame, &mut bytes)?;
+    }
+    Ok(bytes.into_std())
 }
 
 fn write_whole(frame: &Frame, times: u32, target: &mut OfStd<Vec<u8>>) -> Result<(), Box<dyn Error>> {
@@ -100,8 +123,10 @@ mod tests {
         let said = [
             "rows 3 2: 218 bytes, which add up to 7178",
             "rows 3 2 cells: 218 bytes, which add up to 7178",
+            "rows 3 2 append: 218 bytes, which add up to 7178",
             "collections 2 2: 395 bytes, which add up to 8105",
             "collections 2 2 cells: 395 bytes, which add up to 8105",
+            "collections 2 2 append: 395 bytes, which add up to 8105",
             "columns 2 2: 5729 bytes, which add up to 202872",
             "blobs 1 2: 1048630 bytes, which add up to 133695481",
         ];

@@ -20,6 +20,7 @@ pub mod KindsNumbered
 pub mod Made
 pub mod Nexted
 pub mod OneBatch
+pub mod OneCalls
 pub mod OneEncoded
 pub mod OneFill
 pub mod OneVerdict

@@ -7,7 +7,6 @@ use Rattle.std.proofs.lemmas.List.{append-nil, append_cancel_left, length-append
 use Rattle.cqlp_note.specs.declared.refusal.Refusal.{Refusal}
 use Rattle.cqlp_note.specs.Limits.{Rules}
 use Rattle.cqlp_note.proofs.Runs.{runs_compare, runs_stay}
-use Rattle.cqlp_kind.specs.declared.kind.Kind.{Kind}
 use Rattle.cqlp_decode.specs.Reading.{Event, Gifts, Place, Verdict, Waits, Refused, Reads, Says, start_with, step}
 use Rattle.cqlp_decode.specs.Progress.{StreamState}
 use Rattle.cqlp_decode.specs.Streams.{AfterBy, AfterGifts, Decoding, state}
@@ -17,6 +16,7 @@ use Rattle.cqlp_laws.proofs.Whole.{says_once}
 use Rattle.cqlp_columns.specs.declared.columns.BatchLimits.{BatchLimits}
 use Rattle.cqlp_columns.specs.declared.columns.TakeError.{TakeError}
 use Rattle.cqlp_columns.specs.declared.columns.TakeError.TheVariants as fault
+use Rattle.cqlp_columns.specs.Arrays.{Site}
 use Rattle.cqlp_columns.specs.Batches.{Batch, HasTaken, batch_of, fault_among, has_room, is_full}
 use Rattle.cqlp_columns.specs.Findings.{Finding, Nothing, Part, Whole, found_in}
 use Rattle.cqlp_page_columns.specs.declared.filled.Stop.{Stop as Why}
@@ -67,13 +67,13 @@ abbrev events_in : List (ℕ × Event) → List Event
 events_in [] = []
 events_in (e ∷ es) = e.1 ∷ events_in es
 
-taken_all : (kinds : List Kind) (a b : Batch) (had : List Event) (cells : List (ℕ × Event)) → HasTaken a.limits kinds had a → TakesCells a cells b → b ≡ batch_of a.limits kinds (had ++ events_in cells)
-taken_all kinds a b had [] is t = t ∙ is ∙ ap (batch_of a.limits kinds) (sym (append-nil had))
-taken_all kinds a b had (e ∷ es) is t =
-    let next : t.0 ≡ batch_of a.limits kinds (had ++ e.1 ∷ []) = t.1.taken kinds had is in
+taken_all : (sites : List Site) (a b : Batch) (had : List Event) (cells : List (ℕ × Event)) → HasTaken a.limits sites had a → TakesCells a cells b → b ≡ batch_of a.limits sites (had ++ events_in cells)
+taken_all sites a b had [] is t = t ∙ is ∙ ap (batch_of a.limits sites) (sym (append-nil had))
+taken_all sites a b had (e ∷ es) is t =
+    let next : t.0 ≡ batch_of a.limits sites (had ++ e.1 ∷ []) = t.1.taken sites had is in
     let limits : t.0.limits ≡ a.limits = ap (λ (z : Batch). z.limits) next in
-    let more = taken_all kinds t.0 b (had ++ e.1 ∷ []) es (subst (λ (l : BatchLimits). t.0 ≡ batch_of l kinds (had ++ e.1 ∷ [])) (sym limits) next) t.2 in
-    more ∙ ap (λ (l : BatchLimits). batch_of l kinds ((had ++ e.1 ∷ []) ++ events_in es)) limits ∙ ap (batch_of a.limits kinds) (append_assoc had (e.1 ∷ []) (events_in es))
+    let more = taken_all sites t.0 b (had ++ e.1 ∷ []) es (subst (λ (l : BatchLimits). t.0 ≡ batch_of l sites (had ++ e.1 ∷ [])) (sym limits) next) t.2 in
+    more ∙ ap (λ (l : BatchLimits). batch_of l sites ((had ++ e.1 ∷ []) ++ events_in es)) limits ∙ ap (batch_of a.limits sites) (append_assoc had (e.1 ∷ []) (events_in es))
 
 split_at : (a c : Batch) (xs : List (ℕ × Event)) (y : ℕ × Event) (rest : List (ℕ × Event)) → TakesCells a (xs ++ y ∷ rest) c → (mid : Batch) × TakesCells a xs mid × (takes mid (found_in y.1) ≡ true)
 split_at a c [] y rest t = (a, refl, t.1.free)
@@ -161,7 +161,7 @@ module _ (gifts : Gifts) (l : Rules) (s input : List ℕ) (es : List (ℕ × Eve
   few v t t' all y =
       let le = no_further gifts l (s ++ input) (es ++ t) (es ++ t') v y.0 y.1 all y.2 in omega (arith, le, length-append es t, length-append es t')
 
-  module _ (kinds : List Kind) (had : List Event) (columns : Batch) (has : HasTaken columns.limits kinds had columns) where
+  module _ (sites : List Site) (had : List Event) (columns : Batch) (has : HasTaken columns.limits sites had columns) where
     -- how a call ended, after these cells and at most one other event
     abbrev EndsBy : (cells other : List (ℕ × Event)) → (c : Batch) → (used : ℕ) → Why → Type 0
     EndsBy cells other c used why.More = (is_full c ≡ false) × (other ≡ []) × (used ≡ length input) × Says l (start_with gifts) (s ++ input) (es ++ cells) Waits
@@ -178,7 +178,7 @@ module _ (gifts : Gifts) (l : Rules) (s input : List ℕ) (es : List (ℕ × Eve
       ends : EndsBy cells other c used w
 
     same_columns : (c c' : Batch) (cells : List (ℕ × Event)) → TakesCells columns cells c → TakesCells columns cells c' → c' ≡ c
-    same_columns c c' cells x y = taken_all kinds columns c' had cells has y ∙ sym (taken_all kinds columns c had cells has x)
+    same_columns c c' cells x y = taken_all sites columns c' had cells has y ∙ sym (taken_all sites columns c had cells has x)
 
     -- a call that read on took the next event
     goes_on : (c c' : Batch) (used used' : ℕ) (w w' : Why) (x : Outcome c used w) (y : Outcome c' used' w') → length (x.cells ++ x.other) ≤ length (y.cells ++ y.other) → length x.cells < length y.cells
@@ -347,17 +347,17 @@ module _ (begins : Ptr) (old new new' : Decoding) (was told told' : CqlpEvent) (
       let one = same_item b a bs rest same in
       ap unplaced y.2 ∙ ap (λ (z : ℕ × Event). unplaced (told_at z.0 z.1 x.0)) one ∙ sym (ap unplaced x.2)
 
-one_fill : (gifts : Gifts) (s : List ℕ) (es : List (ℕ × Event)) (kinds : List Kind) (had : List Event) (old new new' : Decoding) (input : List ℕ) (begins : Ptr) (columns after after' : Batch) (was told told' : CqlpEvent) (from to to' : CqlpBegun) (b b' : Told)
-    → (state old).refusal ≡ None → AfterGifts gifts (state old) s es → HasTaken columns.limits kinds had columns
+one_fill : (gifts : Gifts) (s : List ℕ) (es : List (ℕ × Event)) (sites : List Site) (had : List Event) (old new new' : Decoding) (input : List ℕ) (begins : Ptr) (columns after after' : Batch) (was told told' : CqlpEvent) (from to to' : CqlpBegun) (b b' : Told)
+    → (state old).refusal ≡ None → AfterGifts gifts (state old) s es → HasTaken columns.limits sites had columns
     → FillsColumns old new input begins columns after was told from to b → FillsColumns old new' input begins columns after' was told' from to' b'
     → (b' ≡ b) × (after' ≡ after) × (unplaced told' ≡ unplaced told) × (to' ≡ to)
-one_fill gifts s es kinds had old new new' input begins columns after after' was told told' from to to' b b' none a has x y =
+one_fill gifts s es sites had old new new' input begins columns after after' was told told' from to to' b b' none a has x y =
     let l = (state old).rules in
     let f = x.fills gifts s es a in
     let g = y.fills gifts s es a in
-    let p = outcome gifts l s input es kinds had columns has (state old) (state new) none refl x.rules (PutsOther begins (buffer_in new) x.filled.used) after was told x.filled.used x.within f.cells f.taken x.filled.stop f.stops in
-    let q = outcome gifts l s input es kinds had columns has (state old) (state new') none refl y.rules (PutsOther begins (buffer_in new') y.filled.used) after' was told' y.filled.used y.within g.cells g.taken y.filled.stop g.stops in
-    let same = same_outcome gifts l s input es kinds had columns has after after' x.filled.used y.filled.used x.filled.stop y.filled.stop p.0 q.0 in
+    let p = outcome gifts l s input es sites had columns has (state old) (state new) none refl x.rules (PutsOther begins (buffer_in new) x.filled.used) after was told x.filled.used x.within f.cells f.taken x.filled.stop f.stops in
+    let q = outcome gifts l s input es sites had columns has (state old) (state new') none refl y.rules (PutsOther begins (buffer_in new') y.filled.used) after' was told' y.filled.used y.within g.cells g.taken y.filled.stop g.stops in
+    let same = same_outcome gifts l s input es sites had columns has after after' x.filled.used y.filled.used x.filled.stop y.filled.stop p.0 q.0 in
     let batch : b' ≡ b = y.batch ∙ (λ i. batch_at (same.1 i) (same.2 i)) ∙ sym x.batch in
     let event = same_event begins old new new' was told told' x.filled.used y.filled.used p.0.other q.0.other same.3 p.1 q.1 in (
       batch,
@@ -374,10 +374,10 @@ bare_placed : (events base : ℕ) (c : CqlpEvent) → unplaced (placed_told even
 bare_placed events base c = bare_at base c (nat_lt 0 base && nat_lt 0 events)
 
 pub one_answer_of_columns : IsOneAnswerOfColumns
-one_answer_of_columns gifts s es kinds had old new new' from to to' input begins columns after after' was told told' b b' none a has x y =
+one_answer_of_columns gifts s es sites had old new new' from to to' input begins columns after after' was told told' b b' none a has x y =
     let passed : y.passed ≡ x.passed = y.is_passed ∙ sym x.is_passed in
     let fills = subst (λ (p : ℕ). FillsColumns old new' (drop p input) (begins +ₚ p) columns after' was y.event from.frame y.frame y.own) passed y.fills in
-    let r = one_fill gifts s es kinds had old new new' (drop x.passed input) (begins +ₚ x.passed) columns after after' was x.event y.event from.frame x.frame y.frame x.own y.own none a has x.fills fills in
+    let r = one_fill gifts s es sites had old new new' (drop x.passed input) (begins +ₚ x.passed) columns after after' was x.event y.event from.frame x.frame y.frame x.own y.own none a has x.fills fills in
     let batch : b' ≡ b = y.batch ∙ (λ i. batch_from from.base (passed i) (r.0 i)) ∙ sym x.batch in (
       batch,
       r.1,

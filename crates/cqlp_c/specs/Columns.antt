@@ -3,16 +3,15 @@ use Rattle.std.specs.Prelude.{◌≡◌, ℕ, zero, suc, ◌-◌, ◌≤◌, Boo
 use Rattle.std.specs.Prelude.{if◌then◌else◌, ◌&&◌, slice_get, ◌⊎◌}
 use Rattle.std.specs.Prelude.{Option, Some, None}
 use Rattle.std.specs.Borrow.{Bor}
-use Rattle.std.specs.Ptr.{Ptr, as_ptr}
+use Rattle.std.specs.Ptr.{Ptr}
 use denote.RawPtr.{◌+ₚ◌}
 use Rattle.cqlp_note.specs.Heading.{beside_number}
 use Rattle.cqlp_kind.specs.declared.kind.Kind.{Kind}
 use Rattle.cqlp_columns.specs.declared.columns.BatchLimits.{BatchLimits}
 use Rattle.cqlp_columns.specs.declared.column.MakeError.{MakeError}
 use Rattle.cqlp_columns.specs.declared.column.MakeError.TheVariants as error
-use Rattle.cqlp_columns.specs.Arrays.{AreBytesOf, Column}
-use Rattle.cqlp_columns.specs.Batches.{Batch, HasTaken, refusal_of_kinds}
-use Rattle.cqlp_columns.specs.Bits.{Spells}
+use Rattle.cqlp_columns.specs.Arrays.{AreBytesOf, Column, Site, values_at}
+use Rattle.cqlp_columns.specs.Batches.{Batch, HasTaken, IsNew, refusal_of_kinds}
 use Rattle.cqlp_decode.specs.Progress.{IsHeld}
 use Rattle.cqlp_decode.specs.Reading.{Event}
 use Rattle.cqlp_decode.specs.Streams.{Decoding, state}
@@ -62,7 +61,7 @@ code_of_make error.NoMemory = numbers.NO_MEMORY
 abbrev pub MakesBy : BatchLimits → List Kind → Option MakeError → (code : ℕ) → (new : Option (Option Batch)) → Type 0
 MakesBy l ks (Some why) code new = (code ≡ code_of_make why) × (new ≡ None)
 MakesBy l ks None code new =
-    ((code ≡ numbers.NO_MEMORY) × (new ≡ None)) ⊎ ((code ≡ numbers.DONE) × (b : Batch) × (new ≡ Some (Some b)) × HasTaken l ks [] b)
+    ((code ≡ numbers.NO_MEMORY) × (new ≡ None)) ⊎ ((code ≡ numbers.DONE) × (b : Batch) × (new ≡ Some (Some b)) × IsNew l ks b)
 
 abbrev pub MakesOf : BatchLimits → Option (List Kind) → (code : ℕ) → (new : Option (Option Batch)) → Type 0
 MakesOf l None code new = (code ≡ numbers.BAD_KIND) × (new ≡ None)
@@ -157,9 +156,10 @@ ReadsHeld old new from to (Some a) held' input begins was told before code after
 
 abbrev pub ReadsInto : (old new : Decoding) → (from to : CqlpCourse) → (place place' : Option (Option Batch)) → (input : List ℕ) → (begins : Ptr)
     → (was told : CqlpEvent) → (before : CqlpBatch) → (code : ℕ) → (after : CqlpBatch) → Type 0
-ReadsInto old new from to place place' input begins was told before code after =
-    (held : Option Batch) × (columns_in place' ≡ held)
-    × ReadsHeld old new from to (columns_in place) held input begins was told before code after
+ReadsInto old new from to None place' input begins was told before code after =
+    (code ≡ numbers.NO_COLUMNS) × (new ≡ old) × (to ≡ from) × (place' ≡ None) × (told ≡ was) × (after ≡ before)
+ReadsInto old new from to (Some held) place' input begins was told before code after =
+    (left : Option Batch) × (place' ≡ Some left) × ReadsHeld old new from to held left input begins was told before code after
 
 abbrev pub Nexts : (old : Option Decoding) → (from : CqlpCourse) → (place : Option (Option Batch)) → (input : Bor (List ℕ)) → (code : ℕ)
     → (new : Option Decoding) → (to : CqlpCourse) → (place' : Option (Option Batch)) → (was told : CqlpEvent) → (before after : CqlpBatch) → Type 0
@@ -171,16 +171,14 @@ Nexts (Some d) from place input code new to place' was told before after =
 
 -- ---- get, clear and free
 
--- a reference to items of which this holds points there, and they are so many
-abbrev pub PointsAt : {X : Type 0} → (List X → Type 0) → (count : ℕ) → Ptr → Type 0
-PointsAt {X} Holds count p = (lent : Bor (List X)) × Holds lent.now × (count ≡ length lent.now) × (p ≡ as_ptr lent)
-
--- Where the arrays of a column lie.
+-- Where the arrays of a column lie, which is where the column has them, and how long they are.
 pub record Shows (a : Column) (view : CqlpColumn) : Type 0 where
-  pub values : PointsAt (AreBytesOf a) view.size view.values
-  pub offsets : PointsAt (λ (os : List ℕ). os ≡ a.offsets) view.bounds view.offsets
-  pub validity : (lent : Bor (List ℕ)) × Spells a.valid lent.now × (view.validity ≡ as_ptr lent)
-  pub empties : (lent : Bor (List ℕ)) × Spells a.empty lent.now × (view.empties ≡ as_ptr lent)
+  pub values : view.values ≡ values_at a.layout a.places
+  pub offsets : view.offsets ≡ a.places.offsets
+  pub validity : view.validity ≡ a.places.valid
+  pub empties : view.empties ≡ a.places.empty
+  pub size : (bytes : List ℕ) × AreBytesOf a bytes × (view.size ≡ length bytes)
+  pub bounds : view.bounds ≡ length a.offsets
   pub cells : view.cells ≡ length a.valid
   pub kind : view.kind ≡ number_of_kind a.kind
 
@@ -193,17 +191,18 @@ ShowsHeld None k code was told = (code ≡ numbers.NO_COLUMNS) × (told ≡ was)
 ShowsHeld (Some b) k code was told = ShowsOne (slice_get b.columns k) code was told
 
 abbrev pub Gets : (old new : Option (Option Batch)) → (column code : ℕ) → (was told : CqlpColumn) → Type 0
-Gets old new k code was told = (columns_in new ≡ columns_in old) × ShowsHeld (columns_in old) k code was told
+Gets old new k code was told = (new ≡ old) × ShowsHeld (columns_in old) k code was told
 
 -- Columns without rows: those that a batch of these kinds has after no events, whatever it had before.
 abbrev pub ClearsHeld : Option Batch → (code : ℕ) → Option Batch → Type 0
 ClearsHeld None code new = (code ≡ numbers.NO_COLUMNS) × (new ≡ None)
 ClearsHeld (Some b) code new =
     (code ≡ numbers.DONE) × (b' : Batch) × (new ≡ Some b')
-    × ((kinds : List Kind) (es : List Event) → HasTaken b.limits kinds es b → HasTaken b.limits kinds [] b')
+    × ((sites : List Site) (es : List Event) → HasTaken b.limits sites es b → HasTaken b.limits sites [] b')
 
 abbrev pub Clears : (old : Option (Option Batch)) → (code : ℕ) → (new : Option (Option Batch)) → Type 0
-Clears old code new = ClearsHeld (columns_in old) code (columns_in new)
+Clears None code new = (code ≡ numbers.NO_COLUMNS) × (new ≡ None)
+Clears (Some held) code new = (left : Option Batch) × (new ≡ Some left) × ClearsHeld held code left
 
 abbrev pub code_of_free : Option (Option Batch) → ℕ
 code_of_free None = numbers.NO_COLUMNS

@@ -1,9 +1,9 @@
 -- The law of pages that are read into columns.
 use Rattle.std.specs.Prelude.{◌≡◌, ℕ, List, None}
 use Rattle.std.specs.Ptr.{Ptr}
-use Rattle.cqlp_kind.specs.declared.kind.Kind.{Kind}
 use Rattle.cqlp_decode.specs.Reading.{Event, Gifts}
 use Rattle.cqlp_decode.specs.Streams.{AfterGifts, Decoding, state}
+use Rattle.cqlp_columns.specs.Arrays.{Site}
 use Rattle.cqlp_columns.specs.Batches.{Batch, HasTaken}
 use Rattle.cqlp_c.specs.declared.batch.Batch.{Batch as Told}
 use Rattle.cqlp_c.specs.declared.course.CqlpCourse.{CqlpCourse}
@@ -15,8 +15,8 @@ use Rattle.cqlp_c.specs.Laws.{unplaced}
 -- makes one answer: one batch, the same columns, one event, wherever its content lies, and one place after it, also over skips.
 abbrev pub IsOneAnswerOfColumns : Type 0
 IsOneAnswerOfColumns =
-    (gifts : Gifts) (s : List ℕ) (es : List (ℕ × Event)) (kinds : List Kind) (had : List Event) (old new new' : Decoding)
+    (gifts : Gifts) (s : List ℕ) (es : List (ℕ × Event)) (sites : List Site) (had : List Event) (old new new' : Decoding)
     (from to to' : CqlpCourse) (input : List ℕ) (begins : Ptr) (columns after after' : Batch) (was told told' : CqlpEvent) (b b' : Told)
-    → (state old).refusal ≡ None → AfterGifts gifts (state old) s es → HasTaken columns.limits kinds had columns
+    → (state old).refusal ≡ None → AfterGifts gifts (state old) s es → HasTaken columns.limits sites had columns
     → ReadsOn old new from to input begins columns after was told b → ReadsOn old new' from to' input begins columns after' was told' b'
     → (b' ≡ b) × (after' ≡ after) × (unplaced told' ≡ unplaced told) × (to' ≡ to)

@@ -1,4 +1,5 @@
 pub mod Batches
+pub mod CallsLaws
 pub mod Checks
 pub mod Clients
 pub mod Columns
@@ -15,6 +16,7 @@ pub mod Handle
 pub mod Headers
 pub mod Laws
 pub mod Numbers
+pub mod PromisedNumbers
 pub mod Rooms
 pub mod Servers
 pub mod Shown

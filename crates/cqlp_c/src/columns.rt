@@ -43,7 +43,7 @@ pub struct CqlpBatchLimits {
     pub content: u32,
 }
 
-/// The arrays of a column, in the layout of Apache Arrow. They stay until the next call that changes the handle.
+/// The arrays of a column, in the layout of Apache Arrow. They stay in their places for as long as the handle has columns.
 #[repr(C)]
 #[derive(Clone, Copy)]
 pub struct CqlpColumn {
@@ -452,22 +452,15 @@ pub extern "C" fn cqlp_columns_next(
     }
 }
 
-/// Where these offsets begin.
-fn start_of(offsets: &[u64]) -> *const u64
-    ensures { result ≡ as_ptr offsets.entry }
-{
-    offsets.as_ptr()
-}
-
 /// The arrays of a column.
 fn view_of(column: &Column<Global>) -> CqlpColumn
     ensures { Shows column.now result }
 {
     CqlpColumn {
-        values: address_of(column.values()),
-        offsets: start_of(column.offsets()),
-        validity: address_of(column.validity()),
-        empties: address_of(column.empties()),
+        values: column.values_address(),
+        offsets: column.offsets_address(),
+        validity: column.validity_address(),
+        empties: column.empties_address(),
         size: column.values().len(),
         bounds: column.offsets().len(),
         cells: column.len(),

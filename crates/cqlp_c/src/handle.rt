@@ -331,6 +331,7 @@ pub extern "C" fn cqlp_held(alloc: Global, decoder: &mut CqlpDecoder, held: &mut
 pub extern "C" fn cqlp_free(alloc: Global, decoder: &mut CqlpDecoder) -> u32
     ensures code { result ≡ code_of_free decoder.old.held.place.value }
     ensures none { decoder.new.held.place.value ≡ None }
+    ensures course { decoder.new.course ≡ decoder.old.course }
 {
     match taken(std::mem::replace(&mut decoder.held, none(alloc)), alloc) {
         Some(_boxed) => DONE,

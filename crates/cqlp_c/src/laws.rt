@@ -3,9 +3,12 @@
 ghost use Rattle.std.specs.Thread.{IsSend};
 ghost use Rattle.cqlp_c.specs.Laws.{ContentsLieThere, EventsArePushed, FramesAreHeard, IsOneAnswerOfCheck};
 ghost use Rattle.cqlp_c.specs.Laws.{IsOneAnswerOfClientNew, IsOneAnswerOfNext, IsOneAnswerOfServerNew};
+ghost use Rattle.cqlp_c.specs.CallsLaws.{IsOneAnswerOfColumnsClear, IsOneAnswerOfColumnsGet, IsOneAnswerOfColumnsNew, IsOneAnswerOfGive};
+ghost use Rattle.cqlp_c.specs.CallsLaws.{IsOneAnswerOfHeld, IsOneAnswerOfNew, IsOneAnswerOfTakeGiven, IsOneAnswerOfTypesOf};
 ghost use Rattle.cqlp_c.specs.ColumnsLaws.{IsOneAnswerOfColumns};
 ghost use Rattle.cqlp_c.specs.EncodeLaws.{IsOneAnswerOfEncode, WrittenHasHeader, WrittenIsTold};
 ghost use Rattle.cqlp_c.specs.PagesLaws.{IsOneAnswerOfPageBegin, IsOneAnswerOfPagePut, PutPagesAreRead};
+ghost use Rattle.cqlp_c.specs.PromisedNumbers.{ArePromised};
 ghost use Rattle.cqlp_c.specs.Stretched.{FinishEndsThere, IsOneAnswerOfSkip, IsOneAnswerOverSkips, NewBegins, NextReadsOn, SkipGivesUp};
 ghost use Rattle.cqlp_c.specs.contracts.client.CqlpClient as client;
 ghost use Rattle.cqlp_c.specs.contracts.columns.CqlpColumns as columns;
@@ -107,6 +110,52 @@ pub fn put_pages_are_read()
 /// one batch, one event, up to where a content lies, and the same columns after it.
 pub fn one_answer_of_columns()
     ensures { IsOneAnswerOfColumns }
+{}
+
+/// A handle that has none gets a decoder at the start of a stream by `cqlp_new` and `cqlp_new_lenient`, or none for one reason, but where memory is refused.
+pub fn one_answer_of_new()
+    ensures { IsOneAnswerOfNew }
+{}
+
+/// `cqlp_held` tells the same numbers of one decoder, which stays as it is.
+pub fn one_answer_of_held()
+    ensures { IsOneAnswerOfHeld }
+{}
+
+/// Of one decoder `cqlp_types_of` puts a table with the same nodes, or none for one reason, but where memory is refused. For how many others a table
+/// has room is not said.
+pub fn one_answer_of_types_of()
+    ensures { IsOneAnswerOfTypesOf }
+{}
+
+/// Given the same, one decoder has one answer to `cqlp_give`, gives back the same, and stands at one place of its stream.
+pub fn one_answer_of_give()
+    ensures { IsOneAnswerOfGive }
+{}
+
+/// One decoder has one answer to `cqlp_take_given`, gives back the same, and stands at one place of its stream, but where memory is refused.
+pub fn one_answer_of_take_given()
+    ensures { IsOneAnswerOfTakeGiven }
+{}
+
+/// Of the same limits and kinds `cqlp_columns_new` makes columns without rows, wherever they lie, or none for one reason, but where memory is refused.
+pub fn one_answer_of_columns_new()
+    ensures { IsOneAnswerOfColumnsNew }
+{}
+
+/// Of one column `cqlp_columns_get` tells one place of each array, and one length.
+pub fn one_answer_of_columns_get()
+    ensures { IsOneAnswerOfColumnsGet }
+{}
+
+/// Columns are the same after each `cqlp_columns_clear`: without rows, and with their arrays where they lay.
+pub fn one_answer_of_columns_clear()
+    ensures { IsOneAnswerOfColumnsClear }
+{}
+
+/// The numbers of codes, stops, ends, tags, marks, opcodes, fields, kinds, reasons, phases and replies, which include/cqlp.h has with `CQLP_` before each name.
+pub fn promised_numbers()
+    ensures { ArePromised }
 {}
 
 /// What a handle owns is the same to every thread, so a handle may go from one to another between two calls. Of a page, whose types may be nested, that is

@@ -43,9 +43,12 @@ pub use handle::{
 pub use header::{CqlpHeader, cqlp_write_header};
 pub use laws::{
     calls_read_stretches, contents_lie_there, events_are_pushed, frames_are_heard,
-    one_answer_of_check, one_answer_of_client_new, one_answer_of_columns, one_answer_of_encode,
+    one_answer_of_check, one_answer_of_client_new, one_answer_of_columns,
+    one_answer_of_columns_clear, one_answer_of_columns_get, one_answer_of_columns_new,
+    one_answer_of_encode, one_answer_of_give, one_answer_of_held, one_answer_of_new,
     one_answer_of_next, one_answer_of_pages, one_answer_of_server_new, one_answer_of_skip,
-    one_answer_over_skips, put_pages_are_read, written_events_are_read,
+    one_answer_of_take_given, one_answer_of_types_of, one_answer_over_skips, promised_numbers,
+    put_pages_are_read, written_events_are_read,
 };
 pub use page::{
     CqlpMeasured, CqlpPage, CqlpPagePlace, CqlpPut, cqlp_page_begin, cqlp_page_end, cqlp_page_free,

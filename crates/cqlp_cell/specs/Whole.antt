@@ -56,16 +56,15 @@ Enters nodes old input None new = new ≡ old
 Enters nodes old input (Some t) new =
     IsWhole nodes old input t.item.at t.item.used (outline_of t.item.part) new × (level_of new ≡ Some t.level)
 
--- What is next is the end of the cell, which takes no byte; or nothing is done.
-abbrev pub Leaves : List Node → CellState → Option BareItem → CellState → Type 0
-Leaves nodes old None new = new ≡ old
-Leaves nodes old (Some t) new =
+-- What is next is the end of the cell, which takes no byte.
+abbrev pub Leaves : List Node → CellState → BareItem → CellState → Type 0
+Leaves nodes old t new =
     ((input : List ℕ) → IsWhole nodes old input t.at t.used (outline_of t.part) new) × (is_done new ≡ true)
 
 -- What is next of a reader that stands in a level is the end of the cell, which takes no byte; or nothing is said.
 abbrev pub Ends : List Node → CellState → Level → Option BareItem → Type 0
 Ends nodes d l None = ⊤
-Ends nodes d l (Some t) = Leaves nodes (with_level d l) (Some t) (record d { offset = l.offset; open_values = [] })
+Ends nodes d l (Some t) = Leaves nodes (with_level d l) t (record d { offset = l.offset; open_values = [] })
 
 -- where a reader would be that begins the next cell of its container, of the type at this node, where a level stands
 abbrev pub next_begun : CellState → Level → (node : ℕ) → CellState

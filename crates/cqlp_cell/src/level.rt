@@ -1,6 +1,6 @@
 //! The innermost value that is open, in a caller's hands.
 
-ghost use Rattle.std.specs.Prelude.{◌≡◌, ◌+◌, ◌^◌, ◌<◌, ◌≤◌, ◌↔◌, IsSome, IsTrue, List, false};
+ghost use Rattle.std.specs.Prelude.{◌≡◌, ◌+◌, ◌^◌, ◌<◌, ◌≤◌, ◌↔◌, IfSome, IsSome, IsTrue, List, false};
 ghost use Rattle.cqlp_kind.specs.declared.node.Node.{Node};
 ghost use Rattle.cqlp_cell.specs.declared.open_values.Order.TheVariants as order;
 ghost use Rattle.cqlp_cell.specs.Progress.{CellState, HasNext, Stands, is_over};
@@ -58,6 +58,7 @@ impl Level {
         ensures is { (nodes : List Node) (d : CellState) → IsInLevel d self.now → Stands nodes (with_level d self.now)
             → Ends nodes d self.now result }
         ensures alone { IsSome result → self.now.level ≤ 1 }
+        ensures bare { IfSome result (λ t. t.used ≡ 0) }
     {
         let at = self.offset;
         if self.level > 1 || !self.value.is_over(at) || at < self.value.stop {

@@ -39,7 +39,7 @@ impl<A: Allocator> CellReader<A> {
     ghost use Rattle.cqlp_cell.specs.Reading.{Answers, Empties, HaveCome, Joined, Moves};
     ghost use Rattle.cqlp_cell.specs.Pushing.{Continues, Pushes, Uses, begun, is_done, new_reader};
     ghost use Rattle.cqlp_cell.specs.Levels.{IsInLevel, level_of, with_level};
-    ghost use Rattle.cqlp_cell.specs.Whole.{Enters, EntersNext, Leaves, TakesBare, next_begun};
+    ghost use Rattle.cqlp_cell.specs.Whole.{Enters, EntersNext, TakesBare, next_begun};
 
     /// With room for the nesting that the limits allow. Parts have at least one byte.
     pub fn new(alloc: A, limits: &Limits) -> Result<Self, NoMemory>
@@ -184,17 +184,6 @@ impl<A: Allocator> CellReader<A> {
         ensures { Enters table.now.nodes self.old input.now result self.new }
     {
         self.progress.enter_value(table, input)
-    }
-
-    /// Goes on where a level stands, and leaves the value that it is, where that is the cell itself and at its end.
-    #[inline(always)]
-    pub fn leave(&mut self, level: Level) -> Option<BareItem>
-        requires { IsInLevel self.old level }
-        ensures leaves { (nodes : List Node) → Stands nodes (with_level self.old level)
-            → Leaves nodes (with_level self.old level) result self.new }
-        ensures left { result ≡ None → self.new ≡ with_level self.old level }
-    {
-        self.progress.leave_value(level)
     }
 
     /// Looks into the cell after the one that is under way, of the type at this node, where a level stands at the end of this

@@ -10,7 +10,7 @@ ghost use Rattle.cqlp_cell.specs.Coming.{room_of};
 ghost use Rattle.cqlp_cell.specs.Reading.{Decided};
 ghost use Rattle.cqlp_cell.specs.Progress.{Stands, due_of, due_value, state_of};
 ghost use Rattle.cqlp_cell.specs.Levels.{IsInLevel, level_of, with_level};
-ghost use Rattle.cqlp_cell.specs.Whole.{Enters, EntersNext, Leaves, TakesBare, next_begun};
+ghost use Rattle.cqlp_cell.specs.Whole.{Enters, EntersNext, TakesBare, next_begun};
 
 use crate::level::Level;
 use crate::open_values::OpenValue;
@@ -364,29 +364,5 @@ impl<A: Allocator> CellProgress<A> {
         };
         let item = BareItem { at, used: 8, part };
         Some(Entered { item, level })
-    }
-
-    /// Goes on where a level stands, and leaves the value that it is, where that is the cell itself and at its end.
-    #[inline(always)]
-    pub(crate) fn leave_value(&mut self, level: Level) -> Option<BareItem>
-        requires { IsInLevel (state_of self.old) level }
-        ensures leaves { (nodes : List Node) → Stands nodes (with_level (state_of self.old) level)
-            → Leaves nodes (with_level (state_of self.old) level) result (state_of self.new) }
-        ensures left { result ≡ None → state_of self.new ≡ with_level (state_of self.old) level }
-        ensures room { self.new.open_values.room ≡ self.old.open_values.room }
-        ensures limits { self.new.limits ≡ self.old.limits }
-    {
-        let at = level.offset;
-        if level.level > 1 || !level.value.is_over(at) || at < level.value.stop {
-            self.set_level(level);
-            return None;
-        }
-        self.offset = at;
-        self.open_values.clear();
-        let part = BarePart::Leave {
-            level: 0,
-            items: level.value.items,
-        };
-        Some(BareItem { at, used: 0, part })
     }
 }

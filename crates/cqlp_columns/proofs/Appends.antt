@@ -3,9 +3,8 @@ use Rattle.std.proofs.Common.{◌≡◌, ℕ, ◌+◌, List, [], ◌∷◌, ◌+
 use Rattle.std.specs.List.{flat_map}
 use Rattle.std.proofs.lemmas.List.{append-nil, map-append}
 use Rattle.std.proofs.lemmas.List.Concat.{flat_map-append}
-use Rattle.cqlp_kind.specs.declared.kind.Kind.{Kind}
 use Rattle.cqlp_columns.specs.declared.layout.Layout.{Layout}
-use Rattle.cqlp_columns.specs.Arrays.{Column, HasCells, column_of, ends, offset_in, with_cell}
+use Rattle.cqlp_columns.specs.Arrays.{Column, HasCells, Site, column_of, ends, offset_in, site_of, with_cell}
 use Rattle.cqlp_columns.specs.Cells.{Cell, cell_bits, cell_bytes, is_empty, is_valid}
 
 flat_map_more : {B : Type 0} (f : Cell → List B) (cs : List Cell) (c : Cell) → flat_map f (cs ++ c ∷ []) ≡ flat_map f cs ++ f c
@@ -37,11 +36,11 @@ offsets_more l cs c =
     ∙ ap (λ x. (offset_in l 0 ++ ends l 0 cs) ++ offset_in l x) e
 
 pub appended_to :
-    (k : Kind) (l : Layout) (rows size : ℕ) (cs : List Cell) (c : Cell)
-    → with_cell c (column_of k l rows size cs) ≡ column_of k l rows size (cs ++ c ∷ [])
-appended_to k l rows size cs c = sym (simp (flat_map_more (cell_bytes l) cs c, flat_map_more (cell_bits l) cs c, offsets_more l cs c, map-append (is_valid l) cs (c ∷ []), map-append is_empty cs (c ∷ [])) refl)
+    (s : Site) (l : Layout) (rows size : ℕ) (cs : List Cell) (c : Cell)
+    → with_cell c (column_of s l rows size cs) ≡ column_of s l rows size (cs ++ c ∷ [])
+appended_to s l rows size cs c = sym (simp (flat_map_more (cell_bytes l) cs c, flat_map_more (cell_bits l) cs c, offsets_more l cs c, map-append (is_valid l) cs (c ∷ []), map-append is_empty cs (c ∷ [])) refl)
 
 pub taken_to : (c : Cell) (a b : Column) (cells : List Cell) → b ≡ with_cell c a → HasCells cells a → HasCells (cells ++ c ∷ []) b
 taken_to c a b cells e h =
     let P : Column → Type 0 = λ x. HasCells (cells ++ c ∷ []) x in
-    subst P (sym e) (ap (λ x. with_cell c x) h ∙ appended_to a.kind a.layout a.rows a.size cells c)
+    subst P (sym e) (ap (λ x. with_cell c x) h ∙ appended_to (site_of a) a.layout a.rows a.size cells c)

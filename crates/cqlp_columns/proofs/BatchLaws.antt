@@ -2,12 +2,11 @@
 use Rattle.std.proofs.Common.{◌≡◌, ◌<◌, ◌%◌, ◌==◌, ℕ, zero, suc, ◌+◌, Bool, ◌&&◌, not, nat_lt, nat_le, true, false, List, [], ◌∷◌, ◌++◌, length, ap, sym, ◌∙◌, refl, if◌then◌else◌, arith}
 use Rattle.std.specs.Prelude.{Option, Some, None, Result, Ok, Err}
 use Rattle.std.proofs.lemmas.Bool.{and_from, and_parts, eqb-true, le-leb, lt-ltb}
-use Rattle.cqlp_kind.specs.declared.kind.Kind.{Kind}
 use Rattle.cqlp_grammar.specs.Events.{Event}
 use Rattle.cqlp_columns.specs.declared.columns.BatchLimits.{BatchLimits}
 use Rattle.cqlp_columns.specs.declared.columns.TakeError.{TakeError}
 use Rattle.cqlp_columns.specs.declared.columns.TakeError.TheVariants.{Full, OutOfOrder, NotOfKind, TooLong}
-use Rattle.cqlp_columns.specs.Arrays.{Column, is_long, room_in}
+use Rattle.cqlp_columns.specs.Arrays.{Column, Site, is_long, room_in}
 use Rattle.cqlp_columns.specs.Batches.{Batch, HasTaken, IsAnswerOf, columns_from, fault_among, filled, has_room, refusal_to}
 use Rattle.cqlp_columns.specs.Cells.{Cell, is_of}
 use Rattle.cqlp_columns.specs.Findings.{Finding, Nothing, Part, Whole, cell_count, found_in}
@@ -19,7 +18,7 @@ same_answer o p (Err f) (Ok v) e x y = cc
 same_answer o p (Err f) (Err g) e x y = cc
 
 pub one_answer_of_batch :
-    (l : BatchLimits) (kinds : List Kind) (es : List Event) (e : Event) (a a' b b' : Batch) (r r' : Result (Unit {0}) TakeError)
+    (l : BatchLimits) (kinds : List Site) (es : List Event) (e : Event) (a a' b b' : Batch) (r r' : Result (Unit {0}) TakeError)
     → HasTaken l kinds es a → HasTaken l kinds es a' → IsAnswerOf (refusal_to (found_in e) a) r → IsAnswerOf (refusal_to (found_in e) a') r'
     → HasTaken l kinds (es ++ e ∷ []) b → HasTaken l kinds (es ++ e ∷ []) b' → (r' ≡ r) × (b' ≡ b)
 one_answer_of_batch l kinds es e a a' b b' r r' p q x y s t =
@@ -55,17 +54,17 @@ full_begins (Whole k c) a e =
     (sym (eqb-true k a.next s.0) ∙ eqb-true k 0 t.0, no (has_room a.limits a.columns) t.1)
 
 pub full_where_rows_begin :
-    (l : BatchLimits) (kinds : List Kind) (es : List Event) (e : Event) (a : Batch)
+    (l : BatchLimits) (kinds : List Site) (es : List Event) (e : Event) (a : Batch)
     → HasTaken l kinds es a → refusal_to (found_in e) a ≡ Some Full → (cell_count es % length kinds ≡ 0) × (has_room l a.columns ≡ false)
 full_where_rows_begin l kinds es e a h full =
     let f = full_begins (found_in e) a full in
     (sym (ap (λ (x : Batch). x.next) h) ∙ f.0, ap (λ (x : BatchLimits). has_room x a.columns) (sym (ap (λ (x : Batch). x.limits) h)) ∙ f.1)
 
-room_in_none : (l : BatchLimits) (at : ℕ) (kinds : List Kind) → 0 < l.rows → has_room l (columns_from l at kinds []) ≡ true
+room_in_none : (l : BatchLimits) (at : ℕ) (kinds : List Site) → 0 < l.rows → has_room l (columns_from l at kinds []) ≡ true
 room_in_none l at [] h = refl
 room_in_none l at (k ∷ ks) h =
     and_from (room_in l.rows l.bytes (filled l k [])) (has_room l (columns_from l (at + 1) ks []))
     (and_from (nat_lt 0 l.rows) (nat_le 0 l.bytes) (lt-ltb 0 l.rows h) (le-leb 0 l.bytes (omega arith))) (room_in_none l (at + 1) ks h)
 
-pub room_for_one : (l : BatchLimits) (kinds : List Kind) (a : Batch) → 0 < l.rows → HasTaken l kinds [] a → has_room l a.columns ≡ true
+pub room_for_one : (l : BatchLimits) (kinds : List Site) (a : Batch) → 0 < l.rows → HasTaken l kinds [] a → has_room l a.columns ≡ true
 room_for_one l kinds a h t = ap (λ (x : Batch). has_room l x.columns) t ∙ room_in_none l 0 kinds h

@@ -5,11 +5,10 @@ use Rattle.std.specs.List.{AllByRecursion}
 use Rattle.std.proofs.Math.Nat.{mod-eq_of_lt, mod_self}
 use Rattle.std.proofs.lemmas.Bool.{and_from, and_parts, cases_lt, eqb-true, le-leb, leb-true, ltb-false}
 use Rattle.std.proofs.lemmas.List.{take_at}
-use Rattle.cqlp_kind.specs.declared.kind.Kind.{Kind}
 use Rattle.cqlp_columns.specs.declared.columns.BatchLimits.{BatchLimits}
 use Rattle.cqlp_columns.specs.declared.columns.TakeError.{TakeError}
 use Rattle.cqlp_columns.specs.declared.columns.TakeError.TheVariants.{Full, OutOfOrder, NotOfKind, TooLong}
-use Rattle.cqlp_columns.specs.Arrays.{Column, fits, is_long, refusal_of, room_in}
+use Rattle.cqlp_columns.specs.Arrays.{Column, Site, fits, is_long, refusal_of, room_in}
 use Rattle.cqlp_columns.specs.Batches.{Batch, IsReady, IsSized, batch, cleared, empty_columns, fault_among, fault_at, fault_in, has_room, next_after, refusal_among, with_cell_in}
 use Rattle.cqlp_columns.specs.Cells.{Cell, cell_bytes, is_of}
 
@@ -124,11 +123,11 @@ ready_more l cols next k c r e =
 
 -- ---- without rows
 
-sized_new : (l : BatchLimits) (ks : List Kind) → AllByRecursion (IsSized l) (empty_columns l ks)
+sized_new : (l : BatchLimits) (ks : List Site) → AllByRecursion (IsSized l) (empty_columns l ks)
 sized_new l [] = tt
 sized_new l (k ∷ ks) = ((refl, refl), sized_new l ks)
 
-pub new_ready : (l : BatchLimits) (ks : List Kind) → IsReady l (empty_columns l ks) 0
+pub new_ready : (l : BatchLimits) (ks : List Site) → IsReady l (empty_columns l ks) 0
 new_ready l ks = record { sized = sized_new l ks; room = inl refl }
 
 sized_cleared : (l : BatchLimits) (cols : List Column) → AllByRecursion (IsSized l) cols → AllByRecursion (IsSized l) (map cleared cols)

@@ -5,12 +5,11 @@ use Rattle.std.proofs.Math.ListN.{set}
 use Rattle.std.proofs.lemmas.Bool.{eq-eqb, ne_eqb}
 use Rattle.std.proofs.lemmas.List.{append-nil}
 use Rattle.std.proofs.lemmas.List.Concat.{flat_map-append}
-use Rattle.cqlp_kind.specs.declared.kind.Kind.{Kind}
 use Rattle.cqlp_grammar.specs.Events.{Event}
 use Rattle.cqlp_columns.specs.declared.columns.BatchLimits.{BatchLimits}
 use Rattle.cqlp_columns.specs.declared.columns.TakeError.{TakeError}
 use Rattle.cqlp_columns.specs.declared.columns.TakeError.TheVariants.{OutOfOrder}
-use Rattle.cqlp_columns.specs.Arrays.{Column, refusal_of, with_cell}
+use Rattle.cqlp_columns.specs.Arrays.{Column, Site, refusal_of, with_cell}
 use Rattle.std.proofs.lemmas.List.Sums.{sum_by_push}
 use Rattle.std.proofs.Math.Nat.{suc-mod, zero-mod}
 use Rattle.cqlp_columns.specs.Batches.{Batch, HasTaken, IsAnswerOf, batch, batch_of, cleared, columns_from, empty_columns, fault_among, fault_at, fault_in, filled, next_after, refusal_among, rows_in, with_cell_at, with_cell_in}
@@ -41,18 +40,18 @@ others_cell k j es e c f apart =
 
 -- ---- the columns
 
-pub nothing_more : (l : BatchLimits) (at : ℕ) (ks : List Kind) (es : List Event) (e : Event) → found_in e ≡ Nothing → columns_from l at ks (es ++ e ∷ []) ≡ columns_from l at ks es
+pub nothing_more : (l : BatchLimits) (at : ℕ) (ks : List Site) (es : List Event) (e : Event) → found_in e ≡ Nothing → columns_from l at ks (es ++ e ∷ []) ≡ columns_from l at ks es
 nothing_more l at [] es e f = refl
 nothing_more l at (k ∷ ks) es e f = rw (no_cell at es e f, nothing_more l (at + 1) ks es e f) refl
 
-later : (l : BatchLimits) (at k : ℕ) (ks : List Kind) (es : List Event) (e : Event) (c : Cell) → found_in e ≡ Whole k c → k < at → columns_from l at ks (es ++ e ∷ []) ≡ columns_from l at ks es
+later : (l : BatchLimits) (at k : ℕ) (ks : List Site) (es : List Event) (e : Event) (c : Cell) → found_in e ≡ Whole k c → k < at → columns_from l at ks (es ++ e ∷ []) ≡ columns_from l at ks es
 later l at k [] es e c f h = refl
 later l at k (kind ∷ ks) es e c f h =
     let apart : k ≢ at = omega (arith, h) in
     let next : k < at + 1 = omega (arith, h) in
     rw (others_cell k at es e c f apart, later l (at + 1) k ks es e c f next) refl
 
-one_more : (l : BatchLimits) (at j k : ℕ) (ks : List Kind) (es : List Event) (e : Event) (c : Cell) → found_in e ≡ Whole k c → k ≡ at + j → with_cell_in j c (columns_from l at ks es) ≡ columns_from l at ks (es ++ e ∷ [])
+one_more : (l : BatchLimits) (at j k : ℕ) (ks : List Site) (es : List Event) (e : Event) (c : Cell) → found_in e ≡ Whole k c → k ≡ at + j → with_cell_in j c (columns_from l at ks es) ≡ columns_from l at ks (es ++ e ∷ [])
 one_more l at j k [] es e c f h = refl
 one_more l at zero k (kind ∷ ks) es e c f h =
     let here : k ≡ at = omega (arith, h) in
@@ -64,7 +63,7 @@ one_more l at (suc j) k (kind ∷ ks) es e c f h =
     let next : k ≡ at + 1 + j = omega (arith, h) in
     rw (others_cell k at es e c f apart) (ap (λ x. filled l kind (cells_among at es) ∷ x) (one_more l (at + 1) j k ks es e c f next))
 
-pub cell_more : (l : BatchLimits) (k : ℕ) (ks : List Kind) (es : List Event) (e : Event) (c : Cell) → found_in e ≡ Whole k c → with_cell_in k c (columns_from l 0 ks es) ≡ columns_from l 0 ks (es ++ e ∷ [])
+pub cell_more : (l : BatchLimits) (k : ℕ) (ks : List Site) (es : List Event) (e : Event) (c : Cell) → found_in e ≡ Whole k c → with_cell_in k c (columns_from l 0 ks es) ≡ columns_from l 0 ks (es ++ e ∷ [])
 cell_more l k ks es e c f =
     let here : k ≡ 0 + k = omega arith in
     one_more l 0 k k ks es e c f here
@@ -84,16 +83,16 @@ one_counted es e k c f =
     let z : cells_of (found_in e) ≡ 1 = ap (λ x. cells_of x) f in
     omega (arith, counted es e, z)
 
-pub batch_nothing : (l : BatchLimits) (ks : List Kind) (es : List Event) (e : Event) (b : Batch) → found_in e ≡ Nothing → HasTaken l ks es b → HasTaken l ks (es ++ e ∷ []) b
+pub batch_nothing : (l : BatchLimits) (ks : List Site) (es : List Event) (e : Event) (b : Batch) → found_in e ≡ Nothing → HasTaken l ks es b → HasTaken l ks (es ++ e ∷ []) b
 batch_nothing l ks es e b f h =
     h ∙ ap (λ x. batch l x (cell_count es % length ks)) (sym (nothing_more l 0 ks es e f))
     ∙ ap (λ x. batch l (columns_from l 0 ks (es ++ e ∷ [])) (x % length ks)) (sym (same_count es e f))
 
-as_many : (l : BatchLimits) (at : ℕ) (ks : List Kind) (es : List Event) → length (columns_from l at ks es) ≡ length ks
+as_many : (l : BatchLimits) (at : ℕ) (ks : List Site) (es : List Event) → length (columns_from l at ks es) ≡ length ks
 as_many l at [] es = refl
 as_many l at (k ∷ ks) es = ap (λ (x : ℕ). suc x) (as_many l (at + 1) ks es)
 
-turned : (l : BatchLimits) (ks : List Kind) (es : List Event) (e : Event) (k : ℕ) (c : Cell) → found_in e ≡ Whole k c → k ≡ cell_count es % length ks → next_after k (length (columns_from l 0 ks es)) ≡ cell_count (es ++ e ∷ []) % length ks
+turned : (l : BatchLimits) (ks : List Site) (es : List Event) (e : Event) (k : ℕ) (c : Cell) → found_in e ≡ Whole k c → k ≡ cell_count es % length ks → next_after k (length (columns_from l 0 ks es)) ≡ cell_count (es ++ e ∷ []) % length ks
 turned l ks es e k c f here =
     ap (λ x. (k + 1) % x) (as_many l 0 ks es)
     ∙ ap (λ x. (x + 1) % length ks) here
@@ -102,14 +101,14 @@ turned l ks es e k c f here =
     ∙ ap (λ x. x % length ks) (sym (one_counted es e k c f))
 
 of_batch :
-    (l : BatchLimits) (ks : List Kind) (es : List Event) (e : Event) (k : ℕ) (c : Cell)
+    (l : BatchLimits) (ks : List Site) (es : List Event) (e : Event) (k : ℕ) (c : Cell)
     → found_in e ≡ Whole k c → fault_at k c (batch_of l ks es) ≡ None → with_cell_at k c (batch_of l ks es) ≡ batch_of l ks (es ++ e ∷ [])
 of_batch l ks es e k c f none =
     ap (λ x. batch l x (next_after k (length (columns_from l 0 ks es)))) (cell_more l k ks es e c f)
     ∙ ap (λ x. batch l (columns_from l 0 ks (es ++ e ∷ [])) x) (turned l ks es e k c f (in_turn k c (batch_of l ks es) none))
 
 pub batch_more :
-    (l : BatchLimits) (ks : List Kind) (es : List Event) (e : Event) (k : ℕ) (c : Cell) (b b' : Batch)
+    (l : BatchLimits) (ks : List Site) (es : List Event) (e : Event) (k : ℕ) (c : Cell) (b b' : Batch)
     → found_in e ≡ Whole k c → fault_at k c b ≡ None → b' ≡ with_cell_at k c b → HasTaken l ks es b → HasTaken l ks (es ++ e ∷ []) b'
 batch_more l ks es e k c b b' f none new h =
     let t : fault_at k c (batch_of l ks es) ≡ None = ap (λ x. fault_at k c x) (sym h) ∙ none in
@@ -117,11 +116,11 @@ batch_more l ks es e k c b b' f none new h =
 
 -- ---- without rows
 
-pub new_columns : (l : BatchLimits) (at : ℕ) (ks : List Kind) → empty_columns l ks ≡ columns_from l at ks []
+pub new_columns : (l : BatchLimits) (at : ℕ) (ks : List Site) → empty_columns l ks ≡ columns_from l at ks []
 new_columns l at [] = refl
 new_columns l at (k ∷ ks) = ap (λ x. filled l k [] ∷ x) (new_columns l (at + 1) ks)
 
-pub cleared_columns : (l : BatchLimits) (at : ℕ) (ks : List Kind) (es : List Event) → map cleared (columns_from l at ks es) ≡ columns_from l at ks []
+pub cleared_columns : (l : BatchLimits) (at : ℕ) (ks : List Site) (es : List Event) → map cleared (columns_from l at ks es) ≡ columns_from l at ks []
 cleared_columns l at [] es = refl
 cleared_columns l at (k ∷ ks) es = ap (λ x. filled l k [] ∷ x) (cleared_columns l (at + 1) ks es)
 
@@ -156,7 +155,7 @@ clear_more [] n d h = absurd (omega (arith, h))
 clear_more (b ∷ cols) zero d h = refl
 clear_more (b ∷ cols) (suc n) d h = ap (λ x. cleared b ∷ x) (clear_more cols n d (omega (arith, h)))
 
-pub batch_cleared : (l : BatchLimits) (ks : List Kind) (es : List Event) (b b' : Batch) → b' ≡ batch b.limits (map cleared b.columns) 0 → HasTaken l ks es b → HasTaken l ks [] b'
+pub batch_cleared : (l : BatchLimits) (ks : List Site) (es : List Event) (b b' : Batch) → b' ≡ batch b.limits (map cleared b.columns) 0 → HasTaken l ks es b → HasTaken l ks [] b'
 batch_cleared l ks es b b' new h =
     new ∙ ap (λ (x : Batch). batch x.limits (map cleared x.columns) 0) h ∙ ap (λ x. batch l x 0) (cleared_columns l 0 ks es)
     ∙ ap (λ x. batch l (columns_from l 0 ks []) x) (sym (none (length ks)))
@@ -164,7 +163,7 @@ batch_cleared l ks es b b' new h =
     none : (n : ℕ) → 0 % n ≡ 0
     none n = zero-mod n
 
-pub batch_new : (l : BatchLimits) (ks : List Kind) → HasTaken l ks [] (batch l (empty_columns l ks) 0)
+pub batch_new : (l : BatchLimits) (ks : List Site) → HasTaken l ks [] (batch l (empty_columns l ks) 0)
 batch_new l ks =
     ap (λ x. batch l x 0) (new_columns l 0 ks) ∙ ap (λ x. batch l (columns_from l 0 ks []) x) (sym (zero-mod (length ks)))
 

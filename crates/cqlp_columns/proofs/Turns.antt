@@ -5,11 +5,10 @@ use Rattle.std.proofs.Math.ListN.{set}
 use Rattle.std.proofs.Math.Nat.{mod-eq_of_lt, mod-lt, mod_self}
 use Rattle.std.proofs.lemmas.Bool.{and_parts, eqb-true, eq-eqb, ne_eqb, cases_lt, false≢true, le-leb, leb-true}
 use Rattle.std.proofs.lemmas.List.{length-append}
-use Rattle.cqlp_kind.specs.declared.kind.Kind.{Kind}
 use Rattle.cqlp_columns.specs.declared.columns.BatchLimits.{BatchLimits}
 use Rattle.cqlp_columns.specs.declared.columns.TakeError.{TakeError}
 use Rattle.cqlp_columns.specs.declared.columns.TakeError.TheVariants.{Full, OutOfOrder}
-use Rattle.cqlp_columns.specs.Arrays.{Column, room_in, with_cell}
+use Rattle.cqlp_columns.specs.Arrays.{Column, Site, room_in, with_cell}
 use Rattle.cqlp_columns.specs.Batches.{Batch, IsReady, batch, cleared, empty_columns, fault_among, fault_at, has_room, is_full, next_after, rows_in, with_cell_in}
 use Rattle.cqlp_columns.specs.Cells.{Cell, cell_bytes, is_valid}
 use Rattle.cqlp_columns.specs.Turns.{AreEven, HasRows, IsKept, are_light, fault_out_of_turn, is_light, is_light_at, next_in, no_turn, turn_to}
@@ -249,18 +248,18 @@ kept_more l cols turn light k c n turn' light' kept none count low due weight =
 
 -- ---- without rows
 
-even_new : (l : BatchLimits) (ks : List Kind) → HasRows 0 0 (empty_columns l ks)
+even_new : (l : BatchLimits) (ks : List Site) → HasRows 0 0 (empty_columns l ks)
 even_new l [] = tt
 even_new l (k ∷ ks) = (refl, even_new l ks)
 
-light_new : (l : BatchLimits) (ks : List Kind) → true ≡ are_light l (empty_columns l ks)
+light_new : (l : BatchLimits) (ks : List Site) → true ≡ are_light l (empty_columns l ks)
 light_new l [] = refl
 light_new l (k ∷ ks) = rw (le-leb 0 l.bytes (omega arith)) (light_new l ks)
 
-pub light_none : (l : BatchLimits) (ks : List Kind) (cols : List Column) → cols ≡ empty_columns l ks → true ≡ are_light l cols
+pub light_none : (l : BatchLimits) (ks : List Site) (cols : List Column) → cols ≡ empty_columns l ks → true ≡ are_light l cols
 light_none l ks cols e = rw e (light_new l ks)
 
-pub even_none : (l : BatchLimits) (ks : List Kind) (cols : List Column) → cols ≡ empty_columns l ks → AreEven 0 cols
+pub even_none : (l : BatchLimits) (ks : List Site) (cols : List Column) → cols ≡ empty_columns l ks → AreEven 0 cols
 even_none l ks cols e = rw e (0, even_new l ks)
 
 even_clear : (cols : List Column) → HasRows 0 0 (map cleared cols)

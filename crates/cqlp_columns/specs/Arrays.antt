@@ -1,6 +1,7 @@
 -- The arrays of a column, in the layout of Apache Arrow.
 use Rattle.std.specs.Prelude.{◌≡◌, ℕ, ◌+◌, Bool, ◌&&◌, nat_le, nat_lt, List, [], ◌∷◌, ◌++◌, length, map, Option, Some, None, Result, Ok, Err, if◌then◌else◌}
 use Rattle.std.specs.List.{flat_map}
+use Rattle.std.specs.Ptr.{Ptr}
 use Rattle.cqlp_kind.specs.declared.kind.Kind.{Kind}
 use Rattle.cqlp_columns.specs.declared.layout.Layout.{Layout}
 use Rattle.cqlp_columns.specs.declared.layout.Layout.TheVariants.{Bits, Fixed, Variable}
@@ -9,10 +10,28 @@ use Rattle.cqlp_columns.specs.declared.column.Refusal.TheVariants.{Full, NotOfKi
 use Rattle.cqlp_columns.specs.Bits.{Spells}
 use Rattle.cqlp_columns.specs.Cells.{Cell, cell_bits, cell_bytes, is_empty, is_of, is_valid}
 
--- A column: its kind and layout, how many rows and bytes of values there is room for, and its arrays: the bytes of the values, or their
--- bits, where they begin and end, which cells have a value, and which have one of no bytes.
+-- Where the arrays of a column begin in memory: the bytes of the values, the bytes of their bits, the offsets, and the bytes of the bits that say
+-- which cells have a value, and which have one of no bytes.
+pub record Places : Type 0 where
+  pub values : Ptr
+  pub truths : Ptr
+  pub offsets : Ptr
+  pub valid : Ptr
+  pub empty : Ptr
+
+-- a column's kind, and where its arrays lie
+pub record Site : Type 0 where
+  pub kind : Kind
+  pub places : Places
+
+abbrev pub site : Kind → Places → Site
+site k p = record { kind = k; places = p }
+
+-- A column: its kind, where its arrays lie, its layout, how many rows and bytes of values there is room for, and its arrays: the bytes of the
+-- values, or their bits, where they begin and end, which cells have a value, and which have one of no bytes.
 pub record Column : Type 0 where
   pub kind : Kind
+  pub places : Places
   pub layout : Layout
   pub rows : ℕ
   pub size : ℕ
@@ -33,10 +52,20 @@ abbrev pub ends : Layout → (at : ℕ) → List Cell → List ℕ
 ends l at [] = []
 ends l at (c ∷ cs) = offset_in l (at + length (cell_bytes l c)) ++ ends l (at + length (cell_bytes l c)) cs
 
+abbrev pub site_of : Column → Site
+site_of a = site a.kind a.places
+
+-- where the values begin: their bytes, or those of their bits
+abbrev pub values_at : Layout → Places → Ptr
+values_at Bits p = p.truths
+values_at (Fixed n) p = p.values
+values_at Variable p = p.values
+
 -- the arrays of these cells
-abbrev pub column_of : Kind → Layout → (rows size : ℕ) → List Cell → Column
-column_of k l rows size cells = record {
-  kind = k;
+abbrev pub column_of : Site → Layout → (rows size : ℕ) → List Cell → Column
+column_of s l rows size cells = record {
+  kind = s.kind;
+  places = s.places;
   layout = l;
   rows = rows;
   size = size;
@@ -89,4 +118,4 @@ IsAnswer why (Err e) = why ≡ Some e
 
 -- The column has these cells, in the arrays that Arrow gives them.
 abbrev pub HasCells : List Cell → Column → Type 0
-HasCells cells a = a ≡ column_of a.kind a.layout a.rows a.size cells
+HasCells cells a = a ≡ column_of (site_of a) a.layout a.rows a.size cells

@@ -13,7 +13,7 @@ use Rattle.cqlp_columns.specs.declared.column.Refusal.TheVariants as no
 use Rattle.cqlp_columns.specs.declared.columns.BatchLimits.{BatchLimits}
 use Rattle.cqlp_columns.specs.declared.columns.TakeError.{TakeError}
 use Rattle.cqlp_columns.specs.declared.columns.TakeError.TheVariants.{Full, Part as APart, OutOfOrder, NotOfKind, TooLong}
-use Rattle.cqlp_columns.specs.Arrays.{Column, column_of, is_long, refusal_of, room_in, with_cell}
+use Rattle.cqlp_columns.specs.Arrays.{Column, Site, column_of, is_long, refusal_of, room_in, site_of, with_cell}
 use Rattle.cqlp_columns.specs.Cells.{Cell, is_of}
 use Rattle.cqlp_columns.specs.Findings.{Finding, Nothing, Part, Whole, cell_count, cells_among}
 use Rattle.cqlp_columns.specs.Layouts.{layout_of}
@@ -29,22 +29,22 @@ batch limits columns next = record { limits = limits; columns = columns; next = 
 
 -- ---- what it has of a page
 
--- a column of this kind, with these cells
-abbrev pub filled : BatchLimits → Kind → List Cell → Column
-filled l k cells = column_of k (unwrap_or (layout_of k) Variable) l.rows (l.bytes + l.content) cells
+-- a column of this kind, which lies there, with these cells
+abbrev pub filled : BatchLimits → Site → List Cell → Column
+filled l s cells = column_of s (unwrap_or (layout_of s.kind) Variable) l.rows (l.bytes + l.content) cells
 
--- columns of these kinds, from the one of a number on, each with its cells among events
-abbrev pub columns_from : BatchLimits → (at : ℕ) → List Kind → List Event → List Column
+-- columns of these kinds, which lie there, from the one of a number on, each with its cells among events
+abbrev pub columns_from : BatchLimits → (at : ℕ) → List Site → List Event → List Column
 columns_from l at [] es = []
-columns_from l at (k ∷ ks) es = filled l k (cells_among at es) ∷ columns_from l (at + 1) ks es
+columns_from l at (s ∷ ss) es = filled l s (cells_among at es) ∷ columns_from l (at + 1) ss es
 
 -- Each column has just its cells among these events, in the arrays that Arrow gives them; and cells come in the order of the columns, so that
 -- the number of cells so far tells the column of the next.
-abbrev pub batch_of : BatchLimits → List Kind → List Event → Batch
-batch_of l kinds es = batch l (columns_from l 0 kinds es) (cell_count es % length kinds)
+abbrev pub batch_of : BatchLimits → List Site → List Event → Batch
+batch_of l sites es = batch l (columns_from l 0 sites es) (cell_count es % length sites)
 
-abbrev pub HasTaken : BatchLimits → List Kind → List Event → Batch → Type 0
-HasTaken l kinds es b = b ≡ batch_of l kinds es
+abbrev pub HasTaken : BatchLimits → List Site → List Event → Batch → Type 0
+HasTaken l sites es b = b ≡ batch_of l sites es
 
 -- ---- one without rows
 
@@ -64,14 +64,29 @@ abbrev pub IsMade : {B : Type 0} → Option MakeError → Result B MakeError →
 IsMade why (Ok b) = why ≡ None
 IsMade why (Err e) = e ≡ unwrap_or why NoMemory
 
-abbrev pub empty_column : BatchLimits → Kind → Column
-empty_column l k = filled l k []
+abbrev pub empty_column : BatchLimits → Site → Column
+empty_column l s = filled l s []
 
-abbrev pub empty_columns : BatchLimits → List Kind → List Column
-empty_columns l kinds = map (empty_column l) kinds
+abbrev pub empty_columns : BatchLimits → List Site → List Column
+empty_columns l sites = map (empty_column l) sites
 
+abbrev pub kind_in : Column → Kind
+kind_in a = a.kind
+
+-- the kinds of columns, and where they lie
+abbrev pub kinds_in : List Column → List Kind
+kinds_in cols = map kind_in cols
+
+abbrev pub sites_in : List Column → List Site
+sites_in cols = map site_of cols
+
+-- It has columns of these kinds, wherever they lie, and took no event.
+abbrev pub IsNew : BatchLimits → List Kind → Batch → Type 0
+IsNew l kinds b = (kinds_in b.columns ≡ kinds) × HasTaken l (sites_in b.columns) [] b
+
+-- the arrays lie where they lay
 abbrev pub cleared : Column → Column
-cleared a = column_of a.kind a.layout a.rows a.size []
+cleared a = column_of (site_of a) a.layout a.rows a.size []
 
 -- as many as the last column has cells
 abbrev pub rows_in : List Column → ℕ

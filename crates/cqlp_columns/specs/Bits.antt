@@ -1,13 +1,15 @@
 -- Bits in bytes.
 use Rattle.std.specs.Prelude.{◌≡◌, ℕ, zero, suc, ◌+◌, ◌*◌, ◌/◌, ◌%◌, ◌^◌, ◌==◌, Bool, true, false, List, [], ◌∷◌, length}
+use Rattle.std.specs.Ptr.{Ptr}
 
--- bits, and how many there is room for
+-- bits, how many there is room for, and where the bytes that have them begin in memory
 pub record Bits : Type 0 where
   pub bits : List Bool
   pub room : ℕ
+  pub at : Ptr
 
-abbrev pub bits : List Bool → (room : ℕ) → Bits
-bits bs room = record { bits = bs; room = room }
+abbrev pub bits : List Bool → (room : ℕ) → (at : Ptr) → Bits
+bits bs room at = record { bits = bs; room = room; at = at }
 
 abbrev pub digit : Bool → ℕ
 digit true = 1

@@ -17,11 +17,12 @@ pub(crate) struct Bits<A: Allocator> {
 
 impl<A: Allocator> Model for Bits<A> {
     ghost use Rattle.std.specs.Prelude.{◌≡◌, ◌<◌, ◌≤◌, ◌^◌, ◌*◌, length, vec_capacity};
+    ghost use Rattle.std.specs.Vec.{vec_ptr};
     ghost use Rattle.cqlp_columns.specs.Bits.{Bits, bits, digits, number_of_bytes};
 
     ghost Value = { Bits };
 
-    ghost view = { λ b. bits (digits b.len (number_of_bytes b.bytes.items)) (8 * length b.bytes.items) };
+    ghost view = { λ b. bits (digits b.len (number_of_bytes b.bytes.items)) (8 * length b.bytes.items) (vec_ptr b.bytes) };
 
     ghost invariant = { λ b. (number_of_bytes b.bytes.items < 2 ^ b.len) × (b.len ≤ 8 * length b.bytes.items)
         × (length b.bytes.items < 2 ^ 32) × (vec_capacity b.bytes ≡ length b.bytes.items) };
@@ -33,7 +34,7 @@ impl<A: Allocator> Bits<A> {
     /// With room for at least so many bits. This is the one call that takes memory.
     #[tactic(auto, using(crate::proofs::Numbers::no_bytes, crate::proofs::Numbers::rounded_holds))]
     pub fn new(alloc: A, room: u32) -> Result<Self, AllocError>
-        ensures { IfOk result (λ b. b ≡ bits [] (8 * rounded room)) }
+        ensures { IfOk result (λ b. b ≡ bits [] (8 * rounded room) b.at) }
     {
         let count = room.div_ceil(8) as usize;
         Ok(Bits {
@@ -51,11 +52,18 @@ impl<A: Allocator> Bits<A> {
         self.len
     }
 
+    /// Where the bytes begin that have them. They stay there for as long as they live.
+    pub fn address(&self) -> *const u8
+        ensures { result ≡ self.now.at }
+    {
+        self.bytes.as_ptr()
+    }
+
     /// Adds a bit at the end.
     #[inline(always)]
     pub fn push(&mut self, bit: bool)
         requires { length self.old.bits < self.old.room }
-        ensures { self.new ≡ bits (self.old.bits ++ bit ∷ []) self.old.room }
+        ensures { self.new ≡ bits (self.old.bits ++ bit ∷ []) self.old.room self.old.at }
     {
         add_bit(self.bytes.as_mut_slice(), self.len, bit);
         self.len += 1;
@@ -63,7 +71,7 @@ impl<A: Allocator> Bits<A> {
 
     /// Removes all bits, and keeps the memory.
     pub fn clear(&mut self)
-        ensures { self.new ≡ bits [] self.old.room }
+        ensures { self.new ≡ bits [] self.old.room self.old.at }
     {
         fill_zeros(self.bytes.as_mut_slice());
         self.len = 0;

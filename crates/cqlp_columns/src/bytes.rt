@@ -17,11 +17,12 @@ pub(crate) struct Bytes<A: Allocator> {
 
 impl<A: Allocator> Model for Bytes<A> {
     ghost use Rattle.std.specs.Prelude.{◌≡◌, ◌≤◌, length, take, vec_capacity};
+    ghost use Rattle.std.specs.Vec.{vec_ptr};
     ghost use Rattle.cqlp_columns.specs.Bytes.{Bytes, bytes};
 
     ghost Value = { Bytes };
 
-    ghost view = { λ b. bytes (take b.len b.memory.items) (length b.memory.items) };
+    ghost view = { λ b. bytes (take b.len b.memory.items) (length b.memory.items) (vec_ptr b.memory) };
 
     ghost invariant = { λ b. (b.len ≤ length b.memory.items) × (vec_capacity b.memory ≡ length b.memory.items) };
 }
@@ -29,7 +30,7 @@ impl<A: Allocator> Model for Bytes<A> {
 impl<A: Allocator> Bytes<A> {
     /// With room for so many. This is the one call that takes memory.
     pub fn new(alloc: A, room: usize) -> Result<Self, AllocError>
-        ensures { IfOk result (λ b. b ≡ bytes [] room) }
+        ensures { IfOk result (λ b. b ≡ bytes [] room b.at) }
     {
         Ok(Bytes {
             memory: zeros(alloc, room)?,
@@ -52,11 +53,18 @@ impl<A: Allocator> Bytes<A> {
         &self.memory[..self.len]
     }
 
+    /// Where they begin. They stay there for as long as they live.
+    pub fn address(&self) -> *const u8
+        ensures { result ≡ self.now.at }
+    {
+        self.memory.as_ptr()
+    }
+
     /// Adds bytes at the end.
     #[inline(always)]
     pub fn push(&mut self, more: &[u8])
         requires { length self.old.items + length more.now ≤ self.old.room }
-        ensures { self.new ≡ bytes (self.old.items ++ more.now) self.old.room }
+        ensures { self.new ≡ bytes (self.old.items ++ more.now) self.old.room self.old.at }
     {
         let end = self.len + more.len();
         self.memory.slice_mut(self.len..end).copy_from_slice(more);
@@ -66,7 +74,7 @@ impl<A: Allocator> Bytes<A> {
     /// Adds this many zeros at the end.
     pub fn push_zeros(&mut self, count: usize)
         requires { length self.old.items + count ≤ self.old.room }
-        ensures { self.new ≡ bytes (self.old.items ++ replicate count 0) self.old.room }
+        ensures { self.new ≡ bytes (self.old.items ++ replicate count 0) self.old.room self.old.at }
     {
         let end = self.len + count;
         fill_zeros(self.memory.slice_mut(self.len..end));
@@ -75,7 +83,7 @@ impl<A: Allocator> Bytes<A> {
 
     /// Removes all bytes, and keeps the memory.
     pub fn clear(&mut self)
-        ensures { self.new ≡ bytes [] self.old.room }
+        ensures { self.new ≡ bytes [] self.old.room self.old.at }
     {
         self.len = 0;
     }

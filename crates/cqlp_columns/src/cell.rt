@@ -125,6 +125,7 @@ pub(crate) fn put_scalar<A: Allocator>(values: &mut Bytes<A>, scalar: &Scalar<'_
     requires { length values.old.items + length (stored (value_of scalar.now)) ≤ values.old.room }
     ensures items { values.new.items ≡ values.old.items ++ stored (value_of scalar.now) }
     ensures room { values.new.room ≡ values.old.room }
+    ensures in_place { values.new.at ≡ values.old.at }
 {
     match *scalar {
         Scalar::Boolean(_) => {}
@@ -161,6 +162,7 @@ pub(crate) fn put<A: Allocator>(values: &mut Bytes<A>, bytes: &[u8])
     requires { length values.old.items + length bytes.now ≤ values.old.room }
     ensures items { values.new.items ≡ values.old.items ++ bytes.now }
     ensures room { values.new.room ≡ values.old.room }
+    ensures in_place { values.new.at ≡ values.old.at }
 {
     values.push(bytes);
 }
@@ -171,6 +173,7 @@ fn put_array<const N: usize, A: Allocator>(values: &mut Bytes<A>, bytes: [u8; N]
     requires { length values.old.items + length bytes ≤ values.old.room }
     ensures items { values.new.items ≡ values.old.items ++ bytes.entry }
     ensures room { values.new.room ≡ values.old.room }
+    ensures in_place { values.new.at ≡ values.old.at }
 {
     put(values, &bytes);
 }
@@ -181,6 +184,7 @@ fn put_reversed<const N: usize, A: Allocator>(values: &mut Bytes<A>, bytes: [u8;
     requires { length values.old.items + length bytes ≤ values.old.room }
     ensures items { values.new.items ≡ values.old.items ++ reverse bytes.entry }
     ensures room { values.new.room ≡ values.old.room }
+    ensures in_place { values.new.at ≡ values.old.at }
 {
     let mut turned = bytes;
     turned.reverse();

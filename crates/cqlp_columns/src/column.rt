@@ -2,8 +2,9 @@
 
 ghost use Rattle.std.specs.Prelude.{◌≡◌, ◌==◌, ◌+◌, ◌<◌, ◌≤◌, ◌++◌, ◌∷◌, [], List, length, nat_le, replicate, vec_capacity};
 ghost use Rattle.std.specs.Prelude.{Err, IfOk, IsOk, None, OnErr, OnOk, Some};
+ghost use Rattle.std.specs.Vec.{vec_ptr};
 ghost use Rattle.cqlp_kind.specs.Types.{is_kind};
-ghost use Rattle.cqlp_columns.specs.Arrays.{AreBytesOf, HasCells, IsAnswer, column_of, fits, is_long, offset_in, refusal_of, with_cell};
+ghost use Rattle.cqlp_columns.specs.Arrays.{AreBytesOf, HasCells, IsAnswer, column_of, fits, is_long, offset_in, refusal_of, site, site_of, values_at, with_cell};
 ghost use Rattle.cqlp_columns.specs.Batches.{IsMade, refusal_of_kind};
 ghost use Rattle.cqlp_columns.specs.Bits.{Spells, bits};
 ghost use Rattle.cqlp_columns.specs.Layouts.{layout_of};
@@ -59,6 +60,7 @@ pub struct Column<A: Allocator = Global> {
 
 impl<A: Allocator> Model for Column<A> {
     ghost use Rattle.std.specs.Prelude.{◌≡◌, ◌+◌, ◌*◌, ◌≤◌, Some, length, vec_capacity};
+    ghost use Rattle.std.specs.Vec.{vec_ptr};
     ghost use Rattle.cqlp_columns.specs.Arrays.{Column};
     ghost use Rattle.cqlp_columns.specs.Bits.{rounded};
     ghost use Rattle.cqlp_columns.specs.Layouts.{layout_of};
@@ -67,6 +69,13 @@ impl<A: Allocator> Model for Column<A> {
 
     ghost view = { λ c. record {
       kind = c.kind;
+      places = record {
+        values = c.values.at;
+        truths = c.truths.at;
+        offsets = vec_ptr c.offsets;
+        valid = c.valid.at;
+        empty = c.empty.at;
+      };
       layout = c.layout;
       rows = c.rows;
       size = c.size;
@@ -95,7 +104,7 @@ impl<A: Allocator> Column<A> {
     pub fn new(alloc: A, kind: Kind, rows: u32, size: usize) -> Result<Self, MakeError>
     where
         A: Clone,
-        ensures made { IfOk result (λ column. layout_of kind ≡ Some column.layout × (column ≡ column_of kind column.layout rows size [])) }
+        ensures made { IfOk result (λ column. layout_of kind ≡ Some column.layout × (column ≡ column_of (site kind column.places) column.layout rows size [])) }
         ensures answer { IsMade (refusal_of_kind kind) result }
     {
         match layout_of(kind) {
@@ -119,7 +128,7 @@ impl<A: Allocator> Column<A> {
     where
         A: Clone,
         requires { layout_of kind ≡ Some layout }
-        ensures { IfOk result (λ column. column ≡ column_of kind layout rows size []) }
+        ensures { IfOk result (λ column. column ≡ column_of (site kind column.places) layout rows size []) }
     {
         let mut offsets = Vec::with_capacity(alloc.clone()?, rows as usize + 1)?;
         put_offset(&mut offsets, layout, 0);
@@ -180,6 +189,37 @@ impl<A: Allocator> Column<A> {
         ensures { Spells self.now.empty result.now }
     {
         self.empty.as_slice()
+    }
+
+    /// Where its values begin in memory. Each array stays where it is for as long as the column lives.
+    pub fn values_address(&self) -> *const u8
+        ensures { result ≡ values_at self.now.layout self.now.places }
+    {
+        match self.layout {
+            Layout::Bits => self.truths.address(),
+            Layout::Fixed(_) | Layout::Variable => self.values.address(),
+        }
+    }
+
+    /// Where its offsets begin.
+    pub fn offsets_address(&self) -> *const u64
+        ensures { result ≡ self.now.places.offsets }
+    {
+        self.offsets.as_ptr()
+    }
+
+    /// Where the bits begin that say which cells have a value.
+    pub fn validity_address(&self) -> *const u8
+        ensures { result ≡ self.now.places.valid }
+    {
+        self.valid.address()
+    }
+
+    /// Where the bits begin that say which cells have a value of no bytes.
+    pub fn empties_address(&self) -> *const u8
+        ensures { result ≡ self.now.places.empty }
+    {
+        self.empty.address()
     }
 
     /// How many cells it has.
@@ -293,11 +333,11 @@ impl<A: Allocator> Column<A> {
 
     /// Removes all cells, and keeps the memory.
     pub fn clear(&mut self)
-        ensures { self.new ≡ column_of self.old.kind self.old.layout self.old.rows self.old.size [] }
+        ensures { self.new ≡ column_of (site_of self.old) self.old.layout self.old.rows self.old.size [] }
     {
         self.values.clear();
         self.truths.clear();
-        self.offsets.clear();
+        remove_all(&mut self.offsets);
         put_offset(&mut self.offsets, self.layout, 0);
         self.valid.clear();
         self.empty.clear();
@@ -351,6 +391,7 @@ fn put_cell<A: Allocator>(values: &mut Bytes<A>, layout: Layout, cell: &Cell<'_>
     requires { length values.old.items + length (cell_bytes layout (cell_of cell.now)) ≤ values.old.room }
     ensures items { values.new.items ≡ values.old.items ++ cell_bytes layout (cell_of cell.now) }
     ensures room { values.new.room ≡ values.old.room }
+    ensures in_place { values.new.at ≡ values.old.at }
 {
     match *cell {
         Cell::Null | Cell::Empty => values.push_zeros(blank_len(layout)),
@@ -369,9 +410,10 @@ fn put_beside<A: Allocator>(
 )
     requires room { length truths.old.bits < truths.old.room }
     requires place { length offsets.old.items < vec_capacity offsets.old }
-    ensures bits { truths.new ≡ bits (truths.old.bits ++ cell_bits layout (cell_of cell.now)) truths.old.room }
+    ensures bits { truths.new ≡ bits (truths.old.bits ++ cell_bits layout (cell_of cell.now)) truths.old.room truths.old.at }
     ensures items { offsets.new.items ≡ offsets.old.items ++ offset_in layout end }
     ensures capacity { vec_capacity offsets.new ≡ vec_capacity offsets.old }
+    ensures in_place { vec_ptr offsets.new ≡ vec_ptr offsets.old }
 {
     match layout {
         Layout::Bits => truths.push(is_true(cell)),
@@ -386,9 +428,21 @@ fn put_offset<A: Allocator>(offsets: &mut Vec<u64, A>, layout: Layout, offset: u
     requires { length offsets.old.items < vec_capacity offsets.old }
     ensures items { offsets.new.items ≡ offsets.old.items ++ offset_in layout offset }
     ensures capacity { vec_capacity offsets.new ≡ vec_capacity offsets.old }
+    ensures in_place { vec_ptr offsets.new ≡ vec_ptr offsets.old }
 {
     match layout {
         Layout::Variable => offsets.push_reserved(offset),
         Layout::Bits | Layout::Fixed(_) => {}
+    }
+}
+
+/// Removes all offsets, and leaves the memory in its place.
+fn remove_all<A: Allocator>(offsets: &mut Vec<u64, A>)
+    ensures items { offsets.new.items ≡ [] }
+    ensures capacity { vec_capacity offsets.new ≡ vec_capacity offsets.old }
+    ensures in_place { vec_ptr offsets.new ≡ vec_ptr offsets.old }
+{
+    'offsets: while !offsets.is_empty() {
+        let _last = offsets.take_last();
     }
 }

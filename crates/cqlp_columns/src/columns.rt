@@ -3,10 +3,10 @@
 ghost use Rattle.std.specs.Prelude.{◌≡◌, ◌+◌, ◌<◌, ◌^◌, ◌&&◌, ◌++◌, ◌∷◌, [], List, IfOk, IsOk, OnErr, None, length, map, vec_capacity};
 ghost use Rattle.std.specs.List.{list_all};
 ghost use Rattle.cqlp_grammar.specs.Events.{Event as Told, event_of};
-ghost use Rattle.cqlp_kind.specs.declared.kind.Kind.{Kind as OneKind};
-ghost use Rattle.cqlp_columns.specs.Batches.{HasTaken, IsAnswerOf, IsMade, batch, cleared, empty_column, empty_columns, fault_among, fault_at, fault_in};
-ghost use Rattle.cqlp_columns.specs.Batches.{has_layout, is_full, next_after, refusal_among, refusal_of_kinds, refusal_to, rows_in};
-ghost use Rattle.cqlp_columns.specs.Batches.{with_cell_at, with_cell_in};
+ghost use Rattle.cqlp_columns.specs.Arrays.{Site, site};
+ghost use Rattle.cqlp_columns.specs.Batches.{HasTaken, IsAnswerOf, IsMade, IsNew, batch, cleared, empty_column, empty_columns, fault_among, fault_at, fault_in};
+ghost use Rattle.cqlp_columns.specs.Batches.{has_layout, is_full, kinds_in, next_after, refusal_among, refusal_of_kinds, refusal_to, rows_in};
+ghost use Rattle.cqlp_columns.specs.Batches.{sites_in, with_cell_at, with_cell_in};
 ghost use Rattle.cqlp_columns.specs.Cells.{cell_of};
 ghost use Rattle.cqlp_columns.specs.Findings.{found_in};
 ghost use Rattle.cqlp_columns.specs.Turns.{AreEven, are_light, fault_out_of_turn, is_light_at, turn_to};
@@ -91,7 +91,7 @@ impl<A: Allocator> Columns<A> {
     where
         A: Clone,
         ensures answer { IsMade (refusal_of_kinds limits kinds.now) result }
-        ensures made { IfOk result (HasTaken limits kinds.now []) }
+        ensures made { IfOk result (IsNew limits kinds.now) }
     {
         if kinds.len() > limits.columns as usize {
             return Err(MakeError::TooManyColumns);
@@ -148,8 +148,8 @@ impl<A: Allocator> Columns<A> {
     #[inline(always)]
     pub fn take(&mut self, event: &Event<'_>) -> Result<(), TakeError>
         ensures answer { IsAnswerOf (refusal_to (found_in (event_of event.now)) self.old) result }
-        ensures taken { IsOk result → (kinds : List OneKind) (es : List Told) → HasTaken self.old.limits kinds es self.old
-            → HasTaken self.old.limits kinds (es ++ event_of event.now ∷ []) self.new }
+        ensures taken { IsOk result → (sites : List Site) (es : List Told) → HasTaken self.old.limits sites es self.old
+            → HasTaken self.old.limits sites (es ++ event_of event.now ∷ []) self.new }
         ensures refused { OnErr result (self.new ≡ self.old) }
     {
         match found_in(event) {
@@ -192,7 +192,7 @@ impl<A: Allocator> Columns<A> {
 
     /// Removes all rows, also one that is under way, and keeps the memory.
     pub fn clear(&mut self)
-        ensures { (kinds : List OneKind) (es : List Told) → HasTaken self.old.limits kinds es self.old → HasTaken self.old.limits kinds [] self.new }
+        ensures { (sites : List Site) (es : List Told) → HasTaken self.old.limits sites es self.old → HasTaken self.old.limits sites [] self.new }
     {
         clear_all(self.columns.as_mut_slice());
         self.light = true;
@@ -220,7 +220,8 @@ fn make_columns<A: Allocator + Clone>(
     limits: BatchLimits,
     kinds: &[Kind],
 ) -> Result<Vec<Column<A>, A>, AllocError>
-    ensures items { IfOk result (λ columns. columns.items ≡ empty_columns limits kinds.now) }
+    ensures items { IfOk result (λ columns. columns.items ≡ empty_columns limits (sites_in columns.items)) }
+    ensures kinds { IfOk result (λ columns. kinds_in columns.items ≡ kinds.now) }
     ensures capacity { IfOk result (λ columns. vec_capacity columns ≡ length kinds.now) }
 {
     let mut columns = Vec::with_capacity(alloc.clone()?, kinds.len())?;
@@ -236,7 +237,7 @@ fn make_column<A: Allocator + Clone>(
     limits: BatchLimits,
     kind: Kind,
 ) -> Result<Column<A>, AllocError>
-    ensures { IfOk result (λ column. column ≡ empty_column limits kind) }
+    ensures { IfOk result (λ column. column ≡ empty_column limits (site kind column.places)) }
 {
     let size = limits.bytes as usize + limits.content as usize;
     match Column::new(alloc, kind, limits.rows, size) {

@@ -15,6 +15,7 @@ pub mod Taken
 pub mod PageLoop
 pub mod ItemLoop
 pub mod Pairs
+pub mod Rests
 pub mod Rooms
 pub mod Lists
 pub mod FieldLoop

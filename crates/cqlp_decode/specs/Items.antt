@@ -2,11 +2,12 @@
 use Rattle.std.specs.Prelude.{◌≡◌, ◌==◌, ℕ, false, List, Option, Some, None, ⊤}
 use Rattle.cqlp_note.specs.Limits.{Rules, with_lenient}
 use Rattle.cqlp_kind.specs.declared.kind.Kind.{Kind}
+use Rattle.cqlp_kind.specs.declared.node.Node.{Node}
 use Rattle.cqlp_kind.specs.Scalars.{ScalarValue, allows_size}
 use Rattle.cqlp_kind.specs.CellStep.{CellEvent}
 use Rattle.cqlp_kind.specs.CellStep as cell
 use Rattle.cqlp_cell.specs.Fronts.{SaysScalar}
-use Rattle.cqlp_cell.specs.Levels.{IsInLevel, level_of, with_level}
+use Rattle.cqlp_cell.specs.Levels.{IsInLevel, level_of, passed, with_level}
 use Rattle.cqlp_cell.specs.Progress.{CellState}
 use Rattle.cqlp_cell.specs.declared.whole.BareItem.{BareItem}
 use Rattle.cqlp_cell.specs.declared.whole.Entered.{Entered}
@@ -63,6 +64,12 @@ HandsLeaf l k room level input row column HasGot Failed (handed.Taken used) =
 HandsLeaf l k room level input row column HasGot Failed (handed.Fault used) =
     SaysLeaf l k room level input row column used Failed
 
+-- The level goes on after an item that was handed out.
+abbrev pub PassesItem : List Node → (old : Level) → Handed → (new : Level) → Type 0
+PassesItem nodes old handed.Left new = new ≡ old
+PassesItem nodes old (handed.Taken used) new = new ≡ passed nodes old used
+PassesItem nodes old (handed.Fault used) new = new ≡ passed nodes old used
+
 -- An item was taken, and of its offset and its event this holds.
 pub record TakesOne (old : StreamState) (input : List ℕ) (used : ℕ) (Holds : ℕ → Event → Type 0) (new : StreamState)
     : Type 0 where
@@ -110,10 +117,9 @@ abbrev pub StandsIn : Option Entered → CellState → Type 0
 StandsIn None d = ⊤
 StandsIn (Some t) d = level_of d ≡ Some t.level
 
--- What is next is the end of the cell, which takes no byte, or nothing is done.
-abbrev pub LeavesCell : StreamState → (row column : ℕ) → Option BareItem → StreamState → Type 0
-LeavesCell old row column None new = new ≡ old
-LeavesCell old row column (Some t) new =
+-- What is next is the end of the cell, which takes no byte.
+abbrev pub LeavesCell : StreamState → (row column : ℕ) → BareItem → StreamState → Type 0
+LeavesCell old row column t new =
     (input : List ℕ) → TakesItem old input t.at t.used (part_told row column t.part) new
 
 -- From the end of a cell, at which a level stands, the reading went on into the next, which is a list, a set or a map: the
@@ -124,7 +130,7 @@ GoesToNext old q l page end input (Some n) new =
     (mid : StreamState)
     × ((rest : List ℕ) → TakesItem (state_of old (at_level q l)) rest end.at end.used (part_told page.row page.column end.part) mid)
     × TakesItem mid input n.entered.item.at n.entered.item.used (part_told n.page.row n.page.column n.entered.item.part)
-        (state_of new (at_level q n.entered.level))
+    (state_of new (at_level q n.entered.level))
     × IsConsistent new (at_level q n.entered.level)
     × IsInLevel q.cells n.entered.level
     × (new.stage ≡ stage.InCell n.page) × (new.refusal ≡ old.refusal)

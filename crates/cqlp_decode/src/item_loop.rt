@@ -5,7 +5,7 @@
 //! what the reading of the bytes says, and to stand where that does; and it reads by the functions by which `next`
 //! does, so that no rule stands here alone.
 
-ghost use Rattle.std.specs.Prelude.{◌≡◌, Ok, OnErr, OnOk, None, Some, []};
+ghost use Rattle.std.specs.Prelude.{◌≡◌, ◌-◌, ◌≤◌, length, Ok, OnErr, OnOk, None, Some, []};
 ghost use Rattle.cqlp_note.specs.declared.refusal.Refusal.{Refusal};
 ghost use Rattle.cqlp_decode.specs.declared.progress.StreamStage.TheVariants as stage;
 ghost use Rattle.cqlp_decode.specs.Cells.{DrainsCells, DrainsItems, StaysWithin, UsesWithin};
@@ -19,11 +19,11 @@ ghost use Rattle.cqlp_decode.specs.Progress.{IsConsistent, IsLawful, nodes_of, p
 use crate::leaf::{hand_kind, hand_leaf};
 use crate::list_loop::is_counted;
 use crate::page::{CellCursor, page_table};
-use crate::page_loop::Handed;
+use crate::page_loop::{Handed, front_of};
 use crate::parts::Parts;
 use crate::progress::{StreamProgress, StreamStage};
 use crate::step::FaultAfter;
-use cqlp_cell::{BareItem, BarePart, Level};
+use cqlp_cell::{BareItem, BarePart, DueItem, Level};
 use cqlp_grammar::{Event, Sink, SinkFault};
 use cqlp_kind::Kind;
 use cqlp_note::Asked;
@@ -41,6 +41,37 @@ pub struct PartTaken {
 pub struct ItemsHanded {
     pub used: usize,
     pub failed: bool,
+}
+
+/// Puts a level where a loop stands in its value, before these of the bytes within that, and says what was handed out of
+/// them, and whether the sink failed there.
+#[inline(always)]
+pub(crate) fn stop_at(
+    level: &mut Level,
+    here: Level,
+    rest: &[u8],
+    within: &[u8],
+    failed: bool,
+) -> ItemsHanded
+    requires { length rest.now ≤ length within.now }
+    ensures level { level.new ≡ here }
+    ensures handed { result ≡ record { used = length within.now - length rest.now; failed = failed } }
+{
+    *level = here;
+    let used = within.len() - rest.len();
+    ItemsHanded { used, failed }
+}
+
+/// The item that is due, where no more than these bytes are left of the input and of the value around it: then one
+/// comparison sees to both.
+#[inline(always)]
+pub(crate) fn due_in(rest: &[u8], due: DueItem) -> DueItem
+    ensures { result ≡ record due { room = length rest.now } }
+{
+    DueItem {
+        room: rest.len() as u64,
+        ..due
+    }
 }
 
 /// Hands the items of cells to the sink, as far as the loop takes them, and answers how many bytes of the input they
@@ -250,32 +281,28 @@ impl StreamProgress {
         let table = page_table(page.columns, &parts.table, &parts.given);
         let limits = self.limits;
         let mut here = *level;
-        let mut used = 0;
+        let Some(first) = here.due_item(table) else {
+            return stop_at(level, here, input, input, false);
+        };
+        let within = front_of(input, first.room);
+        let mut rest = within;
         'scalars: loop {
             let Some(due) = here.due_item(table) else {
                 break 'scalars;
             };
-            match hand_leaf(&limits, due, page, &input[used..], sink) {
+            match hand_leaf(&limits, due_in(rest, due), page, rest, sink) {
                 Handed::Left => break 'scalars,
                 Handed::Taken(taken) => {
                     here.pass(taken, table);
-                    used += taken;
+                    rest = &rest[taken..];
                 }
                 Handed::Fault(taken) => {
                     here.pass(taken, table);
-                    *level = here;
-                    return ItemsHanded {
-                        used: used + taken,
-                        failed: true,
-                    };
+                    return stop_at(level, here, &rest[taken..], within, true);
                 }
             }
         }
-        *level = here;
-        ItemsHanded {
-            used,
-            failed: false,
-        }
+        stop_at(level, here, rest, within, false)
     }
 
     /// The same of a list or a set, whose items are of this kind.
@@ -360,32 +387,28 @@ impl StreamProgress {
     {
         let limits = self.limits;
         let mut here = *level;
-        let mut used = 0;
+        let Some(first) = here.due_element(kind) else {
+            return stop_at(level, here, input, input, false);
+        };
+        let within = front_of(input, first.room);
+        let mut rest = within;
         'elements: loop {
             let Some(due) = here.due_element(kind) else {
                 break 'elements;
             };
-            match hand_kind(&limits, kind, due, page, &input[used..], sink) {
+            match hand_kind(&limits, kind, due_in(rest, due), page, rest, sink) {
                 Handed::Left => break 'elements,
                 Handed::Taken(taken) => {
                     here.pass_element(taken);
-                    used += taken;
+                    rest = &rest[taken..];
                 }
                 Handed::Fault(taken) => {
                     here.pass_element(taken);
-                    *level = here;
-                    return ItemsHanded {
-                        used: used + taken,
-                        failed: true,
-                    };
+                    return stop_at(level, here, &rest[taken..], within, true);
                 }
             }
         }
-        *level = here;
-        ItemsHanded {
-            used,
-            failed: false,
-        }
+        stop_at(level, here, rest, within, false)
     }
 
     /// Takes what is next of the cell that is under way, where it has no content and all its bytes lie in the input.

@@ -4,27 +4,31 @@
 //! in the loop's hands. What stands elsewhere is left, with the reading where it would stand: its items to the loop over
 //! the items of cells, and all else to `Decoder::next`.
 
-ghost use Rattle.std.specs.Prelude.{◌≡◌, ◌≤◌, Ok, None, Some, []};
+ghost use Rattle.std.specs.Prelude.{◌≡◌, ◌+◌, ◌^◌, ◌<◌, ◌≤◌, List, length, Ok, None, Some, []};
 ghost use Rattle.cqlp_note.specs.declared.refusal.Refusal.{Refusal};
+ghost use Rattle.cqlp_note.specs.Limits.{rules_asked};
+ghost use Rattle.cqlp_kind.specs.declared.node.Node.{Node};
+ghost use Rattle.cqlp_cell.specs.declared.open_values.Order.TheVariants as order;
 ghost use Rattle.cqlp_decode.specs.declared.progress.StreamStage.TheVariants as stage;
 ghost use Rattle.cqlp_decode.specs.Cells.{DrainsCells, DrainsItems, StaysWithin, UsesWithin};
-ghost use Rattle.cqlp_decode.specs.Items.{GoesToNext, IsIn, LeavesCell, StandsIn, TakesEntry, at_level};
+ghost use Rattle.cqlp_decode.specs.Items.{GoesToNext, HandsLeaf, IsIn, LeavesCell, PassesItem, StandsIn, TakesEntry, at_level};
 ghost use Rattle.cqlp_cell.specs.Sizes.{is_counted as has_count};
 ghost use Rattle.cqlp_cell.specs.Levels.{IsInLevel, IsPair};
 ghost use Rattle.cqlp_cell.specs.Whole.{Ends};
 ghost use Rattle.cqlp_decode.specs.Sinks.{Gets, Fails};
 ghost use Rattle.cqlp_decode.specs.Progress.{IsConsistent, IsLawful, nodes_of, parts_state, state_of, state_with};
 
-use crate::item_loop::{ItemsHanded, hand_part};
+use crate::item_loop::{ItemsHanded, due_in, hand_part, stop_at};
 use crate::leaf::hand_leaf;
 use crate::page::{CellCursor, page_table};
-use crate::page_loop::Handed;
+use crate::page_loop::{Handed, front_of};
 use crate::parts::Parts;
 use crate::progress::{StreamProgress, StreamStage};
 use crate::step::FaultAfter;
 use cqlp_cell::{BareItem, Entered, Level, PairKinds};
 use cqlp_grammar::{Sink, SinkFault};
 use cqlp_kind::Kind;
+use cqlp_note::Asked;
 use std::alloc::Allocator;
 
 /// Hands the cells that are due to the sink, as far as each is a list, a set or a map of scalars and lies in the input, and
@@ -81,6 +85,74 @@ pub(crate) fn is_counted(kind: Kind) -> bool
     ensures { result ≡ has_count kind }
 {
     matches!(kind, Kind::List | Kind::Set | Kind::Map)
+}
+
+/// Hands the key of a map that is next to the sink, if it is a scalar of this kind and lies in these bytes, which reach no
+/// further than the map, and goes on after it.
+#[inline(always)]
+fn hand_key<S: Sink>(
+    limits: &Asked,
+    kind: Kind,
+    here: &mut Level,
+    page: CellCursor,
+    rest: &[u8],
+    sink: &mut S,
+) -> Handed
+    requires key { here.old.value.order ≡ order.Keys }
+    requires next { 0 < here.old.value.left }
+    requires inside { here.old.offset ≤ here.old.value.stop }
+    requires place { here.old.offset + length rest.now < 2 ^ 64 }
+    ensures left { result ≡ Handed.Left → sink.new ≡ sink.old }
+    ensures passes { (nodes : List Node) → PassesItem nodes here.old result here.new }
+    ensures hands { HandsLeaf (rules_asked limits.now) kind (length rest.now) here.old.level rest.now page.row page.column
+        (λ e. Gets S.Sink sink.old here.old.offset e sink.new)
+        (λ e. Fails S.Sink sink.old here.old.offset e sink.new) result }
+{
+    let due = due_in(rest, here.due_in_pair(kind));
+    match hand_leaf(limits, due, page, rest, sink) {
+        Handed::Left => Handed::Left,
+        Handed::Taken(taken) => {
+            here.pass_key(taken);
+            Handed::Taken(taken)
+        }
+        Handed::Fault(taken) => {
+            here.pass_key(taken);
+            Handed::Fault(taken)
+        }
+    }
+}
+
+/// The same of the value that a key has.
+#[inline(always)]
+fn hand_value<S: Sink>(
+    limits: &Asked,
+    kind: Kind,
+    here: &mut Level,
+    page: CellCursor,
+    rest: &[u8],
+    sink: &mut S,
+) -> Handed
+    requires value { here.old.value.order ≡ order.Values }
+    requires inside { here.old.offset ≤ here.old.value.stop }
+    requires place { here.old.offset + length rest.now < 2 ^ 64 }
+    ensures left { result ≡ Handed.Left → sink.new ≡ sink.old }
+    ensures passes { (nodes : List Node) → PassesItem nodes here.old result here.new }
+    ensures hands { HandsLeaf (rules_asked limits.now) kind (length rest.now) here.old.level rest.now page.row page.column
+        (λ e. Gets S.Sink sink.old here.old.offset e sink.new)
+        (λ e. Fails S.Sink sink.old here.old.offset e sink.new) result }
+{
+    let due = due_in(rest, here.due_in_pair(kind));
+    match hand_leaf(limits, due, page, rest, sink) {
+        Handed::Left => Handed::Left,
+        Handed::Taken(taken) => {
+            here.pass_value(taken);
+            Handed::Taken(taken)
+        }
+        Handed::Fault(taken) => {
+            here.pass_value(taken);
+            Handed::Fault(taken)
+        }
+    }
 }
 
 impl StreamProgress {
@@ -156,6 +228,15 @@ impl StreamProgress {
         let Some(kinds) = level.pair_kinds(table) else {
             return self.hand_inside(parts, level, page, input, sink);
         };
+        // Most keys are texts, so that maps of these have a loop of their own.
+        if kinds.key == Kind::Varchar {
+            let value = kinds.value;
+            let kinds = PairKinds {
+                key: Kind::Varchar,
+                value,
+            };
+            return self.hand_pairs(parts, kinds, level, page, input, sink);
+        }
         self.hand_pairs(parts, kinds, level, page, input, sink)
     }
 
@@ -185,49 +266,27 @@ impl StreamProgress {
     {
         let limits = self.limits;
         let mut here = *level;
-        let mut used = 0;
+        if !here.has_key() {
+            return stop_at(level, here, input, input, false);
+        }
+        let within = front_of(input, here.due_in_pair(kinds.key).room);
+        let mut rest = within;
         'pairs: loop {
             if !here.has_key() {
                 break 'pairs;
             }
-            let due = here.due_in_pair(kinds.key);
-            match hand_leaf(&limits, due, page, &input[used..], sink) {
+            match hand_key(&limits, kinds.key, &mut here, page, rest, sink) {
                 Handed::Left => break 'pairs,
-                Handed::Taken(taken) => {
-                    here.pass_key(taken);
-                    used += taken;
-                }
-                Handed::Fault(taken) => {
-                    here.pass_key(taken);
-                    *level = here;
-                    return ItemsHanded {
-                        used: used + taken,
-                        failed: true,
-                    };
-                }
+                Handed::Taken(taken) => rest = &rest[taken..],
+                Handed::Fault(taken) => return stop_at(level, here, &rest[taken..], within, true),
             }
-            let due = here.due_in_pair(kinds.value);
-            match hand_leaf(&limits, due, page, &input[used..], sink) {
+            match hand_value(&limits, kinds.value, &mut here, page, rest, sink) {
                 Handed::Left => break 'pairs,
-                Handed::Taken(taken) => {
-                    here.pass_value(taken);
-                    used += taken;
-                }
-                Handed::Fault(taken) => {
-                    here.pass_value(taken);
-                    *level = here;
-                    return ItemsHanded {
-                        used: used + taken,
-                        failed: true,
-                    };
-                }
+                Handed::Taken(taken) => rest = &rest[taken..],
+                Handed::Fault(taken) => return stop_at(level, here, &rest[taken..], within, true),
             }
         }
-        *level = here;
-        ItemsHanded {
-            used,
-            failed: false,
-        }
+        stop_at(level, here, rest, within, false)
     }
 
     /// Hands the items of a list, a set or a map in whose level the reading stands to the sink, its end, and the cells after
@@ -292,7 +351,8 @@ impl StreamProgress {
     }
 
     /// Leaves the cell, at whose end a level stands.
-    #[inline(always)]
+    #[cold]
+    #[inline(never)]
     fn end_list<A: Allocator>(
         &mut self,
         parts: &mut Parts<A>,
@@ -308,7 +368,7 @@ impl StreamProgress {
         requires empty { parts.old.partial.content ≡ [] }
         ensures lawful { IsLawful self.new parts.new }
         ensures leaves { LeavesCell (state_of self.old (at_level (parts_state parts.old) level)) page.row page.column
-            (Some end) (state_with self.new parts.new) }
+            end (state_with self.new parts.new) }
     {
         parts.cells.set_level(level);
         let table = page_table(page.columns, &parts.table, &parts.given);

@@ -58,7 +58,7 @@ module _ (start : Start) (all : List ℕ) (p : Progress) (t : HasTaken start all
     };
   }
 
-nothing_taken : (s : Start) (lender : ℕ) → Appends s.output.given s.output.given [] → HasTaken s [] (begun s lender)
+pub nothing_taken : (s : Start) (lender : ℕ) → Appends s.output.given s.output.given [] → HasTaken s [] (begun s lender)
 nothing_taken s lender same = record {
   sent = [];
   left = [];
@@ -80,7 +80,7 @@ pub lawful : (f : FrameValue) (n : ℕ) → unfit_of f ≡ None → n ≡ parts_
 lawful f n e is = record { plain = not_compressed f (is_fit f e).agrees; direction = refl; bounded = omega (arith, is, small_enough f e) }
 
 -- all was passed on through a borrow that ended
-sent : {X : Type 0} (o : X → Output) (start : Start) (last end : X) (all : List ℕ) (c : Progress) → HasTaken start all c → c.waiting ≡ [] → length all < 2 ^ 32 → o last ≡ c.output → end ≡ last
+pub sent : {X : Type 0} (o : X → Output) (start : Start) (last end : X) (all : List ℕ) (c : Progress) → HasTaken start all c → c.waiting ≡ [] → length all < 2 ^ 32 → o last ≡ c.output → end ≡ last
     → Continued start.skip start.output all c.taken (o end) × (c.taken < 2 ^ 32)
 sent o start last end all c t none short left same =
     let r = has_continued start all c t none short in

@@ -9,6 +9,7 @@ pub mod Contents
 pub mod KeptValues
 pub mod PartsTaken
 pub mod FramesTaken
+pub mod Checking
 pub mod PageSteps
 pub mod PageRests
 pub mod UntoldCells

@@ -21,6 +21,9 @@ use Rattle.cqlp_encode.specs.declared.page_writer.PageError.{PageError}
 use Rattle.cqlp_encode.specs.declared.page_writer.PageError.TheVariants as page_error
 use Rattle.cqlp_encode.specs.declared.value_writing.ValueError.{ValueError}
 use Rattle.cqlp_encode.specs.declared.value_writing.ValueError.TheVariants as value_error
+use Rattle.cqlp_encode.specs.declared.appending.AppendError.{AppendError}
+use Rattle.cqlp_encode.specs.declared.appending.AppendError.TheVariants as append_error
+use Rattle.cqlp_encode.specs.Appending.{AppendsFrame}
 use Rattle.cqlp_encode.specs.Encoding.{Encodes, EncodesFrom}
 use Rattle.cqlp_encode.specs.ValueWriting.{WritesValue}
 use Rattle.cqlp_encode.specs.declared.binding.BindError.{BindError}
@@ -41,6 +44,17 @@ abbrev pub OneAnswerOfEncode : Type 0
 OneAnswerOfEncode =
     (f : FrameValue) (old new new' : Output) (r r' : Result ℕ EncodeError) → IsSome old.given
     → Encodes f old r new → Encodes f old r' new' → taken r' ≡ taken r → (r' ≡ r) × (new' ≡ new)
+
+-- memory was not refused
+abbrev pub IsGranted : Result ℕ AppendError → Type 0
+IsGranted (Err append_error.NoMemory) = ⊥
+IsGranted r = Unit {0}
+
+-- Of one frame behind the same bytes there is one answer, and there are the same bytes then, but where memory is refused.
+abbrev pub OneAnswerOfAppend : Type 0
+OneAnswerOfAppend =
+    (f : FrameValue) (old new new' : List ℕ) (r r' : Result ℕ AppendError) → IsGranted r → IsGranted r'
+    → AppendsFrame f old r new → AppendsFrame f old r' new' → (r' ≡ r) × (new' ≡ new)
 
 -- The same of a frame that is gone on with.
 abbrev pub OneAnswerOfEncodeFrom : Type 0

@@ -1,6 +1,7 @@
 pub mod Progress
 pub mod Fields
 pub mod Encoding
+pub mod Appending
 pub mod ValueWriting
 pub mod Binding
 pub mod PageWriting

@@ -1,13 +1,18 @@
 //! The laws of the encoder.
 
 ghost use Rattle.cqlp_encode.specs.Laws.{AttemptsAreOne, BoundIsAsWritten, CellIsWhole, OneAnswerOfBegin, OneAnswerOfBeginFrom};
-ghost use Rattle.cqlp_encode.specs.Laws.{OneAnswerOfBindValue, OneAnswerOfCell, OneAnswerOfResume};
+ghost use Rattle.cqlp_encode.specs.Laws.{OneAnswerOfAppend, OneAnswerOfBindValue, OneAnswerOfCell, OneAnswerOfResume};
 ghost use Rattle.cqlp_encode.specs.Laws.{OneAnswerOfEncode, OneAnswerOfEncodeFrom};
 ghost use Rattle.cqlp_encode.specs.Laws.{OneAnswerOfFinish, OneAnswerOfRawValue, OneAnswerOfWriteValue, PageIsAsEncoded};
 
 /// One answer of [`encode`](crate::encode) meets its clause, given how many bytes the target took.
 pub fn one_answer_of_encode()
     ensures { OneAnswerOfEncode }
+{}
+
+/// One answer of [`append`](crate::append) meets its clause, but where memory is refused.
+pub fn one_answer_of_append()
+    ensures { OneAnswerOfAppend }
 {}
 
 /// One answer of [`encode_from`](crate::encode_from) meets its clause, given how many bytes the target took.

@@ -1,6 +1,7 @@
 //! Frames of the CQL native protocol v4, written.
 #![tactic(auto)]
 
+mod appending;
 mod binding;
 mod fields;
 mod kept_values;
@@ -13,6 +14,7 @@ mod value_writing;
 mod values;
 mod writing;
 
+pub use appending::{AppendError, append};
 pub use binding::{BindError, bind_value, raw_value};
 pub use page_writer::{PageError, PageWriter};
 pub use value_writing::{ValueError, write_value};

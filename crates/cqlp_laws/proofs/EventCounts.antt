@@ -15,7 +15,7 @@ use Rattle.cqlp_note.specs.declared.refusal.Refusal.{Refusal}
 use Rattle.cqlp_note.specs.declared.refusal.Reason.TheVariants.{Overrun}
 use Rattle.cqlp_note.specs.Reader.{Said, More, Bad, Reader, Gives, Refuses, Takes, Idles, Got, says, number_of}
 use Rattle.cqlp_note.specs.Field.{FieldValue, FieldReader, field_of, is_negative}
-use Rattle.cqlp_note.specs.Step.{Emitted, Step, after_field, map_step}
+use Rattle.cqlp_note.specs.Step.{Emitted, map_step}
 use Rattle.cqlp_note.specs.Limits.{Rules, limit_of}
 use Rattle.cqlp_note.specs.Heading.{Heading, heading, has, beside_number}
 use Rattle.cqlp_note.proofs.Readers.{Always, says_always}

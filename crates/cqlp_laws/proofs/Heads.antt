@@ -4,7 +4,7 @@ use Rattle.std.proofs.Common.{◌≡◌, ℕ, zero, suc, ◌+◌, ◌-◌, ◌^�
 use Rattle.std.specs.Int.{Width, w8, w16, w32, w64, from_be_bytes}
 use Rattle.std.specs.Str.{is_utf8}
 use Rattle.std.proofs.lemmas.Bool.{leb-true}
-use Rattle.std.proofs.lemmas.List.{length-append, length-take-le, take-append-drop, take_at, append-nil}
+use Rattle.std.proofs.lemmas.List.{length-append, length-take-le, take-append-drop, append-nil}
 use Rattle.cqlp_note.specs.declared.field.Field.{Field}
 use Rattle.cqlp_note.specs.declared.field.Field.TheVariants as field
 use Rattle.cqlp_note.specs.declared.field.Notation.{Notation}
@@ -14,7 +14,7 @@ use Rattle.cqlp_note.specs.declared.opcode.Opcode.{Opcode}
 use Rattle.cqlp_note.specs.declared.opcode.Opcode.TheVariants as opcode
 use Rattle.cqlp_note.specs.declared.refusal.Reason.{Reason}
 use Rattle.cqlp_note.specs.declared.refusal.Reason.TheVariants.{Overrun}
-use Rattle.cqlp_note.specs.Reader.{Got, Reader, Gives, Refuses, Takes, number_of, says}
+use Rattle.cqlp_note.specs.Reader.{number_of}
 use Rattle.cqlp_note.specs.Field.{FieldValue, FieldReader, text_of, field_of, content_of, is_negative}
 use Rattle.cqlp_note.specs.Heading.{Heading, heading, has, beside_number}
 use Rattle.cqlp_note.specs.Limits.{Rules, limit_of}
@@ -42,7 +42,6 @@ use Rattle.cqlp_laws.specs.Contents.{EndsWhatIsRead, before_bytes, before_conten
 use Rattle.cqlp_laws.proofs.EventCounts.{always_then}
 use Rattle.cqlp_laws.proofs.RunsBack.{runs_split, taken}
 use Rattle.cqlp_laws.proofs.Offsets.{offset_is}
-use Rattle.cqlp_laws.proofs.PlainRuns.{always_any}
 
 -- ---- how fields are written
 

@@ -1,5 +1,5 @@
 -- What a lenient reading of a stream says, beside one that is not.
-use Rattle.std.proofs.Common.{◌≡◌, ℕ, ◌-◌, ◌<◌, ◌≤◌, ◌^◌, Bool, true, false, cond, ltb, leb, List, [], ◌∷◌, ◌++◌, length, take, drop, Option, Some, None, refl, sym, ap, ◌∙◌, inl, inr, ◌⊎◌, append-nil, arith}
+use Rattle.std.proofs.Common.{◌≡◌, ℕ, ◌-◌, Bool, true, false, cond, ltb, List, [], ◌∷◌, ◌++◌, length, take, drop, Option, Some, None, refl, sym, ap, ◌∙◌, inl, inr, ◌⊎◌, append-nil, arith}
 use Rattle.std.specs.Int.{w16, from_be_bytes}
 use Rattle.std.proofs.lemmas.Bool.{cases_lt, lt-ltb, le-ltb}
 use Rattle.cqlp_note.specs.declared.field.Notation.{Notation}
@@ -8,7 +8,6 @@ use Rattle.cqlp_note.specs.declared.refusal.Reason.{Reason}
 use Rattle.cqlp_note.specs.declared.refusal.Reason.TheVariants.{BadType}
 use Rattle.cqlp_note.specs.Reader.{Said, Bad, Takes, says, number_of}
 use Rattle.cqlp_note.specs.Reader as reader
-use Rattle.cqlp_note.specs.Field.{field_of}
 use Rattle.cqlp_note.specs.Step.{Emitted, Step, map_step}
 use Rattle.cqlp_note.specs.Limits.{Rules, with_lenient, limit_of}
 use Rattle.cqlp_note.specs.Heading.{beside_number}
@@ -16,8 +15,8 @@ use Rattle.cqlp_note.proofs.Runs.{runs_compare}
 use Rattle.cqlp_note.proofs.Yields.{map_said, says_map}
 use Rattle.cqlp_kind.specs.declared.kind.Kind.{Kind}
 use Rattle.cqlp_kind.specs.Types.{kinds}
-use Rattle.cqlp_kind.specs.TypeStep.{TypeSymbol, TypeEvent, TypePlace, Option_at, Text_of, Fields_of, Whole, option_kind, option_step, type_step_at}
-use Rattle.cqlp_kind.specs.CellStep.{CellEvent, CellPlace, Value_of, cell_step}
+use Rattle.cqlp_kind.specs.TypeStep.{TypeSymbol, TypePlace, Option_at, Text_of, Fields_of, Whole, option_kind, option_step, type_step_at}
+use Rattle.cqlp_kind.specs.CellStep.{CellPlace, Value_of, cell_step}
 use Rattle.cqlp_cell.specs.Lenient.{GoesOn, GoesOnWhere, IsOfContent}
 use Rattle.cqlp_cell.proofs.Lenient.{goes_on}
 use Rattle.cqlp_grammar.specs.Productions.{Symbol, Stream, In, In_type, Cell_due, In_cell, Extra}

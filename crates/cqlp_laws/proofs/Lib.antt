@@ -14,6 +14,8 @@ pub mod FreePlaces
 pub mod Plain
 pub mod Cuts
 pub mod WiderLimits
+pub mod NoParts
+pub mod AskedLimits
 pub mod OneAnswer
 pub mod OneRun
 pub mod NoFrames

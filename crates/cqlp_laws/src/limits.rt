@@ -1,11 +1,13 @@
 //! Laws of limits: what they refuse, and that they change nothing else.
 
-ghost use Rattle.cqlp_laws.specs.Limits.{FreeHasNoLimit, LimitsCutAtFirstExcess, LimitsOnlyCut};
+ghost use Rattle.cqlp_laws.specs.Limits.{AskedLimitsOnlyCut, FreeHasNoLimit, LimitsCutAtFirstExcess, LimitsOnlyCut};
 
 /// Limits only cut: wider ones change no event and no refusal that is not a limit's own, where the same tables are
-/// given.
+/// given and parts have one size. So it is of any two decoders, where no content comes in parts; those have as many
+/// bytes as the limit on a cell, so that of contents in parts it is so where that limit is the same.
 pub fn limits_only_cut()
-    ensures { LimitsOnlyCut }
+    ensures rules { LimitsOnlyCut }
+    ensures asked { AskedLimitsOnlyCut }
 {}
 
 /// Within limits a stream says just what it says without, up to the first item that passes all tests before its limit

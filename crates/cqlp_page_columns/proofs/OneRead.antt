@@ -9,7 +9,6 @@ use Rattle.cqlp_note.specs.Limits.{Rules}
 use Rattle.cqlp_note.specs.Reader.{Said, More, Got, Bad, says}
 use Rattle.cqlp_note.specs.Step.{Emitted}
 use Rattle.cqlp_note.proofs.Runs.{runs_compare, runs_stay}
-use Rattle.cqlp_kind.specs.declared.kind.Kind.{Kind}
 use Rattle.cqlp_grammar.specs.declared.sink.Sink as sink
 use Rattle.cqlp_decode.specs.Reading.{Ends, Event, Gifts, Place, Verdict, Waits, Refused, Reads, Says, start_with, step}
 use Rattle.cqlp_decode.specs.Progress.{StreamState}
@@ -19,6 +18,7 @@ use Rattle.cqlp_decode.proofs.Gets.{refuses_new}
 use Rattle.cqlp_columns.specs.declared.columns.BatchLimits.{BatchLimits}
 use Rattle.cqlp_columns.specs.declared.columns.TakeError.{TakeError}
 use Rattle.cqlp_columns.specs.declared.columns.TakeError.TheVariants as fault
+use Rattle.cqlp_columns.specs.Arrays.{Site}
 use Rattle.cqlp_columns.specs.Batches.{Batch, HasTaken, batch_of, fault_among, has_room, is_full}
 use Rattle.cqlp_columns.specs.Findings.{Finding, Nothing, Part, Whole, found_in}
 use Rattle.cqlp_page_columns.specs.declared.filled.Filled.{Filled}
@@ -106,14 +106,14 @@ abbrev events_in : List (ℕ × Event) → List Event
 events_in [] = []
 events_in (e ∷ es) = e.1 ∷ events_in es
 
-taken_all : (kinds : List Kind) (a b : Batch) (had : List Event) (cells : List (ℕ × Event)) → HasTaken a.limits kinds had a → TakesCells a cells b
-    → b ≡ batch_of a.limits kinds (had ++ events_in cells)
-taken_all kinds a b had [] is t = t ∙ is ∙ ap (batch_of a.limits kinds) (sym (append-nil had))
-taken_all kinds a b had (e ∷ es) is t =
-    let next : t.0 ≡ batch_of a.limits kinds (had ++ e.1 ∷ []) = t.1.taken kinds had is in
+taken_all : (sites : List Site) (a b : Batch) (had : List Event) (cells : List (ℕ × Event)) → HasTaken a.limits sites had a → TakesCells a cells b
+    → b ≡ batch_of a.limits sites (had ++ events_in cells)
+taken_all sites a b had [] is t = t ∙ is ∙ ap (batch_of a.limits sites) (sym (append-nil had))
+taken_all sites a b had (e ∷ es) is t =
+    let next : t.0 ≡ batch_of a.limits sites (had ++ e.1 ∷ []) = t.1.taken sites had is in
     let limits : t.0.limits ≡ a.limits = ap (λ (z : Batch). z.limits) next in
-    let more = taken_all kinds t.0 b (had ++ e.1 ∷ []) es (subst (λ (l : BatchLimits). t.0 ≡ batch_of l kinds (had ++ e.1 ∷ [])) (sym limits) next) t.2 in
-    more ∙ ap (λ (l : BatchLimits). batch_of l kinds ((had ++ e.1 ∷ []) ++ events_in es)) limits ∙ ap (batch_of a.limits kinds) (append_assoc had
+    let more = taken_all sites t.0 b (had ++ e.1 ∷ []) es (subst (λ (l : BatchLimits). t.0 ≡ batch_of l sites (had ++ e.1 ∷ [])) (sym limits) next) t.2 in
+    more ∙ ap (λ (l : BatchLimits). batch_of l sites ((had ++ e.1 ∷ []) ++ events_in es)) limits ∙ ap (batch_of a.limits sites) (append_assoc had
     (e.1 ∷ []) (events_in es))
 
 split_at : (a c : Batch) (xs : List (ℕ × Event)) (y : ℕ × Event) (rest : List (ℕ × Event)) → TakesCells a (xs ++ y ∷ rest) c
@@ -217,7 +217,7 @@ module _ (gifts : Gifts) (l : Rules) (s input : List ℕ) (es : List (ℕ × Eve
   few v t t' all y =
       let le = no_further gifts l (s ++ input) (es ++ t) (es ++ t') v y.0 y.1 all y.2 in omega (arith, le, length-append es t, length-append es t')
 
-  module _ (kinds : List Kind) (had : List Event) (columns : Batch) (has : HasTaken columns.limits kinds had columns) where
+  module _ (sites : List Site) (had : List Event) (columns : Batch) (has : HasTaken columns.limits sites had columns) where
     -- how a call ended, after these cells and at most one other event
     abbrev EndsBy : (cells other : List (ℕ × Event)) → (c : Batch) → (used : ℕ) → Why → Type 0
     EndsBy cells other c used why.More = (is_full c ≡ false) × (other ≡ []) × (used ≡ length input) × Says l (start_with gifts) (s ++ input) (es ++ cells) Waits
@@ -237,7 +237,7 @@ module _ (gifts : Gifts) (l : Rules) (s input : List ℕ) (es : List (ℕ × Eve
       ends : EndsBy cells other c used w
 
     same_columns : (c c' : Batch) (cells : List (ℕ × Event)) → TakesCells columns cells c → TakesCells columns cells c' → c' ≡ c
-    same_columns c c' cells x y = taken_all kinds columns c' had cells has y ∙ sym (taken_all kinds columns c had cells has x)
+    same_columns c c' cells x y = taken_all sites columns c' had cells has y ∙ sym (taken_all sites columns c had cells has x)
 
     -- a call that read on took the next event
     goes_on : (c c' : Batch) (used used' : ℕ) (w w' : Why) (x : Outcome c used w) (y : Outcome c' used' w')
@@ -476,9 +476,9 @@ refusal_alike why.Failed why.More same = absurd cc
 refusal_alike why.Failed why.Full same = absurd cc
 refusal_alike why.Failed (why.Refused r) same = absurd cc
 
-module _ {S : Type 0} (m : sink.Ghosts S) (gifts : Gifts) (s : List ℕ) (es : List (ℕ × Event)) (kinds : List Kind) (had : List Event)
+module _ {S : Type 0} (m : sink.Ghosts S) (gifts : Gifts) (s : List ℕ) (es : List (ℕ × Event)) (sites : List Site) (had : List Event)
     (old new new' : StreamState) (input : List ℕ) (columns columns' columns'' : Batch) (before after after' : S) (w w' : Went) (f f' : Filled)
-    (a : AfterGifts gifts old s es) (has : HasTaken columns.limits kinds had columns) (x : HasRead m old new input columns columns' before after w f)
+    (a : AfterGifts gifts old s es) (has : HasTaken columns.limits sites had columns) (x : HasRead m old new input columns columns' before after w f)
     (y : HasRead m old new' input columns columns'' before after' w' f') where
   abbrev One : Type 0
   One = AreOneRead m gifts s input es new new' columns columns' columns'' before after after' w w' f f'
@@ -529,10 +529,10 @@ module _ {S : Type 0} (m : sink.Ghosts S) (gifts : Gifts) (s : List ℕ) (es : L
       let l = old.rules in
       let g = x.fills gifts s es a in
       let h = y.fills gifts s es a in
-      let p = made gifts l s input es kinds had columns has m old new none refl x.rules columns' before after f.used x.within g.cells g.taken f.stop g.stops in
-      let q = made gifts l s input es kinds had columns has m old new' none refl y.rules columns'' before after' f'.used y.within h.cells h.taken f'.stop
+      let p = made gifts l s input es sites had columns has m old new none refl x.rules columns' before after f.used x.within g.cells g.taken f.stop g.stops in
+      let q = made gifts l s input es sites had columns has m old new' none refl y.rules columns'' before after' f'.used y.within h.cells h.taken f'.stop
       h.stops in
-      let same = same_outcome gifts l s input es kinds had columns has columns' columns'' f.used f'.used f.stop f'.stop p.0 q.0 in record {
+      let same = same_outcome gifts l s input es sites had columns has columns' columns'' f.used f'.used f.stop f'.stop p.0 q.0 in record {
         used = same.1;
         stop = same.2;
         went = same_went;
@@ -557,5 +557,5 @@ module _ {S : Type 0} (m : sink.Ghosts S) (gifts : Gifts) (s : List ℕ) (es : L
 
 module _ {S : Type 0} (m : sink.Ghosts S) where
   pub one_answer_of_read : OneAnswerOfRead m
-  one_answer_of_read gifts s es kinds had old new new' input columns columns' columns'' before after after' w w' f f' a has x y =
-      by_refusal m gifts s es kinds had old new new' input columns columns' columns'' before after after' w w' f f' a has x y old.refusal refl
+  one_answer_of_read gifts s es sites had old new new' input columns columns' columns'' before after after' w w' f f' a has x y =
+      by_refusal m gifts s es sites had old new new' input columns columns' columns'' before after after' w w' f f' a has x y old.refusal refl

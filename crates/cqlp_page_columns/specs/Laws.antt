@@ -1,12 +1,12 @@
 -- The law of pages that are read into columns.
 use Rattle.std.specs.Prelude.{◌≡◌, ◌≤◌, ℕ, ◌++◌, List, [], ◌∷◌, length, take, Some, ⊤}
 use Rattle.cqlp_note.specs.declared.refusal.Refusal.{Refusal}
-use Rattle.cqlp_kind.specs.declared.kind.Kind.{Kind}
 use Rattle.cqlp_grammar.specs.declared.sink.Sink as sink
 use Rattle.cqlp_decode.specs.Reading.{Event, Gifts}
 use Rattle.cqlp_decode.specs.Progress.{StreamState}
 use Rattle.cqlp_decode.specs.Sinks.{Fails, Gets}
 use Rattle.cqlp_decode.specs.Streams.{AfterGifts}
+use Rattle.cqlp_columns.specs.Arrays.{Site}
 use Rattle.cqlp_columns.specs.Batches.{Batch, HasTaken}
 use Rattle.cqlp_page_columns.specs.Filling.{FillsOn, Repeats, TakesCells, refusal_after, went_of}
 use Rattle.cqlp_page_columns.specs.declared.page_columns.Went.{Went}
@@ -60,8 +60,8 @@ module _ {S : Type 0} (m : sink.Ghosts S) where
   -- other sink fails is its own.
   abbrev pub OneAnswerOfRead : Type 0
   OneAnswerOfRead =
-      (gifts : Gifts) (s : List ℕ) (es : List (ℕ × Event)) (kinds : List Kind) (had : List Event) (old new new' : StreamState) (input : List ℕ)
+      (gifts : Gifts) (s : List ℕ) (es : List (ℕ × Event)) (sites : List Site) (had : List Event) (old new new' : StreamState) (input : List ℕ)
       (columns columns' columns'' : Batch) (before after after' : S) (w w' : Went) (f f' : Filled)
-      → AfterGifts gifts old s es → HasTaken columns.limits kinds had columns
+      → AfterGifts gifts old s es → HasTaken columns.limits sites had columns
       → HasRead old new input columns columns' before after w f → HasRead old new' input columns columns'' before after' w' f'
       → AreOneRead gifts s input es new new' columns columns' columns'' before after after' w w' f f'

@@ -1,9 +1,9 @@
 -- Where the events of a page go: into its columns, or to the sink beside them.
 use Rattle.std.specs.Prelude.{◌≡◌, ℕ, Bool, true, false, ◌++◌, List, [], ◌∷◌, is_none, ⊤}
-use Rattle.cqlp_kind.specs.declared.kind.Kind.{Kind}
 use Rattle.cqlp_grammar.specs.declared.sink.Sink as sink
 use Rattle.cqlp_grammar.specs.Events.{Event}
 use Rattle.cqlp_decode.specs.Sinks.{Gets, Fails}
+use Rattle.cqlp_columns.specs.Arrays.{Site}
 use Rattle.cqlp_columns.specs.Batches.{Batch, HasTaken, fault_at, is_full}
 use Rattle.cqlp_columns.specs.Findings.{Finding, Nothing, Part, Whole, found_in}
 use Rattle.cqlp_page_columns.specs.declared.page_columns.Went.{Went}
@@ -24,8 +24,8 @@ takes b (Whole column c) = is_none (fault_at column c b)
 -- Columns took a cell, and have it after those that they had.
 pub record TakesCell (before : Batch) (e : Event) (after : Batch) : Type 0 where
   pub free : takes before (found_in e) ≡ true
-  pub taken : (kinds : List Kind) (es : List Event) → HasTaken before.limits kinds es before
-      → HasTaken before.limits kinds (es ++ e ∷ []) after
+  pub taken : (sites : List Site) (es : List Event) → HasTaken before.limits sites es before
+      → HasTaken before.limits sites (es ++ e ∷ []) after
 
 module _ {S : Type 0} (m : sink.Ghosts S) where
   -- Where an event goes: the columns take it, and are full then or not; or they do not take it and stay as they are, and the other sink gets it, or

@@ -1,5 +1,5 @@
 -- Values under their keys, at most so many, of which the latest stay.
-use Rattle.std.specs.Prelude.{ℕ, ◌≤◌, ◌-◌, Bool, List, [], ◌∷◌, length, take}
+use Rattle.std.specs.Prelude.{◌≡◌, ℕ, ◌≤◌, ◌-◌, Bool, List, [], ◌∷◌, length, take}
 use Rattle.std.specs.Option.{option_map_or}
 use Rattle.std.specs.Map.{lookup_entry, remove_entry}
 
@@ -8,11 +8,11 @@ pub record Latest (K V : Type 0) : Type 0 where
   pub limit : ℕ
   pub entries : List (K × V)
 
--- there is memory for as many as there may be
+-- there is memory for just as many as there may be
 pub record HasRoom {X : Type 0} (limit : ℕ) (entries : List X) (capacity : ℕ) : Type 0 where
   pub some : 1 ≤ limit
   pub within : length entries ≤ limit
-  pub room : limit ≤ capacity
+  pub room : capacity ≡ limit
 
 module _ {K V : Type 0} where
   abbrev pub latest : ℕ → List (K × V) → Latest K V

@@ -1,6 +1,6 @@
 //! The types of statements that were prepared, for the pages that answer EXECUTEs.
 
-ghost use Rattle.std.specs.Prelude.{◌≡◌, ◌↔◌, ◌⊎◌, IfOk, IsErrOf, OnErr, OnOk, option_map};
+ghost use Rattle.std.specs.Prelude.{◌≡◌, ◌↔◌, ◌⊎◌, IfOk, IsErrOf, IsSome, OnErr, OnOk, option_map};
 
 use crate::error::NewPreparedError;
 use crate::latest::Latest;
@@ -81,7 +81,7 @@ impl<A: Allocator> PreparedTypes<A> {
 }
 
 impl<A: Allocator + Clone> PreparedTypes<A> {
-    ghost use Rattle.cqlp_prepared.specs.Keeping.{answered, new_keeping, prepared, types_for, types_of};
+    ghost use Rattle.cqlp_prepared.specs.Keeping.{answered, new_keeping, prepared, short_enough, types_for, types_of};
 
     /// Nothing is known. At most `statements` statements will be, and at most `executes` EXECUTEs wait, 1 to 65,535 each.
     pub fn new(alloc: A, statements: u16, executes: u16) -> Result<Self, NewPreparedError>
@@ -99,10 +99,12 @@ impl<A: Allocator + Clone> PreparedTypes<A> {
 
     /// Says that a PREPARED response named a statement with this id, and has these types of its result. It takes the place of the statement
     /// that had the id, and where all places are taken, of the one that was prepared or executed longest ago. A statement with an id of more
-    /// than [`StatementId::MOST`] bytes is not kept. Where memory for the copy of the table is refused, nothing changes.
+    /// than [`StatementId::MOST`] bytes is not kept, and no memory is asked for. Where memory for the copy of the table is refused, nothing
+    /// changes.
     pub fn prepared(&mut self, id: &[u8], types: &TypeTable<A>) -> Result<(), NoMemory>
         ensures kept { OnOk result (self.new ≡ prepared id.now types.now.nodes self.old) }
         ensures unchanged { OnErr result (self.new ≡ self.old) }
+        ensures asks { OnErr result (IsSome (short_enough id.now)) }
     {
         if let Some(id) = StatementId::new(id) {
             let table = types.clone_table()?;
@@ -112,10 +114,11 @@ impl<A: Allocator + Clone> PreparedTypes<A> {
     }
 
     /// Says that a response came under this stream id, as [`PreparedTypes::answered`] does, and copies the types of the statement for
-    /// `Decoder::give`.
+    /// `Decoder::give`. Memory is asked for only where there are types.
     pub fn types_for(&mut self, stream: i16) -> Result<Option<TypeTable<A>>, NoMemory>
         ensures is { IfOk result (λ types. option_map (λ table. table.nodes) types ≡ types_for stream self.old) }
         ensures left { self.new ≡ answered stream self.old }
+        ensures asks { OnErr result (IsSome (types_for stream self.old)) }
     {
         match self.answered(stream) {
             Some(id) => self.copy_of(&id),
@@ -124,7 +127,8 @@ impl<A: Allocator + Clone> PreparedTypes<A> {
     }
 
     fn copy_of(&self, id: &StatementId) -> Result<Option<TypeTable<A>>, NoMemory>
-        ensures { IfOk result (λ types. option_map (λ table. table.nodes) types ≡ types_of id.now self.now) }
+        ensures is { IfOk result (λ types. option_map (λ table. table.nodes) types ≡ types_of id.now self.now) }
+        ensures asks { OnErr result (IsSome (types_of id.now self.now)) }
     {
         match self.types_of(id) {
             Some(types) => Ok(Some(types.clone_table()?)),

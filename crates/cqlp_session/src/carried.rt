@@ -2,7 +2,7 @@
 
 ghost use Rattle.std.specs.Borrow.{Lends, sem};
 ghost use Rattle.std.specs.contracts.option.Option.{the_row as OptionOf};
-ghost use Rattle.std.specs.Prelude.{◌≡◌, IfOk, IsSome, None, Some, option_copied, replicate};
+ghost use Rattle.std.specs.Prelude.{◌≡◌, IfOk, IsSome, None, Some, option_copied, replicate, vec_capacity, vec_len};
 ghost use Rattle.cqlp_session.specs.Slots.{put, under};
 
 use crate::slots;
@@ -17,16 +17,17 @@ pub struct Refused<E, T> {
     pub carried: T,
 }
 
-/// This many places for values, all empty.
+/// This many places for values, all empty, in memory for just these.
 pub(crate) fn empty<T: Drop, A: Allocator>(
     alloc: A,
     len: usize,
 ) -> Result<Vec<Option<T>, A>, AllocError>
-    ensures { IfOk result (λ carried. carried.items ≡ replicate len None) }
+    ensures places { IfOk result (λ carried. carried.items ≡ replicate len None) }
+    ensures capacity { IfOk result (λ carried. vec_capacity carried ≡ vec_len carried) }
 {
     let mut carried = Vec::with_capacity(alloc, len)?;
     for _ in 0..len {
-        carried.push(None)?;
+        carried.push_reserved(None);
     }
     Ok(carried)
 }

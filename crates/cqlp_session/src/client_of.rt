@@ -44,13 +44,14 @@ pub struct ClientOf<T, A: Allocator = Global> {
 }
 
 impl<T, A: Allocator> Model for ClientOf<T, A> {
+    ghost use Rattle.std.specs.Prelude.{◌≡◌, vec_capacity, vec_len};
     ghost use Rattle.cqlp_session.specs.Carried.{CarryingClient, StandWith};
 
     ghost Value = { CarryingClient T };
 
     ghost view = { λ c. record { core = c.core; carried = c.carried.items } };
 
-    ghost invariant = { λ c. StandWith c.core.slots c.carried.items };
+    ghost invariant = { λ c. StandWith c.core.slots c.carried.items × (vec_capacity c.carried ≡ vec_len c.carried) };
 }
 
 impl<T: Drop, A: Allocator> ClientOf<T, A> {

@@ -42,11 +42,14 @@ pub struct Server<A: Allocator = Global> {
 }
 
 impl<A: Allocator> Model for Server<A> {
+    ghost use Rattle.std.specs.Prelude.{◌≡◌, length, vec_capacity};
     ghost use Rattle.cqlp_session.specs.Server.{ServerCore};
 
     ghost Value = { ServerCore };
 
     ghost view = { λ s. record { phase = s.phase; slots = s.slots.items } };
+
+    ghost invariant = { λ s. vec_capacity s.slots ≡ length s.slots.items };
 }
 
 impl<A: Allocator> Server<A> {

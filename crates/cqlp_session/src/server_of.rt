@@ -24,13 +24,14 @@ pub struct ServerOf<T, A: Allocator = Global> {
 }
 
 impl<T, A: Allocator> Model for ServerOf<T, A> {
+    ghost use Rattle.std.specs.Prelude.{◌≡◌, vec_capacity, vec_len};
     ghost use Rattle.cqlp_session.specs.Carried.{CarryingServer, StandWith};
 
     ghost Value = { CarryingServer T };
 
     ghost view = { λ s. record { core = s.core; carried = s.carried.items } };
 
-    ghost invariant = { λ s. StandWith s.core.slots s.carried.items };
+    ghost invariant = { λ s. StandWith s.core.slots s.carried.items × (vec_capacity s.carried ≡ vec_len s.carried) };
 }
 
 impl<T: Drop, A: Allocator> ServerOf<T, A> {

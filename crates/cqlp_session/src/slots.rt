@@ -1,6 +1,6 @@
 //! What stands under each stream id.
 
-ghost use Rattle.std.specs.Prelude.{◌≡◌, IfOk, None, replicate};
+ghost use Rattle.std.specs.Prelude.{◌≡◌, IfOk, None, replicate, vec_capacity};
 ghost use Rattle.cqlp_session.specs.Slots.{has_slot, index_of, put, under};
 
 use std::alloc::{AllocError, Allocator};
@@ -45,14 +45,17 @@ pub(crate) fn put<T: Copy>(slots: &mut [Option<T>], id: i16, what: Option<T>)
     }
 }
 
-/// This many slots, all empty.
+/// This many slots, all empty, in memory for just these.
 pub(crate) fn empty<T: Copy, A: Allocator>(
     alloc: A,
     len: usize,
 ) -> Result<Vec<Option<T>, A>, AllocError>
-    ensures { IfOk result (λ slots. slots.items ≡ replicate len None) }
+    ensures slots { IfOk result (λ slots. slots.items ≡ replicate len None) }
+    ensures capacity { IfOk result (λ slots. vec_capacity slots ≡ len) }
 {
     let mut slots = Vec::with_capacity(alloc, len)?;
-    slots.resize(len, None).unwrap();
+    for _ in 0..len {
+        slots.push_reserved(None);
+    }
     Ok(slots)
 }

@@ -1,20 +1,23 @@
 //! The free stream ids, one bit to an id, so that the least is found a word at a time.
 
-ghost use Rattle.std.specs.Prelude.{◌≡◌, ◌*◌, ◌^◌, ◌<◌, ◌≤◌, IfNone, IfOk, IfSome, length};
+ghost use Rattle.std.specs.Prelude.{◌≡◌, ◌+◌, ◌*◌, ◌/◌, ◌^◌, ◌<◌, ◌≤◌, IfNone, IfOk, IfSome, length, vec_capacity};
 ghost use Rattle.cqlp_session.specs.Ids.{IsFirstBit, NoBit, WithBit, all_ones};
 
 use std::alloc::{AllocError, Allocator};
 
 const BITS: usize = 64;
 
-/// Words with a bit for each of `len` ids and for those that fill up the last word, all set.
+/// Words with a bit for each of `len` ids and for those that fill up the last word, all set, in memory for just these.
 pub(crate) fn all<A: Allocator>(alloc: A, len: usize) -> Result<Vec<u64, A>, AllocError>
     requires { len ≤ 2 ^ 15 }
-    ensures { IfOk result (λ words. words.items ≡ all_ones len) }
+    ensures words { IfOk result (λ words. words.items ≡ all_ones len) }
+    ensures capacity { IfOk result (λ words. vec_capacity words ≡ (len + 63) / 64) }
 {
-    let len = len.div_ceil(BITS);
-    let mut words = Vec::with_capacity(alloc, len)?;
-    words.resize(len, u64::MAX).unwrap();
+    let count = len.div_ceil(BITS);
+    let mut words = Vec::with_capacity(alloc, count)?;
+    for _ in 0..count {
+        words.push_reserved(u64::MAX);
+    }
     Ok(words)
 }
 

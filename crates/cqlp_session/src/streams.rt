@@ -25,7 +25,7 @@ pub(crate) struct Streams<A: Allocator = Global> {
 }
 
 impl<A: Allocator> Model for Streams<A> {
-    ghost use Rattle.std.specs.Prelude.{List, Option, length};
+    ghost use Rattle.std.specs.Prelude.{◌≡◌, List, Option, length, vec_capacity, vec_len};
     ghost use Rattle.cqlp_session.specs.declared.streams.OpenRequest.{OpenRequest};
     ghost use Rattle.cqlp_session.specs.Slots.{IsSlotCount};
     ghost use Rattle.cqlp_session.specs.Ids.{Marks};
@@ -34,7 +34,8 @@ impl<A: Allocator> Model for Streams<A> {
 
     ghost view = { λ s. s.slots.items };
 
-    ghost invariant = { λ s. IsSlotCount (length s.slots.items) × Marks s.free.items s.slots.items };
+    ghost invariant = { λ s. IsSlotCount (length s.slots.items) × Marks s.free.items s.slots.items
+        × (vec_capacity s.slots ≡ vec_len s.slots) × (vec_capacity s.free ≡ vec_len s.free) };
 }
 
 impl<A: Allocator> Streams<A> {

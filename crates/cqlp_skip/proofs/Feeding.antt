@@ -126,7 +126,7 @@ module _ (d d' : Decoding) (base used used' last : ℕ) (frame frame' : Option O
             stands = goes_on (s ++ take (p + k) input) more k refl few q.drains.stands (framed more q.drains.got) count (λ r is. refused_by more r is (q.says none));
             got = seen more q.drains.got;
           } in
-          (h, ends_up more k e.1)
+          (h, ends_up more k e.1, omega arith)
 
       feeds_fault : (k : ℕ) → p + k ≤ length input → (state d').refusal ≡ None → DrainsTo (with_event f) (FailsAtEvent faulted) (state d) (drop p input) (fed.Fault k) (state d') (shifted v base frame) (shifted w base' frame') → used' ≡ min (used + (p + k)) (2 ^ 64 - 1) → Fails f xs new (s ++ take (p + k) input) stretches gifts es faulted v w
       feeds_fault k few now drains count =
@@ -152,7 +152,7 @@ module _ (d d' : Decoding) (base used used' last : ℕ) (frame frame' : Option O
         let none = append-nil es in
         let stands : AfterGifts gifts (state d') (drop base s ++ []) (es ++ []) = subst (λ (z : StreamState). AfterGifts gifts z (drop base s ++ []) (es ++ [])) (sym same) (rw (none, append-nil (drop base s)) a.stands) in
         let h = goes_on (s ++ take (p + 0) input) [] 0 refl (omega (arith, passed)) stands framed count (λ q is. subst (λ (z : StreamState). Says z.rules (start_with gifts) (drop base xs) (es ++ []) (Refused q.at q.why)) (sym same) (rw none (a.refused q (sym (ap (λ (z : StreamState). z.refusal) same) ∙ is)))) in
-        (record { more = []; stands = h; got = seen }, inl (omega arith, refl))
+        (record { more = []; stands = h; got = seen }, inl (omega arith, refl), omega arith)
 
     feeds_new : (x : Fed) → (state d).refusal ≡ None → p + used_of (length (drop p input)) x ≤ length input → DrainsBy x (state d).refusal (state d').refusal → DrainsTo (with_event f) (FailsAtEvent faulted) (state d) (drop p input) x (state d') (shifted v base frame) (shifted w base' frame')
         → used' ≡ min (used + used_of (length input) (fed_from base p x)) (2 ^ 64 - 1) → FeedsTo f faulted xs p new s stretches gifts es input (fed_from base p x) v w

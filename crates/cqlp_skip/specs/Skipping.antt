@@ -67,11 +67,12 @@ module _ {V : Type 0} (f : V → ℕ → Event → V) (xs : List ℕ) (new : Ski
   abbrev pub HandsAll : (before after : V) → Type 0
   HandsAll before after = (h : Hands before after) × Says (rules_in new) (start_with gifts) (drop new.base s) (events ++ h.more) Waits
 
-  -- and the bytes used end with the last of them; or no event was handed out, and no byte used but those passed over
+  -- and the bytes used end with the last of them; or no event was handed out, and no byte used but those passed over, which are used in each case
   abbrev pub HandsUpTo : (used passed : ℕ) → (before after : V) → Type 0
   HandsUpTo used passed before after =
       (h : Hands before after)
       × (((used ≡ passed) × (h.more ≡ [])) ⊎ ((q : Place) × Reads (rules_in new) (start_with gifts) (drop new.base s) (events ++ h.more) q []))
+      × (passed ≤ used)
 
   -- the same as `Hands`, but at the last of the events the sink failed, with which the bytes used end
   pub record Fails (faulted : V → ℕ → Event → V → Type 0) (before after : V) : Type 0 where

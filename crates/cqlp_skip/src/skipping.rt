@@ -112,6 +112,7 @@ impl<A: Allocator> SkippingDecoder<A> {
         ensures used { self.new.used ≡ min (self.old.used + pieces.used_of (length input.now) result.0) (2 ^ 64 - 1) }
         ensures place { (self.new.base ≡ self.old.base) × (self.new.last ≡ self.old.last) }
         ensures rules { rules_in self.new ≡ rules_in self.old }
+        ensures given { (stream self.new).given ≡ (stream self.old).given }
     {
         let passed = passed_of(self.base, self.used, input.len());
         let mut shifting = Shifting {

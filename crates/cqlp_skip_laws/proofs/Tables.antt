@@ -5,7 +5,7 @@ use Rattle.cqlp_type.specs.Table.{Table}
 use Rattle.cqlp_decode.specs.declared.given.GiveReason.{GiveReason}
 use Rattle.cqlp_decode.specs.Giving.{after_taking, reason_against}
 use Rattle.cqlp_skip.specs.Skipping.{Skipping, stream}
-use Rattle.cqlp_skip_laws.specs.Laws.{Back, Given_to, IsOneAnswerOfGive, IsOneAnswerOfTaking, LookAlike, Taken_from}
+use Rattle.cqlp_skip_laws.specs.Laws.{Back, Given_to, IsOneAnswerOfGive, IsOneAnswerOfTaking, LookAlike}
 
 module _ (old new new' : Skipping) (at : new ≡ record old { decoder = new.decoder }) (at' : new' ≡ record old { decoder = new'.decoder }) where
   alike : stream new' ≡ stream new → LookAlike new new'

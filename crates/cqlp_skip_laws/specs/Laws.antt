@@ -1,13 +1,15 @@
 -- Laws of streams that are read in stretches.
-use Rattle.std.specs.Prelude.{◌≡◌, ℕ, ◌++◌, List, [], ◌∷◌, Option, Some, None, Result, Ok, Err}
+use Rattle.std.specs.Prelude.{◌≡◌, ℕ, ◌+◌, ◌-◌, ◌≤◌, ◌^◌, ◌++◌, min, List, [], ◌∷◌, length, Option, Some, None, Result, Ok, Err}
 use Rattle.cqlp_note.specs.Limits.{Rules}
 use Rattle.cqlp_type.specs.Table.{Table}
 use Rattle.cqlp_decode.specs.declared.given.GiveReason.{GiveReason}
 use Rattle.cqlp_decode.specs.Giving.{after_taking, free_table, once_given, reason_against}
 use Rattle.cqlp_decode.specs.Reading.{Event, Gifts}
 use Rattle.cqlp_decode.specs.Streams.{AfterGifts}
+use Rattle.cqlp_laws.specs.OneAnswer as one
 use Rattle.cqlp_skip.specs.declared.fed.Fed.{Fed}
 use Rattle.cqlp_skip.specs.declared.fed.Fed.TheVariants as fed
+use Rattle.cqlp_skip.specs.Pieces.{used_of}
 use Rattle.cqlp_skip.specs.Stretches.{Stretch, GivenUp}
 use Rattle.cqlp_skip.specs.Skipping.{Skipping, AfterSkips, Feeds, RefusesBy, rules_in, stream}
 
@@ -34,7 +36,7 @@ IsPlainWithoutSkips =
 -- two answers, where no sink failed
 abbrev pub AreAlike : (x x' : Fed) → Type 0
 AreAlike fed.More fed.More = Unit {0}
-AreAlike (fed.Refused used r) (fed.Refused used' r') = r' ≡ r
+AreAlike (fed.Refused used r) (fed.Refused used' r') = (used' ≡ used) × (r' ≡ r)
 AreAlike x x' = ⊥
 
 -- the sink did not fail
@@ -44,18 +46,29 @@ IsSound x = Unit {0}
 
 -- what the clauses of `feed` say
 pub record Fed_on {V : Type 0} (f : V → ℕ → Event → V) (faulted : V → ℕ → Event → V → Type 0) (old new : Skipping) (input : List ℕ) (x : Fed) (before after : V) : Type 0 where
+  pub within : used_of (length input) x ≤ length input
   pub feeds : Feeds f faulted old new input x before after
   pub refusal : RefusesBy x new
-  pub base : new.base ≡ old.base
+  pub used : new.used ≡ min (old.used + used_of (length input) x) (2 ^ 64 - 1)
+  pub place : (new.base ≡ old.base) × (new.last ≡ old.last)
   pub rules : rules_in new ≡ rules_in old
+  pub given : (stream new).given ≡ (stream old).given
 
--- From one history, over one piece, there is one answer, and one view of a sink.
+-- Two decoders stand alike: later calls see no difference, but in how many bytes and levels `held` says.
+pub record StandAlike (new new' : Skipping) : Type 0 where
+  pub stretch : one.AreAlike (stream new) (stream new')
+  pub base : new'.base ≡ new.base
+  pub used : new'.used ≡ new.used
+  pub frame : new'.frame ≡ new.frame
+  pub last : new'.last ≡ new.last
+
+-- From one history, over one piece, there is one answer, one view of a sink, and decoders are left that stand alike.
 abbrev pub IsOneAnswerOfFeed : {V : Type 0} → (V → ℕ → Event → V) → (V → ℕ → Event → V → Type 0) → Type 0
 IsOneAnswerOfFeed f faulted =
     (old new new' : Skipping) (s input : List ℕ) (stretches : List Stretch) (gifts : Gifts) (events : List (ℕ × Event)) (x x' : Fed) (before after after' : _)
     → AfterSkips (s ++ input) old s stretches gifts events
     → Fed_on f faulted old new input x before after → Fed_on f faulted old new' input x' before after'
-    → IsSound x → IsSound x' → AreAlike x x' × (after' ≡ after)
+    → IsSound x → IsSound x' → AreAlike x x' × (after' ≡ after) × StandAlike new new'
 
 -- ---- tables that are given and taken back
 

@@ -21,8 +21,8 @@ pub fn without_skips()
 {}
 
 /// After the same bytes, skips and events there is one answer of `feed` over the same piece: more is wanted, or the same
-/// refusal; and two sinks that were seen alike, and neither failed, are seen alike. How many bytes were used at a refusal
-/// is not among it: no byte that is still to come is part of an event.
+/// refusal after the same bytes; two sinks that were seen alike, and neither failed, are seen alike; and the decoders stand
+/// alike that are left.
 pub fn one_answer_of_feed<S: Sink>()
     ensures { IsOneAnswerOfFeed S.after S.faulted }
 {}

@@ -22,7 +22,6 @@ use Rattle.cqlp_loop.specs.Script.{Wires}
 use Rattle.cqlp_loop_laws.specs.OneAnswer.{SaidTheSame, SaidMore}
 use Rattle.cqlp_loop_laws.proofs.Conversations.{one_answer, one_goes_on}
 use Rattle.cqlp_render.specs.declared.text_form.TextForm.{TextForm}
-use Rattle.cqlp_render.specs.declared.text_form.TextForm.TheVariants as forms
 use Rattle.cqlp_render.specs.Showing.{ShowsBytes, ChecksBytes}
 use Rattle.cqlp_render.specs.Streams.{Streams}
 use Rattle.cqlp_render.proofs.Renders.{known_nothing}

@@ -11,3 +11,4 @@ mod RowTexts
 mod LastRead
 mod SkippedOnce
 mod CommandLines
+mod Turns

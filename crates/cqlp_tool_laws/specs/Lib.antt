@@ -1,3 +1,4 @@
+pub mod Numbers
 pub mod Text
 pub mod Tool
 pub mod ValueText

@@ -2,6 +2,7 @@
 #![tactic(auto)]
 
 pub mod command_line;
+pub mod numbers;
 pub mod rows;
 pub mod text;
 pub mod tool;

@@ -6,3 +6,4 @@ pub mod Once
 pub mod Came
 pub mod Fed
 pub mod Few
+pub mod Said

@@ -1,10 +1,14 @@
 -- Laws: which exchanges are told, and that no other message waits than those that do.
-use Rattle.std.specs.Prelude.{◌≡◌, ℕ, ◌≤◌, ℤ, List, [], ◌∷◌, ◌++◌, find, length, Some}
+use Rattle.std.specs.Prelude.{◌≡◌, ℕ, ◌≤◌, ℤ, List, [], ◌∷◌, ◌++◌, find, length, Option, Some}
 use Rattle.std.specs.List.Sorted.{IsPermutation}
+use Rattle.cqlp_note.specs.declared.header.Header.{Header}
+use Rattle.cqlp_note.specs.declared.whole.WholeField.{WholeField}
+use Rattle.cqlp_note.specs.Laws.{AreSameFrontFields}
 use Rattle.cqlp_watch.specs.declared.message.Message.{Message}
 use Rattle.cqlp_watch.specs.declared.paired.Paired.{Paired}
 use Rattle.cqlp_watch.specs.declared.paired.Paired.TheVariants.{Exchange, Unanswered, Unasked, Event}
 use Rattle.cqlp_watch.specs.Messages.{is_under}
+use Rattle.cqlp_watch.specs.Subjects.{SaysSubject}
 use Rattle.cqlp_watch.specs.Waiting.{exchanges, last_said, meetings, waiting_of}
 use Rattle.cqlp_watch.specs.Pairings.{Waiting, after_all, new_waiting, told_of}
 use Rattle.cqlp_watch.specs.Watches.{Watched, new_watched}
@@ -66,6 +70,12 @@ TellsEachMessage T =
 
 abbrev pub OneAnswerOfPairing : Type 0 → Type 0
 OneAnswerOfPairing T = (limit : ℕ) (p q : Waiting T) → p ≡ new_waiting limit → q ≡ new_waiting limit → q ≡ p
+
+-- What is said of a message is one field, or none.
+abbrev pub OneAnswerOfSubject : Type 0
+OneAnswerOfSubject =
+    (h : Header) (front : List ℕ) (a b : Option WholeField)
+    → SaysSubject h front a → SaysSubject h front b → AreSameFrontFields a b
 
 abbrev pub OneAnswerOfWatch : Type 0
 OneAnswerOfWatch = (limit : ℕ) (v w : Watched) → v ≡ new_watched limit → w ≡ new_watched limit → w ≡ v

@@ -1,5 +1,5 @@
 -- The messages that wait, of which there are at most so many, and what is told of each message.
-use Rattle.std.specs.Prelude.{ℕ, ◌≤◌, ℤ, List, [], ◌∷◌, ◌++◌, length, drop, find, slice_get, nat_lt, Option, Some, None, option_map, if◌then◌else◌}
+use Rattle.std.specs.Prelude.{◌≡◌, ℕ, ◌≤◌, ℤ, List, [], ◌∷◌, ◌++◌, length, drop, find, slice_get, nat_lt, Option, Some, None, option_map, if◌then◌else◌}
 use Rattle.cqlp_watch.specs.declared.message.Message.{Message}
 use Rattle.cqlp_watch.specs.declared.paired.Paired.{Paired}
 use Rattle.cqlp_watch.specs.declared.paired.Paired.TheVariants.{Exchange, Unanswered, Unasked, Event}
@@ -17,11 +17,11 @@ held limit ms = record { limit = limit; waiting = ms }
 abbrev pub new_waiting : {T : Type 0} → (limit : ℕ) → Waiting T
 new_waiting limit = held limit []
 
--- there is memory for as many as may wait
+-- there is memory for just as many as may wait
 pub record HasRoom {T : Type 0} (limit : ℕ) (ms : List (Message T)) (capacity : ℕ) : Type 0 where
   pub some : 1 ≤ limit
   pub within : length ms ≤ limit
-  pub room : limit ≤ capacity
+  pub room : capacity ≡ limit
 
 -- all but the first under an id
 abbrev pub without : {T : Type 0} → ℤ → List (Message T) → List (Message T)

@@ -1,6 +1,6 @@
 //! Laws of what is told of requests and responses. No code needs them.
 
-ghost use Rattle.cqlp_watch.specs.Laws.{KeepsThoseThatWait, OneAnswerOfPairing, OneAnswerOfWatch, TellsEachMessage, TellsTheExchanges};
+ghost use Rattle.cqlp_watch.specs.Laws.{KeepsThoseThatWait, OneAnswerOfPairing, OneAnswerOfSubject, OneAnswerOfWatch, TellsEachMessage, TellsTheExchanges};
 ghost use Rattle.cqlp_watch.specs.Sent.{TellsEachFrame};
 ghost use Rattle.cqlp_watch.specs.Steps.{TakesFewSteps};
 ghost use Rattle.cqlp_watch.specs.Whole.{TellsWholeFrames};
@@ -41,8 +41,13 @@ pub fn few_steps()
     ensures { TakesFewSteps }
 {}
 
-/// `Pairing::new` and `Watch::new` have one answer where memory is granted. The clauses of all other calls are equations.
+/// `Pairing::new` and `Watch::new` have one answer where memory is granted. The clauses of all other calls but `subject_of` are equations.
 pub fn one_answer<T>()
     ensures pairing { OneAnswerOfPairing T }
     ensures watch { OneAnswerOfWatch }
+{}
+
+/// [`subject_of`](crate::subject_of) has one answer, but for where in the front a content lies.
+pub fn one_answer_of_subject_of()
+    ensures { OneAnswerOfSubject }
 {}

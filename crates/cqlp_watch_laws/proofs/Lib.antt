@@ -1,3 +1,4 @@
 pub mod Views
 pub mod AtClient
 pub mod AtServer
+pub mod Begun

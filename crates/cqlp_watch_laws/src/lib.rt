@@ -1,4 +1,5 @@
-//! Laws of what an observer tells of an honest client and an honest server. No code needs them.
+//! Laws of what an observer keeps of messages, and tells of an honest client and an honest server. No code needs them.
 #![tactic(auto)]
 
+pub mod fronts;
 pub mod honest;

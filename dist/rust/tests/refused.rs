@@ -5,13 +5,13 @@ use cqlp::capture::{CaptureEnd, CaptureLimits, CaptureReader, CaptureStep, Contr
 use cqlp::cells::{CellError, CellLimits, PageCellError, PageCells, PagePlace};
 use cqlp::columns::{BatchLimits, Columns, MakeError, TakeError};
 use cqlp::frame::{
-    Atom, BindError, BuildError, BuildLimits, Composer, Frame, FrameBuilder, Message, Metadata, OwnedBound, ReadError, Rows, Spec, TypeTree, Value, bind_value,
-    raw_value, read_value,
+    AppendError, Atom, BindError, BuildError, BuildLimits, Composer, Frame, FrameBuilder, Message, Metadata, OwnedBound, ReadError, Rows, Spec, TypeTree,
+    Value, append, bind_value, raw_value, read_value,
 };
 use cqlp::memory::{AllocError, Box, String, Vec};
 use cqlp::{Event, Field, Global, Header, Kind, Limits, Opcode, Scalar, TableError, table_of, table_of_specs};
 use std::alloc::{GlobalAlloc, Layout, System};
-use std::cell::Cell;
+use std::cell::{Cell, RefCell};
 use std::ptr::null_mut;
 
 /// The requests of a thread: how many there were, which are refused, and how many blocks are held.
@@ -293,6 +293,26 @@ fn frames_of_events() {
             _ => Answer::Other,
         }
     });
+}
+
+/// A frame behind other bytes, of which the first 512 that wait, and each longer content, ask for memory where there is too little. Where it
+/// is refused the bytes are as they were, and where there is room for the frame no memory is asked for.
+#[test]
+fn frames_appended() {
+    let texts: std::vec::Vec<String> = [200, 2000, 20000].map(|len| "x".repeat(len).into()).into();
+    let frame = Frame::plain(0, Message::Register(texts.into()));
+    let appended = |bytes: &mut Vec<u8>| match append(&frame, bytes) {
+        Ok(len) if bytes.len() == 3 + len as usize => Answer::Granted,
+        Err(AppendError::NoMemory) if bytes[..] == [1, 2, 3] => Answer::NoMemory,
+        _ => Answer::Other,
+    };
+    finds_just_what_is_there(4, || match Vec::from_slice(Global, &[1, 2, 3]) {
+        Ok(mut bytes) => appended(&mut bytes),
+        Err(_) => Answer::NoMemory,
+    });
+    let room = RefCell::new(Vec::with_capacity(Global, 3 + 22217).unwrap());
+    room.borrow_mut().extend_from_slice(&[1, 2, 3]).unwrap();
+    assert_eq!(refused(1, u64::MAX, || appended(&mut room.borrow_mut())), (Answer::Granted, 0, 0));
 }
 
 /// The cell of a page, of its events: what holds them, the text, and the bytes.

@@ -48,6 +48,15 @@ impl<T, A: Allocator> Vec<T, A> {
         self.items.push(item);
     }
 
+    /// Takes the last item away where there is one, as is proved at each call. Without one it ends the process.
+    #[inline]
+    pub(crate) fn take_last(&mut self) -> T {
+        match self.items.pop() {
+            Some(item) => item,
+            None => unreachable!(),
+        }
+    }
+
     /// Takes the last item away.
     #[inline]
     pub fn pop(&mut self) -> Option<T> {

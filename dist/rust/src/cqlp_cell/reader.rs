@@ -143,6 +143,21 @@ impl<A: Allocator> CellReader<A> {
         self.progress.leave_value(level)
     }
 
+    /// Looks into the cell after the one that is under way, of the type at this node, where a level stands at the end of this
+    /// one: the beginning of a list, a set or a map, if its length and its count are lawful and lie in the input. A reader
+    /// that is set to the level that is answered has ended the one cell and entered the other.
+    #[inline(always)]
+    pub(crate) fn enter_next(
+        &self,
+        level: Level,
+        node: u32,
+        table: &TypeTable<A>,
+        input: &[u8],
+    ) -> Option<Entered>
+    {
+        self.progress.enter_next(level, node, table, input)
+    }
+
     /// Takes the next bytes of the cell that is under way. A content that lies whole in them is lent from them.
     ///
     /// The `Partial` comes first: what is lent may be its own, and a clause says what the first parameter is once that

@@ -30,6 +30,12 @@ impl<A: Allocator> Bits<A> {
         self.len
     }
 
+    /// Where the bytes begin that have them. They stay there for as long as they live.
+    pub fn address(&self) -> *const u8
+    {
+        self.bytes.as_ptr()
+    }
+
     /// Adds a bit at the end.
     #[inline(always)]
     pub(crate) fn push(&mut self, bit: bool)

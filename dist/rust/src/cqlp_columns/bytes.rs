@@ -35,6 +35,12 @@ impl<A: Allocator> Bytes<A> {
         &self.memory[..self.len]
     }
 
+    /// Where they begin. They stay there for as long as they live.
+    pub fn address(&self) -> *const u8
+    {
+        self.memory.as_ptr()
+    }
+
     /// Adds bytes at the end.
     #[inline(always)]
     pub(crate) fn push(&mut self, more: &[u8])

@@ -137,6 +137,33 @@ impl<A: Allocator> Column<A> {
         self.empty.as_slice()
     }
 
+    /// Where its values begin in memory. Each array stays where it is for as long as the column lives.
+    pub fn values_address(&self) -> *const u8
+    {
+        match self.layout {
+            Layout::Bits => self.truths.address(),
+            Layout::Fixed(_) | Layout::Variable => self.values.address(),
+        }
+    }
+
+    /// Where its offsets begin.
+    pub fn offsets_address(&self) -> *const u64
+    {
+        self.offsets.as_ptr()
+    }
+
+    /// Where the bits begin that say which cells have a value.
+    pub fn validity_address(&self) -> *const u8
+    {
+        self.valid.address()
+    }
+
+    /// Where the bits begin that say which cells have a value of no bytes.
+    pub fn empties_address(&self) -> *const u8
+    {
+        self.empty.address()
+    }
+
     /// How many cells it has.
     pub fn len(&self) -> usize
     {
@@ -237,7 +264,7 @@ impl<A: Allocator> Column<A> {
     {
         self.values.clear();
         self.truths.clear();
-        self.offsets.clear();
+        remove_all(&mut self.offsets);
         put_offset(&mut self.offsets, self.layout, 0);
         self.valid.clear();
         self.empty.clear();
@@ -315,5 +342,13 @@ fn put_offset<A: Allocator>(offsets: &mut Vec<u64, A>, layout: Layout, offset: u
     match layout {
         Layout::Variable => offsets.push_reserved(offset),
         Layout::Bits | Layout::Fixed(_) => {}
+    }
+}
+
+/// Removes all offsets, and leaves the memory in its place.
+fn remove_all<A: Allocator>(offsets: &mut Vec<u64, A>)
+{
+    while !offsets.is_empty() {
+        let _last = offsets.take_last();
     }
 }

@@ -9,11 +9,11 @@
 use crate::cqlp_decode::leaf::{hand_kind, hand_leaf};
 use crate::cqlp_decode::list_loop::is_counted;
 use crate::cqlp_decode::page::{CellCursor, page_table};
-use crate::cqlp_decode::page_loop::Handed;
+use crate::cqlp_decode::page_loop::{Handed, front_of};
 use crate::cqlp_decode::parts::Parts;
 use crate::cqlp_decode::progress::{StreamProgress, StreamStage};
 use crate::cqlp_decode::step::FaultAfter;
-use crate::cqlp_cell::{BareItem, BarePart, Level};
+use crate::cqlp_cell::{BareItem, BarePart, DueItem, Level};
 use crate::cqlp_grammar::{Event, Sink, SinkFault};
 use crate::cqlp_kind::Kind;
 use crate::kit_std::alloc::Allocator;
@@ -30,6 +30,33 @@ pub struct PartTaken {
 pub struct ItemsHanded {
     pub used: usize,
     pub failed: bool,
+}
+
+/// Puts a level where a loop stands in its value, before these of the bytes within that, and says what was handed out of
+/// them, and whether the sink failed there.
+#[inline(always)]
+pub(crate) fn stop_at(
+    level: &mut Level,
+    here: Level,
+    rest: &[u8],
+    within: &[u8],
+    failed: bool,
+) -> ItemsHanded
+{
+    *level = here;
+    let used = within.len() - rest.len();
+    ItemsHanded { used, failed }
+}
+
+/// The item that is due, where no more than these bytes are left of the input and of the value around it: then one
+/// comparison sees to both.
+#[inline(always)]
+pub(crate) fn due_in(rest: &[u8], due: DueItem) -> DueItem
+{
+    DueItem {
+        room: rest.len() as u64,
+        ..due
+    }
 }
 
 /// Hands the items of cells to the sink, as far as the loop takes them, and answers how many bytes of the input they
@@ -191,32 +218,28 @@ impl StreamProgress {
         let table = page_table(page.columns, &parts.table, &parts.given);
         let limits = self.limits;
         let mut here = *level;
-        let mut used = 0;
+        let Some(first) = here.due_item(table) else {
+            return stop_at(level, here, input, input, false);
+        };
+        let within = front_of(input, first.room);
+        let mut rest = within;
         'scalars: loop {
             let Some(due) = here.due_item(table) else {
                 break 'scalars;
             };
-            match hand_leaf(&limits, due, page, &input[used..], sink) {
+            match hand_leaf(&limits, due_in(rest, due), page, rest, sink) {
                 Handed::Left => break 'scalars,
                 Handed::Taken(taken) => {
                     here.pass(taken, table);
-                    used += taken;
+                    rest = &rest[taken..];
                 }
                 Handed::Fault(taken) => {
                     here.pass(taken, table);
-                    *level = here;
-                    return ItemsHanded {
-                        used: used + taken,
-                        failed: true,
-                    };
+                    return stop_at(level, here, &rest[taken..], within, true);
                 }
             }
         }
-        *level = here;
-        ItemsHanded {
-            used,
-            failed: false,
-        }
+        stop_at(level, here, rest, within, false)
     }
 
     /// The same of a list or a set, whose items are of this kind.
@@ -275,32 +298,28 @@ impl StreamProgress {
     {
         let limits = self.limits;
         let mut here = *level;
-        let mut used = 0;
+        let Some(first) = here.due_element(kind) else {
+            return stop_at(level, here, input, input, false);
+        };
+        let within = front_of(input, first.room);
+        let mut rest = within;
         'elements: loop {
             let Some(due) = here.due_element(kind) else {
                 break 'elements;
             };
-            match hand_kind(&limits, kind, due, page, &input[used..], sink) {
+            match hand_kind(&limits, kind, due_in(rest, due), page, rest, sink) {
                 Handed::Left => break 'elements,
                 Handed::Taken(taken) => {
                     here.pass_element(taken);
-                    used += taken;
+                    rest = &rest[taken..];
                 }
                 Handed::Fault(taken) => {
                     here.pass_element(taken);
-                    *level = here;
-                    return ItemsHanded {
-                        used: used + taken,
-                        failed: true,
-                    };
+                    return stop_at(level, here, &rest[taken..], within, true);
                 }
             }
         }
-        *level = here;
-        ItemsHanded {
-            used,
-            failed: false,
-        }
+        stop_at(level, here, rest, within, false)
     }
 
     /// Takes what is next of the cell that is under way, where it has no content and all its bytes lie in the input.

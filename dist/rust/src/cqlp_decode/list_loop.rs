@@ -5,16 +5,17 @@
 //! in the loop's hands. What stands elsewhere is left, with the reading where it would stand: its items to the loop over
 //! the items of cells, and all else to `Decoder::next`.
 
-use crate::cqlp_decode::item_loop::{ItemsHanded, hand_part};
+use crate::cqlp_decode::item_loop::{ItemsHanded, due_in, hand_part, stop_at};
 use crate::cqlp_decode::leaf::hand_leaf;
 use crate::cqlp_decode::page::{CellCursor, page_table};
-use crate::cqlp_decode::page_loop::Handed;
+use crate::cqlp_decode::page_loop::{Handed, front_of};
 use crate::cqlp_decode::parts::Parts;
 use crate::cqlp_decode::progress::{StreamProgress, StreamStage};
 use crate::cqlp_decode::step::FaultAfter;
 use crate::cqlp_cell::{BareItem, Entered, Level, PairKinds};
 use crate::cqlp_grammar::{Sink, SinkFault};
 use crate::cqlp_kind::Kind;
+use crate::cqlp_note::Asked;
 use crate::kit_std::alloc::Allocator;
 
 /// Hands the cells that are due to the sink, as far as each is a list, a set or a map of scalars and lies in the input, and
@@ -30,39 +31,31 @@ pub(crate) fn take_lists<S: Sink, A: Allocator>(
     if parts.partial.held() > 0 || progress.refusal.is_some() {
         return Ok(0);
     }
-    let mut used = 0;
-    loop {
-        let Some(page) = progress.begin_list(parts) else {
-            return Ok(used);
-        };
-        let Some(entered) = progress.enter_list(parts, page, &input[used..]) else {
-            return Ok(used);
-        };
-        match hand_part(page, entered.item, sink) {
-            Ok(()) => used += entered.item.used,
-            Err(SinkFault) => {
-                let used = used + entered.item.used;
-                return Err(FaultAfter { used });
-            }
-        }
-        let mut level = entered.level;
-        let handed = progress.hand_counted(parts, &mut level, page, &input[used..], sink);
-        used += handed.used;
-        if handed.failed {
-            parts.cells.set_level(level);
-            return Err(FaultAfter { used });
-        }
-        let Some(item) = progress.leave_list(parts, page, level) else {
-            return Ok(used);
-        };
-        match hand_part(page, item, sink) {
-            Ok(()) => used += item.used,
-            Err(SinkFault) => {
-                let used = used + item.used;
-                return Err(FaultAfter { used });
-            }
+    let Some(page) = progress.begin_list(parts) else {
+        return Ok(0);
+    };
+    let Some(entered) = progress.enter_list(parts, page, input) else {
+        return Ok(0);
+    };
+    let used = entered.item.used;
+    match hand_part(page, entered.item, sink) {
+        Ok(()) => {}
+        Err(SinkFault) => return Err(FaultAfter { used }),
+    }
+    match progress.hand_lists(parts, page, entered.level, &input[used..], sink) {
+        Ok(more) => Ok(used + more),
+        Err(fault) => {
+            let used = used + fault.used;
+            Err(FaultAfter { used })
         }
     }
+}
+
+/// The next cell of a page, and the beginning of the list, the set or the map that it is.
+#[derive(Clone, Copy)]
+struct NextList {
+    page: CellCursor,
+    entered: Entered,
 }
 
 /// Whether a value of this kind has a count before its items.
@@ -70,6 +63,57 @@ pub(crate) fn take_lists<S: Sink, A: Allocator>(
 pub(crate) fn is_counted(kind: Kind) -> bool
 {
     matches!(kind, Kind::List | Kind::Set | Kind::Map)
+}
+
+/// Hands the key of a map that is next to the sink, if it is a scalar of this kind and lies in these bytes, which reach no
+/// further than the map, and goes on after it.
+#[inline(always)]
+fn hand_key<S: Sink>(
+    limits: &Asked,
+    kind: Kind,
+    here: &mut Level,
+    page: CellCursor,
+    rest: &[u8],
+    sink: &mut S,
+) -> Handed
+{
+    let due = due_in(rest, here.due_in_pair(kind));
+    match hand_leaf(limits, due, page, rest, sink) {
+        Handed::Left => Handed::Left,
+        Handed::Taken(taken) => {
+            here.pass_key(taken);
+            Handed::Taken(taken)
+        }
+        Handed::Fault(taken) => {
+            here.pass_key(taken);
+            Handed::Fault(taken)
+        }
+    }
+}
+
+/// The same of the value that a key has.
+#[inline(always)]
+fn hand_value<S: Sink>(
+    limits: &Asked,
+    kind: Kind,
+    here: &mut Level,
+    page: CellCursor,
+    rest: &[u8],
+    sink: &mut S,
+) -> Handed
+{
+    let due = due_in(rest, here.due_in_pair(kind));
+    match hand_leaf(limits, due, page, rest, sink) {
+        Handed::Left => Handed::Left,
+        Handed::Taken(taken) => {
+            here.pass_value(taken);
+            Handed::Taken(taken)
+        }
+        Handed::Fault(taken) => {
+            here.pass_value(taken);
+            Handed::Fault(taken)
+        }
+    }
 }
 
 impl StreamProgress {
@@ -121,6 +165,15 @@ impl StreamProgress {
         let Some(kinds) = level.pair_kinds(table) else {
             return self.hand_inside(parts, level, page, input, sink);
         };
+        // Most keys are texts, so that maps of these have a loop of their own.
+        if kinds.key == Kind::Varchar {
+            let value = kinds.value;
+            let kinds = PairKinds {
+                key: Kind::Varchar,
+                value,
+            };
+            return self.hand_pairs(parts, kinds, level, page, input, sink);
+        }
         self.hand_pairs(parts, kinds, level, page, input, sink)
     }
 
@@ -138,65 +191,121 @@ impl StreamProgress {
     {
         let limits = self.limits;
         let mut here = *level;
-        let mut used = 0;
+        if !here.has_key() {
+            return stop_at(level, here, input, input, false);
+        }
+        let within = front_of(input, here.due_in_pair(kinds.key).room);
+        let mut rest = within;
         'pairs: loop {
             if !here.has_key() {
                 break 'pairs;
             }
-            let due = here.due_in_pair(kinds.key);
-            match hand_leaf(&limits, due, page, &input[used..], sink) {
+            match hand_key(&limits, kinds.key, &mut here, page, rest, sink) {
                 Handed::Left => break 'pairs,
-                Handed::Taken(taken) => {
-                    here.pass_key(taken);
-                    used += taken;
-                }
-                Handed::Fault(taken) => {
-                    here.pass_key(taken);
-                    *level = here;
-                    return ItemsHanded {
-                        used: used + taken,
-                        failed: true,
-                    };
-                }
+                Handed::Taken(taken) => rest = &rest[taken..],
+                Handed::Fault(taken) => return stop_at(level, here, &rest[taken..], within, true),
             }
-            let due = here.due_in_pair(kinds.value);
-            match hand_leaf(&limits, due, page, &input[used..], sink) {
+            match hand_value(&limits, kinds.value, &mut here, page, rest, sink) {
                 Handed::Left => break 'pairs,
-                Handed::Taken(taken) => {
-                    here.pass_value(taken);
-                    used += taken;
-                }
-                Handed::Fault(taken) => {
-                    here.pass_value(taken);
-                    *level = here;
-                    return ItemsHanded {
-                        used: used + taken,
-                        failed: true,
-                    };
-                }
+                Handed::Taken(taken) => rest = &rest[taken..],
+                Handed::Fault(taken) => return stop_at(level, here, &rest[taken..], within, true),
             }
         }
-        *level = here;
-        ItemsHanded {
-            used,
-            failed: false,
+        stop_at(level, here, rest, within, false)
+    }
+
+    /// Hands the items of a list, a set or a map in whose level the reading stands to the sink, its end, and the cells after
+    /// it that are like it. Between two of them the reader and what is read now stay as they are, but for the cursor.
+    #[inline(always)]
+    fn hand_lists<S: Sink, A: Allocator>(
+        &mut self,
+        parts: &mut Parts<A>,
+        first: CellCursor,
+        start: Level,
+        input: &[u8],
+        sink: &mut S,
+    ) -> Result<usize, FaultAfter>
+    {
+        let mut page = first;
+        let mut level = start;
+        let mut used = 0;
+        loop {
+            let handed = self.hand_counted(parts, &mut level, page, &input[used..], sink);
+            used += handed.used;
+            if handed.failed {
+                parts.cells.set_level(level);
+                return Err(FaultAfter { used });
+            }
+            let Some(end) = level.ending() else {
+                parts.cells.set_level(level);
+                return Ok(used);
+            };
+            used += end.used;
+            match hand_part(page, end, sink) {
+                Ok(()) => {}
+                Err(SinkFault) => {
+                    self.end_list(parts, page, level, end);
+                    return Err(FaultAfter { used });
+                }
+            }
+            let Some(next) = self.next_list(parts, page, level, end, &input[used..]) else {
+                self.end_list(parts, page, level, end);
+                return Ok(used);
+            };
+            page = next.page;
+            level = next.entered.level;
+            used += next.entered.item.used;
+            match hand_part(page, next.entered.item, sink) {
+                Ok(()) => {}
+                Err(SinkFault) => {
+                    parts.cells.set_level(level);
+                    return Err(FaultAfter { used });
+                }
+            }
         }
     }
 
-    /// Goes on where a level stands, and leaves the cell, where that is at its end.
+    /// Leaves the cell, at whose end a level stands.
     #[inline(always)]
-    fn leave_list<A: Allocator>(
+    fn end_list<A: Allocator>(
         &mut self,
         parts: &mut Parts<A>,
         page: CellCursor,
         level: Level,
-    ) -> Option<BareItem>
+        end: BareItem,
+    )
     {
-        let Some(item) = parts.cells.leave(level) else {
-            return None;
-        };
+        parts.cells.set_level(level);
         let table = page_table(page.columns, &parts.table, &parts.given);
         self.end_cell(page, &mut parts.cells, table);
-        Some(item)
+    }
+
+    /// Goes on from a cell, at whose end a level stands, to the next, if that is a list, a set or a map whose length and count
+    /// are lawful and lie in the input.
+    #[inline(always)]
+    fn next_list<A: Allocator>(
+        &mut self,
+        parts: &Parts<A>,
+        page: CellCursor,
+        level: Level,
+        end: BareItem,
+        input: &[u8],
+    ) -> Option<NextList>
+    {
+        let table = page_table(page.columns, &parts.table, &parts.given);
+        let Some(following) = page.next(table) else {
+            return None;
+        };
+        let Some(node) = following.node() else {
+            return None;
+        };
+        let Some(entered) = parts.cells.enter_next(level, node, table, input) else {
+            return None;
+        };
+        self.stage = StreamStage::InCell(following);
+        Some(NextList {
+            page: following,
+            entered,
+        })
     }
 }

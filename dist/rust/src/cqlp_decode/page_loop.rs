@@ -113,7 +113,7 @@ fn take_due<S: Sink, A: Allocator>(
 
 /// The bytes of the input that lie within a room of this many.
 #[inline(always)]
-fn front_of(input: &[u8], room: u64) -> &[u8]
+pub(crate) fn front_of(input: &[u8], room: u64) -> &[u8]
 {
     if input.len() as u64 <= room {
         return input;

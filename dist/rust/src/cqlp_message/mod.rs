@@ -25,4 +25,5 @@ pub use request::{BatchEntry, OwnedBound, QueryParams};
 pub use response::{
     ErrorExtra, Metadata, Prepared, Rows, SchemaChange, SchemaOptions, ServerEvent, Spec,
 };
+pub use tally::Tally;
 pub use unfit::Unfit;

@@ -14,7 +14,7 @@ pub struct Refused<E, T> {
     pub carried: T,
 }
 
-/// This many places for values, all empty.
+/// This many places for values, all empty, in memory for just these.
 pub(crate) fn empty<T, A: Allocator>(
     alloc: A,
     len: usize,
@@ -22,7 +22,7 @@ pub(crate) fn empty<T, A: Allocator>(
 {
     let mut carried = Vec::with_capacity(alloc, len)?;
     for _ in 0..len {
-        carried.push(None)?;
+        carried.push_reserved(None);
     }
     Ok(carried)
 }

@@ -40,13 +40,15 @@ pub(crate) fn put<T: Copy>(slots: &mut [Option<T>], id: i16, what: Option<T>)
     }
 }
 
-/// This many slots, all empty.
+/// This many slots, all empty, in memory for just these.
 pub(crate) fn empty<T: Copy, A: Allocator>(
     alloc: A,
     len: usize,
 ) -> Result<Vec<Option<T>, A>, AllocError>
 {
     let mut slots = Vec::with_capacity(alloc, len)?;
-    slots.resize(len, None).unwrap();
+    for _ in 0..len {
+        slots.push_reserved(None);
+    }
     Ok(slots)
 }

@@ -6,12 +6,14 @@ use crate::kit_std::alloc::{AllocError, Allocator};
 
 const BITS: usize = 64;
 
-/// Words with a bit for each of `len` ids and for those that fill up the last word, all set.
+/// Words with a bit for each of `len` ids and for those that fill up the last word, all set, in memory for just these.
 pub(crate) fn all<A: Allocator>(alloc: A, len: usize) -> Result<Vec<u64, A>, AllocError>
 {
-    let len = len.div_ceil(BITS);
-    let mut words = Vec::with_capacity(alloc, len)?;
-    words.resize(len, u64::MAX).unwrap();
+    let count = len.div_ceil(BITS);
+    let mut words = Vec::with_capacity(alloc, count)?;
+    for _ in 0..count {
+        words.push_reserved(u64::MAX);
+    }
     Ok(words)
 }
 

@@ -1,4 +1,5 @@
 use Rattle.std.proofs.Common.{◌≡◌, ◌+◌, ◌*◌, ◌^◌, ◌≤◌, ◌<◌, List, ℕ, Bool, length, arith, ◌∙◌, ap, sym}
+use Rattle.std.specs.Vec.{vec_ptr}
 use Rattle.cqlp_columns.specs.Bits.{bits, number_of_bytes, worth}
 use Rattle.cqlp_columns.proofs.Numbers.{digits_pushed, length-digits, sum_below, written}
 use Rattle.cqlp_columns.proofs.bits.Bits.push.Goals as goal
@@ -37,4 +38,4 @@ returns g c =
     let sum : number_of_bytes new ≡ number_of_bytes items + worth c.args.bit k =
     c.add_bit.ensures ∙ ap (λ (x : List ℕ). number_of_bytes x + worth c.args.bit k) c.as_mut_slice.ensures.value
     in
-    rw (← c.self.view_is) (rw (written new items c.self.inside.bytes.len (omega (arith, c.as_mut_slice.ensures.len, c.add_bit.auto.bytes)), sum, long) (ap (λ (x : List Bool). bits x (8 * length items)) (digits_pushed k (number_of_bytes items) c.args.bit c.self.invariant.0)))
+    rw (← c.self.view_is) (rw (written new items c.self.inside.bytes.len (omega (arith, c.as_mut_slice.ensures.len, c.add_bit.auto.bytes)), sum, long) (ap (λ (x : List Bool). bits x (8 * length items) (vec_ptr c.self.inside.bytes)) (digits_pushed k (number_of_bytes items) c.args.bit c.self.invariant.0)))

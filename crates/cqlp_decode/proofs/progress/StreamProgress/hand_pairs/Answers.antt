@@ -1,255 +1,317 @@
-use Rattle.std.proofs.Common.{◌+◌, refl}
+use Rattle.std.proofs.Common.{◌≡◌, refl, ◌∙◌, arith}
+use Rattle.std.specs.Prelude.{Some}
 use Rattle.cqlp_decode.specs.Progress.{nodes_of, parts_state}
 use Rattle.cqlp_decode.specs.Sinks.{Gets, Fails}
 use Rattle.cqlp_decode.proofs.Gets.{rest_is}
-use Rattle.cqlp_decode.proofs.Pairs.{key_gone, key_more, value_gone, value_more, stands_first, item_fits, further_place, further_inside, further_lawful, further_within, further_stands, further_fails}
+use Rattle.cqlp_decode.proofs.ItemLoop.{level_fits}
+use Rattle.cqlp_decode.proofs.Pairs.{key_gone, key_more, value_gone, value_more}
+use Rattle.cqlp_decode.proofs.Rests.{before_first, due_of_kind, next_lawful, next_inside, next_within}
+use Rattle.cqlp_decode.proofs.Rests.{StandsBefore, next_fails, next_stands, rest_place}
 use Rattle.cqlp_decode.proofs.progress.StreamProgress.hand_pairs.Goals as goal
+use Rattle.cqlp_decode.proofs.progress.StreamProgress.hand_pairs.Goals.{then-not-has_key-2, else-not-has_key-2+in-Left}
+use Rattle.cqlp_decode.proofs.progress.StreamProgress.hand_pairs.Goals.{else-not-has_key-2+in-Taken+in-Left-hand_value}
+
+pub due_in_pair-requires : goal.due_in_pair-requires
+due_in_pair-requires g c =
+    let l = c.args.level.now in
+    let more = key_more l (c.has_key.ensures.0 c.if-not-has_key.false) in
+    let fits = level_fits c.args.self.now (parts_state c.args.parts.now) c.args.page c.requires.here l c.requires.inside c.requires.lawful more in
+    fits.inside
 
 pub pairs-init : goal.pairs-init
-pairs-init g c = record {
-  pair = c.requires.pair;
-  stands = stands_first (Gets g.S.Sink) c.args.self.now (parts_state c.args.parts.now) c.args.level.now c.args.input.now c.args.sink.now c.requires.inside c.requires.lawful;
-}
-
-pub due_in_pair-due-requires : goal.due_in_pair-due-requires
-due_in_pair-due-requires g c =
+pairs-init g c =
+    let s = c.args.self.now in
     let q = parts_state c.args.parts.now in
-    let i = c.pairs.invariant in
-    let l = c.pairs.here in
+    let l = c.args.level.now in
     let more = key_more l (c.has_key.ensures.0 c.if-not-has_key.false) in
-    item_fits (Gets g.S.Sink) c.args.self.now q c.args.level.now c.args.input.now c.args.sink.now c.args.page c.requires.here c.requires.unrefused c.requires.empty l c.pairs.used c.pairs.sink i.stands c.args.kinds.key i.pair.of_key more
-
-pub pass_key-requires-clause-place : goal.pass_key-requires-clause-place
-pass_key-requires-clause-place g c =
-    let q = parts_state c.args.parts.now in
-    let i = c.pairs.invariant in
-    let l = c.pairs.here in
-    let more = key_more l (c.has_key.ensures.0 c.if-not-has_key.false) in
-    further_place (Gets g.S.Sink) c.args.self.now q c.args.level.now c.args.input.now c.args.sink.now c.args.page c.requires.here c.requires.unrefused c.requires.empty l c.pairs.used c.pairs.sink i.stands c.args.kinds.key i.pair.of_key more c.due_in_pair-due.result c.due_in_pair-due.ensures c.in-Taken.taken _ (rw rest_is at c.in-Taken.ensures.hands)
-
-pub pass_key-requires-in-Fault-clause-place : goal.pass_key-requires-in-Fault-clause-place
-pass_key-requires-in-Fault-clause-place g c =
-    let q = parts_state c.args.parts.now in
-    let i = c.pairs.invariant in
-    let l = c.pairs.here in
-    let more = key_more l (c.has_key.ensures.0 c.if-not-has_key.false) in
-    further_place (Gets g.S.Sink) c.args.self.now q c.args.level.now c.args.input.now c.args.sink.now c.args.page c.requires.here c.requires.unrefused c.requires.empty l c.pairs.used c.pairs.sink i.stands c.args.kinds.key i.pair.of_key more c.due_in_pair-due.result c.due_in_pair-due.ensures c.in-Fault.taken _ (rw rest_is at c.in-Fault.ensures.hands)
+    let fits = level_fits c.args.self.now (parts_state c.args.parts.now) c.args.page c.requires.here l c.requires.inside c.requires.lawful more in
+    let t = c.due_in_pair.result in
+    let found : Some t ≡ Some (due_of_kind l c.args.kinds.key) = c.due_in_pair.ensures in
+    let is : t ≡ due_of_kind l c.args.kinds.key = cc in
+    let front = rw is at c.front_of-within.ensures.is in
+    let few = rw is at c.front_of-within.ensures.bound in
+    record {
+      pair = c.requires.pair;
+      stands = before_first (Gets g.S.Sink) s q l c.args.input.now c.args.sink.now _ front few fits.inside c.requires.inside c.requires.lawful;
+    }
 
 pub returns-in-Fault-clause-lawful : goal.returns-in-Fault-clause-lawful
 returns-in-Fault-clause-lawful g c =
-    let q = parts_state c.args.parts.now in
+    let nodes = nodes_of (parts_state c.args.parts.now) c.args.page.columns in
     let i = c.pairs.invariant in
     let l = c.pairs.here in
-    let more = key_more l (c.has_key.ensures.0 c.if-not-has_key.false) in
-    further_lawful (Gets g.S.Sink) c.args.self.now q c.args.level.now c.args.input.now c.args.sink.now c.args.page c.requires.here c.requires.unrefused c.requires.empty l c.pairs.used c.pairs.sink i.stands c.args.kinds.key i.pair.of_key more c.due_in_pair-due.result c.due_in_pair-due.ensures c.in-Fault.taken _ (rw rest_is at c.in-Fault.ensures.hands) c.pass_key-in-Fault.new.self (c.pass_key-in-Fault.ensures (nodes_of q c.args.page.columns))
+    let more = key_more l (c.has_key-in-pairs.ensures.0 c.if-not-has_key-2.false) in
+    let one = c.in-Fault.ensures.hands in
+    let goes = c.in-Fault.ensures.passes nodes in
+    let stop = c.stop_at-in-Fault.ensures.level ∙ goes in
+    next_lawful c.requires.here c.requires.unrefused c.requires.empty i.stands i.pair.of_key more one stop
 
 pub returns-in-Fault-clause-inside : goal.returns-in-Fault-clause-inside
 returns-in-Fault-clause-inside g c =
-    let q = parts_state c.args.parts.now in
+    let nodes = nodes_of (parts_state c.args.parts.now) c.args.page.columns in
     let i = c.pairs.invariant in
     let l = c.pairs.here in
-    let more = key_more l (c.has_key.ensures.0 c.if-not-has_key.false) in
-    further_inside (Gets g.S.Sink) c.args.self.now q c.args.level.now c.args.input.now c.args.sink.now c.args.page c.requires.here c.requires.unrefused c.requires.empty l c.pairs.used c.pairs.sink i.stands c.args.kinds.key i.pair.of_key more c.due_in_pair-due.result c.due_in_pair-due.ensures c.in-Fault.taken _ (rw rest_is at c.in-Fault.ensures.hands) c.pass_key-in-Fault.new.self (c.pass_key-in-Fault.ensures (nodes_of q c.args.page.columns))
+    let more = key_more l (c.has_key-in-pairs.ensures.0 c.if-not-has_key-2.false) in
+    let one = c.in-Fault.ensures.hands in
+    let goes = c.in-Fault.ensures.passes nodes in
+    let stop = c.stop_at-in-Fault.ensures.level ∙ goes in
+    next_inside c.requires.here c.requires.unrefused c.requires.empty i.stands i.pair.of_key more one stop
 
 pub returns-in-Fault-clause-within : goal.returns-in-Fault-clause-within
 returns-in-Fault-clause-within g c =
-    let q = parts_state c.args.parts.now in
+    let nodes = nodes_of (parts_state c.args.parts.now) c.args.page.columns in
     let i = c.pairs.invariant in
     let l = c.pairs.here in
-    let more = key_more l (c.has_key.ensures.0 c.if-not-has_key.false) in
-    further_within (Gets g.S.Sink) c.args.self.now q c.args.level.now c.args.input.now c.args.sink.now c.args.page c.requires.here c.requires.unrefused c.requires.empty l c.pairs.used c.pairs.sink i.stands c.args.kinds.key i.pair.of_key more c.due_in_pair-due.result c.due_in_pair-due.ensures c.in-Fault.taken _ (rw rest_is at c.in-Fault.ensures.hands) c.pass_key-in-Fault.new.self (c.pass_key-in-Fault.ensures (nodes_of q c.args.page.columns))
+    let more = key_more l (c.has_key-in-pairs.ensures.0 c.if-not-has_key-2.false) in
+    let one = c.in-Fault.ensures.hands in
+    let goes = c.in-Fault.ensures.passes nodes in
+    let stop = c.stop_at-in-Fault.ensures.level ∙ goes in
+    let left = rest_is c.in-Fault.taken c.pairs.rest.now in
+    rw c.stop_at-in-Fault.ensures.handed
+    (next_within c.requires.here c.requires.unrefused c.requires.empty i.stands i.pair.of_key more one stop left)
 
 pub returns-in-Fault-clause-drains : goal.returns-in-Fault-clause-drains
 returns-in-Fault-clause-drains g c =
-    let q = parts_state c.args.parts.now in
+    let nodes = nodes_of (parts_state c.args.parts.now) c.args.page.columns in
     let i = c.pairs.invariant in
     let l = c.pairs.here in
-    let more = key_more l (c.has_key.ensures.0 c.if-not-has_key.false) in
-    further_fails (Gets g.S.Sink) c.args.self.now q c.args.level.now c.args.input.now c.args.sink.now c.args.page c.requires.here c.requires.unrefused c.requires.empty l c.pairs.used c.pairs.sink i.stands c.args.kinds.key i.pair.of_key more c.due_in_pair-due.result c.due_in_pair-due.ensures c.in-Fault.taken _ (rw rest_is at c.in-Fault.ensures.hands) c.pass_key-in-Fault.new.self (c.pass_key-in-Fault.ensures (nodes_of q c.args.page.columns)) (Fails g.S.Sink) _ (rw rest_is at c.in-Fault.ensures.hands).holds
+    let more = key_more l (c.has_key-in-pairs.ensures.0 c.if-not-has_key-2.false) in
+    let one = c.in-Fault.ensures.hands in
+    let goes = c.in-Fault.ensures.passes nodes in
+    let stop = c.stop_at-in-Fault.ensures.level ∙ goes in
+    let left = rest_is c.in-Fault.taken c.pairs.rest.now in
+    rw c.stop_at-in-Fault.ensures.handed
+    (next_fails c.requires.here c.requires.unrefused c.requires.empty i.stands i.pair.of_key more one stop left (Fails g.S.Sink) one.holds)
 
-pub due_in_pair-due-requires-in-pairs : goal.due_in_pair-due-requires-in-pairs
-due_in_pair-due-requires-in-pairs g c =
-    let q = parts_state c.args.parts.now in
+pub hand_value-requires-clause-value : goal.hand_value-requires-clause-value
+hand_value-requires-clause-value g c =
+    let nodes = nodes_of (parts_state c.args.parts.now) c.args.page.columns in
     let i = c.pairs.invariant in
     let l = c.pairs.here in
-    let more = key_more l (c.has_key.ensures.0 c.if-not-has_key.false) in
-    let nodes = nodes_of q c.args.page.columns in
-    let m = c.pass_key.new.self in
-    let goes = c.pass_key.ensures nodes in
+    let goes = c.in-Taken.ensures.passes nodes in
+    let m = c.hand_key.new.here in
     let half = key_gone nodes l m c.in-Taken.taken c.args.kinds.key c.args.kinds.value goes i.pair in
-    let one = rw rest_is at c.in-Taken.ensures.hands in
-    let stands = further_stands (Gets g.S.Sink) c.args.self.now q c.args.level.now c.args.input.now c.args.sink.now c.args.page c.requires.here c.requires.unrefused c.requires.empty l c.pairs.used c.pairs.sink i.stands c.args.kinds.key i.pair.of_key more c.due_in_pair-due.result c.due_in_pair-due.ensures c.in-Taken.taken _ one m goes _ one.holds in
-    item_fits (Gets g.S.Sink) c.args.self.now q c.args.level.now c.args.input.now c.args.sink.now c.args.page c.requires.here c.requires.unrefused c.requires.empty m (c.pairs.used + c.in-Taken.taken) c.hand_leaf.new.sink stands c.args.kinds.value half.of_value (value_more m half.at_value)
+    half.at_value
 
-pub pass_value-requires-clause-key : goal.pass_value-requires-clause-key
-pass_value-requires-clause-key g c =
-    let q = parts_state c.args.parts.now in
-    let nodes = nodes_of q c.args.page.columns in
-    (key_gone nodes c.pairs.here c.pass_key.new.self c.in-Taken.taken c.args.kinds.key c.args.kinds.value (c.pass_key.ensures nodes) c.pairs.invariant.pair).at_value
-
-pub pass_value-requires-clause-place : goal.pass_value-requires-clause-place
-pass_value-requires-clause-place g c =
-    let q = parts_state c.args.parts.now in
+pub hand_value-requires-clause-inside : goal.hand_value-requires-clause-inside
+hand_value-requires-clause-inside g c =
+    let nodes = nodes_of (parts_state c.args.parts.now) c.args.page.columns in
     let i = c.pairs.invariant in
     let l = c.pairs.here in
-    let more = key_more l (c.has_key.ensures.0 c.if-not-has_key.false) in
-    let nodes = nodes_of q c.args.page.columns in
-    let m = c.pass_key.new.self in
-    let goes = c.pass_key.ensures nodes in
+    let more = key_more l (c.has_key-in-pairs.ensures.0 c.if-not-has_key-2.false) in
+    let one = c.in-Taken.ensures.hands in
+    let goes = c.in-Taken.ensures.passes nodes in
+    let left = rest_is c.in-Taken.taken c.pairs.rest.now in
+    let stands = next_stands c.requires.here c.requires.unrefused c.requires.empty i.stands i.pair.of_key more one goes left one.holds in
+    omega (arith, stands.fits)
+
+pub hand_key-requires-clause-place : goal.hand_key-requires-clause-place
+hand_key-requires-clause-place g c =
+    let nodes = nodes_of (parts_state c.args.parts.now) c.args.page.columns in
+    let i = c.pairs.invariant in
+    let l = c.pairs.here in
+    let more = key_more l (c.has_key-in-pairs.ensures.0 c.if-not-has_key-2.false) in
+    rest_place c.args.self.now (parts_state c.args.parts.now) c.args.page c.requires.here l i.stands.stands.inside i.stands.stands.lawful more
+    c.pairs.rest.now i.stands.fits
+
+pub hand_value-requires-clause-place : goal.hand_value-requires-clause-place
+hand_value-requires-clause-place g c =
+    let nodes = nodes_of (parts_state c.args.parts.now) c.args.page.columns in
+    let i = c.pairs.invariant in
+    let l = c.pairs.here in
+    let more = key_more l (c.has_key-in-pairs.ensures.0 c.if-not-has_key-2.false) in
+    let one = c.in-Taken.ensures.hands in
+    let goes = c.in-Taken.ensures.passes nodes in
+    let left = rest_is c.in-Taken.taken c.pairs.rest.now in
+    let m = c.hand_key.new.here in
     let half = key_gone nodes l m c.in-Taken.taken c.args.kinds.key c.args.kinds.value goes i.pair in
-    let one = rw rest_is at c.in-Taken.ensures.hands in
-    let stands = further_stands (Gets g.S.Sink) c.args.self.now q c.args.level.now c.args.input.now c.args.sink.now c.args.page c.requires.here c.requires.unrefused c.requires.empty l c.pairs.used c.pairs.sink i.stands c.args.kinds.key i.pair.of_key more c.due_in_pair-due.result c.due_in_pair-due.ensures c.in-Taken.taken _ one m goes _ one.holds in
-    let other = rw rest_is at c.in-Taken-hand_leaf.ensures.hands in
-    further_place (Gets g.S.Sink) c.args.self.now q c.args.level.now c.args.input.now c.args.sink.now c.args.page c.requires.here c.requires.unrefused c.requires.empty m (c.pairs.used + c.in-Taken.taken) c.hand_leaf.new.sink stands c.args.kinds.value half.of_value (value_more m half.at_value) c.due_in_pair-due-in-pairs.result c.due_in_pair-due-in-pairs.ensures c.in-Taken-hand_leaf.taken _ other
+    let stands = next_stands c.requires.here c.requires.unrefused c.requires.empty i.stands i.pair.of_key more one goes left one.holds in
+    rest_place c.args.self.now (parts_state c.args.parts.now) c.args.page c.requires.here m stands.stands.inside stands.stands.lawful
+    (value_more m half.at_value) _ stands.fits
 
 pub pairs-preserved : goal.pairs-preserved
 pairs-preserved g c =
-    let q = parts_state c.args.parts.now in
+    let nodes = nodes_of (parts_state c.args.parts.now) c.args.page.columns in
     let i = c.pairs.invariant in
     let l = c.pairs.here in
-    let more = key_more l (c.has_key.ensures.0 c.if-not-has_key.false) in
-    let nodes = nodes_of q c.args.page.columns in
-    let m = c.pass_key.new.self in
-    let goes = c.pass_key.ensures nodes in
+    let more = key_more l (c.has_key-in-pairs.ensures.0 c.if-not-has_key-2.false) in
+    let one = c.in-Taken.ensures.hands in
+    let goes = c.in-Taken.ensures.passes nodes in
+    let left = rest_is c.in-Taken.taken c.pairs.rest.now in
+    let m = c.hand_key.new.here in
     let half = key_gone nodes l m c.in-Taken.taken c.args.kinds.key c.args.kinds.value goes i.pair in
-    let one = rw rest_is at c.in-Taken.ensures.hands in
-    let stands = further_stands (Gets g.S.Sink) c.args.self.now q c.args.level.now c.args.input.now c.args.sink.now c.args.page c.requires.here c.requires.unrefused c.requires.empty l c.pairs.used c.pairs.sink i.stands c.args.kinds.key i.pair.of_key more c.due_in_pair-due.result c.due_in_pair-due.ensures c.in-Taken.taken _ one m goes _ one.holds in
-    let other = rw rest_is at c.in-Taken-hand_leaf.ensures.hands in
-    let gone = c.pass_value.ensures nodes in
+    let stands = next_stands c.requires.here c.requires.unrefused c.requires.empty i.stands i.pair.of_key more one goes left one.holds in
+    let other = c.in-Taken-hand_value.ensures.hands in
+    let gone = c.in-Taken-hand_value.ensures.passes nodes in
+    let behind = rest_is c.in-Taken-hand_value.taken _ in
     record {
-      pair = value_gone nodes m c.pass_value.new.self c.in-Taken-hand_leaf.taken c.args.kinds.key c.args.kinds.value gone half;
-      stands = further_stands (Gets g.S.Sink) c.args.self.now q c.args.level.now c.args.input.now c.args.sink.now c.args.page c.requires.here c.requires.unrefused c.requires.empty m (c.pairs.used + c.in-Taken.taken) c.hand_leaf.new.sink stands c.args.kinds.value half.of_value (value_more m half.at_value) c.due_in_pair-due-in-pairs.result c.due_in_pair-due-in-pairs.ensures c.in-Taken-hand_leaf.taken _ other c.pass_value.new.self gone _ other.holds;
+      pair = value_gone nodes m c.hand_value.new.here c.in-Taken-hand_value.taken c.args.kinds.key c.args.kinds.value gone half;
+      stands =
+          next_stands c.requires.here c.requires.unrefused c.requires.empty stands half.of_value (value_more m half.at_value) other
+          gone behind other.holds;
     }
 
-pub pass_value-requires-in-Fault-hand_leaf-clause-key : goal.pass_value-requires-in-Fault-hand_leaf-clause-key
-pass_value-requires-in-Fault-hand_leaf-clause-key g c =
-    let q = parts_state c.args.parts.now in
-    let nodes = nodes_of q c.args.page.columns in
-    (key_gone nodes c.pairs.here c.pass_key.new.self c.in-Taken.taken c.args.kinds.key c.args.kinds.value (c.pass_key.ensures nodes) c.pairs.invariant.pair).at_value
-
-pub pass_value-requires-in-Fault-hand_leaf-clause-place : goal.pass_value-requires-in-Fault-hand_leaf-clause-place
-pass_value-requires-in-Fault-hand_leaf-clause-place g c =
-    let q = parts_state c.args.parts.now in
+pub returns-in-Fault-hand_value-clause-lawful : goal.returns-in-Fault-hand_value-clause-lawful
+returns-in-Fault-hand_value-clause-lawful g c =
+    let nodes = nodes_of (parts_state c.args.parts.now) c.args.page.columns in
     let i = c.pairs.invariant in
     let l = c.pairs.here in
-    let more = key_more l (c.has_key.ensures.0 c.if-not-has_key.false) in
-    let nodes = nodes_of q c.args.page.columns in
-    let m = c.pass_key.new.self in
-    let goes = c.pass_key.ensures nodes in
+    let more = key_more l (c.has_key-in-pairs.ensures.0 c.if-not-has_key-2.false) in
+    let one = c.in-Taken.ensures.hands in
+    let goes = c.in-Taken.ensures.passes nodes in
+    let left = rest_is c.in-Taken.taken c.pairs.rest.now in
+    let m = c.hand_key.new.here in
     let half = key_gone nodes l m c.in-Taken.taken c.args.kinds.key c.args.kinds.value goes i.pair in
-    let one = rw rest_is at c.in-Taken.ensures.hands in
-    let stands = further_stands (Gets g.S.Sink) c.args.self.now q c.args.level.now c.args.input.now c.args.sink.now c.args.page c.requires.here c.requires.unrefused c.requires.empty l c.pairs.used c.pairs.sink i.stands c.args.kinds.key i.pair.of_key more c.due_in_pair-due.result c.due_in_pair-due.ensures c.in-Taken.taken _ one m goes _ one.holds in
-    let other = rw rest_is at c.in-Fault-hand_leaf.ensures.hands in
-    further_place (Gets g.S.Sink) c.args.self.now q c.args.level.now c.args.input.now c.args.sink.now c.args.page c.requires.here c.requires.unrefused c.requires.empty m (c.pairs.used + c.in-Taken.taken) c.hand_leaf.new.sink stands c.args.kinds.value half.of_value (value_more m half.at_value) c.due_in_pair-due-in-pairs.result c.due_in_pair-due-in-pairs.ensures c.in-Fault-hand_leaf.taken _ other
+    let stands = next_stands c.requires.here c.requires.unrefused c.requires.empty i.stands i.pair.of_key more one goes left one.holds in
+    let other = c.in-Fault-hand_value.ensures.hands in
+    let gone = c.in-Fault-hand_value.ensures.passes nodes in
+    let stop = c.stop_at-in-Fault-hand_value.ensures.level ∙ gone in
+    next_lawful c.requires.here c.requires.unrefused c.requires.empty stands half.of_value (value_more m half.at_value) other stop
 
-pub returns-in-Fault-hand_leaf-clause-lawful : goal.returns-in-Fault-hand_leaf-clause-lawful
-returns-in-Fault-hand_leaf-clause-lawful g c =
-    let q = parts_state c.args.parts.now in
+pub returns-in-Fault-hand_value-clause-inside : goal.returns-in-Fault-hand_value-clause-inside
+returns-in-Fault-hand_value-clause-inside g c =
+    let nodes = nodes_of (parts_state c.args.parts.now) c.args.page.columns in
     let i = c.pairs.invariant in
     let l = c.pairs.here in
-    let more = key_more l (c.has_key.ensures.0 c.if-not-has_key.false) in
-    let nodes = nodes_of q c.args.page.columns in
-    let m = c.pass_key.new.self in
-    let goes = c.pass_key.ensures nodes in
+    let more = key_more l (c.has_key-in-pairs.ensures.0 c.if-not-has_key-2.false) in
+    let one = c.in-Taken.ensures.hands in
+    let goes = c.in-Taken.ensures.passes nodes in
+    let left = rest_is c.in-Taken.taken c.pairs.rest.now in
+    let m = c.hand_key.new.here in
     let half = key_gone nodes l m c.in-Taken.taken c.args.kinds.key c.args.kinds.value goes i.pair in
-    let one = rw rest_is at c.in-Taken.ensures.hands in
-    let stands = further_stands (Gets g.S.Sink) c.args.self.now q c.args.level.now c.args.input.now c.args.sink.now c.args.page c.requires.here c.requires.unrefused c.requires.empty l c.pairs.used c.pairs.sink i.stands c.args.kinds.key i.pair.of_key more c.due_in_pair-due.result c.due_in_pair-due.ensures c.in-Taken.taken _ one m goes _ one.holds in
-    let other = rw rest_is at c.in-Fault-hand_leaf.ensures.hands in
-    further_lawful (Gets g.S.Sink) c.args.self.now q c.args.level.now c.args.input.now c.args.sink.now c.args.page c.requires.here c.requires.unrefused c.requires.empty m (c.pairs.used + c.in-Taken.taken) c.hand_leaf.new.sink stands c.args.kinds.value half.of_value (value_more m half.at_value) c.due_in_pair-due-in-pairs.result c.due_in_pair-due-in-pairs.ensures c.in-Fault-hand_leaf.taken _ other c.pass_value-in-Fault-hand_leaf.new.self (c.pass_value-in-Fault-hand_leaf.ensures nodes)
+    let stands = next_stands c.requires.here c.requires.unrefused c.requires.empty i.stands i.pair.of_key more one goes left one.holds in
+    let other = c.in-Fault-hand_value.ensures.hands in
+    let gone = c.in-Fault-hand_value.ensures.passes nodes in
+    let stop = c.stop_at-in-Fault-hand_value.ensures.level ∙ gone in
+    next_inside c.requires.here c.requires.unrefused c.requires.empty stands half.of_value (value_more m half.at_value) other stop
 
-pub returns-in-Fault-hand_leaf-clause-inside : goal.returns-in-Fault-hand_leaf-clause-inside
-returns-in-Fault-hand_leaf-clause-inside g c =
-    let q = parts_state c.args.parts.now in
+pub returns-in-Fault-hand_value-clause-within : goal.returns-in-Fault-hand_value-clause-within
+returns-in-Fault-hand_value-clause-within g c =
+    let nodes = nodes_of (parts_state c.args.parts.now) c.args.page.columns in
     let i = c.pairs.invariant in
     let l = c.pairs.here in
-    let more = key_more l (c.has_key.ensures.0 c.if-not-has_key.false) in
-    let nodes = nodes_of q c.args.page.columns in
-    let m = c.pass_key.new.self in
-    let goes = c.pass_key.ensures nodes in
+    let more = key_more l (c.has_key-in-pairs.ensures.0 c.if-not-has_key-2.false) in
+    let one = c.in-Taken.ensures.hands in
+    let goes = c.in-Taken.ensures.passes nodes in
+    let left = rest_is c.in-Taken.taken c.pairs.rest.now in
+    let m = c.hand_key.new.here in
     let half = key_gone nodes l m c.in-Taken.taken c.args.kinds.key c.args.kinds.value goes i.pair in
-    let one = rw rest_is at c.in-Taken.ensures.hands in
-    let stands = further_stands (Gets g.S.Sink) c.args.self.now q c.args.level.now c.args.input.now c.args.sink.now c.args.page c.requires.here c.requires.unrefused c.requires.empty l c.pairs.used c.pairs.sink i.stands c.args.kinds.key i.pair.of_key more c.due_in_pair-due.result c.due_in_pair-due.ensures c.in-Taken.taken _ one m goes _ one.holds in
-    let other = rw rest_is at c.in-Fault-hand_leaf.ensures.hands in
-    further_inside (Gets g.S.Sink) c.args.self.now q c.args.level.now c.args.input.now c.args.sink.now c.args.page c.requires.here c.requires.unrefused c.requires.empty m (c.pairs.used + c.in-Taken.taken) c.hand_leaf.new.sink stands c.args.kinds.value half.of_value (value_more m half.at_value) c.due_in_pair-due-in-pairs.result c.due_in_pair-due-in-pairs.ensures c.in-Fault-hand_leaf.taken _ other c.pass_value-in-Fault-hand_leaf.new.self (c.pass_value-in-Fault-hand_leaf.ensures nodes)
+    let stands = next_stands c.requires.here c.requires.unrefused c.requires.empty i.stands i.pair.of_key more one goes left one.holds in
+    let other = c.in-Fault-hand_value.ensures.hands in
+    let gone = c.in-Fault-hand_value.ensures.passes nodes in
+    let stop = c.stop_at-in-Fault-hand_value.ensures.level ∙ gone in
+    let behind = rest_is c.in-Fault-hand_value.taken _ in
+    rw c.stop_at-in-Fault-hand_value.ensures.handed
+    (next_within c.requires.here c.requires.unrefused c.requires.empty stands half.of_value (value_more m half.at_value) other stop behind)
 
-pub returns-in-Fault-hand_leaf-clause-within : goal.returns-in-Fault-hand_leaf-clause-within
-returns-in-Fault-hand_leaf-clause-within g c =
-    let q = parts_state c.args.parts.now in
+pub returns-in-Fault-hand_value-clause-drains : goal.returns-in-Fault-hand_value-clause-drains
+returns-in-Fault-hand_value-clause-drains g c =
+    let nodes = nodes_of (parts_state c.args.parts.now) c.args.page.columns in
     let i = c.pairs.invariant in
     let l = c.pairs.here in
-    let more = key_more l (c.has_key.ensures.0 c.if-not-has_key.false) in
-    let nodes = nodes_of q c.args.page.columns in
-    let m = c.pass_key.new.self in
-    let goes = c.pass_key.ensures nodes in
+    let more = key_more l (c.has_key-in-pairs.ensures.0 c.if-not-has_key-2.false) in
+    let one = c.in-Taken.ensures.hands in
+    let goes = c.in-Taken.ensures.passes nodes in
+    let left = rest_is c.in-Taken.taken c.pairs.rest.now in
+    let m = c.hand_key.new.here in
     let half = key_gone nodes l m c.in-Taken.taken c.args.kinds.key c.args.kinds.value goes i.pair in
-    let one = rw rest_is at c.in-Taken.ensures.hands in
-    let stands = further_stands (Gets g.S.Sink) c.args.self.now q c.args.level.now c.args.input.now c.args.sink.now c.args.page c.requires.here c.requires.unrefused c.requires.empty l c.pairs.used c.pairs.sink i.stands c.args.kinds.key i.pair.of_key more c.due_in_pair-due.result c.due_in_pair-due.ensures c.in-Taken.taken _ one m goes _ one.holds in
-    let other = rw rest_is at c.in-Fault-hand_leaf.ensures.hands in
-    further_within (Gets g.S.Sink) c.args.self.now q c.args.level.now c.args.input.now c.args.sink.now c.args.page c.requires.here c.requires.unrefused c.requires.empty m (c.pairs.used + c.in-Taken.taken) c.hand_leaf.new.sink stands c.args.kinds.value half.of_value (value_more m half.at_value) c.due_in_pair-due-in-pairs.result c.due_in_pair-due-in-pairs.ensures c.in-Fault-hand_leaf.taken _ other c.pass_value-in-Fault-hand_leaf.new.self (c.pass_value-in-Fault-hand_leaf.ensures nodes)
+    let stands = next_stands c.requires.here c.requires.unrefused c.requires.empty i.stands i.pair.of_key more one goes left one.holds in
+    let other = c.in-Fault-hand_value.ensures.hands in
+    let gone = c.in-Fault-hand_value.ensures.passes nodes in
+    let stop = c.stop_at-in-Fault-hand_value.ensures.level ∙ gone in
+    let behind = rest_is c.in-Fault-hand_value.taken _ in
+    rw c.stop_at-in-Fault-hand_value.ensures.handed
+    (next_fails c.requires.here c.requires.unrefused c.requires.empty stands half.of_value (value_more m half.at_value) other stop behind
+    (Fails g.S.Sink) other.holds)
 
-pub returns-in-Fault-hand_leaf-clause-drains : goal.returns-in-Fault-hand_leaf-clause-drains
-returns-in-Fault-hand_leaf-clause-drains g c =
-    let q = parts_state c.args.parts.now in
+pub returns-clause-lawful : goal.returns-clause-lawful
+returns-clause-lawful g c =
+    let nodes = nodes_of (parts_state c.args.parts.now) c.args.page.columns in
     let i = c.pairs.invariant in
-    let l = c.pairs.here in
-    let more = key_more l (c.has_key.ensures.0 c.if-not-has_key.false) in
-    let nodes = nodes_of q c.args.page.columns in
-    let m = c.pass_key.new.self in
-    let goes = c.pass_key.ensures nodes in
-    let half = key_gone nodes l m c.in-Taken.taken c.args.kinds.key c.args.kinds.value goes i.pair in
-    let one = rw rest_is at c.in-Taken.ensures.hands in
-    let stands = further_stands (Gets g.S.Sink) c.args.self.now q c.args.level.now c.args.input.now c.args.sink.now c.args.page c.requires.here c.requires.unrefused c.requires.empty l c.pairs.used c.pairs.sink i.stands c.args.kinds.key i.pair.of_key more c.due_in_pair-due.result c.due_in_pair-due.ensures c.in-Taken.taken _ one m goes _ one.holds in
-    let other = rw rest_is at c.in-Fault-hand_leaf.ensures.hands in
-    further_fails (Gets g.S.Sink) c.args.self.now q c.args.level.now c.args.input.now c.args.sink.now c.args.page c.requires.here c.requires.unrefused c.requires.empty m (c.pairs.used + c.in-Taken.taken) c.hand_leaf.new.sink stands c.args.kinds.value half.of_value (value_more m half.at_value) c.due_in_pair-due-in-pairs.result c.due_in_pair-due-in-pairs.ensures c.in-Fault-hand_leaf.taken _ other c.pass_value-in-Fault-hand_leaf.new.self (c.pass_value-in-Fault-hand_leaf.ensures nodes) (Fails g.S.Sink) _ other.holds
+    let end = c.if-not-has_key-2 in
+    let stands : StandsBefore (Gets g.S.Sink) c.args.self.now (parts_state c.args.parts.now) c.args.level.now c.args.input.now
+    c.args.sink.now end.rest.now c.front_of-within.result.now end.here end.sink =
+    elim c.if-not-has_key-2.branch [
+      | then-not-has_key-2 w ↦ rw (w.rest-is, w.here-is, w.sink-is) i.stands
+      | else-not-has_key-2+in-Left w ↦
+          rw (w.rest-is, w.here-is, w.sink-is, w.in-Left.ensures.passes nodes, w.in-Left.ensures.left refl) i.stands
+      | else-not-has_key-2+in-Taken+in-Left-hand_value w ↦
+          let more = key_more c.pairs.here (c.has_key-in-pairs.ensures.0 w.if-not-has_key-2.false) in
+          let one = w.in-Taken.ensures.hands in
+          let left = rest_is w.in-Taken.taken c.pairs.rest.now in
+          let after =
+          next_stands c.requires.here c.requires.unrefused c.requires.empty i.stands i.pair.of_key more one
+          (w.in-Taken.ensures.passes nodes) left one.holds in
+          rw (w.rest-is, w.here-is, w.sink-is, w.in-Left-hand_value.ensures.passes nodes, w.in-Left-hand_value.ensures.left refl)
+          after
+    ] in
+    rw c.stop_at-2.ensures.level stands.stands.lawful
 
-pub returns-in-Left-hand_leaf-clause-lawful : goal.returns-in-Left-hand_leaf-clause-lawful
-returns-in-Left-hand_leaf-clause-lawful g c =
-    let q = parts_state c.args.parts.now in
+pub returns-clause-inside : goal.returns-clause-inside
+returns-clause-inside g c =
+    let nodes = nodes_of (parts_state c.args.parts.now) c.args.page.columns in
     let i = c.pairs.invariant in
-    let l = c.pairs.here in
-    let more = key_more l (c.has_key.ensures.0 c.if-not-has_key.false) in
-    let nodes = nodes_of q c.args.page.columns in
-    let m = c.pass_key.new.self in
-    let goes = c.pass_key.ensures nodes in
-    let one = rw rest_is at c.in-Taken.ensures.hands in
-    let stands = further_stands (Gets g.S.Sink) c.args.self.now q c.args.level.now c.args.input.now c.args.sink.now c.args.page c.requires.here c.requires.unrefused c.requires.empty l c.pairs.used c.pairs.sink i.stands c.args.kinds.key i.pair.of_key more c.due_in_pair-due.result c.due_in_pair-due.ensures c.in-Taken.taken _ one m goes _ one.holds in
-    stands.lawful
+    let end = c.if-not-has_key-2 in
+    let stands : StandsBefore (Gets g.S.Sink) c.args.self.now (parts_state c.args.parts.now) c.args.level.now c.args.input.now
+    c.args.sink.now end.rest.now c.front_of-within.result.now end.here end.sink =
+    elim c.if-not-has_key-2.branch [
+      | then-not-has_key-2 w ↦ rw (w.rest-is, w.here-is, w.sink-is) i.stands
+      | else-not-has_key-2+in-Left w ↦
+          rw (w.rest-is, w.here-is, w.sink-is, w.in-Left.ensures.passes nodes, w.in-Left.ensures.left refl) i.stands
+      | else-not-has_key-2+in-Taken+in-Left-hand_value w ↦
+          let more = key_more c.pairs.here (c.has_key-in-pairs.ensures.0 w.if-not-has_key-2.false) in
+          let one = w.in-Taken.ensures.hands in
+          let left = rest_is w.in-Taken.taken c.pairs.rest.now in
+          let after =
+          next_stands c.requires.here c.requires.unrefused c.requires.empty i.stands i.pair.of_key more one
+          (w.in-Taken.ensures.passes nodes) left one.holds in
+          rw (w.rest-is, w.here-is, w.sink-is, w.in-Left-hand_value.ensures.passes nodes, w.in-Left-hand_value.ensures.left refl)
+          after
+    ] in
+    rw c.stop_at-2.ensures.level stands.stands.inside
 
-pub returns-in-Left-hand_leaf-clause-inside : goal.returns-in-Left-hand_leaf-clause-inside
-returns-in-Left-hand_leaf-clause-inside g c =
-    let q = parts_state c.args.parts.now in
+pub returns-clause-within : goal.returns-clause-within
+returns-clause-within g c =
+    let nodes = nodes_of (parts_state c.args.parts.now) c.args.page.columns in
     let i = c.pairs.invariant in
-    let l = c.pairs.here in
-    let more = key_more l (c.has_key.ensures.0 c.if-not-has_key.false) in
-    let nodes = nodes_of q c.args.page.columns in
-    let m = c.pass_key.new.self in
-    let goes = c.pass_key.ensures nodes in
-    let one = rw rest_is at c.in-Taken.ensures.hands in
-    let stands = further_stands (Gets g.S.Sink) c.args.self.now q c.args.level.now c.args.input.now c.args.sink.now c.args.page c.requires.here c.requires.unrefused c.requires.empty l c.pairs.used c.pairs.sink i.stands c.args.kinds.key i.pair.of_key more c.due_in_pair-due.result c.due_in_pair-due.ensures c.in-Taken.taken _ one m goes _ one.holds in
-    stands.inside
+    let end = c.if-not-has_key-2 in
+    let stands : StandsBefore (Gets g.S.Sink) c.args.self.now (parts_state c.args.parts.now) c.args.level.now c.args.input.now
+    c.args.sink.now end.rest.now c.front_of-within.result.now end.here end.sink =
+    elim c.if-not-has_key-2.branch [
+      | then-not-has_key-2 w ↦ rw (w.rest-is, w.here-is, w.sink-is) i.stands
+      | else-not-has_key-2+in-Left w ↦
+          rw (w.rest-is, w.here-is, w.sink-is, w.in-Left.ensures.passes nodes, w.in-Left.ensures.left refl) i.stands
+      | else-not-has_key-2+in-Taken+in-Left-hand_value w ↦
+          let more = key_more c.pairs.here (c.has_key-in-pairs.ensures.0 w.if-not-has_key-2.false) in
+          let one = w.in-Taken.ensures.hands in
+          let left = rest_is w.in-Taken.taken c.pairs.rest.now in
+          let after =
+          next_stands c.requires.here c.requires.unrefused c.requires.empty i.stands i.pair.of_key more one
+          (w.in-Taken.ensures.passes nodes) left one.holds in
+          rw (w.rest-is, w.here-is, w.sink-is, w.in-Left-hand_value.ensures.passes nodes, w.in-Left-hand_value.ensures.left refl)
+          after
+    ] in
+    rw (c.stop_at-2.ensures.level, c.stop_at-2.ensures.handed) (stands.stands.within, stands.stands.pays)
 
-pub returns-in-Left-hand_leaf-clause-within : goal.returns-in-Left-hand_leaf-clause-within
-returns-in-Left-hand_leaf-clause-within g c =
-    let q = parts_state c.args.parts.now in
+pub returns-clause-drains : goal.returns-clause-drains
+returns-clause-drains g c =
+    let nodes = nodes_of (parts_state c.args.parts.now) c.args.page.columns in
     let i = c.pairs.invariant in
-    let l = c.pairs.here in
-    let more = key_more l (c.has_key.ensures.0 c.if-not-has_key.false) in
-    let nodes = nodes_of q c.args.page.columns in
-    let m = c.pass_key.new.self in
-    let goes = c.pass_key.ensures nodes in
-    let one = rw rest_is at c.in-Taken.ensures.hands in
-    let stands = further_stands (Gets g.S.Sink) c.args.self.now q c.args.level.now c.args.input.now c.args.sink.now c.args.page c.requires.here c.requires.unrefused c.requires.empty l c.pairs.used c.pairs.sink i.stands c.args.kinds.key i.pair.of_key more c.due_in_pair-due.result c.due_in_pair-due.ensures c.in-Taken.taken _ one m goes _ one.holds in
-    (stands.within, stands.pays)
-
-pub returns-in-Left-hand_leaf-clause-drains : goal.returns-in-Left-hand_leaf-clause-drains
-returns-in-Left-hand_leaf-clause-drains g c =
-    let q = parts_state c.args.parts.now in
-    let i = c.pairs.invariant in
-    let l = c.pairs.here in
-    let more = key_more l (c.has_key.ensures.0 c.if-not-has_key.false) in
-    let nodes = nodes_of q c.args.page.columns in
-    let m = c.pass_key.new.self in
-    let goes = c.pass_key.ensures nodes in
-    let one = rw rest_is at c.in-Taken.ensures.hands in
-    let stands = further_stands (Gets g.S.Sink) c.args.self.now q c.args.level.now c.args.input.now c.args.sink.now c.args.page c.requires.here c.requires.unrefused c.requires.empty l c.pairs.used c.pairs.sink i.stands c.args.kinds.key i.pair.of_key more c.due_in_pair-due.result c.due_in_pair-due.ensures c.in-Taken.taken _ one m goes _ one.holds in
-    rw (c.in-Left-hand_leaf.ensures.left refl) stands.drained
+    let end = c.if-not-has_key-2 in
+    let stands : StandsBefore (Gets g.S.Sink) c.args.self.now (parts_state c.args.parts.now) c.args.level.now c.args.input.now
+    c.args.sink.now end.rest.now c.front_of-within.result.now end.here end.sink =
+    elim c.if-not-has_key-2.branch [
+      | then-not-has_key-2 w ↦ rw (w.rest-is, w.here-is, w.sink-is) i.stands
+      | else-not-has_key-2+in-Left w ↦
+          rw (w.rest-is, w.here-is, w.sink-is, w.in-Left.ensures.passes nodes, w.in-Left.ensures.left refl) i.stands
+      | else-not-has_key-2+in-Taken+in-Left-hand_value w ↦
+          let more = key_more c.pairs.here (c.has_key-in-pairs.ensures.0 w.if-not-has_key-2.false) in
+          let one = w.in-Taken.ensures.hands in
+          let left = rest_is w.in-Taken.taken c.pairs.rest.now in
+          let after =
+          next_stands c.requires.here c.requires.unrefused c.requires.empty i.stands i.pair.of_key more one
+          (w.in-Taken.ensures.passes nodes) left one.holds in
+          rw (w.rest-is, w.here-is, w.sink-is, w.in-Left-hand_value.ensures.passes nodes, w.in-Left-hand_value.ensures.left refl)
+          after
+    ] in
+    rw (c.stop_at-2.ensures.level, c.stop_at-2.ensures.handed) stands.stands.drained

@@ -1,164 +1,128 @@
-use Rattle.std.proofs.Common.{◌≡◌, List, drop, Some, sym, ap, subst, ◌∙◌, arith}
-use Rattle.std.proofs.lemmas.List.{length-drop}
-use Rattle.cqlp_kind.specs.CellStep.{Leaf}
+use Rattle.std.proofs.Common.{◌≡◌, List, sym, ap, subst, ◌∙◌, refl}
 use Rattle.cqlp_kind.specs.declared.node.Node.{Node}
+use Rattle.cqlp_cell.specs.Levels.{passed}
 use Rattle.cqlp_cell.specs.Progress.{HasNext}
-use Rattle.cqlp_cell.specs.Levels.{due_at, passed}
-use Rattle.cqlp_decode.specs.Reading.{cell_event}
-use Rattle.cqlp_decode.specs.Items.{at_level}
-use Rattle.cqlp_decode.specs.Progress.{nodes_of, parts_state, state_of}
+use Rattle.cqlp_decode.specs.Progress.{nodes_of, parts_state}
 use Rattle.cqlp_decode.specs.Sinks.{Gets, Fails}
 use Rattle.cqlp_decode.proofs.Gets.{rest_is}
-use Rattle.cqlp_decode.proofs.Taken.{hands_none, item_drains, item_fails}
-use Rattle.cqlp_decode.proofs.ItemLoop.{level_fits, item_next, item_place, item_lawful, item_takes}
+use Rattle.cqlp_decode.proofs.ItemLoop.{level_fits}
+use Rattle.cqlp_decode.proofs.Rests.{before_first, due_is, next_place, next_lawful, next_inside, next_within, next_fails, next_stands}
 use Rattle.cqlp_decode.proofs.progress.StreamProgress.hand_scalars.Goals as goal
+
+pub due_item-requires : goal.due_item-requires
+due_item-requires g c =
+    let q = parts_state c.args.parts.now in
+    rw c.page_table-table.ensures
+    (level_fits c.args.self.now q c.args.page c.requires.here c.args.level.now c.requires.inside c.requires.lawful)
 
 pub scalars-init : goal.scalars-init
 scalars-init g c =
     let s = c.args.self.now in
     let q = parts_state c.args.parts.now in
-    record {
-      within = omega arith;
-      inside = c.requires.inside;
-      lawful = c.requires.lawful;
-      pays = omega arith;
-      drained = hands_none (Gets g.S.Sink) (state_of s (at_level q c.args.level.now)) c.args.input.now c.args.sink.now;
-    }
+    let l = c.args.level.now in
+    let nodes = nodes_of q c.args.page.columns in
+    let is = due_is nodes l c.in-Some.first (sym (rw c.page_table-table.ensures at c.in-Some.ensures)) in
+    let fits = level_fits s q c.args.page c.requires.here l c.requires.inside c.requires.lawful is.1 in
+    let front = rw is.0 at c.front_of-within.ensures.is in
+    let few = rw is.0 at c.front_of-within.ensures.bound in
+    before_first (Gets g.S.Sink) s q l c.args.input.now c.args.sink.now _ front few fits.inside c.requires.inside c.requires.lawful
 
-pub due_item-requires : goal.due_item-requires
-due_item-requires g c =
+pub due_item-requires-in-scalars : goal.due_item-requires-in-scalars
+due_item-requires-in-scalars g c =
+    let q = parts_state c.args.parts.now in
     let i = c.scalars.invariant in
-    rw c.page_table-table.ensures (level_fits c.args.self.now (parts_state c.args.parts.now) c.args.page c.requires.here c.scalars.here i.inside i.lawful)
+    rw c.page_table-table.ensures
+    (level_fits c.args.self.now q c.args.page c.requires.here c.scalars.here i.stands.inside i.stands.lawful)
 
 pub pass-requires-clause-next : goal.pass-requires-clause-next
 pass-requires-clause-next g c =
-    let s = c.args.self.now in
     let q = parts_state c.args.parts.now in
-    let p = c.args.page in
     let i = c.scalars.invariant in
     let l = c.scalars.here in
-    let t = c.in-Some.due in
-    let found : due_at (nodes_of q p.columns) l ≡ Some t = sym (rw c.page_table-table.ensures at c.in-Some.ensures) in
-    let rest = drop c.scalars.used c.args.input.now in
-    subst (λ (z : List Node). HasNext z l.value l.value.order) (sym c.page_table-table.ensures) (item_next s q p c.requires.here l i.inside i.lawful c.requires.empty rest t found)
+    let nodes = nodes_of q c.args.page.columns in
+    let is = due_is nodes l c.in-Some-due_item.due (sym (rw c.page_table-table.ensures at c.in-Some-due_item.ensures)) in
+    let next = (level_fits c.args.self.now q c.args.page c.requires.here l i.stands.inside i.stands.lawful is.1).next in
+    subst (λ (z : List Node). HasNext z l.value l.value.order) (sym c.page_table-table.ensures) next
 
 pub pass-requires-clause-place : goal.pass-requires-clause-place
 pass-requires-clause-place g c =
-    let s = c.args.self.now in
-    let q = parts_state c.args.parts.now in
-    let p = c.args.page in
-    let i = c.scalars.invariant in
-    let l = c.scalars.here in
-    let t = c.in-Some.due in
-    let found : due_at (nodes_of q p.columns) l ≡ Some t = sym (rw c.page_table-table.ensures at c.in-Some.ensures) in
-    let rest = drop c.scalars.used c.args.input.now in
-    item_place s q p c.requires.here l i.inside i.lawful c.requires.empty rest t found c.in-Taken.taken _ (rw rest_is at c.in-Taken.ensures.hands)
-
-pub pass-requires-in-Fault-clause-next : goal.pass-requires-in-Fault-clause-next
-pass-requires-in-Fault-clause-next g c =
-    let s = c.args.self.now in
-    let q = parts_state c.args.parts.now in
-    let p = c.args.page in
-    let i = c.scalars.invariant in
-    let l = c.scalars.here in
-    let t = c.in-Some.due in
-    let found : due_at (nodes_of q p.columns) l ≡ Some t = sym (rw c.page_table-table.ensures at c.in-Some.ensures) in
-    let rest = drop c.scalars.used c.args.input.now in
-    subst (λ (z : List Node). HasNext z l.value l.value.order) (sym c.page_table-table.ensures) (item_next s q p c.requires.here l i.inside i.lawful c.requires.empty rest t found)
-
-pub pass-requires-in-Fault-clause-place : goal.pass-requires-in-Fault-clause-place
-pass-requires-in-Fault-clause-place g c =
-    let s = c.args.self.now in
-    let q = parts_state c.args.parts.now in
-    let p = c.args.page in
-    let i = c.scalars.invariant in
-    let l = c.scalars.here in
-    let t = c.in-Some.due in
-    let found : due_at (nodes_of q p.columns) l ≡ Some t = sym (rw c.page_table-table.ensures at c.in-Some.ensures) in
-    let rest = drop c.scalars.used c.args.input.now in
-    item_place s q p c.requires.here l i.inside i.lawful c.requires.empty rest t found c.in-Fault.taken _ (rw rest_is at c.in-Fault.ensures.hands)
+    let nodes = nodes_of (parts_state c.args.parts.now) c.args.page.columns in
+    let is = due_is nodes c.scalars.here c.in-Some-due_item.due (sym (rw c.page_table-table.ensures at c.in-Some-due_item.ensures)) in
+    let one = rw (c.due_in.ensures, is.0) at c.in-Taken.ensures.hands in
+    next_place c.requires.here c.requires.unrefused c.requires.empty c.scalars.invariant refl is.1 one
 
 pub scalars-preserved : goal.scalars-preserved
 scalars-preserved g c =
-    let s = c.args.self.now in
+    let l = c.scalars.here in
+    let n = c.in-Taken.taken in
+    let nodes = nodes_of (parts_state c.args.parts.now) c.args.page.columns in
+    let is = due_is nodes l c.in-Some-due_item.due (sym (rw c.page_table-table.ensures at c.in-Some-due_item.ensures)) in
+    let one = rw (c.due_in.ensures, is.0) at c.in-Taken.ensures.hands in
+    let goes : c.pass.new.self ≡ passed nodes l n = c.pass.ensures ∙ ap (λ (z : List Node). passed z l n) c.page_table-table.ensures in
+    let left = rest_is n c.scalars.rest.now in
+    next_stands c.requires.here c.requires.unrefused c.requires.empty c.scalars.invariant refl is.1 one goes left one.holds
+
+pub pass-requires-in-Fault-clause-next : goal.pass-requires-in-Fault-clause-next
+pass-requires-in-Fault-clause-next g c =
     let q = parts_state c.args.parts.now in
-    let p = c.args.page in
     let i = c.scalars.invariant in
     let l = c.scalars.here in
-    let t = c.in-Some.due in
-    let found : due_at (nodes_of q p.columns) l ≡ Some t = sym (rw c.page_table-table.ensures at c.in-Some.ensures) in
-    let rest = drop c.scalars.used c.args.input.now in
-    let n = c.in-Taken.taken in
-    let one = rw rest_is at c.in-Taken.ensures.hands in
-    let goes : c.pass.new.self ≡ passed (nodes_of q p.columns) l n = c.pass.ensures ∙ ap (λ (z : List Node). passed z l n) c.page_table-table.ensures in
-    let behind = passed (nodes_of q p.columns) l n in
-    let told = cell_event p.row p.column (Leaf t.level one.value) in
-    let h = item_takes s q p c.requires.here l i.inside i.lawful c.requires.empty rest t found n _ one in
-    rw goes (record {
-      within = omega (arith, i.within, h.3.within, length-drop c.scalars.used c.args.input.now);
-      inside = record { fresh = i.inside.fresh; items = i.inside.items; some = i.inside.some; level = i.inside.level };
-      lawful = item_lawful s q p c.requires.here l i.inside i.lawful c.requires.empty rest t found n _ one;
-      pays = omega (arith, h.3.pays, i.pays);
-      drained =
-          item_drains (Gets g.S.Sink) (state_of s (at_level q c.args.level.now)) (state_of s (at_level q l)) (state_of s (at_level q behind)) c.args.input.now c.scalars.used _ _ i.drained c.requires.unrefused t.at n told h _ one.holds;
-    })
+    let nodes = nodes_of q c.args.page.columns in
+    let is = due_is nodes l c.in-Some-due_item.due (sym (rw c.page_table-table.ensures at c.in-Some-due_item.ensures)) in
+    let next = (level_fits c.args.self.now q c.args.page c.requires.here l i.stands.inside i.stands.lawful is.1).next in
+    subst (λ (z : List Node). HasNext z l.value l.value.order) (sym c.page_table-table.ensures) next
+
+pub pass-requires-in-Fault-clause-place : goal.pass-requires-in-Fault-clause-place
+pass-requires-in-Fault-clause-place g c =
+    let nodes = nodes_of (parts_state c.args.parts.now) c.args.page.columns in
+    let is = due_is nodes c.scalars.here c.in-Some-due_item.due (sym (rw c.page_table-table.ensures at c.in-Some-due_item.ensures)) in
+    let one = rw (c.due_in.ensures, is.0) at c.in-Fault.ensures.hands in
+    next_place c.requires.here c.requires.unrefused c.requires.empty c.scalars.invariant refl is.1 one
 
 pub returns-in-Fault-clause-lawful : goal.returns-in-Fault-clause-lawful
 returns-in-Fault-clause-lawful g c =
-    let s = c.args.self.now in
-    let q = parts_state c.args.parts.now in
-    let p = c.args.page in
-    let i = c.scalars.invariant in
     let l = c.scalars.here in
-    let t = c.in-Some.due in
-    let found : due_at (nodes_of q p.columns) l ≡ Some t = sym (rw c.page_table-table.ensures at c.in-Some.ensures) in
-    let rest = drop c.scalars.used c.args.input.now in
     let n = c.in-Fault.taken in
-    let one = rw rest_is at c.in-Fault.ensures.hands in
-    let goes : c.pass-in-Fault.new.self ≡ passed (nodes_of q p.columns) l n = c.pass-in-Fault.ensures ∙ ap (λ (z : List Node). passed z l n) c.page_table-table.ensures in
-    let behind = passed (nodes_of q p.columns) l n in
-    let told = cell_event p.row p.column (Leaf t.level one.value) in
-    let h = item_takes s q p c.requires.here l i.inside i.lawful c.requires.empty rest t found n _ one in
-    rw goes (item_lawful s q p c.requires.here l i.inside i.lawful c.requires.empty rest t found n _ one)
-
-pub returns-in-Fault-clause-within : goal.returns-in-Fault-clause-within
-returns-in-Fault-clause-within g c =
-    let s = c.args.self.now in
-    let q = parts_state c.args.parts.now in
-    let p = c.args.page in
-    let i = c.scalars.invariant in
-    let l = c.scalars.here in
-    let t = c.in-Some.due in
-    let found : due_at (nodes_of q p.columns) l ≡ Some t = sym (rw c.page_table-table.ensures at c.in-Some.ensures) in
-    let rest = drop c.scalars.used c.args.input.now in
-    let n = c.in-Fault.taken in
-    let one = rw rest_is at c.in-Fault.ensures.hands in
-    let goes : c.pass-in-Fault.new.self ≡ passed (nodes_of q p.columns) l n = c.pass-in-Fault.ensures ∙ ap (λ (z : List Node). passed z l n) c.page_table-table.ensures in
-    let behind = passed (nodes_of q p.columns) l n in
-    let told = cell_event p.row p.column (Leaf t.level one.value) in
-    let h = item_takes s q p c.requires.here l i.inside i.lawful c.requires.empty rest t found n _ one in
-    rw goes (omega (arith, i.within, h.3.within, length-drop c.scalars.used c.args.input.now), omega (arith, h.3.pays, i.pays))
-
-pub returns-in-Fault-clause-drains : goal.returns-in-Fault-clause-drains
-returns-in-Fault-clause-drains g c =
-    let s = c.args.self.now in
-    let q = parts_state c.args.parts.now in
-    let p = c.args.page in
-    let i = c.scalars.invariant in
-    let l = c.scalars.here in
-    let t = c.in-Some.due in
-    let found : due_at (nodes_of q p.columns) l ≡ Some t = sym (rw c.page_table-table.ensures at c.in-Some.ensures) in
-    let rest = drop c.scalars.used c.args.input.now in
-    let n = c.in-Fault.taken in
-    let one = rw rest_is at c.in-Fault.ensures.hands in
-    let goes : c.pass-in-Fault.new.self ≡ passed (nodes_of q p.columns) l n = c.pass-in-Fault.ensures ∙ ap (λ (z : List Node). passed z l n) c.page_table-table.ensures in
-    let behind = passed (nodes_of q p.columns) l n in
-    let told = cell_event p.row p.column (Leaf t.level one.value) in
-    let h = item_takes s q p c.requires.here l i.inside i.lawful c.requires.empty rest t found n _ one in
-    rw goes (item_fails (Gets g.S.Sink) (state_of s (at_level q c.args.level.now)) (state_of s (at_level q l)) (state_of s (at_level q behind)) c.args.input.now c.scalars.used _ _ i.drained c.requires.unrefused t.at n told h (Fails g.S.Sink) _ one.holds)
+    let nodes = nodes_of (parts_state c.args.parts.now) c.args.page.columns in
+    let is = due_is nodes l c.in-Some-due_item.due (sym (rw c.page_table-table.ensures at c.in-Some-due_item.ensures)) in
+    let one = rw (c.due_in.ensures, is.0) at c.in-Fault.ensures.hands in
+    let goes : c.pass-in-Fault.new.self ≡ passed nodes l n = c.pass-in-Fault.ensures ∙ ap (λ (z : List Node). passed z l n) c.page_table-table.ensures in
+    let stop = c.stop_at-in-Fault.ensures.level ∙ goes in
+    next_lawful c.requires.here c.requires.unrefused c.requires.empty c.scalars.invariant refl is.1 one stop
 
 pub returns-in-Fault-clause-inside : goal.returns-in-Fault-clause-inside
 returns-in-Fault-clause-inside g c =
-    let i = c.scalars.invariant in
+    let l = c.scalars.here in
     let n = c.in-Fault.taken in
-    rw c.pass-in-Fault.ensures (record { fresh = i.inside.fresh; items = i.inside.items; some = i.inside.some; level = i.inside.level })
+    let nodes = nodes_of (parts_state c.args.parts.now) c.args.page.columns in
+    let is = due_is nodes l c.in-Some-due_item.due (sym (rw c.page_table-table.ensures at c.in-Some-due_item.ensures)) in
+    let one = rw (c.due_in.ensures, is.0) at c.in-Fault.ensures.hands in
+    let goes : c.pass-in-Fault.new.self ≡ passed nodes l n = c.pass-in-Fault.ensures ∙ ap (λ (z : List Node). passed z l n) c.page_table-table.ensures in
+    let stop = c.stop_at-in-Fault.ensures.level ∙ goes in
+    next_inside c.requires.here c.requires.unrefused c.requires.empty c.scalars.invariant refl is.1 one stop
+
+pub returns-in-Fault-clause-within : goal.returns-in-Fault-clause-within
+returns-in-Fault-clause-within g c =
+    let l = c.scalars.here in
+    let n = c.in-Fault.taken in
+    let nodes = nodes_of (parts_state c.args.parts.now) c.args.page.columns in
+    let is = due_is nodes l c.in-Some-due_item.due (sym (rw c.page_table-table.ensures at c.in-Some-due_item.ensures)) in
+    let one = rw (c.due_in.ensures, is.0) at c.in-Fault.ensures.hands in
+    let goes : c.pass-in-Fault.new.self ≡ passed nodes l n = c.pass-in-Fault.ensures ∙ ap (λ (z : List Node). passed z l n) c.page_table-table.ensures in
+    let stop = c.stop_at-in-Fault.ensures.level ∙ goes in
+    let left = rest_is n c.scalars.rest.now in
+    rw c.stop_at-in-Fault.ensures.handed
+    (next_within c.requires.here c.requires.unrefused c.requires.empty c.scalars.invariant refl is.1 one stop left)
+
+pub returns-in-Fault-clause-drains : goal.returns-in-Fault-clause-drains
+returns-in-Fault-clause-drains g c =
+    let l = c.scalars.here in
+    let n = c.in-Fault.taken in
+    let nodes = nodes_of (parts_state c.args.parts.now) c.args.page.columns in
+    let is = due_is nodes l c.in-Some-due_item.due (sym (rw c.page_table-table.ensures at c.in-Some-due_item.ensures)) in
+    let one = rw (c.due_in.ensures, is.0) at c.in-Fault.ensures.hands in
+    let goes : c.pass-in-Fault.new.self ≡ passed nodes l n = c.pass-in-Fault.ensures ∙ ap (λ (z : List Node). passed z l n) c.page_table-table.ensures in
+    let stop = c.stop_at-in-Fault.ensures.level ∙ goes in
+    let left = rest_is n c.scalars.rest.now in
+    rw c.stop_at-in-Fault.ensures.handed
+    (next_fails c.requires.here c.requires.unrefused c.requires.empty c.scalars.invariant refl is.1 one stop left (Fails g.S.Sink) one.holds)

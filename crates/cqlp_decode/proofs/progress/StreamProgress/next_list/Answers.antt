@@ -30,12 +30,14 @@ returns g c =
     let t = c.in-Some-enter_next.entered in
     let enters = rw (c.page_table-table.ensures, sym turns.2) at c.in-Some-enter_next.ensures in
     let input = c.args.input.now in
-    record { goes = (
-      state_of (after s q p r.here l r.lawful r.empty r.unrefused c.args.end r.ends f turns) (idle s q p r.here l r.lawful r.empty r.unrefused c.args.end r.ends f turns),
-      after_takes s q p r.here l r.lawful r.empty r.unrefused c.args.end r.ends f turns,
-      next_takes s q p r.here l r.lawful r.empty r.unrefused c.args.end r.ends f turns node column input t enters,
-      next_lawful s q p r.here l r.lawful r.empty r.unrefused c.args.end r.ends f turns node column input t enters,
-      next_inside s q p r.here l r.lawful r.empty r.unrefused c.args.end r.ends f turns node column input t enters r.inside,
-      refl,
-      refl,
-    ) }
+    record {
+      goes = (
+        state_of (after s q p r.here l r.lawful r.empty r.unrefused c.args.end r.ends f turns) (idle s q p r.here l r.lawful r.empty r.unrefused c.args.end r.ends f turns),
+        after_takes s q p r.here l r.lawful r.empty r.unrefused c.args.end r.ends f turns,
+        next_takes s q p r.here l r.lawful r.empty r.unrefused c.args.end r.ends f turns node column input t enters,
+        next_lawful s q p r.here l r.lawful r.empty r.unrefused c.args.end r.ends f turns node column input t enters,
+        next_inside s q p r.here l r.lawful r.empty r.unrefused c.args.end r.ends f turns node column input t enters r.inside,
+        refl,
+        refl,
+      );
+    }

@@ -1,4 +1,4 @@
-use Rattle.std.proofs.Common.{◌≡◌, ◌∙◌, ◌-◌, ◌&&◌, ◌==◌, drop, sym, take}
+use Rattle.std.proofs.Common.{◌∙◌, ◌-◌, ◌&&◌, ◌==◌, drop, sym, take}
 use Rattle.cqlp_prepared.specs.Requests.{all_asked, asked, heard_as, with_heads}
 use Rattle.cqlp_prepared.proofs.Asked.{asked_next, next_is_done, next_goes_on, rest_is}
 use Rattle.cqlp_prepared.proofs.requests.Requests.hear_bytes.Goals as goal

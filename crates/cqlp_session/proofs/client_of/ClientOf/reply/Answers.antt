@@ -9,7 +9,7 @@ pub invariant_of-self-2 : goal.invariant_of-self-2
 invariant_of-self-2 g c =
     let fits : SFits w16 c.args.header.now.stream = search rules in
     let written = rw (c.deref_mut.ensures.value, to_z-of_z w16 c.args.header.now.stream fits) at c.take-value.ensures.after in
-    replied_through c.self.inside.core c.reply.new.self (signal_of c.args.header.now) _ _ _ c.in_ok-reply.reply c.self.invariant (sym c.in_ok-reply.ensures.answer) c.in_ok-reply.ensures.after written (omega arith)
+    (replied_through c.self.inside.core c.reply.new.self (signal_of c.args.header.now) _ _ _ c.in_ok-reply.reply c.self.invariant.0 (sym c.in_ok-reply.ensures.answer) c.in_ok-reply.ensures.after written (omega arith), omega arith)
 
 pub returns-clause-after : goal.returns-clause-after
 returns-clause-after g c =
@@ -23,4 +23,4 @@ pub returns-clause-held : goal.returns-clause-held
 returns-clause-held g c =
     let fits : SFits w16 c.args.header.now.stream = search rules in
     let written = rw (c.deref_mut.ensures.value, to_z-of_z w16 c.args.header.now.stream fits) at c.take-value.ensures.after in
-    replied_through c.self.inside.core c.reply.new.self (signal_of c.args.header.now) _ _ _ c.in_ok-reply.reply c.self.invariant (sym c.in_ok-reply.ensures.answer) c.in_ok-reply.ensures.after written (omega arith)
+    replied_through c.self.inside.core c.reply.new.self (signal_of c.args.header.now) _ _ _ c.in_ok-reply.reply c.self.invariant.0 (sym c.in_ok-reply.ensures.answer) c.in_ok-reply.ensures.after written (omega arith)

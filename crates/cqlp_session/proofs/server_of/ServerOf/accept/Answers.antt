@@ -8,10 +8,10 @@ pub invariant_of-self : goal.invariant_of-self
 invariant_of-self g c =
     let fits : SFits w16 c.args.header.now.stream = search rules in
     let written = rw (c.deref_mut.ensures.value, to_z-of_z w16 c.args.header.now.stream fits) at c.keep.ensures in
-    accepted_through c.self.inside.core c.accept.new.self (signal_of c.args.header.now) _ _ _ c.args.carried c.in-Ok.kind c.self.invariant c.in-Ok.ensures.after written (omega arith)
+    (accepted_through c.self.inside.core c.accept.new.self (signal_of c.args.header.now) _ _ _ c.args.carried c.in-Ok.kind c.self.invariant.0 c.in-Ok.ensures.after written (omega arith), omega arith)
 
 pub returns-in-Ok-clause-held : goal.returns-in-Ok-clause-held
 returns-in-Ok-clause-held g c =
     let fits : SFits w16 c.args.header.now.stream = search rules in
     let written = rw (c.deref_mut.ensures.value, to_z-of_z w16 c.args.header.now.stream fits) at c.keep.ensures in
-    accepted_through c.self.inside.core c.accept.new.self (signal_of c.args.header.now) _ _ _ c.args.carried c.in-Ok.kind c.self.invariant c.in-Ok.ensures.after written (omega arith)
+    accepted_through c.self.inside.core c.accept.new.self (signal_of c.args.header.now) _ _ _ c.args.carried c.in-Ok.kind c.self.invariant.0 c.in-Ok.ensures.after written (omega arith)
