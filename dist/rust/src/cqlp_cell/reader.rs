@@ -136,13 +136,6 @@ impl<A: Allocator> CellReader<A> {
         self.progress.enter_value(table, input)
     }
 
-    /// Goes on where a level stands, and leaves the value that it is, where that is the cell itself and at its end.
-    #[inline(always)]
-    pub(crate) fn leave(&mut self, level: Level) -> Option<BareItem>
-    {
-        self.progress.leave_value(level)
-    }
-
     /// Looks into the cell after the one that is under way, of the type at this node, where a level stands at the end of this
     /// one: the beginning of a list, a set or a map, if its length and its count are lawful and lie in the input. A reader
     /// that is set to the level that is answered has ended the one cell and entered the other.

@@ -296,22 +296,4 @@ impl<A: Allocator> CellProgress<A> {
         let item = BareItem { at, used: 8, part };
         Some(Entered { item, level })
     }
-
-    /// Goes on where a level stands, and leaves the value that it is, where that is the cell itself and at its end.
-    #[inline(always)]
-    pub(crate) fn leave_value(&mut self, level: Level) -> Option<BareItem>
-    {
-        let at = level.offset;
-        if level.level > 1 || !level.value.is_over(at) || at < level.value.stop {
-            self.set_level(level);
-            return None;
-        }
-        self.offset = at;
-        self.open_values.clear();
-        let part = BarePart::Leave {
-            level: 0,
-            items: level.value.items,
-        };
-        Some(BareItem { at, used: 0, part })
-    }
 }

@@ -266,7 +266,8 @@ impl StreamProgress {
     }
 
     /// Leaves the cell, at whose end a level stands.
-    #[inline(always)]
+    #[cold]
+    #[inline(never)]
     fn end_list<A: Allocator>(
         &mut self,
         parts: &mut Parts<A>,
