@@ -102,12 +102,15 @@ pub not_some : (o : Option Refusal) → is_some o ≡ false → o ≡ None
 not_some None h = refl
 not_some (Some r) h = absurd cc
 
+zero_on : (n : ℕ) → 0 + n ≡ n
+zero_on n = omega arith
+
 module _ {S : Type 0} (Gets : S → ℕ → Event → S → Type 0) (start : StreamState) (input : List ℕ) (before : S) (none : start.refusal ≡ None) (new : StreamState) (at used : ℕ) (told : Event) (h : TakesItem start input at used told new) where
   pub stood_entered : (t : S) → Gets before at told t → Stood Gets start input before new used t
-  stood_entered t got = stood_item Gets start input before start 0 before (stood_first Gets start input before none) new used at told h t got
+  stood_entered t got = subst (λ (n : ℕ). Stood Gets start input before new n t) (zero_on used) (stood_item Gets start input before start 0 before (stood_first Gets start input before none) new used at told h t got)
 
   pub entry_faults : (Fails : S → ℕ → Event → S → Type 0) (t : S) → Fails before at told t → FailsAfter Gets Fails start new input used before t
-  entry_faults Fails t fault = item_faults Gets start input before start 0 before (stood_first Gets start input before none) new used at told h Fails t fault
+  entry_faults Fails t fault = subst (λ (n : ℕ). FailsAfter Gets Fails start new input n before t) (zero_on used) (item_faults Gets start input before start 0 before (stood_first Gets start input before none) new used at told h Fails t fault)
 
 -- ---- the level that was handed out
 

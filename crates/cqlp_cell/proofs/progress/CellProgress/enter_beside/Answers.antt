@@ -1,4 +1,4 @@
-use Rattle.std.proofs.Common.{◌≡◌, ◌∙◌, ◌+◌, ◌-◌, ◌^◌, ◌<◌, ap, sym, subst, refl, take, drop, length, List, ℕ, Some, arith}
+use Rattle.std.proofs.Common.{◌≡◌, ◌∙◌, ◌+◌, ◌-◌, ap, sym, subst, refl, take, drop, length, List, ℕ, Some, arith}
 use Rattle.std.specs.Int.{w32, from_be_bytes}
 use Rattle.cqlp_kind.specs.declared.kind.Kind.{Kind}
 use Rattle.cqlp_cell.specs.declared.advance.CellOutline.TheVariants as outline

@@ -1,4 +1,4 @@
-use Rattle.std.proofs.Common.{◌≡◌, ◌∙◌, Some, ap, sym, subst, refl, List, ℕ, arith}
+use Rattle.std.proofs.Common.{◌∙◌, Some, ap, sym, subst, List, ℕ, arith}
 use Rattle.std.specs.Int.{w32, from_be_bytes}
 use Rattle.cqlp_cell.specs.declared.size.Sized.TheVariants as size
 use Rattle.cqlp_cell.specs.declared.progress.DueValue.{DueValue}
