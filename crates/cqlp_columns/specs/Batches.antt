@@ -13,7 +13,7 @@ use Rattle.cqlp_columns.specs.declared.column.Refusal.TheVariants as no
 use Rattle.cqlp_columns.specs.declared.columns.BatchLimits.{BatchLimits}
 use Rattle.cqlp_columns.specs.declared.columns.TakeError.{TakeError}
 use Rattle.cqlp_columns.specs.declared.columns.TakeError.TheVariants.{Full, Part as APart, OutOfOrder, NotOfKind, TooLong}
-use Rattle.cqlp_columns.specs.Arrays.{Column, Site, column_of, is_long, refusal_of, room_in, site_of, with_cell}
+use Rattle.cqlp_columns.specs.Arrays.{Column, Site, column_of, is_long, refusal_of, room_in, site, site_of, with_cell}
 use Rattle.cqlp_columns.specs.Cells.{Cell, is_of}
 use Rattle.cqlp_columns.specs.Findings.{Finding, Nothing, Part, Whole, cell_count, cells_among}
 use Rattle.cqlp_columns.specs.Layouts.{layout_of}
@@ -63,6 +63,10 @@ refusal_of_kinds l kinds = if nat_lt l.columns (length kinds) then Some TooManyC
 abbrev pub IsMade : {B : Type 0} → Option MakeError → Result B MakeError → Type 0
 IsMade why (Ok b) = why ≡ None
 IsMade why (Err e) = e ≡ unwrap_or why NoMemory
+
+-- A column of this kind without cells, wherever it lies, with room for this many rows and bytes of values.
+abbrev pub IsEmptyOf : Kind → (rows size : ℕ) → Column → Type 0
+IsEmptyOf k rows size c = (layout_of k ≡ Some c.layout) × (c ≡ column_of (site k c.places) c.layout rows size [])
 
 abbrev pub empty_column : BatchLimits → Site → Column
 empty_column l s = filled l s []

@@ -4,8 +4,9 @@ ghost use Rattle.std.specs.Prelude.{◌≡◌, ◌==◌, ◌+◌, ◌<◌, ◌�
 ghost use Rattle.std.specs.Prelude.{Err, IfOk, IsOk, None, OnErr, OnOk, Some};
 ghost use Rattle.std.specs.Vec.{vec_ptr};
 ghost use Rattle.cqlp_kind.specs.Types.{is_kind};
-ghost use Rattle.cqlp_columns.specs.Arrays.{AreBytesOf, HasCells, IsAnswer, column_of, fits, is_long, offset_in, refusal_of, site, site_of, values_at, with_cell};
-ghost use Rattle.cqlp_columns.specs.Batches.{IsMade, refusal_of_kind};
+ghost use Rattle.cqlp_columns.specs.Arrays.{AreBytesOf, HasCells, IsAnswer, column_of, fits, is_long, offset_in, refusal_of};
+ghost use Rattle.cqlp_columns.specs.Arrays.{site_of, values_at, with_cell};
+ghost use Rattle.cqlp_columns.specs.Batches.{IsEmptyOf, IsMade, refusal_of_kind};
 ghost use Rattle.cqlp_columns.specs.Bits.{Spells, bits};
 ghost use Rattle.cqlp_columns.specs.Layouts.{layout_of};
 ghost use Rattle.cqlp_columns.specs.Cells.{Cell as CellValue, blank, cell_bits, cell_bytes, cell_of, is_of};
@@ -104,7 +105,7 @@ impl<A: Allocator> Column<A> {
     pub fn new(alloc: A, kind: Kind, rows: u32, size: usize) -> Result<Self, MakeError>
     where
         A: Clone,
-        ensures made { IfOk result (λ column. layout_of kind ≡ Some column.layout × (column ≡ column_of (site kind column.places) column.layout rows size [])) }
+        ensures made { IfOk result (λ column. IsEmptyOf kind rows size column) }
         ensures answer { IsMade (refusal_of_kind kind) result }
     {
         match layout_of(kind) {

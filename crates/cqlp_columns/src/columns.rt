@@ -1,6 +1,7 @@
 //! Rows of a page as columns.
 
-ghost use Rattle.std.specs.Prelude.{◌≡◌, ◌+◌, ◌<◌, ◌^◌, ◌&&◌, ◌++◌, ◌∷◌, [], List, IfOk, IsOk, OnErr, None, length, map, vec_capacity};
+ghost use Rattle.std.specs.Prelude.{◌≡◌, ◌+◌, ◌<◌, ◌^◌, ◌&&◌, ◌++◌, ◌∷◌, [], List, length, map, vec_capacity};
+ghost use Rattle.std.specs.Prelude.{IfOk, IsOk, OnErr, None};
 ghost use Rattle.std.specs.List.{list_all};
 ghost use Rattle.cqlp_grammar.specs.Events.{Event as Told, event_of};
 ghost use Rattle.cqlp_columns.specs.Arrays.{Site, site};
