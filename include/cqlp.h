@@ -642,7 +642,8 @@ uint32_t cqlp_free(cqlp_decoder *decoder);
 uint32_t cqlp_check(const cqlp_limits *limits, const uint8_t *stream, size_t length, cqlp_end *end);
 
 /* Puts a copy of the types of the metadata that was read last into a handle that has no table: after the End of a RESULT of the kind
- * PREPARED those of the result's columns, after that of a page those of its columns. It changes nothing in the decoder.
+ * PREPARED those of the result's columns, after that of a page those of its columns. It changes nothing in the decoder. The copy has
+ * room for as many type options as the decoder's limit `entries`, however few they are.
  * Answers CQLP_DONE; else the handle is as it was: CQLP_NO_DECODER, CQLP_IN_USE where the handle has a table, or CQLP_NO_MEMORY. */
 uint32_t cqlp_types_of(cqlp_decoder *decoder, cqlp_types *types);
 

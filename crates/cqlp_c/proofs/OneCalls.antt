@@ -3,7 +3,6 @@ use Rattle.std.proofs.Common.{◌≡◌, ℕ, Bool, true, false, List, length, n
 use Rattle.std.specs.Prelude.{Option, Some, None, Result, Ok, Err}
 use Rattle.std.specs.Ptr.{Ptr}
 use Rattle.cqlp_kind.specs.declared.kind.Kind.{Kind}
-use Rattle.cqlp_kind.specs.declared.node.Node.{Node}
 use Rattle.cqlp_type.specs.Table.{Table}
 use Rattle.cqlp_note.specs.declared.limits.BadLimits.{BadLimits}
 use Rattle.cqlp_note.specs.declared.limits.Limits.{Limits}
@@ -15,11 +14,11 @@ use Rattle.cqlp_columns.specs.declared.layout.Layout.TheVariants.{Bits, Fixed, V
 use Rattle.cqlp_columns.specs.Arrays.{AreBytes, Column}
 use Rattle.cqlp_columns.specs.Batches.{Batch, refusal_of_kinds}
 use Rattle.cqlp_decode.specs.declared.given.GiveReason.{GiveReason}
-use Rattle.cqlp_decode.specs.Giving.{free_table, reason_against}
+use Rattle.cqlp_decode.specs.Giving.{free_table, last_types, reason_against}
 use Rattle.cqlp_decode.specs.Streams.{Decoding, state}
 use Rattle.cqlp_c.specs.declared.columns.CqlpColumn.{CqlpColumn}
 use Rattle.cqlp_c.specs.declared.numbers.TheConstants as numbers
-use Rattle.cqlp_c.specs.CallsLaws.{AreAtStart, AreLeftAlike, AreMadeAlike, HaveSameNodes, IsOneAnswerOfColumnsClear, IsOneAnswerOfColumnsGet}
+use Rattle.cqlp_c.specs.CallsLaws.{AreAtStart, AreLeftAlike, AreMadeAlike, IsOneAnswerOfColumnsClear, IsOneAnswerOfColumnsGet}
 use Rattle.cqlp_c.specs.CallsLaws.{IsOneAnswerOfColumnsNew, IsOneAnswerOfGive, IsOneAnswerOfHeld, IsOneAnswerOfNew, IsOneAnswerOfTakeGiven}
 use Rattle.cqlp_c.specs.CallsLaws.{IsOneAnswerOfTypesOf, LacksMemory}
 use Rattle.cqlp_c.specs.Columns.{MakesAnew, MakesBy, MakesOf, Shows, ShowsHeld, ShowsOne, columns_in, kinds_numbered, limits_of}
@@ -49,16 +48,16 @@ one_answer_of_held (Some d) x y a b was t u p q =
 -- ---- types
 
 one_copied :
-    (nodes : List Node) (held : Option Table) (was x y : Option (Option Table)) (a b : ℕ)
-    → CopiesFrom nodes held a was x → CopiesFrom nodes held b was y → ((a ≡ b) × ((x ≡ y) ⊎ HaveSameNodes x y)) ⊎ LacksMemory a b
-one_copied nodes (Some t) was x y a b p q = inl (p.0 ∙ sym q.0, inl (p.1 ∙ sym q.1))
-one_copied nodes None was x y a b (inl p) q = inr (inl p.0)
-one_copied nodes None was x y a b (inr p) (inl q) = inr (inr q.0)
-one_copied nodes None was x y a b (inr p) (inr q) = inl (p.0 ∙ sym q.0, inr (rw (p.3, q.3) (p.2 ∙ sym q.2)))
+    (types : Table) (held : Option Table) (was x y : Option (Option Table)) (a b : ℕ)
+    → CopiesFrom types held a was x → CopiesFrom types held b was y → ((a ≡ b) × (x ≡ y)) ⊎ LacksMemory a b
+one_copied types (Some t) was x y a b p q = inl (p.0 ∙ sym q.0, p.1 ∙ sym q.1)
+one_copied types None was x y a b (inl p) q = inr (inl p.0)
+one_copied types None was x y a b (inr p) (inl q) = inr (inr q.0)
+one_copied types None was x y a b (inr p) (inr q) = inl (p.0 ∙ sym q.0, p.1 ∙ sym q.1)
 
 pub one_answer_of_types_of : IsOneAnswerOfTypesOf
-one_answer_of_types_of None d e was x y a b p q = (p.1 ∙ sym q.1, inl (p.0 ∙ sym q.0, inl (p.2 ∙ sym q.2)))
-one_answer_of_types_of (Some o) d e was x y a b p q = (p.0 ∙ sym q.0, one_copied (state o).place.nodes (table_in was) was x y a b p.1 q.1)
+one_answer_of_types_of None d e was x y a b p q = (p.1 ∙ sym q.1, inl (p.0 ∙ sym q.0, p.2 ∙ sym q.2))
+one_answer_of_types_of (Some o) d e was x y a b p q = (p.0 ∙ sym q.0, one_copied (last_types (state o)) (table_in was) was x y a b p.1 q.1)
 
 alike_of : (d e : Decoding) → d ≡ e → AreLeftAlike (Some d) (Some e)
 alike_of d e h = (ap (λ (x : Decoding). state x) h, rw h refl)

@@ -45,15 +45,10 @@ IsOneAnswerOfHeld =
 
 -- ---- types
 
--- two handles have tables with the same nodes, whatever room there is for others
-abbrev pub HaveSameNodes : (x y : Option (Option Table)) → Type 0
-HaveSameNodes (Some (Some t)) (Some (Some u)) = t.nodes ≡ u.nodes
-HaveSameNodes x y = ⊥
-
 abbrev pub IsOneAnswerOfTypesOf : Type 0
 IsOneAnswerOfTypesOf =
     (old d e : Option Decoding) (was x y : Option (Option Table)) (a b : ℕ)
-    → Copies old a d was x → Copies old b e was y → (d ≡ e) × (((a ≡ b) × ((x ≡ y) ⊎ HaveSameNodes x y)) ⊎ LacksMemory a b)
+    → Copies old a d was x → Copies old b e was y → (d ≡ e) × (((a ≡ b) × (x ≡ y)) ⊎ LacksMemory a b)
 
 -- two decoders stand at one place of a stream, and hold the same
 abbrev pub AreLeftAlike : (x y : Option Decoding) → Type 0

@@ -1,11 +1,10 @@
 -- What the calls on a table of types answer, and what they leave.
-use Rattle.std.specs.Prelude.{◌≡◌, ℕ, List, Option, Some, None, ◌⊎◌}
-use Rattle.cqlp_kind.specs.declared.node.Node.{Node}
+use Rattle.std.specs.Prelude.{◌≡◌, ℕ, Option, Some, None, ◌⊎◌}
 use Rattle.cqlp_kind.specs.Types.{types_of}
 use Rattle.cqlp_type.specs.Table.{Table}
 use Rattle.cqlp_decode.specs.declared.given.GiveReason.{GiveReason}
 use Rattle.cqlp_decode.specs.declared.given.GiveReason.TheVariants as reason
-use Rattle.cqlp_decode.specs.Giving.{GivesAlso, TakesAlso, after_taking, free_table, once_given, reason_against}
+use Rattle.cqlp_decode.specs.Giving.{GivesAlso, TakesAlso, after_taking, free_table, last_types, once_given, reason_against}
 use Rattle.cqlp_decode.specs.Progress.{levels_of}
 use Rattle.cqlp_decode.specs.Reading.{Gives as a_gift}
 use Rattle.cqlp_decode.specs.Streams.{Decoding, state}
@@ -18,17 +17,17 @@ table_in (Some held) = held
 
 -- ---- the types of the metadata that was read last
 
--- A handle without a table gets one with these nodes, where memory is there.
-abbrev pub CopiesFrom : List Node → Option Table → (code : ℕ) → (was told : Option (Option Table)) → Type 0
-CopiesFrom nodes (Some t) code was told = (code ≡ numbers.IN_USE) × (told ≡ was)
-CopiesFrom nodes None code was told =
+-- A handle without a table gets one that is equal to this one, where memory is there.
+abbrev pub CopiesFrom : Table → Option Table → (code : ℕ) → (was told : Option (Option Table)) → Type 0
+CopiesFrom types (Some t) code was told = (code ≡ numbers.IN_USE) × (told ≡ was)
+CopiesFrom types None code was told =
     ((code ≡ numbers.NO_MEMORY) × (told ≡ was))
-    ⊎ ((code ≡ numbers.DONE) × (t : Table) × (t.nodes ≡ nodes) × (told ≡ Some (Some t)))
+    ⊎ ((code ≡ numbers.DONE) × (told ≡ Some (Some types)))
 
 abbrev pub Copies : (old : Option Decoding) → (code : ℕ) → (new : Option Decoding) → (was told : Option (Option Table))
     → Type 0
 Copies None code new was told = (code ≡ numbers.NO_DECODER) × (new ≡ None) × (told ≡ was)
-Copies (Some d) code new was told = (new ≡ Some d) × CopiesFrom (state d).place.nodes (table_in was) code was told
+Copies (Some d) code new was told = (new ≡ Some d) × CopiesFrom (last_types (state d)) (table_in was) code was told
 
 -- ---- give
 

@@ -122,8 +122,7 @@ pub fn one_answer_of_held()
     ensures { IsOneAnswerOfHeld }
 {}
 
-/// Of one decoder `cqlp_types_of` puts a table with the same nodes, or none for one reason, but where memory is refused. For how many others a table
-/// has room is not said.
+/// Of one decoder `cqlp_types_of` puts one table, or none for one reason, but where memory is refused.
 pub fn one_answer_of_types_of()
     ensures { IsOneAnswerOfTypesOf }
 {}

@@ -123,7 +123,7 @@ fn reason_code(why: GiveReason) -> u32
 
 /// Puts a copy of a table where none is.
 fn copy_into(held: &mut Option<TypeTable<Global>>, table: &TypeTable<Global>) -> u32
-    ensures { CopiesFrom table.now.nodes held.old result (Some held.old) (Some held.new) }
+    ensures { CopiesFrom table.now held.old result (Some held.old) (Some held.new) }
 {
     if held.is_some() {
         return IN_USE;
@@ -153,7 +153,7 @@ fn copy_of(
 
 /// Puts a copy of a table into a handle that has none.
 fn copy(alloc: Global, table: &TypeTable<Global>, types: &mut CqlpTypes) -> u32
-    ensures { CopiesFrom table.now.nodes (table_in types.old.place.value) result types.old.place.value types.new.place.value }
+    ensures { CopiesFrom table.now (table_in types.old.place.value) result types.old.place.value types.new.place.value }
 {
     match taken(std::mem::replace(types, none(alloc)), alloc) {
         Some(mut held) => {
@@ -172,7 +172,7 @@ fn copy(alloc: Global, table: &TypeTable<Global>, types: &mut CqlpTypes) -> u32
 }
 
 /// Puts a copy of the types of the metadata that was read last, those of the bound variables or those of the result, into a handle
-/// that has no table.
+/// that has no table. The copy has room for as many as the decoder's limit `entries` allows.
 #[unsafe(no_mangle)]
 pub extern "C" fn cqlp_types_of(
     alloc: Global,

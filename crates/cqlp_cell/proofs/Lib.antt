@@ -21,3 +21,4 @@ pub mod Fronts
 pub mod WholeItems
 pub mod Levels
 pub mod Lenient
+pub mod Beside

@@ -1,5 +1,5 @@
 -- An item that lies whole at the front of the input.
-use Rattle.std.proofs.Common.{◌≡◌, ℕ, ◌+◌, ◌-◌, ◌^◌, ◌<◌, ◌≤◌, false, true, Some, List, [], ◌∷◌, ◌++◌, length, take, drop, refl, ap, ◌∙◌, arith}
+use Rattle.std.proofs.Common.{◌≡◌, ℕ, ◌+◌, ◌-◌, ◌^◌, ◌<◌, ◌≤◌, false, true, List, [], ◌∷◌, ◌++◌, length, take, drop, refl, ap, ◌∙◌, arith}
 use Rattle.std.specs.Int.{w32, from_be_bytes}
 use Rattle.std.proofs.lemmas.List.{length-append, length-drop, length-take-le, take_all}
 use Rattle.cqlp_note.specs.declared.head.ContentForm.TheVariants as form
@@ -128,7 +128,7 @@ leave_whole nodes d o input new level stands now fresh le goes at = whole nodes 
 
 -- the same of the cell itself, whose level is in a caller's hands
 pub left_whole : (nodes : List Node) (d : CellState) (l : Level) → IsInLevel d l → length d.open_values ≡ 1 → is_over l.value l.offset ≡ true → l.value.stop ≤ l.offset → Stands nodes (with_level d l)
-    → Leaves nodes (with_level d l) (Some (record { at = l.offset; used = 0; part = bare.Leave 0 l.value.items })) (record d { offset = l.offset; open_values = [] })
+    → Leaves nodes (with_level d l) (record { at = l.offset; used = 0; part = bare.Leave 0 l.value.items }) (record d { offset = l.offset; open_values = [] })
 left_whole nodes d l here one over le stands =
     let only = with_only d.open_values l.value one in
     let now : due_of (with_level d l) ≡ due.Close l.value = rw over at (due_here nodes d l here) in

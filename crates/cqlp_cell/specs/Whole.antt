@@ -1,5 +1,5 @@
 -- Items that lie whole at the front of the input.
-use Rattle.std.specs.Prelude.{◌≡◌, ℕ, true, List, [], length, Option, Some, None}
+use Rattle.std.specs.Prelude.{◌≡◌, ℕ, true, List, [], length, Option, Some, None, ⊤}
 use Rattle.cqlp_note.specs.Partial.{FieldState}
 use Rattle.cqlp_kind.specs.declared.node.Node.{Node}
 use Rattle.cqlp_cell.specs.declared.advance.CellOutline.{CellOutline}
@@ -15,8 +15,9 @@ use Rattle.cqlp_cell.specs.declared.whole.BarePart.{BarePart}
 use Rattle.cqlp_cell.specs.declared.whole.BarePart.TheVariants as bare
 use Rattle.cqlp_cell.specs.Progress.{CellState, due_of, due_value}
 use Rattle.cqlp_cell.specs.Coming.{room_of}
-use Rattle.cqlp_cell.specs.Levels.{level_of}
-use Rattle.cqlp_cell.specs.Pushing.{is_done}
+use Rattle.cqlp_cell.specs.declared.level.Level.{Level}
+use Rattle.cqlp_cell.specs.Levels.{level_of, with_level}
+use Rattle.cqlp_cell.specs.Pushing.{begun, is_done}
 use Rattle.cqlp_cell.specs.Reading.{Joined, Moves}
 
 abbrev pub outline_of : BarePart → CellOutline
@@ -55,8 +56,22 @@ Enters nodes old input None new = new ≡ old
 Enters nodes old input (Some t) new =
     IsWhole nodes old input t.item.at t.item.used (outline_of t.item.part) new × (level_of new ≡ Some t.level)
 
--- What is next is the end of the cell, which takes no byte; or nothing is done.
-abbrev pub Leaves : List Node → CellState → Option BareItem → CellState → Type 0
-Leaves nodes old None new = new ≡ old
-Leaves nodes old (Some t) new =
+-- What is next is the end of the cell, which takes no byte.
+abbrev pub Leaves : List Node → CellState → BareItem → CellState → Type 0
+Leaves nodes old t new =
     ((input : List ℕ) → IsWhole nodes old input t.at t.used (outline_of t.part) new) × (is_done new ≡ true)
+
+-- What is next of a reader that stands in a level is the end of the cell, which takes no byte; or nothing is said.
+abbrev pub Ends : List Node → CellState → Level → Option BareItem → Type 0
+Ends nodes d l None = ⊤
+Ends nodes d l (Some t) = Leaves nodes (with_level d l) t (record d { offset = l.offset; open_values = [] })
+
+-- where a reader would be that begins the next cell of its container, of the type at this node, where a level stands
+abbrev pub next_begun : CellState → Level → (node : ℕ) → CellState
+next_begun d l node = begun d (Some node) l.offset d.stop
+
+-- What is next there is the beginning of a list, a set or a map, and a reader that goes on where its level stands has read
+-- just that; or nothing is said.
+abbrev pub EntersNext : List Node → CellState → Level → (node : ℕ) → List ℕ → Option Entered → Type 0
+EntersNext nodes d l node input None = ⊤
+EntersNext nodes d l node input (Some t) = Enters nodes (next_begun d l node) input (Some t) (with_level d t.level)

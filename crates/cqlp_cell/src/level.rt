@@ -1,13 +1,14 @@
 //! The innermost value that is open, in a caller's hands.
 
-ghost use Rattle.std.specs.Prelude.{◌≡◌, ◌+◌, ◌^◌, ◌<◌, ◌≤◌, ◌↔◌, IsTrue, List, false};
+ghost use Rattle.std.specs.Prelude.{◌≡◌, ◌+◌, ◌^◌, ◌<◌, ◌≤◌, ◌↔◌, IfSome, IsSome, IsTrue, List, false};
 ghost use Rattle.cqlp_kind.specs.declared.node.Node.{Node};
 ghost use Rattle.cqlp_cell.specs.declared.open_values.Order.TheVariants as order;
-ghost use Rattle.cqlp_cell.specs.Progress.{HasNext, is_over};
-ghost use Rattle.cqlp_cell.specs.Levels.{ArePair, NextFits, due_at, due_element, element_if, passed, passed_element};
+ghost use Rattle.cqlp_cell.specs.Progress.{CellState, HasNext, Stands, is_over};
+ghost use Rattle.cqlp_cell.specs.Whole.{Ends};
+ghost use Rattle.cqlp_cell.specs.Levels.{ArePair, IsInLevel, NextFits, due_at, due_element, element_if, passed, passed_element, with_level};
 
 use crate::open_values::{OpenValue, Order};
-use crate::whole::DueItem;
+use crate::whole::{BareItem, BarePart, DueItem};
 use cqlp_kind::Kind;
 use cqlp_type::TypeTable;
 use std::alloc::Allocator;
@@ -49,6 +50,25 @@ impl Level {
             room: value.stop - self.offset,
             level: self.level,
         })
+    }
+
+    /// The end of the value that this is, where that is a cell and at its end.
+    #[inline(always)]
+    pub fn ending(&self) -> Option<BareItem>
+        ensures is { (nodes : List Node) (d : CellState) → IsInLevel d self.now → Stands nodes (with_level d self.now)
+            → Ends nodes d self.now result }
+        ensures alone { IsSome result → self.now.level ≤ 1 }
+        ensures bare { IfSome result (λ t. t.used ≡ 0) }
+    {
+        let at = self.offset;
+        if self.level > 1 || !self.value.is_over(at) || at < self.value.stop {
+            return None;
+        }
+        let part = BarePart::Leave {
+            level: 0,
+            items: self.value.items,
+        };
+        Some(BareItem { at, used: 0, part })
     }
 
     /// Whether this is a list or a set, whose items are all of one type.

@@ -172,7 +172,7 @@ fn cell_value<A: Allocator>(table: &TypeTable<A>, node: Option<u32>, stop: u64) 
 /// A value of the type at this node, in a value that ends there.
 #[tactic(auto, unfolding(cqlp_type::specs::Forests::node_at))]
 #[inline]
-fn value_at<A: Allocator>(table: &TypeTable<A>, node: u32, stop: u64) -> DueValue
+pub(crate) fn value_at<A: Allocator>(table: &TypeTable<A>, node: u32, stop: u64) -> DueValue
     requires { IsSome (slice_get table.now.nodes node) }
     ensures { result ≡ value_of_node table.now.nodes node stop }
 {

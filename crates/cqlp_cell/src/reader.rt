@@ -39,7 +39,7 @@ impl<A: Allocator> CellReader<A> {
     ghost use Rattle.cqlp_cell.specs.Reading.{Answers, Empties, HaveCome, Joined, Moves};
     ghost use Rattle.cqlp_cell.specs.Pushing.{Continues, Pushes, Uses, begun, is_done, new_reader};
     ghost use Rattle.cqlp_cell.specs.Levels.{IsInLevel, level_of, with_level};
-    ghost use Rattle.cqlp_cell.specs.Whole.{Enters, Leaves, TakesBare};
+    ghost use Rattle.cqlp_cell.specs.Whole.{Enters, EntersNext, TakesBare, next_begun};
 
     /// With room for the nesting that the limits allow. Parts have at least one byte.
     pub fn new(alloc: A, limits: &Limits) -> Result<Self, NoMemory>
@@ -186,15 +186,23 @@ impl<A: Allocator> CellReader<A> {
         self.progress.enter_value(table, input)
     }
 
-    /// Goes on where a level stands, and leaves the value that it is, where that is the cell itself and at its end.
+    /// Looks into the cell after the one that is under way, of the type at this node, where a level stands at the end of this
+    /// one: the beginning of a list, a set or a map, if its length and its count are lawful and lie in the input. A reader
+    /// that is set to the level that is answered has ended the one cell and entered the other.
     #[inline(always)]
-    pub fn leave(&mut self, level: Level) -> Option<BareItem>
-        requires { IsInLevel self.old level }
-        ensures leaves { (nodes : List Node) → Stands nodes (with_level self.old level)
-            → Leaves nodes (with_level self.old level) result self.new }
-        ensures left { result ≡ None → self.new ≡ with_level self.old level }
+    pub fn enter_next(
+        &self,
+        level: Level,
+        node: u32,
+        table: &TypeTable<A>,
+        input: &[u8],
+    ) -> Option<Entered>
+        requires inside { IsInLevel self.now level }
+        requires alone { level.level ≤ 1 }
+        requires stands { Stands table.now.nodes (next_begun self.now level node) }
+        ensures { EntersNext table.now.nodes self.now level node input.now result }
     {
-        self.progress.leave_value(level)
+        self.progress.enter_next(level, node, table, input)
     }
 
     /// Takes the next bytes of the cell that is under way. A content that lies whole in them is lent from them.

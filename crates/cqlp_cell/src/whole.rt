@@ -10,10 +10,12 @@ ghost use Rattle.cqlp_cell.specs.Coming.{room_of};
 ghost use Rattle.cqlp_cell.specs.Reading.{Decided};
 ghost use Rattle.cqlp_cell.specs.Progress.{Stands, due_of, due_value, state_of};
 ghost use Rattle.cqlp_cell.specs.Levels.{IsInLevel, level_of, with_level};
-ghost use Rattle.cqlp_cell.specs.Whole.{Enters, Leaves, TakesBare};
+ghost use Rattle.cqlp_cell.specs.Whole.{Enters, EntersNext, TakesBare, next_begun};
 
 use crate::level::Level;
-use crate::progress::{Arrived, CellDue, CellProgress, DueValue, NextInCell};
+use crate::open_values::OpenValue;
+use crate::progress::{Arrived, CellDue, CellProgress, DueValue, NextInCell, value_at};
+use crate::reading::inner_order;
 use crate::size::{Sized, size_up};
 use cqlp_kind::Kind;
 use cqlp_kind::content::read_array;
@@ -288,27 +290,79 @@ impl<A: Allocator> CellProgress<A> {
         })
     }
 
-    /// Goes on where a level stands, and leaves the value that it is, where that is the cell itself and at its end.
+    /// The beginning of the list, the set or the map that the next cell of the container is, of the type at this node, where a
+    /// level stands at the end of the cell before.
     #[inline(always)]
-    pub(crate) fn leave_value(&mut self, level: Level) -> Option<BareItem>
-        requires { IsInLevel (state_of self.old) level }
-        ensures leaves { (nodes : List Node) → Stands nodes (with_level (state_of self.old) level)
-            → Leaves nodes (with_level (state_of self.old) level) result (state_of self.new) }
-        ensures left { result ≡ None → state_of self.new ≡ with_level (state_of self.old) level }
-        ensures room { self.new.open_values.room ≡ self.old.open_values.room }
-        ensures limits { self.new.limits ≡ self.old.limits }
+    pub(crate) fn enter_next(
+        &self,
+        level: Level,
+        node: u32,
+        table: &TypeTable<A>,
+        input: &[u8],
+    ) -> Option<Entered>
+        requires inside { IsInLevel (state_of self.now) level }
+        requires alone { level.level ≤ 1 }
+        requires stands { Stands table.now.nodes (next_begun (state_of self.now) level node) }
+        ensures { EntersNext table.now.nodes (state_of self.now) level node input.now result }
     {
-        let at = level.offset;
-        if level.level > 1 || !level.value.is_over(at) || at < level.value.stop {
-            self.set_level(level);
+        let value = value_at(table, node, self.stop);
+        let room = value.stop - level.offset;
+        if room < 4 || input.len() < 8 {
             return None;
         }
-        self.offset = at;
-        self.open_values.clear();
-        let part = BarePart::Leave {
-            level: 0,
-            items: level.value.items,
+        let len = u32::from_be_bytes(read_array(input));
+        let Sized::Counted(len) = size_up(&self.limits, value.kind, room, len) else {
+            return None;
         };
-        Some(BareItem { at, used: 0, part })
+        self.enter_beside(level, node, value, len, table, input)
+    }
+
+    /// The same of a list, a set or a map of this many bytes.
+    #[inline(always)]
+    fn enter_beside(
+        &self,
+        level: Level,
+        node: u32,
+        value: DueValue,
+        len: u32,
+        table: &TypeTable<A>,
+        input: &[u8],
+    ) -> Option<Entered>
+        requires inside { IsInLevel (state_of self.now) level }
+        requires alone { level.level ≤ 1 }
+        requires stands { Stands table.now.nodes (next_begun (state_of self.now) level node) }
+        requires value { value ≡ due_value table.now.nodes (next_begun (state_of self.now) level node) }
+        requires decided { Decided table.now.nodes (next_begun (state_of self.now) level node) len (size.Counted len) }
+        requires room { 4 ≤ room_of table.now.nodes (next_begun (state_of self.now) level node) }
+        requires within { 8 ≤ length input.now }
+        requires length { len ≡ from_be_bytes w32 (take 4 input.now) }
+        ensures { EntersNext table.now.nodes (state_of self.now) level node input.now result }
+    {
+        let at = level.offset;
+        let count = u32::from_be_bytes(read_array(&input[4..]));
+        if len < 4 || count > i32::MAX as u32 {
+            return None;
+        }
+        let (order, other) = inner_order(value, table);
+        let inside = OpenValue {
+            order,
+            node: value.inner,
+            other,
+            left: count,
+            items: count,
+            stop: at + 4 + u64::from(len),
+        };
+        let level = Level {
+            value: inside,
+            level: 1,
+            offset: at + 8,
+        };
+        let part = BarePart::Enter {
+            level: 0,
+            kind: value.kind,
+            items: count,
+        };
+        let item = BareItem { at, used: 8, part };
+        Some(Entered { item, level })
     }
 }

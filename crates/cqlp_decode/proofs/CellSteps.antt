@@ -357,6 +357,13 @@ module _ (s : StreamProgress) (q : PartsState) (p : CellCursor) (here : s.stage 
         uses = rw here at law.uses;
       }
 
+  -- a cell that has just begun stands where one that is due does
+  pub begun_same : IsConsistent s q → q.cells.open_values ≡ [] → state_of begins beside ≡ state_of s q
+  begun_same law none =
+      let stage = rw here at law.stage in
+      let place : (state_of begins beside).place ≡ (state_of s q).place = rw here (ap (λ (z : List Symbol). place_at s.offset s.stop (z ++ rest_of s.upcoming) q.table.nodes (given_of s.given_use q.given)) (page_begun typed_by s.limits.depth (begun_at q.cells (node_by p.columns p.index) s.offset s.stop) p (node_by p.columns p.index) refl stage.0.0)) in
+      rw (none, here) (ap (λ (z : Place). record (state_of begins beside) { place = z }) (rw here at place))
+
   -- a cell that has just begun is read as one that is due
   pub cell_begun_moves : (input : List ℕ) (a : EventAdvance) (new : StreamState) → IsConsistent s q → Moves (state_of begins beside) input a new → Moves (state_of s q) input a new
   cell_begun_moves input a new law m =

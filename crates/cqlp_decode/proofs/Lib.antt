@@ -20,3 +20,4 @@ pub mod Rooms
 pub mod Lists
 pub mod FieldLoop
 pub mod Gathering
+pub mod Onward

@@ -1,7 +1,8 @@
 -- The loop over the cells of a page that are lists, sets or maps.
 use Rattle.std.proofs.Common.{◌≡◌, ℕ, ◌+◌, ◌*◌, ◌<◌, ◌≤◌, false, List, [], ◌∷◌, length, drop, refl, sym, ap, subst, ◌∙◌, arith}
-use Rattle.std.specs.Prelude.{Some, None, Ok, Err}
+use Rattle.std.specs.Prelude.{Option, Some, None, Ok, Err, is_some}
 use Rattle.std.proofs.lemmas.List.{length-drop}
+use Rattle.cqlp_note.specs.declared.refusal.Refusal.{Refusal}
 use Rattle.cqlp_cell.specs.declared.level.Level.{Level}
 use Rattle.cqlp_cell.specs.declared.open_values.OpenValue.{OpenValue}
 use Rattle.cqlp_cell.specs.declared.progress.NextInCell.TheVariants as next
@@ -94,6 +95,22 @@ module _ {S : Type 0} (Gets : S → ℕ → Event → S → Type 0) (old : Strea
 
       pub items_fault : (Fails : S → ℕ → Event → S → Type 0) (t : S) → FailsAfter Gets Fails mid new (drop used input) n s t → FailsAfter Gets Fails old new input (used + n) before t
       items_fault Fails t fault = fails_then Gets Fails old mid new input used n before s t i.drained fault
+
+-- ---- the first item
+
+pub not_some : (o : Option Refusal) → is_some o ≡ false → o ≡ None
+not_some None h = refl
+not_some (Some r) h = absurd cc
+
+zero_on : (n : ℕ) → 0 + n ≡ n
+zero_on n = omega arith
+
+module _ {S : Type 0} (Gets : S → ℕ → Event → S → Type 0) (start : StreamState) (input : List ℕ) (before : S) (none : start.refusal ≡ None) (new : StreamState) (at used : ℕ) (told : Event) (h : TakesItem start input at used told new) where
+  pub stood_entered : (t : S) → Gets before at told t → Stood Gets start input before new used t
+  stood_entered t got = subst (λ (n : ℕ). Stood Gets start input before new n t) (zero_on used) (stood_item Gets start input before start 0 before (stood_first Gets start input before none) new used at told h t got)
+
+  pub entry_faults : (Fails : S → ℕ → Event → S → Type 0) (t : S) → Fails before at told t → FailsAfter Gets Fails start new input used before t
+  entry_faults Fails t fault = subst (λ (n : ℕ). FailsAfter Gets Fails start new input n before t) (zero_on used) (item_faults Gets start input before start 0 before (stood_first Gets start input before none) new used at told h Fails t fault)
 
 -- ---- the level that was handed out
 

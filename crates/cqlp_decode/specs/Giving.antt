@@ -12,6 +12,10 @@ use Rattle.cqlp_decode.specs.Reading.{Event, Given, Nothing, Waiting, Gift, Take
 use Rattle.cqlp_decode.specs.Progress.{StreamState}
 use Rattle.cqlp_decode.specs.Streams.{AfterGifts}
 
+-- the types of the metadata begun last, in a table with as much room as the limits allow types
+abbrev pub last_types : StreamState → Table
+last_types d = record { nodes = d.place.nodes; room = d.rules.entries }
+
 -- no type of these nodes is under way
 abbrev pub are_whole : List Node → Bool
 are_whole [] = true

@@ -7,7 +7,7 @@ use Rattle.cqlp_kind.specs.Scalars.{ScalarValue, allows_size}
 use Rattle.cqlp_kind.specs.CellStep.{CellEvent}
 use Rattle.cqlp_kind.specs.CellStep as cell
 use Rattle.cqlp_cell.specs.Fronts.{SaysScalar}
-use Rattle.cqlp_cell.specs.Levels.{level_of, passed, with_level}
+use Rattle.cqlp_cell.specs.Levels.{IsInLevel, level_of, passed, with_level}
 use Rattle.cqlp_cell.specs.Progress.{CellState}
 use Rattle.cqlp_cell.specs.declared.whole.BareItem.{BareItem}
 use Rattle.cqlp_cell.specs.declared.whole.Entered.{Entered}
@@ -15,13 +15,15 @@ use Rattle.cqlp_cell.specs.declared.level.Level.{Level}
 use Rattle.cqlp_cell.specs.declared.whole.BarePart.{BarePart}
 use Rattle.cqlp_cell.specs.declared.whole.BarePart.TheVariants as bare
 use Rattle.cqlp_decode.specs.declared.item_loop.PartTaken.{PartTaken}
+use Rattle.cqlp_decode.specs.declared.list_loop.NextList.{NextList}
+use Rattle.cqlp_decode.specs.declared.progress.StreamProgress.{StreamProgress}
 use Rattle.cqlp_decode.specs.declared.page_loop.Handed.{Handed}
 use Rattle.cqlp_decode.specs.declared.page_loop.Handed.TheVariants as handed
 use Rattle.cqlp_decode.specs.declared.page.CellCursor.{CellCursor}
 use Rattle.cqlp_decode.specs.declared.progress.StreamStage.{StreamStage}
 use Rattle.cqlp_decode.specs.declared.progress.StreamStage.TheVariants as stage
 use Rattle.cqlp_decode.specs.Reading.{Event, cell_event}
-use Rattle.cqlp_decode.specs.Progress.{StreamState, PartsState, Hands, parts}
+use Rattle.cqlp_decode.specs.Progress.{StreamState, PartsState, Hands, IsConsistent, parts, state_of}
 
 -- the event of a part of a cell that has no content
 abbrev pub bare_event : BarePart → CellEvent
@@ -115,8 +117,20 @@ abbrev pub StandsIn : Option Entered → CellState → Type 0
 StandsIn None d = ⊤
 StandsIn (Some t) d = level_of d ≡ Some t.level
 
--- What is next is the end of the cell, which takes no byte, or nothing is done.
-abbrev pub LeavesCell : StreamState → (row column : ℕ) → Option BareItem → StreamState → Type 0
-LeavesCell old row column None new = new ≡ old
-LeavesCell old row column (Some t) new =
+-- What is next is the end of the cell, which takes no byte.
+abbrev pub LeavesCell : StreamState → (row column : ℕ) → BareItem → StreamState → Type 0
+LeavesCell old row column t new =
     (input : List ℕ) → TakesItem old input t.at t.used (part_told row column t.part) new
+
+-- From the end of a cell, at which a level stands, the reading went on into the next, which is a list, a set or a map: the
+-- end, which takes no byte, and the beginning. The parts stand, but for the level. Or nothing is done.
+abbrev pub GoesToNext : StreamProgress → PartsState → Level → CellCursor → BareItem → List ℕ → Option NextList → StreamProgress → Type 0
+GoesToNext old q l page end input None new = new ≡ old
+GoesToNext old q l page end input (Some n) new =
+    (mid : StreamState)
+    × ((rest : List ℕ) → TakesItem (state_of old (at_level q l)) rest end.at end.used (part_told page.row page.column end.part) mid)
+    × TakesItem mid input n.entered.item.at n.entered.item.used (part_told n.page.row n.page.column n.entered.item.part)
+    (state_of new (at_level q n.entered.level))
+    × IsConsistent new (at_level q n.entered.level)
+    × IsInLevel q.cells n.entered.level
+    × (new.stage ≡ stage.InCell n.page) × (new.refusal ≡ old.refusal)

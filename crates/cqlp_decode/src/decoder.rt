@@ -143,7 +143,7 @@ impl<A: Allocator + Clone> Decoder<A> {
 impl<A: Allocator> Decoder<A> {
     ghost use Rattle.cqlp_decode.specs.Lending.{LeavesAnswer};
     ghost use Rattle.cqlp_decode.specs.Cells.{DrainsCells, StaysWithin};
-    ghost use Rattle.cqlp_decode.specs.Giving.{GivesAlso, GivesBack, TakesAlso, after_taking, free_table, once_given, reason_against};
+    ghost use Rattle.cqlp_decode.specs.Giving.{GivesAlso, GivesBack, TakesAlso, after_taking, free_table, last_types, once_given, reason_against};
     ghost use Rattle.cqlp_decode.specs.Reading.{Gives, is_in_use};
     ghost use Rattle.cqlp_decode.specs.Sinks.{Gets, Fails};
     ghost use Rattle.cqlp_decode.specs.Progress.{Advances, HoldsGiven, LeavesTypes, Takes, WhatThere, event_at};
@@ -306,9 +306,10 @@ impl<A: Allocator> Decoder<A> {
         self.parts.partial.read_from(reader, 4096)
     }
 
-    /// The types of the metadata begun last: those handed out since the field MetaFlags was.
+    /// The types of the metadata begun last: those handed out since the field MetaFlags was. The table has room for as many as the limit
+    /// `entries` allows.
     pub fn table(&self) -> &TypeTable<A>
-        ensures { result.now.nodes ≡ (state self.now).place.nodes }
+        ensures { result.now ≡ last_types (state self.now) }
     {
         &self.parts.table
     }

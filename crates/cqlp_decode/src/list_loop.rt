@@ -11,9 +11,10 @@ ghost use Rattle.cqlp_kind.specs.declared.node.Node.{Node};
 ghost use Rattle.cqlp_cell.specs.declared.open_values.Order.TheVariants as order;
 ghost use Rattle.cqlp_decode.specs.declared.progress.StreamStage.TheVariants as stage;
 ghost use Rattle.cqlp_decode.specs.Cells.{DrainsCells, DrainsItems, StaysWithin, UsesWithin};
-ghost use Rattle.cqlp_decode.specs.Items.{HandsLeaf, IsIn, LeavesCell, PassesItem, StandsIn, TakesEntry, at_level};
+ghost use Rattle.cqlp_decode.specs.Items.{GoesToNext, HandsLeaf, IsIn, LeavesCell, PassesItem, StandsIn, TakesEntry, at_level};
 ghost use Rattle.cqlp_cell.specs.Sizes.{is_counted as has_count};
 ghost use Rattle.cqlp_cell.specs.Levels.{IsInLevel, IsPair};
+ghost use Rattle.cqlp_cell.specs.Whole.{Ends};
 ghost use Rattle.cqlp_decode.specs.Sinks.{Gets, Fails};
 ghost use Rattle.cqlp_decode.specs.Progress.{IsConsistent, IsLawful, nodes_of, parts_state, state_of, state_with};
 
@@ -51,39 +52,31 @@ pub fn take_lists<S: Sink, A: Allocator>(
     if parts.partial.held() > 0 || progress.refusal.is_some() {
         return Ok(0);
     }
-    let mut used = 0;
-    'lists: loop {
-        let Some(page) = progress.begin_list(parts) else {
-            return Ok(used);
-        };
-        let Some(entered) = progress.enter_list(parts, page, &input[used..]) else {
-            return Ok(used);
-        };
-        match hand_part(page, entered.item, sink) {
-            Ok(()) => used += entered.item.used,
-            Err(SinkFault) => {
-                let used = used + entered.item.used;
-                return Err(FaultAfter { used });
-            }
-        }
-        let mut level = entered.level;
-        let handed = progress.hand_counted(parts, &mut level, page, &input[used..], sink);
-        used += handed.used;
-        if handed.failed {
-            parts.cells.set_level(level);
-            return Err(FaultAfter { used });
-        }
-        let Some(item) = progress.leave_list(parts, page, level) else {
-            return Ok(used);
-        };
-        match hand_part(page, item, sink) {
-            Ok(()) => used += item.used,
-            Err(SinkFault) => {
-                let used = used + item.used;
-                return Err(FaultAfter { used });
-            }
+    let Some(page) = progress.begin_list(parts) else {
+        return Ok(0);
+    };
+    let Some(entered) = progress.enter_list(parts, page, input) else {
+        return Ok(0);
+    };
+    let used = entered.item.used;
+    match hand_part(page, entered.item, sink) {
+        Ok(()) => {}
+        Err(SinkFault) => return Err(FaultAfter { used }),
+    }
+    match progress.hand_lists(parts, page, entered.level, &input[used..], sink) {
+        Ok(more) => Ok(used + more),
+        Err(fault) => {
+            let used = used + fault.used;
+            Err(FaultAfter { used })
         }
     }
+}
+
+/// The next cell of a page, and the beginning of the list, the set or the map that it is.
+#[derive(Clone, Copy)]
+struct NextList {
+    page: CellCursor,
+    entered: Entered,
 }
 
 /// Whether a value of this kind has a count before its items.
@@ -296,29 +289,126 @@ impl StreamProgress {
         stop_at(level, here, rest, within, false)
     }
 
-    /// Goes on where a level stands, and leaves the cell, where that is at its end.
+    /// Hands the items of a list, a set or a map in whose level the reading stands to the sink, its end, and the cells after
+    /// it that are like it. Between two of them the reader and what is read now stay as they are, but for the cursor.
     #[inline(always)]
-    fn leave_list<A: Allocator>(
+    fn hand_lists<S: Sink, A: Allocator>(
+        &mut self,
+        parts: &mut Parts<A>,
+        first: CellCursor,
+        start: Level,
+        input: &[u8],
+        sink: &mut S,
+    ) -> Result<usize, FaultAfter>
+        requires lawful { IsConsistent self.old (at_level (parts_state parts.old) start) }
+        requires inside { IsInLevel parts.old.cells start }
+        requires here { self.old.stage ≡ stage.InCell first }
+        requires unrefused { self.old.refusal ≡ None }
+        requires empty { parts.old.partial.content ≡ [] }
+        ensures lawful { IsLawful self.new parts.new }
+        ensures stays { StaysWithin (state_of self.old (at_level (parts_state parts.old) start)) input.now result
+            (state_with self.new parts.new) }
+        ensures drains { DrainsCells (Gets S.Sink) (Fails S.Sink) (state_of self.old (at_level (parts_state parts.old) start)) input.now
+            result (state_with self.new parts.new) sink.old sink.new }
+    {
+        let mut page = first;
+        let mut level = start;
+        let mut used = 0;
+        'lists: loop {
+            let handed = self.hand_counted(parts, &mut level, page, &input[used..], sink);
+            used += handed.used;
+            if handed.failed {
+                parts.cells.set_level(level);
+                return Err(FaultAfter { used });
+            }
+            let Some(end) = level.ending() else {
+                parts.cells.set_level(level);
+                return Ok(used);
+            };
+            used += end.used;
+            match hand_part(page, end, sink) {
+                Ok(()) => {}
+                Err(SinkFault) => {
+                    self.end_list(parts, page, level, end);
+                    return Err(FaultAfter { used });
+                }
+            }
+            let Some(next) = self.next_list(parts, page, level, end, &input[used..]) else {
+                self.end_list(parts, page, level, end);
+                return Ok(used);
+            };
+            page = next.page;
+            level = next.entered.level;
+            used += next.entered.item.used;
+            match hand_part(page, next.entered.item, sink) {
+                Ok(()) => {}
+                Err(SinkFault) => {
+                    parts.cells.set_level(level);
+                    return Err(FaultAfter { used });
+                }
+            }
+        }
+    }
+
+    /// Leaves the cell, at whose end a level stands.
+    #[cold]
+    #[inline(never)]
+    fn end_list<A: Allocator>(
         &mut self,
         parts: &mut Parts<A>,
         page: CellCursor,
         level: Level,
-    ) -> Option<BareItem>
+        end: BareItem,
+    )
         requires lawful { IsConsistent self.old (at_level (parts_state parts.old) level) }
         requires inside { IsInLevel parts.old.cells level }
+        requires ends { Ends (nodes_of (parts_state parts.old) page.columns) parts.old.cells level (Some end) }
         requires here { self.old.stage ≡ stage.InCell page }
         requires unrefused { self.old.refusal ≡ None }
         requires empty { parts.old.partial.content ≡ [] }
         ensures lawful { IsLawful self.new parts.new }
-        ensures empty { parts.new.partial.content ≡ [] }
         ensures leaves { LeavesCell (state_of self.old (at_level (parts_state parts.old) level)) page.row page.column
-            result (state_with self.new parts.new) }
+            end (state_with self.new parts.new) }
     {
-        let Some(item) = parts.cells.leave(level) else {
-            return None;
-        };
+        parts.cells.set_level(level);
         let table = page_table(page.columns, &parts.table, &parts.given);
         self.end_cell(page, &mut parts.cells, table);
-        Some(item)
+    }
+
+    /// Goes on from a cell, at whose end a level stands, to the next, if that is a list, a set or a map whose length and count
+    /// are lawful and lie in the input.
+    #[inline(always)]
+    fn next_list<A: Allocator>(
+        &mut self,
+        parts: &Parts<A>,
+        page: CellCursor,
+        level: Level,
+        end: BareItem,
+        input: &[u8],
+    ) -> Option<NextList>
+        requires lawful { IsConsistent self.old (at_level (parts_state parts.now) level) }
+        requires inside { IsInLevel parts.now.cells level }
+        requires alone { level.level ≤ 1 }
+        requires ends { Ends (nodes_of (parts_state parts.now) page.columns) parts.now.cells level (Some end) }
+        requires here { self.old.stage ≡ stage.InCell page }
+        requires unrefused { self.old.refusal ≡ None }
+        requires empty { parts.now.partial.content ≡ [] }
+        ensures goes { GoesToNext self.old (parts_state parts.now) level page end input.now result self.new }
+    {
+        let table = page_table(page.columns, &parts.table, &parts.given);
+        let Some(following) = page.next(table) else {
+            return None;
+        };
+        let Some(node) = following.node() else {
+            return None;
+        };
+        let Some(entered) = parts.cells.enter_next(level, node, table, input) else {
+            return None;
+        };
+        self.stage = StreamStage::InCell(following);
+        Some(NextList {
+            page: following,
+            entered,
+        })
     }
 }

@@ -79,7 +79,7 @@ impl<A: Allocator> SkippingDecoder<A> {
     ghost use Rattle.cqlp_skip.specs.Pieces as pieces;
     ghost use Rattle.cqlp_skip.specs.Skipping.{BeginsAnew, Feeds, FinishesAs, RefusesBy, SkipsOn, rules_in, skip_of, stream};
     ghost use Rattle.cqlp_skip.specs.Giving.{GivesAlso, GivesBack, TakesAlso};
-    ghost use Rattle.cqlp_decode.specs.Giving.{after_taking, free_table, once_given, reason_against};
+    ghost use Rattle.cqlp_decode.specs.Giving.{after_taking, free_table, last_types, once_given, reason_against};
     ghost use Rattle.cqlp_decode.specs.Progress.{levels_of};
     ghost use Rattle.cqlp_decode.specs.Reading.{Gives};
     ghost use Rattle.cqlp_decode.specs.Streams.{IsWithin, capacity_within, given_nodes};
@@ -232,7 +232,7 @@ impl<A: Allocator> SkippingDecoder<A> {
 
     /// The types of the metadata begun last in the present stretch, as `Decoder::table` has them.
     pub fn table(&self) -> &TypeTable<A>
-        ensures { result.now.nodes ≡ (stream self.now).place.nodes }
+        ensures { result.now ≡ last_types (stream self.now) }
     {
         self.decoder.table()
     }

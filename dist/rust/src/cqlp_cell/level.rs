@@ -2,7 +2,7 @@
 //! The innermost value that is open, in a caller's hands.
 
 use crate::cqlp_cell::open_values::{OpenValue, Order};
-use crate::cqlp_cell::whole::DueItem;
+use crate::cqlp_cell::whole::{BareItem, BarePart, DueItem};
 use crate::cqlp_kind::Kind;
 use crate::cqlp_type::TypeTable;
 use crate::kit_std::alloc::Allocator;
@@ -41,6 +41,21 @@ impl Level {
             room: value.stop - self.offset,
             level: self.level,
         })
+    }
+
+    /// The end of the value that this is, where that is a cell and at its end.
+    #[inline(always)]
+    pub fn ending(&self) -> Option<BareItem>
+    {
+        let at = self.offset;
+        if self.level > 1 || !self.value.is_over(at) || at < self.value.stop {
+            return None;
+        }
+        let part = BarePart::Leave {
+            level: 0,
+            items: self.value.items,
+        };
+        Some(BareItem { at, used: 0, part })
     }
 
     /// Whether this is a list or a set, whose items are all of one type.

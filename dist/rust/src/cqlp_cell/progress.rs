@@ -145,7 +145,7 @@ fn cell_value<A: Allocator>(table: &TypeTable<A>, node: Option<u32>, stop: u64) 
 
 /// A value of the type at this node, in a value that ends there.
 #[inline]
-fn value_at<A: Allocator>(table: &TypeTable<A>, node: u32, stop: u64) -> DueValue
+pub(crate) fn value_at<A: Allocator>(table: &TypeTable<A>, node: u32, stop: u64) -> DueValue
 {
     let head = table.node(node).unwrap();
     DueValue {

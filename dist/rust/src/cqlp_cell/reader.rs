@@ -136,11 +136,19 @@ impl<A: Allocator> CellReader<A> {
         self.progress.enter_value(table, input)
     }
 
-    /// Goes on where a level stands, and leaves the value that it is, where that is the cell itself and at its end.
+    /// Looks into the cell after the one that is under way, of the type at this node, where a level stands at the end of this
+    /// one: the beginning of a list, a set or a map, if its length and its count are lawful and lie in the input. A reader
+    /// that is set to the level that is answered has ended the one cell and entered the other.
     #[inline(always)]
-    pub(crate) fn leave(&mut self, level: Level) -> Option<BareItem>
+    pub(crate) fn enter_next(
+        &self,
+        level: Level,
+        node: u32,
+        table: &TypeTable<A>,
+        input: &[u8],
+    ) -> Option<Entered>
     {
-        self.progress.leave_value(level)
+        self.progress.enter_next(level, node, table, input)
     }
 
     /// Takes the next bytes of the cell that is under way. A content that lies whole in them is lent from them.

@@ -419,7 +419,7 @@ fn next_part(last: bool, offset: u32, total: u32) -> NextInCell
 
 /// How the items of a list, a set or a map follow one another, and the node of a map's second type.
 #[inline(always)]
-fn inner_order<A: Allocator>(value: DueValue, table: &TypeTable<A>) -> (Order, u32)
+pub(crate) fn inner_order<A: Allocator>(value: DueValue, table: &TypeTable<A>) -> (Order, u32)
 {
     match value.kind {
         Kind::Map => (

@@ -2,7 +2,9 @@
 //! Items that lie whole at the front of the input.
 
 use crate::cqlp_cell::level::Level;
-use crate::cqlp_cell::progress::{Arrived, CellDue, CellProgress, DueValue, NextInCell};
+use crate::cqlp_cell::open_values::OpenValue;
+use crate::cqlp_cell::progress::{Arrived, CellDue, CellProgress, DueValue, NextInCell, value_at};
+use crate::cqlp_cell::reading::inner_order;
 use crate::cqlp_cell::size::{Sized, size_up};
 use crate::cqlp_kind::Kind;
 use crate::cqlp_kind::content::read_array;
@@ -232,21 +234,66 @@ impl<A: Allocator> CellProgress<A> {
         })
     }
 
-    /// Goes on where a level stands, and leaves the value that it is, where that is the cell itself and at its end.
+    /// The beginning of the list, the set or the map that the next cell of the container is, of the type at this node, where a
+    /// level stands at the end of the cell before.
     #[inline(always)]
-    pub(crate) fn leave_value(&mut self, level: Level) -> Option<BareItem>
+    pub(crate) fn enter_next(
+        &self,
+        level: Level,
+        node: u32,
+        table: &TypeTable<A>,
+        input: &[u8],
+    ) -> Option<Entered>
     {
-        let at = level.offset;
-        if level.level > 1 || !level.value.is_over(at) || at < level.value.stop {
-            self.set_level(level);
+        let value = value_at(table, node, self.stop);
+        let room = value.stop - level.offset;
+        if room < 4 || input.len() < 8 {
             return None;
         }
-        self.offset = at;
-        self.open_values.clear();
-        let part = BarePart::Leave {
-            level: 0,
-            items: level.value.items,
+        let len = u32::from_be_bytes(read_array(input));
+        let Sized::Counted(len) = size_up(&self.limits, value.kind, room, len) else {
+            return None;
         };
-        Some(BareItem { at, used: 0, part })
+        self.enter_beside(level, node, value, len, table, input)
+    }
+
+    /// The same of a list, a set or a map of this many bytes.
+    #[inline(always)]
+    fn enter_beside(
+        &self,
+        level: Level,
+        node: u32,
+        value: DueValue,
+        len: u32,
+        table: &TypeTable<A>,
+        input: &[u8],
+    ) -> Option<Entered>
+    {
+        let at = level.offset;
+        let count = u32::from_be_bytes(read_array(&input[4..]));
+        if len < 4 || count > i32::MAX as u32 {
+            return None;
+        }
+        let (order, other) = inner_order(value, table);
+        let inside = OpenValue {
+            order,
+            node: value.inner,
+            other,
+            left: count,
+            items: count,
+            stop: at + 4 + u64::from(len),
+        };
+        let level = Level {
+            value: inside,
+            level: 1,
+            offset: at + 8,
+        };
+        let part = BarePart::Enter {
+            level: 0,
+            kind: value.kind,
+            items: count,
+        };
+        let item = BareItem { at, used: 8, part };
+        Some(Entered { item, level })
     }
 }

@@ -205,7 +205,8 @@ impl<A: Allocator> Decoder<A> {
         self.parts.partial.read_from(reader, 4096)
     }
 
-    /// The types of the metadata begun last: those handed out since the field MetaFlags was.
+    /// The types of the metadata begun last: those handed out since the field MetaFlags was. The table has room for as many as the limit
+    /// `entries` allows.
     pub fn table(&self) -> &TypeTable<A>
     {
         &self.parts.table

@@ -1,5 +1,6 @@
-use Rattle.std.proofs.Common.{◌≡◌, ◌∙◌, List, None, sym, subst}
+use Rattle.std.proofs.Common.{◌≡◌, ◌∙◌, List, None, ap, sym, subst}
 use Rattle.cqlp_kind.specs.declared.node.Node.{Node}
+use Rattle.cqlp_type.specs.Table.{Table}
 use Rattle.cqlp_decode.specs.Streams.{state}
 use Rattle.cqlp_capture_frames.specs.Happenings.{Ends}
 use Rattle.cqlp_capture_frames.specs.Frames.{nodes_of, types_read}
@@ -18,7 +19,7 @@ returns-clause-told g c =
     let first = state old.decoder in
     let known = t.state a.transcript.now in
     let opened = c.if-not-self.false in
-    let types : c.table.result.now.nodes ≡ types_read first.rules (nodes_of first.given) old.came.bytes = c.table.ensures ∙ types_are first old.came.bytes c.self.invariant.some (c.self.invariant.reads opened) in
+    let types : c.table.result.now.nodes ≡ types_read first.rules (nodes_of first.given) old.came.bytes = ap (λ (t : Table). t.nodes) c.table.ensures ∙ types_are first old.came.bytes c.self.invariant.some (c.self.invariant.reads opened) in
     let frame = frame_if old.is_open old.at (nodes_of first.given) old.came.bytes in
     let before = direction first.rules old.responses old.heads frame in
     let closed = direction first.rules old.responses old.heads None in

@@ -1,7 +1,6 @@
-use Rattle.std.proofs.Common.{◌≡◌, ◌≤◌, ◌∙◌, ap, sym, subst, List, ℕ, arith}
+use Rattle.std.proofs.Common.{◌∙◌, ap, sym, subst, List, ℕ, arith}
 use Rattle.std.specs.Int.{w32, from_be_bytes}
 use Rattle.cqlp_cell.specs.declared.size.Sized.TheVariants as size
-use Rattle.cqlp_cell.specs.Coming.{room_of}
 use Rattle.cqlp_cell.specs.Reading.{Decided}
 use Rattle.cqlp_cell.specs.Progress.{state_of}
 use Rattle.cqlp_cell.proofs.Coming.{value_due}
