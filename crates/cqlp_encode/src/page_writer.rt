@@ -1,20 +1,22 @@
 //! A page whose cells are written one by one.
 
-ghost use Rattle.std.specs.Prelude.{◌≡◌, ◌+◌, ◌<◌, ◌≤◌, List, ℕ, IfOk, IfSome, Some, is_some, false};
+ghost use Rattle.std.specs.Prelude.{◌≡◌, ◌+◌, ◌^◌, ◌<◌, ◌≤◌, List, ℕ, IfOk, IfSome, Some, is_some, false, length, true};
 ghost use Rattle.cqlp_note.specs.declared.header.TheConstants.Header.{LONGEST_BODY};
 ghost use Rattle.cqlp_note.specs.Outputs.{written};
-ghost use Rattle.cqlp_value.specs.Owned.{value_of};
-ghost use Rattle.cqlp_value.specs.Values.{Values, values_size};
+ghost use Rattle.cqlp_kind.specs.Scalars.{content_of};
+ghost use Rattle.cqlp_value.specs.Measures.{content_in, fits_tree};
+ghost use Rattle.cqlp_value.specs.Owned.{atom_of, value_of};
+ghost use Rattle.cqlp_value.specs.Values.{NoValue, Scalar_and, Values, values_size};
 ghost use Rattle.cqlp_message.specs.Owned.{message_of};
 ghost use Rattle.cqlp_encode.specs.PagePlaces.{HasSize};
 ghost use Rattle.cqlp_encode.specs.UntoldPages.{fits_untold};
 
-use crate::value_writing::offer_value;
+use crate::value_writing::{offer_decimal, offer_lent, offer_number, offer_value};
 use crate::writing::write_parts;
-use cqlp_message::{Frame, Message, Unfit};
+use cqlp_message::{Frame, Message, Spec, Unfit};
 use cqlp_note::Target;
 use cqlp_type::TypeTree;
-use cqlp_value::{Value, fitting_size};
+use cqlp_value::{Atom, Content, Value, fitting_size};
 use std::marker::Model;
 use thiserror::Error;
 
@@ -50,6 +52,10 @@ pub enum PageError {
 #[derive(Drop)]
 pub struct PageWriter<'a> {
     frame: &'a Frame,
+    /// The columns, none where they are not told.
+    specs: &'a [Spec],
+    /// How many columns there are.
+    columns: u32,
     /// How many cells are still to come.
     left: u64,
     /// The column of the next, the first of which is 0.
@@ -67,7 +73,8 @@ pub struct PageWriter<'a> {
 impl<'a> Model for PageWriter<'a> {
     ghost use Rattle.std.specs.Coded.{codes};
     ghost use Rattle.cqlp_message.specs.contracts.frame.Frame as lent;
-    ghost use Rattle.cqlp_encode.specs.PagePlaces.{IsPlace};
+    ghost use Rattle.std.specs.Prelude.{◌×◌};
+    ghost use Rattle.cqlp_encode.specs.PagePlaces.{HasColumns, IsPlace};
     ghost use Rattle.cqlp_encode.specs.PageWriting.{PageState};
 
     ghost Value = { PageState };
@@ -90,11 +97,11 @@ impl<'a> Model for PageWriter<'a> {
       written = w.written;
       failed = w.failed;
       cut = w.cut;
-    }) w.column };
+    }) w.column × HasColumns w.frame.now w.specs.now w.columns };
 }
 
 impl<'a> PageWriter<'a> {
-    ghost use Rattle.cqlp_encode.specs.PagePlaces.{Checks, StandsFor};
+    ghost use Rattle.cqlp_encode.specs.PagePlaces.{Checks, IsSized, IsTaken, StandsFor};
     ghost use Rattle.cqlp_encode.specs.PageWriting.{Adds, AddsRest, After, Begins, BeginsFrom, Finishes, before_cut, cells_after, failed_after};
     ghost use Rattle.cqlp_encode.specs.PageWriting.{one_more, page};
     ghost use Rattle.cqlp_encode.specs.UntoldPages.{cell_of};
@@ -141,6 +148,8 @@ impl<'a> PageWriter<'a> {
         }
         Ok(PageWriter {
             frame,
+            specs: frame.specs(),
+            columns: frame.columns(),
             left: frame.cells_wanted(),
             column: 0,
             free: cells_len,
@@ -165,8 +174,13 @@ impl<'a> PageWriter<'a> {
         ensures after { (n : ℕ) (cells : List Values) → After self.old n cells →
             After self.new n (cells_after result cells (value_of value.now)) }
     {
-        let size = self.frame.column_size(self.column, value);
-        self.put(value, size, target)
+        match self.specs.get(self.column) {
+            Some(spec) => self.put_as(value, &spec.tree, target),
+            None => {
+                let size = self.frame.column_size(self.column, value);
+                self.put(value, size, target)
+            }
+        }
     }
 
     /// Writes the next cell of a page whose columns are not told to this target, where it is a value of a type that the caller names: as
@@ -254,6 +268,123 @@ impl<'a> PageWriter<'a> {
         Ok(self.written)
     }
 
+    /// Writes the next cell, if it is a value of this type.
+    #[inline(always)]
+    fn put_as<W: Target>(
+        &mut self,
+        value: &Value,
+        of: &TypeTree,
+        target: &mut W,
+    ) -> Result<(), PageError>
+        ensures { (cells : List Values) (cell : Values) → StandsFor self.old cells (fits_tree value.now of.now) (value_of value.now) cell →
+            Adds self.old cells cell (written W.Target target.old) result (written W.Target target.new) self.new }
+    {
+        match value {
+            Value::Leaf(atom) => match of {
+                TypeTree::Plain(kind) => match atom.content_as(*kind) {
+                    Some(content) => self.put_content(atom, content, target),
+                    None => self.put(value, None, target),
+                },
+                _ => self.put_any(value, of, target),
+            },
+            _ => self.put_any(value, of, target),
+        }
+    }
+
+    /// The same of a value that is mostly no scalar.
+    fn put_any<W: Target>(
+        &mut self,
+        value: &Value,
+        of: &TypeTree,
+        target: &mut W,
+    ) -> Result<(), PageError>
+        ensures { (cells : List Values) (cell : Values) → StandsFor self.old cells (fits_tree value.now of.now) (value_of value.now) cell →
+            Adds self.old cells cell (written W.Target target.old) result (written W.Target target.new) self.new }
+    {
+        let size = fitting_size(value, Some(of));
+        self.put(value, size, target)
+    }
+
+    /// Writes the next cell: a scalar that fits, which has this content.
+    #[inline(always)]
+    fn put_content<W: Target>(
+        &mut self,
+        atom: &Atom,
+        content: Content<'_>,
+        target: &mut W,
+    ) -> Result<(), PageError>
+        requires is { content_in content ≡ content_of (atom_of atom.now) }
+        ensures { (cells : List Values) (cell : Values) → StandsFor self.old cells true (Scalar_and (atom_of atom.now) NoValue) cell →
+            Adds self.old cells cell (written W.Target target.old) result (written W.Target target.new) self.new }
+    {
+        match content {
+            Content::One(number) => self.put_number(&[number], target),
+            Content::Two(number) => self.put_number(&number.to_be_bytes(), target),
+            Content::Four(number) => self.put_number(&number.to_be_bytes(), target),
+            Content::Eight(number) => self.put_number(&number.to_be_bytes(), target),
+            Content::Lent(bytes) => self.put_lent(bytes, target),
+            Content::Decimal(_, unscaled) => self.put_decimal(atom, unscaled.len() as u64, target),
+        }
+    }
+
+    /// The same of the bytes of a number, which are at most eight.
+    #[inline(always)]
+    fn put_number<W: Target>(&mut self, content: &[u8], target: &mut W) -> Result<(), PageError>
+        requires { length content.now ≤ 8 }
+        ensures { (v : Values) → IsSized v content.now → (cells : List Values) (cell : Values) → StandsFor self.old cells true v cell →
+            Adds self.old cells cell (written W.Target target.old) result (written W.Target target.new) self.new }
+    {
+        let size = self.check(Some(content.len() as u64 + 4))?;
+        let taken = offer_number(content, target);
+        self.took(size, taken)
+    }
+
+    /// The same of a content that is lent.
+    #[inline(always)]
+    fn put_lent<W: Target>(&mut self, content: &[u8], target: &mut W) -> Result<(), PageError>
+        ensures { (v : Values) → IsSized v content.now → (cells : List Values) (cell : Values) → StandsFor self.old cells true v cell →
+            Adds self.old cells cell (written W.Target target.old) result (written W.Target target.new) self.new }
+    {
+        let size = self.check(Some(content.len() as u64 + 4))?;
+        let taken = offer_lent(content, target);
+        self.took(size, taken)
+    }
+
+    /// The same of a decimal whose unscaled number has this many bytes.
+    fn put_decimal<W: Target>(
+        &mut self,
+        atom: &Atom,
+        unscaled: u64,
+        target: &mut W,
+    ) -> Result<(), PageError>
+        requires long { length (content_of (atom_of atom.now)) ≡ 4 + unscaled }
+        requires bounded { unscaled < 2 ^ 63 }
+        ensures { (cells : List Values) (cell : Values) → StandsFor self.old cells true (Scalar_and (atom_of atom.now) NoValue) cell →
+            Adds self.old cells cell (written W.Target target.old) result (written W.Target target.new) self.new }
+    {
+        let size = self.check(Some(unscaled + 8))?;
+        let taken = offer_decimal(atom, target);
+        self.took(size, taken)
+    }
+
+    /// Counts a cell of this many bytes, of which a target took this many.
+    #[inline(always)]
+    fn took(&mut self, size: u32, taken: u32) -> Result<(), PageError>
+        requires sound { self.old.failed ≡ false }
+        requires left { 0 < self.old.left }
+        requires room { size ≤ self.old.free }
+        ensures { IsTaken self.old size taken result self.new }
+    {
+        if taken < size {
+            self.fail(taken);
+            return Err(PageError::Write {
+                written: self.written,
+            });
+        }
+        self.count(size);
+        Ok(())
+    }
+
     /// Writes the next cell, if it is a value that fits and so has a size.
     fn put<W: Target>(
         &mut self,
@@ -267,14 +398,7 @@ impl<'a> PageWriter<'a> {
     {
         let size = self.check(size)?;
         let taken = offer_value(value, size, 0, target);
-        if taken < size {
-            self.fail(taken);
-            return Err(PageError::Write {
-                written: self.written,
-            });
-        }
-        self.count(size);
-        Ok(())
+        self.took(size, taken)
     }
 
     /// Writes what targets have not taken of the cell in which one failed, if it is a value that fits and so has a size.
@@ -315,6 +439,8 @@ impl<'a> PageWriter<'a> {
     {
         PageWriter {
             frame: self.frame,
+            specs: self.specs,
+            columns: self.columns,
             left: self.left,
             column: self.column,
             free: self.free,
@@ -325,6 +451,7 @@ impl<'a> PageWriter<'a> {
     }
 
     /// How many bytes the next cell has, or why a value of this size is not it.
+    #[inline(always)]
     fn check(&self, size: Option<u64>) -> Result<u32, PageError>
         ensures checks { (v : Values) → IfSome size (HasSize v) → (cells : List Values) (cell : Values) →
             StandsFor self.now cells (is_some size) v cell → Checks self.now cells cell result }
@@ -359,9 +486,12 @@ impl<'a> PageWriter<'a> {
         requires room { size ≤ self.old.free }
         ensures { self.new ≡ one_more self.old size }
     {
-        let columns = self.frame.columns() as usize;
         let next = self.column + 1;
-        self.column = if next < columns { next } else { 0 };
+        self.column = if next < self.columns as usize {
+            next
+        } else {
+            0
+        };
         self.left -= 1;
         self.free -= size;
         self.written += size;

@@ -94,10 +94,10 @@ fn offer_atom<W: Target>(atom: &Atom, target: &mut W) -> u32
         (written W.Target target.new) }
 {
     match atom.content() {
-        Content::One(bytes) => offer_number(&bytes, target),
-        Content::Two(bytes) => offer_number(&bytes, target),
-        Content::Four(bytes) => offer_number(&bytes, target),
-        Content::Eight(bytes) => offer_number(&bytes, target),
+        Content::One(number) => offer_number(&[number], target),
+        Content::Two(number) => offer_number(&number.to_be_bytes(), target),
+        Content::Four(number) => offer_number(&number.to_be_bytes(), target),
+        Content::Eight(number) => offer_number(&number.to_be_bytes(), target),
         Content::Lent(bytes) => offer_lent(bytes, target),
         Content::Decimal(_, _) => offer_decimal(atom, target),
     }
@@ -105,7 +105,7 @@ fn offer_atom<W: Target>(atom: &Atom, target: &mut W) -> u32
 
 /// The same of the bytes of a number, which are at most eight.
 #[inline(always)]
-fn offer_number<W: Target>(content: &[u8], target: &mut W) -> u32
+pub fn offer_number<W: Target>(content: &[u8], target: &mut W) -> u32
     requires { length content.now ≤ 8 }
     ensures { Continued 0 (written W.Target target.old) (to_be_bytes w32 (length content.now) ++ content.now) result
         (written W.Target target.new) }
@@ -119,7 +119,7 @@ fn offer_number<W: Target>(content: &[u8], target: &mut W) -> u32
 
 /// The same of a content that is lent, which is not copied on its way: its length is offered first, by a call of its own.
 #[inline(always)]
-fn offer_lent<W: Target>(content: &[u8], target: &mut W) -> u32
+pub fn offer_lent<W: Target>(content: &[u8], target: &mut W) -> u32
     requires { length content.now ≤ LONGEST_BODY }
     ensures { Continued 0 (written W.Target target.old) (to_be_bytes w32 (length content.now) ++ content.now) result
         (written W.Target target.new) }
@@ -134,7 +134,7 @@ fn offer_lent<W: Target>(content: &[u8], target: &mut W) -> u32
 
 /// The same of a decimal.
 #[inline(never)]
-fn offer_decimal<W: Target>(atom: &Atom, target: &mut W) -> u32
+pub fn offer_decimal<W: Target>(atom: &Atom, target: &mut W) -> u32
     requires { values_size (Scalar_and (atom_of atom.now) NoValue) ≤ LONGEST_BODY }
     ensures { Continued 0 (written W.Target target.old) (values_bytes (Scalar_and (atom_of atom.now) NoValue)) result
         (written W.Target target.new) }

@@ -109,10 +109,10 @@ pub fn put_atom<W: Target>(out: &mut Staged<'_, W>, atom: &Atom)
     ensures { let v = Scalar_and (atom_of atom.now) NoValue in PutsWithin (values_size v) out.old (values_bytes v) out.new }
 {
     match atom.content() {
-        Content::One(bytes) => out.put_number(&bytes),
-        Content::Two(bytes) => out.put_number(&bytes),
-        Content::Four(bytes) => out.put_number(&bytes),
-        Content::Eight(bytes) => out.put_number(&bytes),
+        Content::One(number) => out.put_number(&[number]),
+        Content::Two(number) => out.put_number(&number.to_be_bytes()),
+        Content::Four(number) => out.put_number(&number.to_be_bytes()),
+        Content::Eight(number) => out.put_number(&number.to_be_bytes()),
         Content::Lent(bytes) => out.put_content(bytes),
         Content::Decimal(scale, unscaled) => {
             out.put_count32(unscaled.len().saturating_add(scale.len()));
@@ -126,8 +126,15 @@ pub fn put_atom<W: Target>(out: &mut Staged<'_, W>, atom: &Atom)
 fn put_scalar<W: Target>(out: &mut Staged<'_, W>, atom: &Atom)
     ensures { Puts out.old (content_of (atom_of atom.now)) out.new }
 {
-    let content = atom.content();
-    let (first, second) = content.parts();
-    out.put(first);
-    out.put(second);
+    match atom.content() {
+        Content::One(number) => out.put(&[number]),
+        Content::Two(number) => out.put(&number.to_be_bytes()),
+        Content::Four(number) => out.put(&number.to_be_bytes()),
+        Content::Eight(number) => out.put(&number.to_be_bytes()),
+        Content::Lent(bytes) => out.put(bytes),
+        Content::Decimal(scale, unscaled) => {
+            out.put(&scale);
+            out.put(unscaled);
+        }
+    }
 }

@@ -1,13 +1,18 @@
 -- Pages whose cells are written one by one, after all else of their frame (section 4.2.5.2 of native_protocol_v4.spec).
-use Rattle.std.specs.Prelude.{◌≡◌, ℕ, zero, suc, ◌+◌, ◌*◌, ◌++◌, ◌==◌, Bool, true, false, not, List, [], ◌∷◌, length, Option, None}
+use Rattle.std.specs.Prelude.{◌≡◌, ℕ, zero, suc, ◌+◌, ◌*◌, ◌++◌, ◌==◌, Bool, true, false, not, List, [], ◌∷◌, length, Option, Some, None}
 use Rattle.std.specs.Prelude.{nat_le, nat_lt, if◌then◌else◌}
 use Rattle.std.specs.List.{flat_map, list_all}
+use Rattle.std.specs.declared.alloc.Global.{Global}
+use Rattle.std.specs.declared.vec.Vec.{Vec}
 use Rattle.cqlp_note.specs.declared.header.TheConstants.Header.{LONGEST_BODY}
 use Rattle.cqlp_note.specs.Heading.{header_bytes}
 use Rattle.cqlp_kind.specs.Types.{Types, NoMore, Type_and}
 use Rattle.cqlp_value.specs.Values.{Values, value_fits, values_size, values_bytes}
 use Rattle.cqlp_message.specs.declared.unfit.Unfit.{Unfit}
 use Rattle.cqlp_message.specs.declared.unfit.Unfit.TheVariants as unfit
+use Rattle.cqlp_message.specs.declared.response.Spec.{Spec}
+use Rattle.cqlp_message.specs.declared.message.Message.{Message as OwnedMessage}
+use Rattle.cqlp_message.specs.declared.message.Message.TheVariants as owned
 use Rattle.cqlp_message.specs.FrameValues.{Message, Rows, FrameValue}
 use Rattle.cqlp_message.specs.Parts.{parts_size, parts_bytes, cell_fits}
 use Rattle.cqlp_message.specs.Bodies.{cell_types}
@@ -68,6 +73,15 @@ with_cells f cells = record {
 abbrev pub page_columns : Message → ℕ
 page_columns (Rows p) = p.meta.columns
 page_columns m = 0
+
+abbrev pub specs_among : Option (Vec Spec Global) → List Spec
+specs_among (Some specs) = specs.items
+specs_among None = []
+
+-- the columns that a page tells; none where it tells none, and where it is no page
+abbrev pub columns_told : OwnedMessage → List Spec
+columns_told (owned.Rows p) = specs_among p.meta.specs
+columns_told m = []
 
 -- the types of a page's columns
 abbrev pub types_of_page : Message → Types

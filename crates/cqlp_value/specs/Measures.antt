@@ -1,5 +1,6 @@
 -- Lists of a caller's values side by side, and whether a value is one of a caller's type.
 use Rattle.std.specs.Prelude.{ℕ, ◌++◌, Bool, true, false, List, [], ◌∷◌, length}
+use Rattle.std.specs.Int.{w16, w32, w64, to_be_bytes}
 use Rattle.cqlp_kind.specs.declared.kind.Kind.{Kind}
 use Rattle.cqlp_kind.specs.declared.kind.Kind.TheVariants as kind
 use Rattle.cqlp_type.specs.declared.tree.TypeTree.{TypeTree}
@@ -14,10 +15,10 @@ use Rattle.cqlp_value.specs.Values.{Values, NoValue, type_copies, values_fit}
 
 -- the bytes of a content
 abbrev pub content_in : Content → List ℕ
-content_in (content.One b) = b
-content_in (content.Two b) = b
-content_in (content.Four b) = b
-content_in (content.Eight b) = b
+content_in (content.One n) = n ∷ []
+content_in (content.Two n) = to_be_bytes w16 n
+content_in (content.Four n) = to_be_bytes w32 n
+content_in (content.Eight n) = to_be_bytes w64 n
 content_in (content.Lent b) = b.now
 content_in (content.Decimal scale b) = scale ++ b.now
 

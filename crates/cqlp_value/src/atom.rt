@@ -1,42 +1,27 @@
 //! Scalars that a program owns: their kinds, and the bytes of their contents.
 
-ghost use Rattle.std.specs.Prelude.{◌≡◌, ◌++◌, ◌+◌, IfSome, is_some, length};
+ghost use Rattle.std.specs.Prelude.{◌≡◌, ◌+◌, ◌&&◌, IfSome, is_some, length};
+ghost use Rattle.cqlp_kind.specs.Types.{is_kind};
 ghost use Rattle.cqlp_value.specs.Owned.{atom_of};
 ghost use Rattle.cqlp_value.specs.Measures.{content_in};
 ghost use Rattle.cqlp_kind.specs.Scalars.{IsInRange, allows_size, content_of, kind_of, scalar_fits};
 
+use crate::fitting::is;
 use crate::value::Atom;
 use cqlp_kind::content::{DAY, allows};
 use cqlp_note::Address;
 use cqlp_type::Kind;
 
-/// The content of a scalar: the bytes of a number, or bytes that are lent.
+/// The content of a scalar: a number, whose bytes go from the highest to the lowest, or bytes that are lent.
 #[derive(Clone, Copy, Debug, PartialEq, Eq)]
 pub enum Content<'a> {
-    One([u8; 1]),
-    Two([u8; 2]),
-    Four([u8; 4]),
-    Eight([u8; 8]),
+    One(u8),
+    Two(u16),
+    Four(u32),
+    Eight(u64),
     Lent(&'a [u8]),
     /// The scale of a decimal, and its unscaled number.
     Decimal([u8; 4], &'a [u8]),
-}
-
-impl Content<'_> {
-    /// Its bytes in two parts, of which either may be empty.
-    #[inline]
-    pub fn parts(&self) -> (&[u8], &[u8])
-        ensures { result.0.now ++ result.1.now ≡ content_in self.now }
-    {
-        match self {
-            Content::One(bytes) => (bytes, &[]),
-            Content::Two(bytes) => (bytes, &[]),
-            Content::Four(bytes) => (bytes, &[]),
-            Content::Eight(bytes) => (bytes, &[]),
-            Content::Lent(bytes) => (&[], bytes),
-            Content::Decimal(scale, unscaled) => (scale, unscaled),
-        }
-    }
 }
 
 impl Atom {
@@ -85,18 +70,18 @@ impl Atom {
             Atom::Bigint(number)
             | Atom::Counter(number)
             | Atom::Timestamp(number)
-            | Atom::Time(number) => { Content::Eight(number.to_be_bytes()) }
-            Atom::Boolean(value) => Content::One([u8::from(*value)]),
+            | Atom::Time(number) => Content::Eight(number.cast_unsigned()),
+            Atom::Boolean(value) => Content::One(u8::from(*value)),
             Atom::Decimal { scale, unscaled } => Content::Decimal(scale.to_be_bytes(), unscaled),
             Atom::Double(bytes) => Content::Lent(bytes),
             Atom::Float(bytes) => Content::Lent(bytes),
-            Atom::Int(number) => Content::Four(number.to_be_bytes()),
+            Atom::Int(number) => Content::Four(number.cast_unsigned()),
             Atom::Uuid(bytes) | Atom::Timeuuid(bytes) => Content::Lent(bytes),
             Atom::Inet(Address::V4(bytes)) => Content::Lent(bytes),
             Atom::Inet(Address::V6(bytes)) => Content::Lent(bytes),
-            Atom::Date(days) => Content::Four(days.to_be_bytes()),
-            Atom::Smallint(number) => Content::Two(number.to_be_bytes()),
-            Atom::Tinyint(number) => Content::One(number.to_be_bytes()),
+            Atom::Date(days) => Content::Four(*days),
+            Atom::Smallint(number) => Content::Two(number.cast_unsigned()),
+            Atom::Tinyint(number) => Content::One(number.cast_unsigned()),
         }
     }
 
@@ -142,6 +127,20 @@ impl Atom {
     {
         if self.is_allowed() {
             Some(self.size())
+        } else {
+            None
+        }
+    }
+
+    /// Its content, or None where it is none of this kind, as [`fits`](crate::fits) says. What it holds is then in the range of its types.
+    #[inline(always)]
+    pub fn content_as(&self, kind: Kind) -> Option<Content<'_>>
+        ensures fits { is_some result ≡ (is_kind (kind_of (atom_of self.now)) kind && scalar_fits (atom_of self.now)) }
+        ensures is { IfSome result (λ content. content_in content ≡ content_of (atom_of self.now)) }
+        ensures range { IfSome result (λ _. IsInRange (atom_of self.now)) }
+    {
+        if is(self.kind(), kind) && self.is_allowed() {
+            Some(self.content())
         } else {
             None
         }
