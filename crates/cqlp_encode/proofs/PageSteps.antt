@@ -1,16 +1,19 @@
 -- A page that is written cell by cell, one call after the other.
-use Rattle.std.proofs.Common.{◌≡◌, ℕ, zero, suc, ◌+◌, ◌-◌, ◌*◌, ◌<◌, ◌≤◌, ◌==◌, if◌then◌else◌, Bool, true, false, not, is_some, List, [], ◌∷◌, ◌++◌, length, nat_lt, Option, Some, None, Result, Ok, Err, refl, sym, ap, ◌∙◌, subst, inl, inr, arith}
+use Rattle.std.proofs.Common.{◌≡◌, ℕ, zero, suc, ◌+◌, ◌-◌, ◌*◌, ◌<◌, ◌≤◌, ◌==◌, if◌then◌else◌, Bool, true, false, not, is_some, List, [], ◌∷◌, ◌++◌, ◌^◌, get_or, length, nat_lt, Option, Some, None, Result, Ok, Err, refl, sym, ap, ◌∙◌, subst, inl, inr, arith}
 use Rattle.std.proofs.lemmas.List.{length-append}
 use Rattle.std.proofs.lemmas.Bool.{lt-ltb, le-ltb}
 use Rattle.std.proofs.lemmas.Bool.Decides.{nat_tests}
 use Rattle.std.proofs.Math.Nat.{lt_of_mul-lt-mul_right, mul-zero, zero-mul}
-use Rattle.std.specs.Prelude.{⊤, IfSome}
+use Rattle.std.specs.Prelude.{⊤, IfSome, IsErr, IsErrAnd}
 use Rattle.cqlp_note.specs.declared.header.TheConstants.Header.{LONGEST_BODY}
 use Rattle.cqlp_note.specs.Heading.{IsLawful}
 use Rattle.cqlp_note.specs.Outputs.{Output, Offered}
-use Rattle.cqlp_value.specs.Values.{Values, values_size, values_bytes}
+use Rattle.cqlp_type.specs.Trees.{types_in}
+use Rattle.cqlp_type.specs.TypeTrees.{tree_of}
+use Rattle.cqlp_value.specs.Values.{Values, values_fit, values_size, values_bytes}
 use Rattle.cqlp_value.proofs.ValuesWritten.{written_size}
 use Rattle.cqlp_message.specs.declared.frame.Frame.{Frame}
+use Rattle.cqlp_message.specs.declared.response.Spec.{Spec}
 use Rattle.cqlp_message.specs.declared.unfit.Unfit.TheVariants as unfit
 use Rattle.cqlp_message.specs.FrameValues.{FrameValue}
 use Rattle.cqlp_message.specs.Owned.{frame_of}
@@ -19,13 +22,14 @@ use Rattle.cqlp_message.specs.Frames.{frame_parts, frame_size, header_of}
 use Rattle.cqlp_message.proofs.FramesWritten.{plain as not_compressed}
 use Rattle.cqlp_message.specs.Pages.{page_unfit_of, page_head, page_columns, cells_wanted, cells_fit, types_of_page, fits_column, AreItsCells}
 use Rattle.cqlp_message.proofs.PageCells.{cells_size_more}
+use Rattle.cqlp_message.proofs.PageColumns.{fits_spec}
 use Rattle.cqlp_message.proofs.PageFrames.{page_rows, wanted_is, is_page, no_cells_fit, one_more_fits, page_written}
 use Rattle.cqlp_encode.specs.declared.page_writer.PageError.{PageError}
 use Rattle.cqlp_encode.specs.declared.page_writer.PageError.TheVariants as error
 use Rattle.cqlp_encode.specs.PageWriting.{PageState, page, After, Begins, BeginsFrom, Finishes, Adds, cells_after, cell_error, one_more, failed_after}
 use Rattle.cqlp_encode.specs.Encoding.{Continued, header_and_parts}
 use Rattle.cqlp_encode.proofs.Continuing.{anew}
-use Rattle.cqlp_encode.specs.PagePlaces.{HasSize, IsPlace, StandsFor}
+use Rattle.cqlp_encode.specs.PagePlaces.{HasColumns, HasSize, IsPlace, IsSized, IsTaken, StandsFor}
 
 -- ---- before the first cell
 
@@ -131,6 +135,13 @@ stands p at v fits place is n cells a = record {
   bytes = λ e. refl;
 }
 
+-- the same where its column's type is told
+pub stands_as : (p : PageState) (at : ℕ) (specs : List Spec) (columns : ℕ) (s : Spec) (v : Values) → IsPlace p at → HasColumns p.frame specs columns → s ≡ get_or specs at s → at < length specs → (n : ℕ) (cells : List Values) → After p n cells
+    → StandsFor p cells (values_fit (types_in (tree_of s.tree)) v) v v
+stands_as p at specs columns s v place has e lt n cells a =
+    let is = fits_spec p.frame.message at s v (subst (λ (x : List Spec). s ≡ get_or x at s) has.told e) (subst (λ (x : List Spec). at < length x) has.told lt) in
+    stands p at v _ place (sym is) n cells a
+
 -- ---- the size of a value that fits
 
 pub fits_where_some : (size : Option ℕ) (n : ℕ) → size ≡ Some n → is_some size ≡ true
@@ -143,6 +154,12 @@ size_of_some (Some m) n v has is small =
     omega arith
 size_of_some None n v has is small = absurd cc
 
+sized : (v : Values) (content : List ℕ) → IsSized v content → values_size v ≡ 4 + length content
+sized v content is = omega (arith, written_size v, ap length is)
+
+pub has_size : (v : Values) (content : List ℕ) → IsSized v content → length content < 2 ^ 63 → HasSize v (length content + 4)
+has_size v content is short = omega (arith, sized v content is)
+
 -- ---- a cell
 
 pub refused : (p : PageState) (cells : List Values) (v : Values) (old : Output) (e : PageError) → cell_error p cells v ≡ Some e → Adds p cells v old (Err e) old p
@@ -151,6 +168,11 @@ refused p cells v old error.OutOfTurn is = (is, refl, refl)
 refused p cells v old error.PastLength is = (is, refl, refl)
 refused p cells v old error.NotDone is = (is, refl, refl)
 refused p cells v old (error.Write k) is = inl (is, refl, refl)
+
+-- the same as the answer of a call
+pub refused_as : (p : PageState) (cells : List Values) (v : Values) (old : Output) (r : Result ⊤ PageError) (e : PageError) → IsErr r × IsErrAnd r (λ f. f ≡ e) → cell_error p cells v ≡ Some e → Adds p cells v old r old p
+refused_as p cells v old (Ok u) e is some = absurd is.1
+refused_as p cells v old (Err f) e is some = rw is.1 (refused p cells v old e some)
 
 module _ (p : PageState) (cells : List Values) (fits : Bool) (w v : Values) (old new : Output) (size taken : ℕ) (s : StandsFor p cells fits w v) (fit : fits ≡ true) (same : size ≡ values_size w) (gave : Offered old (values_bytes w) taken new) where
   is : size ≡ values_size v
@@ -167,6 +189,14 @@ module _ (p : PageState) (cells : List Values) (fits : Bool) (w v : Values) (old
       let long = written_size v in
       let count : taken ≡ values_size v = omega (arith, offered.bound, long, all, is) in
       (none, long, subst (λ (k : ℕ). Offered old (values_bytes v) k new) count offered, after ∙ ap (λ (k : ℕ). one_more p k) is)
+
+  pub adds : (r : Result ⊤ PageError) (q : PageState) → cell_error p cells v ≡ None → IsTaken p size taken r q → Adds p cells v old r new q
+  adds (Ok u) q none t = adds_all q t.0 t.1 none
+  adds (Err (error.Write k)) q none t = adds_cut k q t.0 t.1 t.2 none
+  adds (Err (error.Unfit why)) q none t = absurd t
+  adds (Err error.OutOfTurn) q none t = absurd t
+  adds (Err error.PastLength) q none t = absurd t
+  adds (Err error.NotDone) q none t = absurd t
 
 pub none_left : (b : Bool) (e : PageError) (o : Option PageError) → (if b then Some e else o) ≡ None → (b ≡ false) × (o ≡ None)
 none_left true e o is = absurd cc

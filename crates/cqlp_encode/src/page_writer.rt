@@ -73,7 +73,6 @@ pub struct PageWriter<'a> {
 impl<'a> Model for PageWriter<'a> {
     ghost use Rattle.std.specs.Coded.{codes};
     ghost use Rattle.cqlp_message.specs.contracts.frame.Frame as lent;
-    ghost use Rattle.std.specs.Prelude.{◌×◌};
     ghost use Rattle.cqlp_encode.specs.PagePlaces.{HasColumns, IsPlace};
     ghost use Rattle.cqlp_encode.specs.PageWriting.{PageState};
 

@@ -1,15 +1,20 @@
 -- Values of a page's columns.
-use Rattle.std.proofs.Common.{◌≡◌, ℕ, zero, suc, ◌<◌, ◌≤◌, false, List, [], ◌∷◌, length, get_or, map, refl, sym, ap, arith}
+use Rattle.std.proofs.Common.{◌≡◌, Option, Some, None, ℕ, zero, suc, ◌<◌, ◌≤◌, false, List, [], ◌∷◌, length, get_or, map, refl, sym, ap, arith}
 use Rattle.cqlp_kind.specs.declared.kind.Kind.TheVariants as kind
 use Rattle.cqlp_kind.specs.Types.{Types, NoMore, Type_and, how_many}
 use Rattle.cqlp_type.specs.Trees.{types_in}
 use Rattle.cqlp_type.specs.TypeTrees.{tree_of}
 use Rattle.cqlp_value.specs.Values.{Values, values_fit, value_fits}
 use Rattle.cqlp_grammar.specs.Productions.{raw_types}
+use Rattle.std.specs.Option.{option_map}
+use Rattle.std.specs.declared.alloc.Global.{Global}
+use Rattle.std.specs.declared.vec.Vec.{Vec}
+use Rattle.cqlp_message.specs.declared.message.Message.{Message}
+use Rattle.cqlp_message.specs.declared.message.Message.TheVariants as message
 use Rattle.cqlp_message.specs.declared.response.Spec.{Spec}
-use Rattle.cqlp_message.specs.Owned.{spec_of}
-use Rattle.cqlp_message.specs.Bodies.{column_types}
-use Rattle.cqlp_message.specs.Pages.{fits_column}
+use Rattle.cqlp_message.specs.Owned.{message_of, spec_of}
+use Rattle.cqlp_message.specs.Bodies.{column_types, types_told}
+use Rattle.cqlp_message.specs.Pages.{columns_told, fits_column, specs_among, types_of_page}
 
 -- no value is one of a column that is not there
 pub fits_none : (ts : Types) (i : ℕ) (v : Values) → how_many ts ≤ i → fits_column ts i v ≡ false
@@ -21,6 +26,17 @@ pub fits_told : (specs : List Spec) (i : ℕ) (s : Spec) (v : Values) → s ≡ 
 fits_told [] i s v e lt = absurd (omega arith)
 fits_told (c ∷ specs) zero s v e lt = ap (λ (x : Spec). values_fit (types_in (tree_of x.tree)) v) (sym e)
 fits_told (c ∷ specs) (suc i) s v e lt = fits_told specs i s v e (omega arith)
+
+fits_among : (columns : ℕ) (o : Option (Vec Spec Global)) (i : ℕ) (s : Spec) (v : Values) → s ≡ get_or (specs_among o) i s → i < length (specs_among o)
+    → fits_column (types_told columns (option_map (λ (cs : Vec Spec Global). map spec_of cs.items) o)) i v ≡ values_fit (types_in (tree_of s.tree)) v
+fits_among columns (Some specs) i s v e lt = fits_told specs.items i s v e lt
+fits_among columns None i s v e lt = absurd (omega arith)
+
+-- a value is one of a column that a page tells, where it is one of that column's type
+pub fits_spec : (m : Message) (i : ℕ) (s : Spec) (v : Values) → s ≡ get_or (columns_told m) i s → i < length (columns_told m)
+    → fits_column (types_of_page (message_of m)) i v ≡ values_fit (types_in (tree_of s.tree)) v
+fits_spec (message.Rows p) i s v e lt = fits_among p.meta.columns p.meta.specs i s v e lt
+fits_spec m i s v e lt = absurd (omega arith)
 
 pub fits_raw : (n i : ℕ) (v : Values) → i < n → fits_column (raw_types n) i v ≡ value_fits kind.Raw NoMore v
 fits_raw zero i v lt = absurd (omega arith)

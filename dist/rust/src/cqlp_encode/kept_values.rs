@@ -161,10 +161,10 @@ fn keep_pairs<W: Target>(out: &mut Staged<'_, W>, pairs: &[(Value, Value)]) -> b
 fn keep_atom<W: Target>(out: &mut Staged<'_, W>, atom: &Atom) -> bool
 {
     match atom.content() {
-        Content::One(bytes) => out.keep_number(&bytes),
-        Content::Two(bytes) => out.keep_number(&bytes),
-        Content::Four(bytes) => out.keep_number(&bytes),
-        Content::Eight(bytes) => out.keep_number(&bytes),
+        Content::One(number) => out.keep_number(&[number]),
+        Content::Two(number) => out.keep_number(&number.to_be_bytes()),
+        Content::Four(number) => out.keep_number(&number.to_be_bytes()),
+        Content::Eight(number) => out.keep_number(&number.to_be_bytes()),
         Content::Lent(bytes) => out.keep_content(bytes),
         Content::Decimal(scale, unscaled) => keep_decimal(out, scale, unscaled),
     }

@@ -1,12 +1,12 @@
 // Written by dist/erase from crates/cqlp_encode/src/page_writer.rt.
 //! A page whose cells are written one by one.
 
-use crate::cqlp_encode::value_writing::offer_value;
+use crate::cqlp_encode::value_writing::{offer_decimal, offer_lent, offer_number, offer_value};
 use crate::cqlp_encode::writing::write_parts;
-use crate::cqlp_message::{Frame, Message, Unfit};
+use crate::cqlp_message::{Frame, Message, Spec, Unfit};
 use crate::cqlp_note::Target;
 use crate::cqlp_type::TypeTree;
-use crate::cqlp_value::{Value, fitting_size};
+use crate::cqlp_value::{Atom, Content, Value, fitting_size};
 
 error! {
 /// Why a page was not begun, a cell was not written, or a page is not done.
@@ -41,6 +41,10 @@ pub enum PageError {
 /// its own calls write; the frame is all that was written, in the order of the calls, and no target alone has it.
 pub struct PageWriter<'a> {
     frame: &'a Frame,
+    /// The columns, none where they are not told.
+    specs: &'a [Spec],
+    /// How many columns there are.
+    columns: u32,
     /// How many cells are still to come.
     left: u64,
     /// The column of the next, the first of which is 0.
@@ -96,6 +100,8 @@ impl<'a> PageWriter<'a> {
         }
         Ok(PageWriter {
             frame,
+            specs: frame.specs(),
+            columns: frame.columns(),
             left: frame.cells_wanted(),
             column: 0,
             free: cells_len,
@@ -116,8 +122,13 @@ impl<'a> PageWriter<'a> {
     /// is as it was. Then [`PageError::Write`] at the first call of the target that fails or takes nothing.
     pub fn cell<W: Target>(&mut self, value: &Value, target: &mut W) -> Result<(), PageError>
     {
-        let size = self.frame.column_size(self.column, value);
-        self.put(value, size, target)
+        match self.specs.get(self.column) {
+            Some(spec) => self.put_as(value, &spec.tree, target),
+            None => {
+                let size = self.frame.column_size(self.column, value);
+                self.put(value, size, target)
+            }
+        }
     }
 
     /// Writes the next cell of a page whose columns are not told to this target, where it is a value of a type that the caller names: as
@@ -189,6 +200,103 @@ impl<'a> PageWriter<'a> {
         Ok(self.written)
     }
 
+    /// Writes the next cell, if it is a value of this type.
+    #[inline(always)]
+    fn put_as<W: Target>(
+        &mut self,
+        value: &Value,
+        of: &TypeTree,
+        target: &mut W,
+    ) -> Result<(), PageError>
+    {
+        match value {
+            Value::Leaf(atom) => match of {
+                TypeTree::Plain(kind) => match atom.content_as(*kind) {
+                    Some(content) => self.put_content(atom, content, target),
+                    None => self.put(value, None, target),
+                },
+                _ => self.put_any(value, of, target),
+            },
+            _ => self.put_any(value, of, target),
+        }
+    }
+
+    /// The same of a value that is mostly no scalar.
+    fn put_any<W: Target>(
+        &mut self,
+        value: &Value,
+        of: &TypeTree,
+        target: &mut W,
+    ) -> Result<(), PageError>
+    {
+        let size = fitting_size(value, Some(of));
+        self.put(value, size, target)
+    }
+
+    /// Writes the next cell: a scalar that fits, which has this content.
+    #[inline(always)]
+    fn put_content<W: Target>(
+        &mut self,
+        atom: &Atom,
+        content: Content<'_>,
+        target: &mut W,
+    ) -> Result<(), PageError>
+    {
+        match content {
+            Content::One(number) => self.put_number(&[number], target),
+            Content::Two(number) => self.put_number(&number.to_be_bytes(), target),
+            Content::Four(number) => self.put_number(&number.to_be_bytes(), target),
+            Content::Eight(number) => self.put_number(&number.to_be_bytes(), target),
+            Content::Lent(bytes) => self.put_lent(bytes, target),
+            Content::Decimal(_, unscaled) => self.put_decimal(atom, unscaled.len() as u64, target),
+        }
+    }
+
+    /// The same of the bytes of a number, which are at most eight.
+    #[inline(always)]
+    fn put_number<W: Target>(&mut self, content: &[u8], target: &mut W) -> Result<(), PageError>
+    {
+        let size = self.check(Some(content.len() as u64 + 4))?;
+        let taken = offer_number(content, target);
+        self.took(size, taken)
+    }
+
+    /// The same of a content that is lent.
+    #[inline(always)]
+    fn put_lent<W: Target>(&mut self, content: &[u8], target: &mut W) -> Result<(), PageError>
+    {
+        let size = self.check(Some(content.len() as u64 + 4))?;
+        let taken = offer_lent(content, target);
+        self.took(size, taken)
+    }
+
+    /// The same of a decimal whose unscaled number has this many bytes.
+    fn put_decimal<W: Target>(
+        &mut self,
+        atom: &Atom,
+        unscaled: u64,
+        target: &mut W,
+    ) -> Result<(), PageError>
+    {
+        let size = self.check(Some(unscaled + 8))?;
+        let taken = offer_decimal(atom, target);
+        self.took(size, taken)
+    }
+
+    /// Counts a cell of this many bytes, of which a target took this many.
+    #[inline(always)]
+    fn took(&mut self, size: u32, taken: u32) -> Result<(), PageError>
+    {
+        if taken < size {
+            self.fail(taken);
+            return Err(PageError::Write {
+                written: self.written,
+            });
+        }
+        self.count(size);
+        Ok(())
+    }
+
     /// Writes the next cell, if it is a value that fits and so has a size.
     fn put<W: Target>(
         &mut self,
@@ -199,14 +307,7 @@ impl<'a> PageWriter<'a> {
     {
         let size = self.check(size)?;
         let taken = offer_value(value, size, 0, target);
-        if taken < size {
-            self.fail(taken);
-            return Err(PageError::Write {
-                written: self.written,
-            });
-        }
-        self.count(size);
-        Ok(())
+        self.took(size, taken)
     }
 
     /// Writes what targets have not taken of the cell in which one failed, if it is a value that fits and so has a size.
@@ -243,6 +344,8 @@ impl<'a> PageWriter<'a> {
     {
         PageWriter {
             frame: self.frame,
+            specs: self.specs,
+            columns: self.columns,
             left: self.left,
             column: self.column,
             free: self.free,
@@ -253,6 +356,7 @@ impl<'a> PageWriter<'a> {
     }
 
     /// How many bytes the next cell has, or why a value of this size is not it.
+    #[inline(always)]
     fn check(&self, size: Option<u64>) -> Result<u32, PageError>
     {
         if self.failed {
@@ -276,9 +380,12 @@ impl<'a> PageWriter<'a> {
     /// Counts a cell of this many bytes that was written.
     fn count(&mut self, size: u32)
     {
-        let columns = self.frame.columns() as usize;
         let next = self.column + 1;
-        self.column = if next < columns { next } else { 0 };
+        self.column = if next < self.columns as usize {
+            next
+        } else {
+            0
+        };
         self.left -= 1;
         self.free -= size;
         self.written += size;

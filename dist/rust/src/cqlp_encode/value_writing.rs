@@ -78,10 +78,10 @@ pub(crate) fn offer_value<W: Target>(value: &Value, size: u32, before: u32, targ
 fn offer_atom<W: Target>(atom: &Atom, target: &mut W) -> u32
 {
     match atom.content() {
-        Content::One(bytes) => offer_number(&bytes, target),
-        Content::Two(bytes) => offer_number(&bytes, target),
-        Content::Four(bytes) => offer_number(&bytes, target),
-        Content::Eight(bytes) => offer_number(&bytes, target),
+        Content::One(number) => offer_number(&[number], target),
+        Content::Two(number) => offer_number(&number.to_be_bytes(), target),
+        Content::Four(number) => offer_number(&number.to_be_bytes(), target),
+        Content::Eight(number) => offer_number(&number.to_be_bytes(), target),
         Content::Lent(bytes) => offer_lent(bytes, target),
         Content::Decimal(_, _) => offer_decimal(atom, target),
     }
@@ -89,7 +89,7 @@ fn offer_atom<W: Target>(atom: &Atom, target: &mut W) -> u32
 
 /// The same of the bytes of a number, which are at most eight.
 #[inline(always)]
-fn offer_number<W: Target>(content: &[u8], target: &mut W) -> u32
+pub(crate) fn offer_number<W: Target>(content: &[u8], target: &mut W) -> u32
 {
     let mut bytes = [0; 12];
     let end = content.len() + 4;
@@ -100,7 +100,7 @@ fn offer_number<W: Target>(content: &[u8], target: &mut W) -> u32
 
 /// The same of a content that is lent, which is not copied on its way: its length is offered first, by a call of its own.
 #[inline(always)]
-fn offer_lent<W: Target>(content: &[u8], target: &mut W) -> u32
+pub(crate) fn offer_lent<W: Target>(content: &[u8], target: &mut W) -> u32
 {
     let len = (content.len() as u32).to_be_bytes();
     let taken = offer_after(target, 0, &len);
@@ -112,7 +112,7 @@ fn offer_lent<W: Target>(content: &[u8], target: &mut W) -> u32
 
 /// The same of a decimal.
 #[inline(never)]
-fn offer_decimal<W: Target>(atom: &Atom, target: &mut W) -> u32
+pub(crate) fn offer_decimal<W: Target>(atom: &Atom, target: &mut W) -> u32
 {
     let mut out = Staged::new(target, 0);
     put_atom(&mut out, atom);

@@ -88,10 +88,10 @@ fn put_pairs<W: Target>(out: &mut Staged<'_, W>, pairs: &[(Value, Value)])
 pub fn put_atom<W: Target>(out: &mut Staged<'_, W>, atom: &Atom)
 {
     match atom.content() {
-        Content::One(bytes) => out.put_number(&bytes),
-        Content::Two(bytes) => out.put_number(&bytes),
-        Content::Four(bytes) => out.put_number(&bytes),
-        Content::Eight(bytes) => out.put_number(&bytes),
+        Content::One(number) => out.put_number(&[number]),
+        Content::Two(number) => out.put_number(&number.to_be_bytes()),
+        Content::Four(number) => out.put_number(&number.to_be_bytes()),
+        Content::Eight(number) => out.put_number(&number.to_be_bytes()),
         Content::Lent(bytes) => out.put_content(bytes),
         Content::Decimal(scale, unscaled) => {
             out.put_count32(unscaled.len().saturating_add(scale.len()));
@@ -104,8 +104,15 @@ pub fn put_atom<W: Target>(out: &mut Staged<'_, W>, atom: &Atom)
 /// Takes the content of a scalar.
 fn put_scalar<W: Target>(out: &mut Staged<'_, W>, atom: &Atom)
 {
-    let content = atom.content();
-    let (first, second) = content.parts();
-    out.put(first);
-    out.put(second);
+    match atom.content() {
+        Content::One(number) => out.put(&[number]),
+        Content::Two(number) => out.put(&number.to_be_bytes()),
+        Content::Four(number) => out.put(&number.to_be_bytes()),
+        Content::Eight(number) => out.put(&number.to_be_bytes()),
+        Content::Lent(bytes) => out.put(bytes),
+        Content::Decimal(scale, unscaled) => {
+            out.put(&scale);
+            out.put(unscaled);
+        }
+    }
 }

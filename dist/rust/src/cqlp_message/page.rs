@@ -49,6 +49,18 @@ impl Frame {
         }
     }
 
+    /// The columns of its page; none where they are not told, and where it is no page.
+    pub fn specs(&self) -> &[Spec]
+    {
+        match &self.message {
+            Message::Rows(page) => match &page.meta.specs {
+                Some(specs) => specs,
+                None => &[],
+            },
+            _ => &[],
+        }
+    }
+
     /// How many columns the cells of its page are of; 0 where it is no page.
     pub fn columns(&self) -> u32
     {

@@ -1,37 +1,22 @@
 // Written by dist/erase from crates/cqlp_value/src/atom.rt.
 //! Scalars that a program owns: their kinds, and the bytes of their contents.
 
+use crate::cqlp_value::fitting::is;
 use crate::cqlp_value::value::Atom;
 use crate::cqlp_kind::content::{DAY, allows};
 use crate::cqlp_note::Address;
 use crate::cqlp_type::Kind;
 
-/// The content of a scalar: the bytes of a number, or bytes that are lent.
+/// The content of a scalar: a number, whose bytes go from the highest to the lowest, or bytes that are lent.
 #[derive(Clone, Copy, Debug, PartialEq, Eq)]
 pub enum Content<'a> {
-    One([u8; 1]),
-    Two([u8; 2]),
-    Four([u8; 4]),
-    Eight([u8; 8]),
+    One(u8),
+    Two(u16),
+    Four(u32),
+    Eight(u64),
     Lent(&'a [u8]),
     /// The scale of a decimal, and its unscaled number.
     Decimal([u8; 4], &'a [u8]),
-}
-
-impl Content<'_> {
-    /// Its bytes in two parts, of which either may be empty.
-    #[inline]
-    pub fn parts(&self) -> (&[u8], &[u8])
-    {
-        match self {
-            Content::One(bytes) => (bytes, &[]),
-            Content::Two(bytes) => (bytes, &[]),
-            Content::Four(bytes) => (bytes, &[]),
-            Content::Eight(bytes) => (bytes, &[]),
-            Content::Lent(bytes) => (&[], bytes),
-            Content::Decimal(scale, unscaled) => (scale, unscaled),
-        }
-    }
 }
 
 impl Atom {
@@ -77,18 +62,18 @@ impl Atom {
             Atom::Bigint(number)
             | Atom::Counter(number)
             | Atom::Timestamp(number)
-            | Atom::Time(number) => { Content::Eight(number.to_be_bytes()) }
-            Atom::Boolean(value) => Content::One([u8::from(*value)]),
+            | Atom::Time(number) => Content::Eight(number.cast_unsigned()),
+            Atom::Boolean(value) => Content::One(u8::from(*value)),
             Atom::Decimal { scale, unscaled } => Content::Decimal(scale.to_be_bytes(), unscaled),
             Atom::Double(bytes) => Content::Lent(bytes),
             Atom::Float(bytes) => Content::Lent(bytes),
-            Atom::Int(number) => Content::Four(number.to_be_bytes()),
+            Atom::Int(number) => Content::Four(number.cast_unsigned()),
             Atom::Uuid(bytes) | Atom::Timeuuid(bytes) => Content::Lent(bytes),
             Atom::Inet(Address::V4(bytes)) => Content::Lent(bytes),
             Atom::Inet(Address::V6(bytes)) => Content::Lent(bytes),
-            Atom::Date(days) => Content::Four(days.to_be_bytes()),
-            Atom::Smallint(number) => Content::Two(number.to_be_bytes()),
-            Atom::Tinyint(number) => Content::One(number.to_be_bytes()),
+            Atom::Date(days) => Content::Four(*days),
+            Atom::Smallint(number) => Content::Two(number.cast_unsigned()),
+            Atom::Tinyint(number) => Content::One(number.cast_unsigned()),
         }
     }
 
@@ -127,6 +112,17 @@ impl Atom {
     {
         if self.is_allowed() {
             Some(self.size())
+        } else {
+            None
+        }
+    }
+
+    /// Its content, or None where it is none of this kind, as [`fits`](crate::cqlp_value::fits) says. What it holds is then in the range of its types.
+    #[inline(always)]
+    pub fn content_as(&self, kind: Kind) -> Option<Content<'_>>
+    {
+        if is(self.kind(), kind) && self.is_allowed() {
+            Some(self.content())
         } else {
             None
         }

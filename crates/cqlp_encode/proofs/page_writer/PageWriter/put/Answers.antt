@@ -1,6 +1,6 @@
 use Rattle.cqlp_value.specs.Owned.{value_of}
 use Rattle.cqlp_encode.proofs.Continuing.{anew}
-use Rattle.cqlp_encode.proofs.PageSteps.{adds_all, fits_where_some, size_of_some}
+use Rattle.cqlp_encode.proofs.PageSteps.{adds, fits_where_some, size_of_some}
 use Rattle.cqlp_encode.proofs.page_writer.PageWriter.put.Goals as goal
 
 pub returns : goal.returns
@@ -8,4 +8,4 @@ returns g c cells cell s =
     let v = value_of c.args.value.now in
     let size = c.in_ok-size.ensures.size in
     let is = size_of_some c.args.size c.in_ok-size.size v c.requires size c.in_ok-size.ensures.small in
-    adds_all c.args.self.now cells _ v cell _ _ c.in_ok-size.size c.offer_value-taken.result s (fits_where_some c.args.size c.in_ok-size.size size) is (anew _ _ _ _ c.offer_value-taken.ensures) _ c.if-taken-size.false c.count.ensures (c.in_ok-size.ensures.checks v c.requires cells cell s)
+    adds c.args.self.now cells _ v cell _ _ c.in_ok-size.size c.offer_value-taken.result s (fits_where_some c.args.size c.in_ok-size.size size) is (anew _ _ _ _ c.offer_value-taken.ensures) c.took.result _ (c.in_ok-size.ensures.checks v c.requires cells cell s) c.took.ensures
