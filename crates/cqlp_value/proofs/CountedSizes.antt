@@ -1,16 +1,19 @@
--- The fit, the size and the range of lists and maps, by those of their items.
+-- The fit, the size and the range of lists, sets and maps, by those of their items.
 use Rattle.std.proofs.Common.{◌≡◌, ℕ, ◌+◌, ◌-◌, ◌^◌, Bool, true, false, ◌&&◌, ltb, length, is_some, min, arith}
 use Rattle.std.specs.Prelude.{Option, Some, None, IfSome}
 use Rattle.std.specs.declared.vec.Vec.{Vec}
 use Rattle.std.specs.declared.boxed.Box.{Box}
 use Rattle.std.specs.declared.alloc.Global.{Global}
-use Rattle.cqlp_type.specs.declared.tree.TypeTree.{TypeTree, List as ListTree, Map as MapTree}
-use Rattle.cqlp_value.specs.declared.value.Value.{Value, List as ListValue, Map as MapValue}
+use Rattle.cqlp_type.specs.declared.tree.TypeTree.{TypeTree, List as ListTree, Set as SetTree, Map as MapTree}
+use Rattle.cqlp_value.specs.declared.value.Value.{Value, List as ListValue, Set as SetValue, Map as MapValue}
 use Rattle.cqlp_value.specs.Measures.{all_fit, all_pairs_fit, fits_tree}
-use Rattle.cqlp_value.proofs.ValueFits.{list_fits, map_fits}
+use Rattle.cqlp_value.proofs.ValueFits.{list_fits, set_fits, map_fits}
 
 pub list_fits_in : (v : Vec Value Global) (inner : Box TypeTree Global) → fits_tree (ListValue v) (ListTree inner) ≡ (ltb (length v.items) (2 ^ 31) && all_fit inner.value v.items)
 list_fits_in v inner = list_fits v (ListTree inner)
+
+pub set_fits_in : (v : Vec Value Global) (inner : Box TypeTree Global) → fits_tree (SetValue v) (SetTree inner) ≡ (ltb (length v.items) (2 ^ 31) && all_fit inner.value v.items)
+set_fits_in v inner = set_fits v (SetTree inner)
 
 pub map_fits_in : (v : Vec (Value × Value) Global) (keys values : Box TypeTree Global) → fits_tree (MapValue v) (MapTree keys values) ≡ (ltb (length v.items) (2 ^ 31) && all_pairs_fit keys.value values.value v.items)
 map_fits_in v keys values = map_fits v (MapTree keys values)

@@ -1,6 +1,7 @@
 //! How many bytes spell a value that fits its type.
 
-ghost use Rattle.std.specs.Prelude.{◌≡◌, ◌+◌, ◌-◌, ◌^◌, ◌&&◌, IfSome, is_some, length, min, nat_lt, option_map};
+ghost use Rattle.std.specs.Prelude.{◌≡◌, ◌+◌, ◌-◌, ◌^◌, ◌&&◌, IfSome, is_some, length, min, nat_lt, option_map, true};
+ghost use Rattle.cqlp_type.specs.declared.tree.TypeTree.{Plain};
 ghost use Rattle.cqlp_kind.specs.Types.{is_kind};
 ghost use Rattle.cqlp_kind.specs.Scalars.{IsInRange, content_of, kind_of, scalar_fits};
 ghost use Rattle.cqlp_value.specs.Measures.{all_fit, all_pairs_fit, fits_tree, listed_pairs, listed_values};
@@ -57,6 +58,10 @@ fn any_size_in(value: &Value, tree: &TypeTree) -> Option<u64>
             TypeTree::List(inner) => counted(items.len(), items_size_in(items, inner)),
             _ => size_if(fits(value, Some(tree)), value),
         },
+        Value::Set(items) => match tree {
+            TypeTree::Set(inner) => counted(items.len(), items_size_in(items, inner)),
+            _ => size_if(fits(value, Some(tree)), value),
+        },
         Value::Map(pairs) => match tree {
             TypeTree::Map(keys, values) => counted(pairs.len(), pairs_size_in(pairs, keys, values)),
             _ => size_if(fits(value, Some(tree)), value),
@@ -65,9 +70,27 @@ fn any_size_in(value: &Value, tree: &TypeTree) -> Option<u64>
     }
 }
 
-/// The same of values side by side, each of this type.
+/// The same of values side by side, each of this type. Mostly they are scalars of one kind.
+#[inline(always)]
 #[cycle(fitting_size)]
 fn items_size_in(items: &[Value], tree: &TypeTree) -> Option<u64>
+    ensures fits { is_some result ≡ all_fit tree.now items.now }
+    ensures size { IfSome result (λ size. size ≡ min (values_size (listed_values items.now)) (2 ^ 64 - 1)) }
+    ensures range { IfSome result (λ _. AreInRange (listed_values items.now)) }
+{
+    match tree {
+        TypeTree::Plain(kind) => match scalars_size(items, *kind) {
+            Some(size) => Some(size),
+            None => each_size_in(items, tree),
+        },
+        _ => each_size_in(items, tree),
+    }
+}
+
+/// The same, of any values.
+#[inline(never)]
+#[cycle(fitting_size)]
+fn each_size_in(items: &[Value], tree: &TypeTree) -> Option<u64>
     ensures fits { is_some result ≡ all_fit tree.now items.now }
     ensures size { IfSome result (λ size. size ≡ min (values_size (listed_values items.now)) (2 ^ 64 - 1)) }
     ensures range { IfSome result (λ _. AreInRange (listed_values items.now)) }
@@ -83,8 +106,29 @@ fn items_size_in(items: &[Value], tree: &TypeTree) -> Option<u64>
 }
 
 /// The same of pairs, each of these types.
+#[inline(always)]
 #[cycle(fitting_size)]
 fn pairs_size_in(pairs: &[(Value, Value)], keys: &TypeTree, values: &TypeTree) -> Option<u64>
+    ensures fits { is_some result ≡ all_pairs_fit keys.now values.now pairs.now }
+    ensures size { IfSome result (λ size. size ≡ min (values_size (listed_pairs pairs.now)) (2 ^ 64 - 1)) }
+    ensures range { IfSome result (λ _. AreInRange (listed_pairs pairs.now)) }
+{
+    match keys {
+        TypeTree::Plain(key) => match values {
+            TypeTree::Plain(value) => match scalar_pairs_size(pairs, *key, *value) {
+                Some(size) => Some(size),
+                None => each_pair_size_in(pairs, keys, values),
+            },
+            _ => each_pair_size_in(pairs, keys, values),
+        },
+        _ => each_pair_size_in(pairs, keys, values),
+    }
+}
+
+/// The same, of any pairs.
+#[inline(never)]
+#[cycle(fitting_size)]
+fn each_pair_size_in(pairs: &[(Value, Value)], keys: &TypeTree, values: &TypeTree) -> Option<u64>
     ensures fits { is_some result ≡ all_pairs_fit keys.now values.now pairs.now }
     ensures size { IfSome result (λ size. size ≡ min (values_size (listed_pairs pairs.now)) (2 ^ 64 - 1)) }
     ensures range { IfSome result (λ _. AreInRange (listed_pairs pairs.now)) }
@@ -101,6 +145,107 @@ fn pairs_size_in(pairs: &[(Value, Value)], keys: &TypeTree, values: &TypeTree) -
         }
     }
     Some(size)
+}
+
+/// The size of values that all are scalars of this kind, which is one of those that lists and sets mostly have; else None. Each has a loop
+/// of its own, in which the content of that kind alone is looked at.
+#[inline(always)]
+fn scalars_size(items: &[Value], kind: Kind) -> Option<u64>
+    ensures fits { IfSome result (λ _. all_fit (Plain kind) items.now ≡ true) }
+    ensures size { IfSome result (λ size. size ≡ min (values_size (listed_values items.now)) (2 ^ 64 - 1)) }
+    ensures range { IfSome result (λ _. AreInRange (listed_values items.now)) }
+{
+    match kind {
+        Kind::Int => scalars_of(items, Kind::Int),
+        Kind::Bigint => scalars_of(items, Kind::Bigint),
+        Kind::Varchar => scalars_of(items, Kind::Varchar),
+        Kind::Double => scalars_of(items, Kind::Double),
+        Kind::Float => scalars_of(items, Kind::Float),
+        Kind::Uuid => scalars_of(items, Kind::Uuid),
+        _ => None,
+    }
+}
+
+/// The size of values that all are scalars of this kind.
+#[inline(always)]
+fn scalars_of(items: &[Value], kind: Kind) -> Option<u64>
+    ensures fits { IfSome result (λ _. all_fit (Plain kind) items.now ≡ true) }
+    ensures size { IfSome result (λ size. size ≡ min (values_size (listed_values items.now)) (2 ^ 64 - 1)) }
+    ensures range { IfSome result (λ _. AreInRange (listed_values items.now)) }
+{
+    let mut size: u64 = 0;
+    for item in items {
+        match leaf_size(item, kind) {
+            Some(more) => size = size.saturating_add(more),
+            None => return None,
+        }
+    }
+    Some(size)
+}
+
+/// The size of pairs whose keys all are scalars of the first kind and whose values are of the second, if these are kinds that maps mostly
+/// have; else None.
+#[inline(always)]
+fn scalar_pairs_size(pairs: &[(Value, Value)], keys: Kind, values: Kind) -> Option<u64>
+    ensures fits { IfSome result (λ _. all_pairs_fit (Plain keys) (Plain values) pairs.now ≡ true) }
+    ensures size { IfSome result (λ size. size ≡ min (values_size (listed_pairs pairs.now)) (2 ^ 64 - 1)) }
+    ensures range { IfSome result (λ _. AreInRange (listed_pairs pairs.now)) }
+{
+    match keys {
+        Kind::Varchar => scalar_pairs_to(pairs, Kind::Varchar, values),
+        Kind::Int => scalar_pairs_to(pairs, Kind::Int, values),
+        _ => None,
+    }
+}
+
+/// The same, whatever the kind of the keys.
+#[inline(always)]
+fn scalar_pairs_to(pairs: &[(Value, Value)], keys: Kind, values: Kind) -> Option<u64>
+    ensures fits { IfSome result (λ _. all_pairs_fit (Plain keys) (Plain values) pairs.now ≡ true) }
+    ensures size { IfSome result (λ size. size ≡ min (values_size (listed_pairs pairs.now)) (2 ^ 64 - 1)) }
+    ensures range { IfSome result (λ _. AreInRange (listed_pairs pairs.now)) }
+{
+    match values {
+        Kind::Int => scalar_pairs_of(pairs, keys, Kind::Int),
+        Kind::Bigint => scalar_pairs_of(pairs, keys, Kind::Bigint),
+        Kind::Varchar => scalar_pairs_of(pairs, keys, Kind::Varchar),
+        Kind::Double => scalar_pairs_of(pairs, keys, Kind::Double),
+        _ => None,
+    }
+}
+
+/// The size of pairs whose keys all are scalars of the first kind and whose values are of the second.
+#[inline(always)]
+fn scalar_pairs_of(pairs: &[(Value, Value)], keys: Kind, values: Kind) -> Option<u64>
+    ensures fits { IfSome result (λ _. all_pairs_fit (Plain keys) (Plain values) pairs.now ≡ true) }
+    ensures size { IfSome result (λ size. size ≡ min (values_size (listed_pairs pairs.now)) (2 ^ 64 - 1)) }
+    ensures range { IfSome result (λ _. AreInRange (listed_pairs pairs.now)) }
+{
+    let mut size: u64 = 0;
+    for (key, value) in pairs {
+        match leaf_size(key, keys) {
+            Some(more) => size = size.saturating_add(more),
+            None => return None,
+        }
+        match leaf_size(value, values) {
+            Some(more) => size = size.saturating_add(more),
+            None => return None,
+        }
+    }
+    Some(size)
+}
+
+/// The size of a value that is a scalar of this kind.
+#[inline(always)]
+fn leaf_size(value: &Value, kind: Kind) -> Option<u64>
+    ensures fits { IfSome result (λ _. fits_tree value.now (Plain kind) ≡ true) }
+    ensures size { IfSome result (λ size. size ≡ min (values_size (value_of value.now)) (2 ^ 64 - 1)) }
+    ensures range { IfSome result (λ _. AreInRange (value_of value.now)) }
+{
+    match value {
+        Value::Leaf(atom) => scalar_size(atom, kind),
+        _ => None,
+    }
 }
 
 /// The size of a collection of so many items, by that of its items, if a count says so many.
