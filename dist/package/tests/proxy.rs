@@ -148,8 +148,8 @@ fn odd() -> Script {
     let lines = "1:1 QUERY \"SELECT �\" 24 -> RESULT ROWS 21\n\
         1:2 QUERY \"SELECT 1\" 24 -> RESULT 9\n\
         1:3 PREPARE \"\" 13 -> ERROR 11\n\
-        1 requests are compressed from byte 61 on: told by their headers\n\
-        1 responses are compressed from byte 41 on: told by their headers\n\
+        1: requests are compressed from byte 61 on: told by their headers\n\
+        1: responses are compressed from byte 41 on: told by their headers\n\
         1:4 QUERY 20 -> RESULT 15\n\
         1:5 QUERY \"SELECT\" 32 -> RESULT VOID 29\n\
         1:6 QUERY \"SELECT first\" 28 -> nothing\n\
@@ -166,8 +166,8 @@ fn other_version() -> Script {
         Turn { way: Way::Requests, bytes: vec![0xee; 1_000] },
         Turn { way: Way::Responses, bytes: vec![4; 1_000] },
     ];
-    let lines = "1 requests are not of version 4 from byte 0 on: passed on unread\n\
-        1 responses are not of version 4 from byte 18 on: passed on unread\n\
+    let lines = "1: requests are not of version 4 from byte 0 on: passed on unread\n\
+        1: responses are not of version 4 from byte 18 on: passed on unread\n\
         1:7 nothing -> ERROR 000a 18\n";
     Script { turns, lines }
 }

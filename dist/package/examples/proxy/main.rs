@@ -3,7 +3,7 @@
 //! back and its bytes, and the time from the request's first byte to the reply's last one:
 //!
 //! ```text
-//! 1:4 QUERY "SELECT * FROM ks.t WHERE k = 3" 52 -> RESULT ROWS 25x4 1211 0.412 ms
+//! 1:1 QUERY "SELECT b FROM ks.t" 34 -> RESULT ROWS 2x1 1048622 9.215 ms
 //! ```
 //!
 //! It reads headers and a few fields, and holds no frame: a page may be of any length, and a body may be compressed or one that a decoder

@@ -186,7 +186,7 @@ impl<W: Write> Observer<W> {
         let at = side.next;
         if header.flags & COMPRESSED != 0 && !side.is_compressed {
             side.is_compressed = true;
-            self.say(format!("{} {way} are compressed from byte {at} on: told by their headers", self.number));
+            self.say(format!("{}: {way} are compressed from byte {at} on: told by their headers", self.number));
         }
     }
 
@@ -204,7 +204,7 @@ impl<W: Write> Observer<W> {
         let at = side.next;
         if !side.is_lost {
             side.is_lost = true;
-            self.say(format!("{} {way} are not of version 4 from byte {at} on: passed on unread", self.number));
+            self.say(format!("{}: {way} are not of version 4 from byte {at} on: passed on unread", self.number));
         }
     }
 
