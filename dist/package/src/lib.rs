@@ -432,7 +432,8 @@ pub mod capture {
 /// watch.begin(false, true);
 /// watch.begin(true, true);
 /// let mut lines = Vec::new();
-/// // As a proxy reads them: whether they are a response's, and when they came, in nanoseconds of any clock.
+/// // As a proxy reads them: whether they are a response's, and when they came, in nanoseconds of any clock. A piece is taken before it is
+/// // passed on, so that a request is taken before its reply. None is said to begin a segment, since no bytes are missing before it.
 /// for (is_response, piece, time) in [(false, &request[..5], 1_000), (false, &request[5..], 2_000), (true, &response[..], 9_000)] {
 ///     let mut rest = piece;
 ///     loop {

@@ -7,7 +7,8 @@
 //! ```
 //!
 //! It reads headers and a few fields, and holds no frame: a page may be of any length, and a body may be compressed or one that a decoder
-//! refuses. A connection of another version is passed on too, and a line says that it is not read.
+//! refuses. A connection of another version is passed on too, and a line says that it is not read. Whoever reads the lines has to go on reading:
+//! while a line cannot be written, nothing is passed on.
 //!
 //! A connection has two threads, each with a piece of [`relay::PIECE`] bytes, and room for [`observer::WAITING`] messages that wait for
 //! their replies, of some 250 bytes each, whatever the two sides send: some 300 KB. How many connections there are the system decides.

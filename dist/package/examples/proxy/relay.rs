@@ -26,18 +26,29 @@ pub fn relay<W: Write + Send>(client: TcpStream, node: TcpStream, observer: Obse
     Ok(())
 }
 
-/// Passes one direction on. Where a side is gone, both sockets are closed, so that the other direction ends too.
+/// How a direction ends.
+enum Ending {
+    /// The sender says no more.
+    Over,
+    /// The sender is gone.
+    Gone,
+    /// The receiver takes no more. What it said before may still be on its way.
+    Unheard,
+}
+
+/// Passes one direction on. At its end the sockets are closed as far as they are of no more use, so that the other direction ends too.
 fn pass_on<W: Write>(from: &TcpStream, to: &TcpStream, way: Way, observer: &Mutex<Observer<W>>, start: Instant) {
-    let ended = copy(from, to, |piece| {
+    let ending = copy(from, to, |piece| {
         // A fault of the observer stops nothing but the lines.
         if let Ok(mut observer) = observer.lock() {
             observer.hear(way, piece, start.elapsed().as_nanos() as u64);
         }
     });
     // A socket that is closed already may say so here: there is nothing left to do then.
-    let _ = match ended {
-        Ok(()) => to.shutdown(Shutdown::Write),
-        Err(_) => from.shutdown(Shutdown::Both).and(to.shutdown(Shutdown::Both)),
+    let _ = match ending {
+        Ending::Over => to.shutdown(Shutdown::Write),
+        Ending::Gone => from.shutdown(Shutdown::Both).and(to.shutdown(Shutdown::Both)),
+        Ending::Unheard => from.shutdown(Shutdown::Read),
     };
     if let Ok(mut observer) = observer.lock() {
         observer.end(way);
@@ -45,16 +56,18 @@ fn pass_on<W: Write>(from: &TcpStream, to: &TcpStream, way: Way, observer: &Mute
 }
 
 /// Copies bytes until there are no more. Each piece is seen before it is passed on, so that a request is seen before its reply.
-fn copy(mut from: &TcpStream, mut to: &TcpStream, mut see: impl FnMut(&[u8])) -> io::Result<()> {
+fn copy(mut from: &TcpStream, mut to: &TcpStream, mut see: impl FnMut(&[u8])) -> Ending {
     let mut piece = [0; PIECE];
     loop {
         let count = match from.read(&mut piece) {
-            Ok(0) => return Ok(()),
+            Ok(0) => return Ending::Over,
             Ok(count) => count,
             Err(fault) if fault.kind() == ErrorKind::Interrupted => continue,
-            Err(fault) => return Err(fault),
+            Err(_) => return Ending::Gone,
         };
         see(&piece[..count]);
-        to.write_all(&piece[..count])?;
+        if to.write_all(&piece[..count]).is_err() {
+            return Ending::Unheard;
+        }
     }
 }
