@@ -419,7 +419,7 @@ pub mod capture {
 /// A [`Watch`](watch::Watch) takes the bytes of both directions as they pass, in pieces of any size, and answers each request with the
 /// response that comes under its stream id. It goes by the headers of frames: a body may be of any length, compressed or one that a decoder
 /// refuses, and nothing of it is held but the first 256 bytes of the message and its [`Facts`](watch::Facts), which are
-/// read as the bytes pass. All memory is taken when it is made: so many times the size of a `Message<Kept>` as messages may wait.
+/// read as the bytes pass. All memory is taken when it is made: so many times the size of a `Message<Kept>`, some 400 bytes, as messages may wait.
 ///
 /// ```
 /// use cqlp::watch::{Paired, Watch};

@@ -11,7 +11,7 @@
 //! while a line cannot be written, nothing is passed on.
 //!
 //! A connection has two threads, each with a piece of [`relay::PIECE`] bytes, and room for [`observer::WAITING`] messages that wait for
-//! their replies, of some 250 bytes each, whatever the two sides send: some 300 KB. How many connections there are the system decides.
+//! their replies, of some 230 bytes each, whatever the two sides send: some 300 KB. How many connections there are the system decides.
 //!
 //! `cargo run --release --example proxy LISTEN NODE`, as in `127.0.0.1:9043 127.0.0.1:9042`
 #![forbid(unsafe_code)]
