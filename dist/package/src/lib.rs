@@ -3,7 +3,8 @@
 //! A [`Decoder`] reads frames from pieces of any size, one [`Event`] at a time, and holds no more than its [`Limits`] say,
 //! whatever lengths and counts a peer sends. [`frame`] has values of frames, what builds them of events and what writes them,
 //! [`cells`] the same of the cells of pages, [`session`] the cores of a client and of a server, which pair replies with requests, [`text`]
-//! the text of events and of pages, and [`capture`] readers of packet captures. A [`SkippingDecoder`] reads on after a frame that is refused.
+//! the text of events and of pages, [`watch`] an observer of both sides of a connection, as a proxy has it, and [`capture`] readers of packet
+//! captures. A [`SkippingDecoder`] reads on after a frame that is refused.
 //!
 //! # What is promised
 //!
@@ -208,6 +209,7 @@ mod cqlp_columns;
 mod cqlp_compose;
 mod cqlp_decode;
 mod cqlp_encode;
+mod cqlp_facts;
 mod cqlp_grammar;
 mod cqlp_json;
 mod cqlp_kind;
@@ -230,6 +232,7 @@ mod cqlp_text;
 mod cqlp_type;
 mod cqlp_type_tables;
 mod cqlp_value;
+mod cqlp_watch;
 mod errors;
 mod hex;
 mod itoa;
@@ -409,6 +412,54 @@ pub mod capture {
     };
     pub use crate::cqlp_reassembly::{Control, Distance, Stream, StreamStep, distance_to};
     pub use crate::cqlp_segment::{Address, Endpoint, Flags, LinkType, NoSegment, Segment, SegmentHead, read_segment};
+}
+
+/// What the two sides of a connection say to each other, as somebody between them sees it: a proxy, or the reader of a capture.
+///
+/// A [`Watch`](watch::Watch) takes the bytes of both directions as they pass, in pieces of any size, and answers each request with the
+/// response that comes under its stream id. It goes by the headers of frames: a body may be of any length, compressed or one that a decoder
+/// refuses, and nothing of it is held but the first 256 bytes of the message and its [`Facts`](watch::Facts), which are
+/// read as the bytes pass. All memory is taken when it is made: so many times the size of a `Message<Kept>`, some 400 bytes, as messages may wait.
+///
+/// ```
+/// use cqlp::watch::{Paired, Watch};
+/// use cqlp::{Global, Opcode};
+///
+/// let request = *b"\x04\0\0\x07\x07\0\0\0\x0d\0\0\0\x06SELECT\0\x01\0";
+/// let response = *b"\x84\0\0\x07\0\0\0\0\x09\0\0\x20\0\0\x03BAD";
+///
+/// let mut watch = Watch::new(Global, 100)?;
+/// watch.begin(false, true);
+/// watch.begin(true, true);
+/// let mut lines = Vec::new();
+/// // As a proxy reads them: whether they are a response's, and when they came, in nanoseconds of any clock. A piece is taken before it is
+/// // passed on, so that a request is taken before its reply. None is said to begin a segment, since no bytes are missing before it.
+/// for (is_response, piece, time) in [(false, &request[..5], 1_000), (false, &request[5..], 2_000), (true, &response[..], 9_000)] {
+///     let mut rest = piece;
+///     loop {
+///         let step = watch.take(is_response, rest, Some(time), false);
+///         rest = &rest[step.used..];
+///         if let Some(Paired::Exchange { request, response }) = step.told {
+///             let took = response.frame.ended.zip(request.frame.begun).map(|(to, from)| to - from);
+///             lines.push((request.frame.header.opcode, response.kept.facts.error, took));
+///         }
+///         if step.is_done {
+///             break;
+///         }
+///     }
+/// }
+/// assert_eq!(lines, [(Opcode::Query, Some(0x2000), Some(8_000))]);
+/// # Ok::<(), cqlp::watch::NewPairingError>(())
+/// ```
+///
+/// Of what a `Watch` is made may be used by itself, where something else is to be kept of a message, or where bytes that are no frames are to
+/// be told: [`Heads`](watch::Heads) finds the frames of one direction, a [`FactsReader`](watch::FactsReader) reads the facts of a body,
+/// and a [`Pairing`](watch::Pairing) pairs messages of which anything is kept. `examples/proxy` of this package is made of these.
+pub mod watch {
+    pub use crate::cqlp_facts::{Facts, FactsReader};
+    pub use crate::cqlp_watch::{
+        Frame, Front, Heads, Heard, HeardStep, Kept, Message, NewPairingError, Paired, Pairing, Watch, WatchStep,
+    };
 }
 
 /// The text of events, cells, pages and verdicts, the JSON of events, and rows as JSON and CSV, as the program `cqlp` writes it.

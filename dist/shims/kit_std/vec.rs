@@ -59,6 +59,11 @@ impl<T, A: Allocator> Vec<T, A> {
         self.items.pop()
     }
 
+    /// Takes an item away, which is there, as is proved at each call. The later ones move up.
+    pub(crate) fn remove(&mut self, at: usize) -> T {
+        self.items.remove(at)
+    }
+
     /// Takes all items away, and keeps the memory.
     #[inline]
     pub fn clear(&mut self) {

@@ -15,10 +15,6 @@ impl<T, A: Allocator> Vec<T, A> {
         }
     }
 
-    pub fn remove(&mut self, at: usize) -> T {
-        self.items.remove(at)
-    }
-
     pub fn swap_remove(&mut self, at: usize) -> T {
         self.items.swap_remove(at)
     }
