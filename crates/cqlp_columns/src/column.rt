@@ -5,7 +5,7 @@ ghost use Rattle.std.specs.Prelude.{Err, IfOk, IsOk, None, OnErr, OnOk, Some};
 ghost use Rattle.std.specs.Vec.{vec_ptr};
 ghost use Rattle.cqlp_kind.specs.Types.{is_kind};
 ghost use Rattle.cqlp_columns.specs.Arrays.{AreBytesOf, HasCells, IsAnswer, column_of, fits, is_long, offset_in, refusal_of};
-ghost use Rattle.cqlp_columns.specs.Arrays.{site_of, values_at, with_cell};
+ghost use Rattle.cqlp_columns.specs.Arrays.{site, site_of, values_at, with_cell};
 ghost use Rattle.cqlp_columns.specs.Batches.{IsEmptyOf, IsMade, refusal_of_kind};
 ghost use Rattle.cqlp_columns.specs.Bits.{Spells, bits};
 ghost use Rattle.cqlp_columns.specs.Layouts.{layout_of};
