@@ -1,13 +1,16 @@
 -- Parts that are checked and then written.
-use Rattle.std.proofs.Common.{◌≡◌, ◌+◌, ◌≤◌, ◌<◌, ◌^◌, ◌&&◌, ℕ, Bool, true, false, List, [], ◌∷◌, ◌++◌, length, take, nat_le, nat_lt, Option, Some, None, refl, sym, ap, ◌∙◌, subst, append-nil, arith}
+use Rattle.std.proofs.Common.{◌≡◌, ◌≢◌, ◌+◌, ◌≤◌, ◌<◌, ◌^◌, ◌&&◌, ℕ, Bool, true, false, List, [], ◌∷◌, ◌++◌, length, take, nat_le, nat_lt, Option, Some, None, refl, sym, ap, ◌∙◌, subst, append-nil, inl, inr, arith}
+use Rattle.std.proofs.lemmas.Bool.{cases_lt, lt-ltb}
 use Rattle.std.proofs.lemmas.Bool.Decides.{nat_tests}
-use Rattle.std.proofs.lemmas.List.{length-append, take_all, take_at}
-use Rattle.std.specs.Prelude.{IfSome, not, replicate}
+use Rattle.std.proofs.lemmas.List.{length-append, length-take-le, take_all, take_at}
+use Rattle.std.specs.Prelude.{IfSome, if◌then◌else◌, not, replicate}
 use Rattle.std.specs.List.{list_all}
 use Rattle.std.specs.Io.KnownBytes.{Appends}
 use Rattle.cqlp_note.specs.Outputs.{Output}
+use Rattle.cqlp_note.specs.Streams.{counted}
 use Rattle.cqlp_note.specs.declared.header.TheConstants.Header.{LONGEST_BODY}
 use Rattle.cqlp_message.specs.declared.tally.Tally.{Tally}
+use Rattle.cqlp_message.specs.declared.unfit.Unfit.{Unfit}
 use Rattle.cqlp_message.specs.declared.unfit.Unfit.TheVariants as unfit
 use Rattle.cqlp_message.specs.Agreement.{is_directed, frame_agrees, has_its_cells}
 use Rattle.cqlp_message.specs.FrameValues.{FrameValue}
@@ -40,6 +43,37 @@ whole_size t e = below t.size LONGEST_BODY (tests_of t.counts t.texts t.cells (n
 small_parts : (t : Tally) (ps : List Part) → IsTally t ps → is_whole t ≡ true → parts_size ps ≤ LONGEST_BODY
 small_parts t ps is e = omega (arith, is.size, whole_size t e)
 
+above : (m n : ℕ) → m ≤ n → nat_le m n ≡ true
+above m n e = grind (arith, nat_tests)
+
+whole_tally : (t : Tally) (ps : List Part) → IsTally t ps → list_all counts_fit ps ≡ true → list_all texts_fit ps ≡ true → list_all cell_fits ps ≡ true → parts_size ps ≤ LONGEST_BODY → is_whole t ≡ true
+whole_tally t ps is counts texts cells small =
+    rw (is.counts ∙ counts, is.texts ∙ texts, is.cells ∙ cells) (above t.size LONGEST_BODY (omega (arith, is.size, small)))
+
+-- ---- what it says that nothing is in the way
+
+last_none : (t : Bool) (why : Unfit) → (if t then Some why else None) ≡ None → t ≡ false
+last_none true why e = absurd cc
+last_none false why e = refl
+
+not_above : (m n : ℕ) → nat_lt m n ≡ false → n ≤ m
+not_above m n e = grind (arith, nat_tests)
+
+none_says : (a b c d e g : Bool) (n : ℕ) → first_of ((not a, unfit.Direction) ∷ (not b, unfit.Parts) ∷ (not c, unfit.TooManyItems) ∷ (not d, unfit.TextTooLong) ∷ (not e, unfit.RowShape) ∷ (not g, unfit.CellType) ∷ (nat_lt LONGEST_BODY n, unfit.BodyTooLong) ∷ []) ≡ None
+    → (a ≡ true) × (b ≡ true) × (c ≡ true) × (d ≡ true) × (e ≡ true) × (g ≡ true) × (n ≤ LONGEST_BODY)
+none_says false b c d e g n h = absurd cc
+none_says true false c d e g n h = absurd cc
+none_says true true false d e g n h = absurd cc
+none_says true true true false e g n h = absurd cc
+none_says true true true true false g n h = absurd cc
+none_says true true true true true false n h = absurd cc
+none_says true true true true true true n h = (refl, refl, refl, refl, refl, refl, not_above LONGEST_BODY n (last_none (nat_lt LONGEST_BODY n) unfit.BodyTooLong h))
+
+pub nothing_says : (f : FrameValue) → unfit_of f ≡ None
+    → (is_directed f ≡ true) × (frame_agrees f ≡ true) × (list_all counts_fit (frame_parts f) ≡ true) × (list_all texts_fit (frame_parts f) ≡ true) × (has_its_cells f.message ≡ true) × (list_all cell_fits (frame_parts f) ≡ true) × (parts_size (frame_parts f) ≤ LONGEST_BODY)
+nothing_says f none =
+    none_says (is_directed f) (frame_agrees f) (list_all counts_fit (frame_parts f)) (list_all texts_fit (frame_parts f)) (has_its_cells f.message) (list_all cell_fits (frame_parts f)) (parts_size (frame_parts f)) none
+
 -- ---- one part more
 
 -- it is not passed on where there are too many bytes
@@ -63,6 +97,29 @@ passed_on before p p' t t' ps part h tally short w =
       small = small;
       all = λ le. refl;
     }
+
+-- ---- what there is no room for
+
+not_all : (m n : ℕ) → m ≤ n → m ≢ n → m < n
+not_all m n le ne = elim (cases_lt m n) [
+  | inl lt ↦ lt
+  | inr ge ↦ absurd (ne (omega arith))
+]
+
+counted_some : (m n : ℕ) → n ≡ counted true m → n ≢ 0
+counted_some m n e zero = omega (arith, e, zero)
+
+-- bytes that fill their room before memory is missing
+pub filled : (f : FrameValue) (room room' : ℕ) (old new bytes : List ℕ) (r : Option ℕ) (n : ℕ) → ◌≡◌ {A = List ℕ} (room' ∷ new) (room ∷ (old ++ bytes)) → (r ≡ None → unfit_of f ≡ None → (n ≢ 0) × (length bytes < frame_size f 0)) → (0 < n → room' ≤ length new)
+    → r ≡ None → unfit_of f ≡ None → room < length old + frame_size f 0
+filled f room room' old new bytes r n e failed full lacks none =
+    let so = failed lacks none in
+    let same : room' ≡ room = cc in
+    let items : new ≡ old ++ bytes = cc in
+    let some : 0 < n = not_all 0 n (omega arith) (λ z. so.0 (sym z)) in
+    let le = full some in
+    let long : length new ≡ length (old ++ bytes) = ap length items in
+    omega (arith, le, same, long, length-append old bytes, so.1)
 
 -- ---- a frame
 
@@ -112,23 +169,38 @@ module _ {X : Type 0} (o : X → Output) (first : X) (f : FrameValue) (lender : 
     given_so : Appends (o first).given (o end).given (take c.taken all)
     given_so = (anew (o first) (o end) all c.taken sent_so.0).given
 
-    pub not_whole : WritesChecked f (o first) None (o end)
-    not_whole = record { bytes = take c.taken all; given = given_so; fit = tt; whole = tt }
+    missing : (is_whole t ≡ true → c.taken < t.size + 9) → unfit_of f ≡ None → ((o end).failures ≢ 0) × (length (take c.taken all) < frame_size f 0)
+    missing some none =
+        let is : IsTally t (frame_parts f) = h.tally in
+        let fits = nothing_says f none in
+        let small = fits.6 in
+        let whole = whole_tally t (frame_parts f) is fits.2 fits.3 fits.5 small in
+        let offered = anew (o first) (o end) all c.taken sent_so.0 in
+        let same : parts_size h.passed ≡ parts_size (frame_parts f) = ap parts_size (h.all small) in
+        let lt : c.taken < length all = omega (arith, some whole, passed_long, same, is.size, small) in
+        let long : length (take c.taken all) ≡ c.taken = length-take-le c.taken all offered.bound in
+        let failed : (o end).failures ≡ counted true (o first).failures = offered.failures ∙ ap (λ (b : Bool). counted b (o first).failures) (lt-ltb c.taken (length all) lt) in
+        (counted_some (o first).failures (o end).failures failed, omega (arith, long, lt, passed_long, same))
 
-    pub whole_frame : is_whole t ≡ true → c.taken ≡ t.size + 9 → WritesChecked f (o first) (Some c.taken) (o end)
+    pub not_whole : (is_whole t ≡ true → c.taken < t.size + 9) → WritesChecked f (o first) None (o end)
+    not_whole some = record { bytes = take c.taken all; given = given_so; fit = tt; whole = tt; failed = λ e none. missing some none }
+
+    pub whole_frame : is_whole t ≡ true → t.size + 9 ≤ c.taken → WritesChecked f (o first) (Some c.taken) (o end)
     unfolding all
-    whole_frame fit size =
+    whole_frame fit enough =
         let is : IsTally t (frame_parts f) = h.tally in
         let tests = tests_of t.counts t.texts t.cells (nat_le t.size LONGEST_BODY) fit in
         let small : parts_size (frame_parts f) ≤ LONGEST_BODY = small_parts t (frame_parts f) is fit in
         let same : parts_size h.passed ≡ parts_size (frame_parts f) = ap parts_size (h.all small) in
         let long : length (parts_bytes (frame_parts f)) ≡ parts_size (frame_parts f) = subst (λ (ps : List Part). length (parts_bytes ps) ≡ parts_size ps) (h.all small) h.taken.size in
-        let many : c.taken ≡ frame_size f 0 = omega (arith, size, is.size, small) in
+        let offered = anew (o first) (o end) all c.taken sent_so.0 in
+        let many : c.taken ≡ frame_size f 0 = omega (arith, enough, offered.bound, passed_long, same, is.size, small) in
         record {
           bytes = take c.taken all;
           given = given_so;
           fit = record { counts = sym is.counts ∙ tests.0; texts = sym is.texts ∙ tests.1; cells = sym is.cells ∙ tests.2; small = small; long = long; size = many };
           whole = take_all c.taken all (omega (arith, passed_long, same, many)) ∙ ap (λ (ps : List Part). nine ++ parts_bytes ps) (h.all small);
+          failed = λ e. absurd cc;
         }
 
 -- ---- why nothing is in the way
@@ -147,6 +219,16 @@ nothing_in_the_way f n directed agrees cells fit =
 pub none_if_some : (f : FrameValue) (r : Option ℕ) → is_directed f ≡ true → frame_agrees f ≡ true → has_its_cells f.message ≡ true → IfSome r (λ n. PartsFit f n) → IfSome r (λ n. unfit_of f ≡ None)
 none_if_some f None directed agrees cells fit = tt
 none_if_some f (Some n) directed agrees cells fit = nothing_in_the_way f n directed agrees cells fit
+
+pub appended : (room room' : ℕ) (old new bytes : List ℕ) → ◌≡◌ {A = List ℕ} (room' ∷ new) (room ∷ (old ++ bytes)) → new ≡ old ++ bytes
+appended room room' old new bytes e = cc
+
+pub same_room : (room room' : ℕ) (old new : List ℕ) → ◌≡◌ {A = List ℕ} (room' ∷ new) (room ∷ old) → room' ≡ room
+same_room room room' old new e = cc
+
+pub none_left : (r : Option ℕ) → ((n : ℕ) → r ≡ Some n → ⊥) → r ≡ None
+none_left None never = refl
+none_left (Some n) never = absurd (never n refl)
 
 -- what was put behind the bytes is cut off
 pub cut_back : (old new bytes left : List ℕ) (start : ℕ) → start ≡ length old → new ≡ old ++ bytes → left ≡ take start new → left ≡ old

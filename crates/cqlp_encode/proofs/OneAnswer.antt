@@ -1,5 +1,5 @@
 -- One answer of `encode`, of `write_value`, of `bind_value` and of `raw_value` meets its clause.
-use Rattle.std.proofs.Common.{◌≡◌, ℕ, List, Option, Some, None, IsSome, Result, Ok, Err, take, refl, sym, ap, ◌∙◌, arith}
+use Rattle.std.proofs.Common.{◌≡◌, ◌⊎◌, ℕ, ◌≤◌, ◌<◌, List, Option, Some, None, IsSome, Result, Ok, Err, take, inl, inr, refl, sym, ap, ◌∙◌, subst, arith}
 use Rattle.std.specs.Io.KnownBytes.{Appends}
 use Rattle.cqlp_note.specs.Outputs.{Output, output, Offered}
 use Rattle.cqlp_message.specs.Frames.{frame_bytes}
@@ -13,8 +13,9 @@ use Rattle.cqlp_message.specs.Owned.{bound_of}
 use Rattle.cqlp_encode.specs.declared.binding.BindError.{BindError}
 use Rattle.cqlp_encode.specs.declared.binding.BindError.TheVariants as bind_error
 use Rattle.cqlp_encode.specs.Binding.{IsBound, IsRaw, Makes}
+use Rattle.cqlp_encode.specs.declared.appending.AppendError.{AppendError}
 use Rattle.cqlp_encode.specs.declared.appending.AppendError.TheVariants as append_error
-use Rattle.cqlp_encode.specs.Laws.{AreSame, OneAnswerOfAppend, OneAnswerOfBindValue, OneAnswerOfEncode, OneAnswerOfRawValue, OneAnswerOfWriteValue}
+use Rattle.cqlp_encode.specs.Laws.{AreSame, IsGranted, OneAnswerOfAppend, OneAnswerOfBindValue, OneAnswerOfEncode, OneAnswerOfRawValue, OneAnswerOfWriteValue}
 
 same_given : (o a b : Option (List ℕ)) (bytes : List ℕ) → IsSome o → Appends o a bytes → Appends o b bytes → b ≡ a
 same_given None a b bytes known s t = absurd cc
@@ -42,17 +43,27 @@ one_answer f old new new' (Err (error.Write n)) (Ok m) known a b e = absurd (ome
 one_answer f old new new' (Err (error.Write n)) (Err (error.Unfit why)) known a b e = let both = sym a.0.0 ∙ b.0 in absurd cc
 one_answer f old new new' (Err (error.Write n)) (Err (error.Write m)) known a b e = (ap (λ (k : ℕ). Err (error.Write k)) e, left_once old new new' (frame_bytes f) n m known e a.2 b.2)
 
+never_lacks : (n room : ℕ) (r : Result ℕ AppendError) (Given : Type 0) → (n ≤ room) ⊎ (IsGranted r × Given) → r ≡ Err append_error.NoMemory → room < n → ⊥
+never_lacks n room r Given (inl le) e lt = omega (arith, le, lt)
+never_lacks n room r Given (inr g) e lt = subst IsGranted e g.0
+
+turned : {A B C : Type 0} → A ⊎ (B × C) → A ⊎ (C × B)
+turned (inl a) = inl a
+turned (inr both) = inr (both.1, both.0)
+
 pub one_append_answer : OneAnswerOfAppend
-one_append_answer f old new new' (Ok n) (Ok m) g g' a b = (ap (λ (k : ℕ). Ok k) (b.1 ∙ sym a.1), b.2 ∙ sym a.2)
-one_append_answer f old new new' (Ok n) (Err (append_error.Unfit why)) g g' a b = let both = sym a.0.0 ∙ b.0 in absurd cc
-one_append_answer f old new new' (Ok n) (Err append_error.NoMemory) g g' a b = absurd g'
-one_append_answer f old new new' (Err (append_error.Unfit why)) (Ok m) g g' a b = let both = sym a.0 ∙ b.0.0 in absurd cc
-one_append_answer f old new new' (Err (append_error.Unfit why)) (Err (append_error.Unfit why')) g g' a b =
+one_append_answer f room old new new' (Ok n) (Ok m) g a b = (ap (λ (k : ℕ). Ok k) (b.1 ∙ sym a.1), b.2 ∙ sym a.2)
+one_append_answer f room old new new' (Ok n) (Err (append_error.Unfit why)) g a b = let both = sym a.0.0 ∙ b.0 in absurd cc
+one_append_answer f room old new new' (Ok n) (Err append_error.NoMemory) g a b = absurd (never_lacks _ room (Err append_error.NoMemory) (IsGranted (Ok n)) (turned g) refl b.1)
+one_append_answer f room old new new' (Err (append_error.Unfit why)) (Ok m) g a b = let both = sym a.0 ∙ b.0.0 in absurd cc
+one_append_answer f room old new new' (Err (append_error.Unfit why)) (Err (append_error.Unfit why')) g a b =
     let both : ◌≡◌ {A = Option _} (Some why) (Some why') = sym a.0 ∙ b.0 in
     let same : why' ≡ why = cc in
     (ap (λ w. Err (append_error.Unfit w)) same, b.1 ∙ sym a.1)
-one_append_answer f old new new' (Err (append_error.Unfit why)) (Err append_error.NoMemory) g g' a b = absurd g'
-one_append_answer f old new new' (Err append_error.NoMemory) r' g g' a b = absurd g
+one_append_answer f room old new new' (Err (append_error.Unfit why)) (Err append_error.NoMemory) g a b = let both = sym a.0 ∙ b.0 in absurd cc
+one_append_answer f room old new new' (Err append_error.NoMemory) (Ok m) g a b = absurd (never_lacks _ room (Err append_error.NoMemory) (IsGranted (Ok m)) g refl a.1)
+one_append_answer f room old new new' (Err append_error.NoMemory) (Err (append_error.Unfit why)) g a b = let both = sym a.0 ∙ b.0 in absurd cc
+one_append_answer f room old new new' (Err append_error.NoMemory) (Err append_error.NoMemory) g a b = (refl, b.2 ∙ sym a.2)
 
 pub one_value_answer : OneAnswerOfWriteValue
 one_value_answer v t old new new' (Ok n) (Ok m) known a b e = (ap (λ (k : ℕ). Ok k) e, left_once old new new' (values_bytes (value_of v)) n m known e a.2 b.2)

@@ -1,5 +1,5 @@
 -- What becomes of a frame that is to stand behind bytes in memory.
-use Rattle.std.specs.Prelude.{◌≡◌, ◌≤◌, ◌&&◌, ◌++◌, ℕ, Bool, true, nat_le, List, length, replicate, Option, Some, None, IfSome, Result, Ok, Err}
+use Rattle.std.specs.Prelude.{◌≡◌, ◌≢◌, ◌+◌, ◌<◌, ◌≤◌, ◌&&◌, ◌++◌, ℕ, Bool, true, nat_le, List, length, replicate, Option, Some, None, IfSome, Result, Ok, Err}
 use Rattle.std.specs.List.{list_all}
 use Rattle.std.specs.Io.KnownBytes.{Appends}
 use Rattle.cqlp_note.specs.declared.header.TheConstants.Header.{LONGEST_BODY}
@@ -15,11 +15,12 @@ use Rattle.cqlp_encode.specs.Encoding.{CanBeWritten}
 use Rattle.cqlp_encode.specs.Progress.{Before, Progress, HasTakenParts}
 
 -- All bytes of the frame stand behind those that were there, and the answer is how many they are; or no bytes spell it, or
--- memory was refused, and the bytes are as they were.
-abbrev pub AppendsFrame : FrameValue → (old : List ℕ) → Result ℕ AppendError → (new : List ℕ) → Type 0
-AppendsFrame f old (Ok n) new = CanBeWritten f × (n ≡ frame_size f 0) × (new ≡ old ++ frame_bytes f)
-AppendsFrame f old (Err (error.Unfit why)) new = (unfit_of f ≡ Some why) × (new ≡ old)
-AppendsFrame f old (Err error.NoMemory) new = (unfit_of f ≡ None) × (new ≡ old)
+-- there is room for fewer bytes than that and memory was refused, and the bytes are as they were.
+abbrev pub AppendsFrame : FrameValue → (room : ℕ) → (old : List ℕ) → Result ℕ AppendError → (new : List ℕ) → Type 0
+AppendsFrame f room old (Ok n) new = CanBeWritten f × (n ≡ frame_size f 0) × (new ≡ old ++ frame_bytes f)
+AppendsFrame f room old (Err (error.Unfit why)) new = (unfit_of f ≡ Some why) × (new ≡ old)
+AppendsFrame f room old (Err error.NoMemory) new =
+    (unfit_of f ≡ None) × (room < length old + frame_size f 0) × (new ≡ old)
 
 -- ---- on the way
 
@@ -49,18 +50,28 @@ pub record PartsFit (f : FrameValue) (n : ℕ) : Type 0 where
 abbrev pub room_and_parts : FrameValue → List ℕ
 room_and_parts f = replicate 9 0 ++ parts_bytes (frame_parts f)
 
--- A target was given some bytes: nine and the parts of a frame, all of which fit, if there is an answer.
+-- Bytes in memory that more are put behind, how many bytes there was room for at first, and how many calls found no memory,
+-- up to 2^64 - 1.
+pub record Growth : Type 0 where
+  pub items : List ℕ
+  pub room : ℕ
+  pub failures : ℕ
+
+-- A target was given some bytes: nine and the parts of a frame, all of which fit, if there is an answer. If there is none,
+-- though nothing keeps the frame from being spelled, the target failed before it had them all.
 pub record WritesChecked (f : FrameValue) (old : Output) (r : Option ℕ) (new : Output) : Type 0 where
   pub bytes : List ℕ
   pub given : Appends old.given new.given bytes
   pub fit : IfSome r (λ n. PartsFit f n)
   pub whole : IfSome r (λ n. bytes ≡ room_and_parts f)
+  pub failed : r ≡ None → unfit_of f ≡ None → (new.failures ≢ 0) × (length bytes < frame_size f 0)
 
 -- Some bytes stand behind those that were there: nine and the parts of a frame that nothing keeps from being spelled, if
--- there is an answer.
-pub record Extends (f : FrameValue) (old : List ℕ) (r : Option ℕ) (new : List ℕ) : Type 0 where
+-- there is an answer. If there is none for such a frame, there was no room for all of them.
+pub record Extends (f : FrameValue) (room : ℕ) (old : List ℕ) (r : Option ℕ) (new : List ℕ) : Type 0 where
   pub bytes : List ℕ
   pub given : new ≡ old ++ bytes
   pub fit : IfSome r (λ n. PartsFit f n)
   pub none : IfSome r (λ n. unfit_of f ≡ None)
   pub whole : IfSome r (λ n. bytes ≡ room_and_parts f)
+  pub full : r ≡ None → unfit_of f ≡ None → room < length old + frame_size f 0

@@ -1,5 +1,5 @@
 -- The laws of the encoder.
-use Rattle.std.specs.Prelude.{◌≡◌, ℕ, None, List, [], ◌∷◌, length, take, IsSome, IfOk, Option, Result, Ok, Err, ⊤}
+use Rattle.std.specs.Prelude.{◌≡◌, ◌⊎◌, ◌+◌, ◌≤◌, ℕ, None, List, [], ◌∷◌, length, take, IsSome, IfOk, Option, Result, Ok, Err, ⊤}
 use Rattle.std.specs.Io.KnownBytes.{Appends}
 use Rattle.cqlp_note.specs.declared.field.Notation.TheVariants as notation
 use Rattle.cqlp_note.specs.Field as note
@@ -13,7 +13,7 @@ use Rattle.cqlp_message.specs.declared.request.OwnedBound.{OwnedBound}
 use Rattle.cqlp_message.specs.declared.frame.Frame.{Frame}
 use Rattle.cqlp_message.specs.FrameValues.{FrameValue}
 use Rattle.cqlp_message.specs.Owned.{bound_of, frame_of}
-use Rattle.cqlp_message.specs.Frames.{frame_bytes}
+use Rattle.cqlp_message.specs.Frames.{frame_bytes, frame_size}
 use Rattle.cqlp_message.specs.Pages.{with_cells}
 use Rattle.cqlp_encode.specs.declared.writing.EncodeError.{EncodeError}
 use Rattle.cqlp_encode.specs.declared.writing.EncodeError.TheVariants as error
@@ -50,11 +50,13 @@ abbrev pub IsGranted : Result ℕ AppendError → Type 0
 IsGranted (Err append_error.NoMemory) = ⊥
 IsGranted r = Unit {0}
 
--- Of one frame behind the same bytes there is one answer, and there are the same bytes then, but where memory is refused.
+-- Of one frame behind the same bytes there is one answer, and there are the same bytes then, where there is room for the
+-- frame, or memory is not refused.
 abbrev pub OneAnswerOfAppend : Type 0
 OneAnswerOfAppend =
-    (f : FrameValue) (old new new' : List ℕ) (r r' : Result ℕ AppendError) → IsGranted r → IsGranted r'
-    → AppendsFrame f old r new → AppendsFrame f old r' new' → (r' ≡ r) × (new' ≡ new)
+    (f : FrameValue) (room : ℕ) (old new new' : List ℕ) (r r' : Result ℕ AppendError)
+    → (length old + frame_size f 0 ≤ room) ⊎ (IsGranted r × IsGranted r')
+    → AppendsFrame f room old r new → AppendsFrame f room old r' new' → (r' ≡ r) × (new' ≡ new)
 
 -- The same of a frame that is gone on with.
 abbrev pub OneAnswerOfEncodeFrom : Type 0

@@ -1,14 +1,16 @@
 //! A frame behind bytes in memory, written while it is checked.
 
-ghost use Rattle.std.specs.Prelude.{◌≡◌};
+ghost use Rattle.std.specs.Prelude.{◌≡◌, ◌<◌, ◌≤◌, ◌∷◌, Some, length, vec_capacity, IfOk};
+ghost use Rattle.std.specs.Io.KnownBytes.{WriteAppends};
 ghost use Rattle.cqlp_note.specs.Outputs.{written};
+ghost use Rattle.cqlp_note.specs.Streams.{counted, took_none};
 ghost use Rattle.cqlp_message.specs.Owned.{frame_of};
 ghost use Rattle.cqlp_encode.specs.Appending.{AppendsFrame, Extends, WritesChecked, is_whole as is_whole_of};
 
-use crate::binding::Gathered;
 use crate::staged::Staged;
 use cqlp_message::{Frame, PartRef, TakesParts, Tally, Unfit};
-use cqlp_note::{Header, Target};
+use cqlp_note::{Header, IoFault, Target};
+use std::marker::Model;
 use std::mem::replace;
 use thiserror::Error;
 
@@ -21,7 +23,7 @@ pub enum AppendError {
     /// No bytes spell the frame.
     #[error("{0}")]
     Unfit(Unfit),
-    /// Memory was refused.
+    /// There was no room for the frame, and memory was refused.
     #[error("no memory")]
     NoMemory,
 }
@@ -31,14 +33,15 @@ pub enum AppendError {
 ///
 /// Each part is measured and then written, so a frame is gone through once, where `encode` goes through it twice. The bytes grow as
 /// `Vec::extend_from_slice` has them grow, by up to 512 bytes or by one content at a time, and in all by no more than a frame can
-/// have: 268,435,465. Where there is room for the frame no memory is asked for.
+/// have: 268,435,465. Where there is room for the frame it is appended, whatever the allocator says: no memory is asked for.
 ///
 /// # Errors
 ///
-/// [`AppendError::Unfit`] where [`Frame::unfit`] says why no bytes spell the frame, and else [`AppendError::NoMemory`] where memory was
-/// refused. The bytes are then as they were; what memory they got they keep.
+/// [`AppendError::Unfit`] where [`Frame::unfit`] says why no bytes spell the frame, and else [`AppendError::NoMemory`] where the bytes have
+/// no room for it and memory was refused. The bytes are then as they were; what memory they got they keep.
 pub fn append(frame: &Frame, bytes: &mut Vec<u8>) -> Result<u32, AppendError>
-    ensures { AppendsFrame (frame_of frame.now) bytes.old.items result bytes.new.items }
+    ensures appends { AppendsFrame (frame_of frame.now) (vec_capacity bytes.old) bytes.old.items result bytes.new.items }
+    ensures capacity { vec_capacity bytes.old ≤ vec_capacity bytes.new }
 {
     let start = bytes.len();
     if let Some(len) = extend(frame, bytes) {
@@ -56,13 +59,14 @@ pub fn append(frame: &Frame, bytes: &mut Vec<u8>) -> Result<u32, AppendError>
 /// Puts nine bytes and the parts of a frame behind the bytes, and answers how many these are, if the frame fits and there was memory
 /// for all; if not, some bytes stand there.
 fn extend(frame: &Frame, bytes: &mut Vec<u8>) -> Option<u32>
-    ensures { Extends (frame_of frame.now) bytes.old.items result bytes.new.items }
+    ensures extends { Extends (frame_of frame.now) (vec_capacity bytes.old) bytes.old.items result bytes.new.items }
+    ensures capacity { vec_capacity bytes.old ≤ vec_capacity bytes.new }
 {
     if !frame.is_directed() || !frame.agrees() || !frame.message.has_its_cells() {
         return None;
     }
     let none = Vec::new(*bytes.allocator());
-    let mut target = Gathered::behind(replace(bytes, none));
+    let mut target = Growing::behind(replace(bytes, none));
     let len = write_checked(frame, &mut target);
     *bytes = target.into_bytes();
     len
@@ -83,11 +87,13 @@ fn write_checked<W: Target>(frame: &Frame, target: &mut W) -> Option<u32>
     out.flush();
     let taken = out.taken();
     let _ = out.into_inner();
-    if is_whole(&tally) && taken == tally.size + 9 {
-        Some(taken as u32)
-    } else {
-        None
+    if !is_whole(&tally) {
+        return None;
     }
+    if taken < tally.size + 9 {
+        return None;
+    }
+    Some(taken as u32)
 }
 
 /// Takes parts, and passes each on while all so far have no more bytes than a body.
@@ -119,4 +125,92 @@ fn is_whole(tally: &Tally) -> bool
     ensures { result ≡ is_whole_of tally.now }
 {
     tally.counts && tally.texts && tally.cells && tally.size <= LONGEST
+}
+
+/// Bytes in memory that more are put behind. The room that there is is filled before memory that is refused is told.
+#[derive(Drop)]
+pub struct Growing {
+    bytes: Vec<u8>,
+    /// How many bytes there was room for at first.
+    room: usize,
+    /// Whether memory was refused once, after which none is asked for.
+    refused: bool,
+    /// How many calls found no memory, up to 2^64 - 1.
+    failures: u64,
+}
+
+impl Model for Growing {
+    ghost use Rattle.std.specs.Prelude.{◌<◌, ◌≤◌, length, vec_capacity};
+    ghost use Rattle.cqlp_encode.specs.Appending.{Growth};
+
+    ghost Value = { Growth };
+
+    ghost view = { λ g. record { items = g.bytes.items; room = g.room; failures = g.failures } };
+
+    ghost invariant = { λ g. (g.room ≤ vec_capacity g.bytes) × (0 < g.failures → g.room ≤ length g.bytes.items) };
+}
+
+impl Growing {
+    /// Behind these bytes, and no call made.
+    fn behind(bytes: Vec<u8>) -> Growing
+        ensures { result ≡ record { items = bytes.items; room = vec_capacity bytes; failures = 0 } }
+    {
+        Growing {
+            room: bytes.capacity(),
+            bytes,
+            refused: false,
+            failures: 0,
+        }
+    }
+
+    /// The bytes. Where a call found no memory they fill the room that there was at first.
+    fn into_bytes(self) -> Vec<u8>
+        ensures items { result.items ≡ self.items }
+        ensures capacity { self.room ≤ vec_capacity result }
+        ensures full { 0 < self.failures → self.room ≤ length self.items }
+    {
+        let Growing {
+            bytes,
+            room: _,
+            refused: _,
+            failures: _,
+        } = self;
+        bytes
+    }
+
+    /// Takes as many bytes as there is room for, where no memory was found for all of them.
+    #[cold]
+    fn fill(&mut self, bytes: &[u8]) -> Result<usize, IoFault>
+        ensures bound { IfOk result (λ n. n ≤ length bytes.now) }
+        ensures bytes { WriteAppends (Some (self.old.room ∷ self.old.items)) (Some (self.new.room ∷ self.new.items)) result bytes.now }
+        ensures failures { self.new.failures ≡ counted (took_none result bytes.now) self.old.failures }
+    {
+        self.refused = true;
+        let room = self.bytes.capacity().saturating_sub(self.bytes.len());
+        if room == 0 {
+            self.failures = self.failures.saturating_add(1);
+            return Err(IoFault);
+        }
+        let count = room.min(bytes.len());
+        let _ = self.bytes.extend_from_slice(&bytes[..count]);
+        Ok(count)
+    }
+}
+
+impl Target for Growing {
+    ghost use Rattle.std.specs.Prelude.{◌∷◌, Some};
+
+    ghost contents = { λ target. Some (target.room ∷ target.items) };
+
+    ghost failures = { λ target. target.failures };
+
+    fn write(&mut self, bytes: &[u8]) -> Result<usize, IoFault> {
+        if self.refused {
+            return self.fill(bytes);
+        }
+        match self.bytes.extend_from_slice(bytes) {
+            Ok(()) => Ok(bytes.len()),
+            Err(_) => self.fill(bytes),
+        }
+    }
 }

@@ -10,7 +10,7 @@ pub fn one_answer_of_encode()
     ensures { OneAnswerOfEncode }
 {}
 
-/// One answer of [`append`](crate::append) meets its clause, but where memory is refused.
+/// One answer of [`append`](crate::append) meets its clause where there is room for the frame, and else where memory is not refused.
 pub fn one_answer_of_append()
     ensures { OneAnswerOfAppend }
 {}

@@ -1,9 +1,8 @@
 -- Contents that are read, and those that are refused.
-use Rattle.std.proofs.Common.{◌≡◌, ◌≢◌, ℕ, zero, suc, ◌+◌, ◌<◌, ◌≤◌, ◌^◌, ◌&&◌, Bool, true, false, ltb, List, [], ◌∷◌, ◌++◌, length, take, drop, Option, Some, None, Result, Ok, Err, refl, sym, ap, ◌∙◌, append_assoc, subst, arith}
+use Rattle.std.proofs.Common.{◌≡◌, ◌≢◌, ℕ, zero, suc, ◌+◌, ◌<◌, ◌≤◌, ◌^◌, ◌&&◌, ◌||◌, Bool, true, false, ltb, List, [], ◌∷◌, ◌++◌, length, take, drop, Option, Some, None, Result, Ok, Err, refl, sym, ap, ◌∙◌, append_assoc, subst, arith}
 use Rattle.std.specs.Int.{w32}
 use Rattle.std.proofs.lemmas.Bool.{lt-ltb, le-ltb, lt-leb, ltb-false}
 use Rattle.std.proofs.lemmas.List.{length-append, length-drop, length-take-le, take-append-drop, take_at, drop_at, drop-drop}
-use Rattle.cqlp_note.specs.declared.refusal.Refusal.{Refusal}
 use Rattle.cqlp_note.specs.declared.refusal.Reason.{Reason}
 use Rattle.cqlp_note.specs.declared.refusal.Reason.TheVariants.{BadSize, TooLong, ExtraInValue}
 use Rattle.cqlp_note.specs.Limits.{Rules}
@@ -16,18 +15,20 @@ use Rattle.cqlp_kind.specs.declared.kind.Kind.{Kind}
 use Rattle.cqlp_kind.specs.declared.kind.Kind.TheVariants as kind
 use Rattle.cqlp_kind.specs.Contents.{scalar_in}
 use Rattle.cqlp_kind.specs.Scalars.{ScalarValue, allows_size, fault_of, scalar_of}
-use Rattle.cqlp_kind.specs.Types.{Types, NoMore, Type_and, followed_by, has_no_items, how_many}
+use Rattle.cqlp_kind.specs.Types.{Types, NoMore, Type_and, first_types, followed_by, has_no_items, how_many}
 use Rattle.cqlp_kind.specs.CellStep.{CellEvent, CellPlace, CellSymbol, Close_of, Enter, Items_of, Value_of, cell_copies, cell_step, content_step, counted_step, fielded_step, place_after, scalar_step, values_of}
 use Rattle.cqlp_cell.specs.Sizes.{is_counted}
 use Rattle.cqlp_cell.proofs.Sizing.{counted_content}
 use Rattle.cqlp_cell.proofs.Fronts.{scalar_is}
-use Rattle.cqlp_value.specs.Values.{AreWithin, IsBytes, IsScalar, ValueSpells, Values, NoValue, Null_and, Empty_and, Scalar_and, Counted_and, Fields_and, ValuesSpell, has_fields, type_copies, values_items}
+use Rattle.cqlp_value.specs.Values.{AreWithin, IsBytes, IsScalar, ValueSpells, Values, NoValue, Null_and, Empty_and, Scalar_and, Counted_and, Fields_and, ValuesSpell, has_fields, type_copies, values_in, values_items}
 use Rattle.cqlp_value.proofs.ReadBack.{Events, alone, spelled_size}
 use Rattle.cqlp_value.proofs.ScalarItems.{is_own}
 use Rattle.cqlp_value.proofs.SpelledRead.{all_read}
-use Rattle.cqlp_read.specs.Reading.{IsRefused}
-use Rattle.cqlp_read.specs.Fronts.{ContentRefused, FrontRefused, value_at}
-use Rattle.cqlp_read.proofs.Refusals.{refusal, number_says, content_now, content_says, refused_now, refused_stays, refused_then, refused_as, runs_as}
+use Rattle.cqlp_read.specs.declared.error.ReadError.{ReadError}
+use Rattle.cqlp_read.specs.declared.error.ReadError.TheVariants as error
+use Rattle.cqlp_read.specs.Reading.{IsStopped, WantsMemory, has_bytes, take_memory, takes_memory}
+use Rattle.cqlp_read.specs.Fronts.{ContentStops, FrontStops, value_at}
+use Rattle.cqlp_read.proofs.Refusals.{take_behind, take_before, refusal, number_says, content_now, content_says, refused_now, refused_stays, refused_then, refused_as, runs_as}
 
 abbrev place : (at : ℕ) → List CellSymbol → CellPlace
 place at symbols = record { offset = at; symbols = symbols }
@@ -53,15 +54,19 @@ scalar_step_is l p rest level kind.Udt inner n e = absurd cc
 scalar_step_is l p rest level kind.Tuple inner n e = absurd cc
 scalar_step_is l p rest level k inner n e = refl
 
+or_true : (a : Bool) → ((a || true) || false) ≡ true
+or_true true = refl
+or_true false = refl
+
 -- ---- scalars
 
 module _ (l : Rules) (whole : l.parts ≡ false) (strict : l.lenient ≡ false) (at : ℕ) (k : Kind) (c : List ℕ) (scalar : has_no_items k ≡ true) where
   refuses : (inner : Types) (why : Reason)
-      → ((p : CellPlace) (rest : List CellSymbol) (level : ℕ) (back : List ℕ) → says (scalar_step l p rest level k (length c)) 4 (c ++ back) ≡ Bad (p.offset, why)) → ContentRefused l at k inner c (refusal at why)
-  refuses inner why f = content_now l at k inner c (refusal at why) (λ p rest level back here.
+      → ((p : CellPlace) (rest : List CellSymbol) (level : ℕ) (back : List ℕ) → says (scalar_step l p rest level k (length c)) 4 (c ++ back) ≡ Bad (p.offset, why)) → ContentStops l at k inner c (refusal at why)
+  refuses inner why f = content_now l at at why k inner c (λ p rest level back here.
       ap (λ (s : Step CellEvent CellPlace). says s 4 (c ++ back)) (scalar_step_is l p rest level k inner (length c) scalar) ∙ f p rest level back ∙ ap (λ (m : ℕ). Bad (m, why)) here)
 
-  pub scalar_long : (inner : Types) → (ltb l.cell (length c) && allows_size k (length c)) ≡ true → ContentRefused l at k inner c (refusal at TooLong)
+  pub scalar_long : (inner : Types) → (ltb l.cell (length c) && allows_size k (length c)) ≡ true → ContentStops l at k inner c (refusal at TooLong)
   scalar_long inner t =
       let both = both_true (ltb l.cell (length c)) (allows_size k (length c)) t in
       refuses inner TooLong (λ p rest level back. rw (strict, both.1, whole, both.0) refl)
@@ -70,8 +75,8 @@ module _ (l : Rules) (whole : l.parts ≡ false) (strict : l.lenient ≡ false) 
   none_is why None e allows is = let got = rw (allows, e) at is in (e, same_why why (fault_of k) got)
   none_is why (Some v) e allows is = let got = rw (allows, e) at is in absurd cc
 
-  pub scalar_fails : (inner : Types) (why : Reason) → (ltb l.cell (length c) && allows_size k (length c)) ≡ false → Err why ≡ scalar_in k c → ContentRefused l at k inner c (refusal at why)
-  scalar_fails inner why short is = elim (allows_size k (length c)) as (λ t. allows_size k (length c) ≡ t → ContentRefused l at k inner c (refusal at why)) [
+  pub scalar_fails : (inner : Types) (why : Reason) → (ltb l.cell (length c) && allows_size k (length c)) ≡ false → Err why ≡ scalar_in k c → ContentStops l at k inner c (refusal at why)
+  scalar_fails inner why short is = elim (allows_size k (length c)) as (λ t. allows_size k (length c) ≡ t → ContentStops l at k inner c (refusal at why)) [
     | true ↦ λ allows.
         let fits = first_false (ltb l.cell (length c)) (allows_size k (length c)) short allows in
         let none = none_is why (scalar_of k c) refl allows is in
@@ -90,6 +95,40 @@ module _ (l : Rules) (whole : l.parts ≡ false) (strict : l.lenient ≡ false) 
       let own = is_own k v c scalar in
       let fits = ltb-false l.cell (length c) (first_false (ltb l.cell (length c)) (allows_size k (length c)) short s.0) in
       (λ front b. (c, scalar, alone (IsBytes (Some c)) front b), (λ _. omega (arith, own.1, fits), (λ t. let no = rw whole at t in absurd cc), tt))
+
+-- ---- what is kept in memory
+
+module _ (l : Rules) (whole : l.parts ≡ false) where
+  above : (level : ℕ) → ltb 0 (level + 1) ≡ true
+  above level = lt-ltb 0 (level + 1) (omega arith)
+
+  -- a value in another
+  pub item_takes : (level at : ℕ) (k : Kind) (inner ts : Types) (vs : Values) (b : List ℕ) → ValuesSpell (Type_and k inner ts) vs b → take_memory (values_items l (level + 1) at (Type_and k inner ts) vs) ≡ true
+  item_takes level at k inner ts NoValue b h = absurd h
+  item_takes level at k inner ts (Null_and vs) b h = rw (above level) refl
+  item_takes level at k inner ts (Empty_and vs) b h = rw (above level) refl
+  item_takes level at k inner ts (Scalar_and v vs) b h = rw (whole, above level) refl
+  item_takes level at k inner ts (Counted_and j n items vs) b h = take_behind (values_items l (level + 1 + 1) (at + 8) (type_copies n inner) items) _ (rw (above level) refl)
+  item_takes level at k inner ts (Fields_and j items vs) b h = take_behind (values_items l (level + 1 + 1) (at + 4) (first_types (values_in items) inner) items) _ (rw (above level) refl)
+
+  pub scalar_takes : (level at : ℕ) (k : Kind) (inner : Types) (v : ScalarValue) → has_bytes v ≡ true → take_memory (values_items l level at (Type_and k inner NoMore) (Scalar_and v NoValue)) ≡ true
+  scalar_takes level at k inner v e = rw (whole, e) (or_true (ltb 0 level))
+
+  -- a scalar of some bytes that is read
+  pub scalar_wants : (at : ℕ) (k : Kind) (inner : Types) (c : List ℕ) (v : ScalarValue) → has_bytes v ≡ true
+      → ((front : List ℕ) → IsBytes (Some c) front → ValueSpells k inner (Scalar_and v NoValue) front) × AreWithin l (Scalar_and v NoValue) → ContentStops l at k inner c error.NoMemory
+  scalar_wants at k inner c v e h front back some s level rest =
+      let one = Type_and k inner NoMore in
+      let b = front ++ back in
+      let ends = at + length b in
+      let read = (all_read l (Scalar_and v NoValue) h.1).values one front (h.0 front s) at level ends rest (omega (arith, length-append front back)) in
+      record {
+        events = values_items l level at one (Scalar_and v NoValue);
+        there = place (at + length front) rest;
+        left = [] ++ back;
+        runs = runs_stay (cell_step l) (value_at at k inner b level rest) front back _ _ [] read;
+        takes = scalar_takes level at k inner v e;
+      }
 
 -- ---- lists, sets and maps
 
@@ -151,7 +190,7 @@ module _ (l : Rules) (at : ℕ) (k : Kind) (ts : Types) (c count body : List ℕ
 
     -- values of the first types are read
     leads : (done more : Types) (vs : Values) (used : ℕ) → type_copies n ts ≡ followed_by done more → ValuesSpell done vs (take used body) → AreWithin l vs → used ≤ length body
-        → (es : Events) × Runs (cell_step l) start all es (place (at + 8 + used) (behind more level rest)) (drop used body ++ back)
+        → Runs (cell_step l) start all (((at, Enter level k n) ∷ []) ++ values_items l (level + 1) (at + 8) done vs) (place (at + 8 + used) (behind more level rest)) (drop used body ++ back)
     leads done more vs used split spelled within le =
         let these = behind more level rest in
         let size : length (take used body) ≡ used = length-take-le used body le in
@@ -164,11 +203,11 @@ module _ (l : Rules) (at : ℕ) (k : Kind) (ts : Types) (c count body : List ℕ
         let there : place (at + 8 + length (take used body)) these ≡ place (at + 8 + used) these = ap (λ (m : ℕ). place (at + 8 + m) these) size in
         let later = runs_at l _ _ _ _ _ _ _ _ cut there refl behind_them in
         let first = runs_at l start (place (at + 8) (behind (type_copies n ts) level rest)) (place (at + 8) (values_of done (level + 1) ends ++ these)) all all (body ++ back) (body ++ back) ((at, Enter level k n) ∷ []) refl (ap (λ (z : List CellSymbol). place (at + 8) z) symbols) refl enters in
-        (((at, Enter level k n) ∷ []) ++ values_items l (level + 1) (at + 8) done vs, runs_then (cell_step l) start (place (at + 8) (values_of done (level + 1) ends ++ these)) (place (at + 8 + used) these) all (body ++ back) (drop used body ++ back) ((at, Enter level k n) ∷ []) _ first later)
+        runs_then (cell_step l) start (place (at + 8) (values_of done (level + 1) ends ++ these)) (place (at + 8 + used) these) all (body ++ back) (drop used body ++ back) ((at, Enter level k n) ∷ []) _ first later
 
   -- refused at the front of what is left after these values
-  pub counted_stops : (done more : Types) (j : Kind) (inner : Types) (vs : Values) (used : ℕ) (r : Refusal) → type_copies n ts ≡ followed_by done (Type_and j inner more) → ValuesSpell done vs (take used body) → AreWithin l vs → used ≤ length body
-      → FrontRefused l (at + 8 + used) j inner (drop used body) r → ContentRefused l at k ts c r
+  pub counted_stops : (done more : Types) (j : Kind) (inner : Types) (vs : Values) (used : ℕ) (r : ReadError) → type_copies n ts ≡ followed_by done (Type_and j inner more) → ValuesSpell done vs (take used body) → AreWithin l vs → used ≤ length body
+      → FrontStops l (at + 8 + used) j inner (drop used body) r → ContentStops l at k ts c r
   unfolding Spells
   counted_stops done more j inner vs used r split spelled within le refused front back some s level rest =
       let head = s.0.head in
@@ -176,14 +215,30 @@ module _ (l : Rules) (at : ℕ) (k : Kind) (ts : Types) (c count body : List ℕ
       let there = leads level rest head back size s.1 done (Type_and j inner more) vs used split spelled within le in
       let stop : at + 8 + used + length (drop used body) ≡ ends = omega (arith, length-drop used body, long) in
       let after = behind more level rest in
-      let here = subst (λ (m : ℕ). IsRefused l (place (at + 8 + used) (Value_of j inner (level + 1) m ∷ after)) (drop used body) r) stop (refused (level + 1) after) in
+      let here = subst (λ (m : ℕ). IsStopped l (place (at + 8 + used) (Value_of j inner (level + 1) m ∷ after)) (drop used body) r) stop (refused (level + 1) after) in
       let stays = refused_stays l (place (at + 8 + used) (Value_of j inner (level + 1) ends ∷ after)) (drop used body) back r here in
       let whole : head ++ (c ++ back) ≡ front ++ back = sym (append_assoc head c back) ∙ ap (λ (x : List ℕ). x ++ back) (sym s.0.parts) in
-      subst (λ (x : List ℕ). IsRefused l (value_at at k ts x level rest) x r) whole
-      (refused_then l (start level rest head back size s.1) (place (at + 8 + used) (behind (Type_and j inner more) level rest)) (head ++ (c ++ back)) (drop used body ++ back) there.0 r there.1 stays)
+      subst (λ (x : List ℕ). IsStopped l (value_at at k ts x level rest) x r) whole
+      (refused_then l (start level rest head back size s.1) (place (at + 8 + used) (behind (Type_and j inner more) level rest)) (head ++ (c ++ back)) (drop used body ++ back) (((at, Enter level k n) ∷ []) ++ values_items l (level + 1) (at + 8) done vs) r there stays)
+
+  -- the first values are kept
+  pub counted_wants : l.parts ≡ false → (j : Kind) (inner done more : Types) (vs : Values) (used : ℕ) → let first = Type_and j inner done in type_copies n ts ≡ followed_by first more → ValuesSpell first vs (take used body) → AreWithin l vs → used ≤ length body → ContentStops l at k ts c error.NoMemory
+  unfolding Spells
+  counted_wants whole j inner done more vs used split spelled within le front back some s level rest =
+      let head = s.0.head in
+      let size = s.0.counts in
+      let first = Type_and j inner done in
+      let same : head ++ (c ++ back) ≡ front ++ back = sym (append_assoc head c back) ∙ ap (λ (x : List ℕ). x ++ back) (sym s.0.parts) in
+      subst (λ (x : List ℕ). WantsMemory l (value_at at k ts x level rest) x) same (record {
+        events = ((at, Enter level k n) ∷ []) ++ values_items l (level + 1) (at + 8) first vs;
+        there = place (at + 8 + used) (behind more level rest);
+        left = drop used body ++ back;
+        runs = leads level rest head back size s.1 first more vs used split spelled within le;
+        takes = item_takes l whole level (at + 8) j inner done vs (take used body) spelled;
+      })
 
   -- bytes that are left after all values
-  pub counted_ends : (vs : Values) (used : ℕ) → ValuesSpell (type_copies n ts) vs (take used body) → AreWithin l vs → used < length body → ContentRefused l at k ts c (refusal (at + 8 + used) ExtraInValue)
+  pub counted_ends : (vs : Values) (used : ℕ) → ValuesSpell (type_copies n ts) vs (take used body) → AreWithin l vs → used < length body → ContentStops l at k ts c (refusal (at + 8 + used) ExtraInValue)
   unfolding Spells
   counted_ends vs used spelled within lt front back some s level rest =
       let head = s.0.head in
@@ -191,10 +246,10 @@ module _ (l : Rules) (at : ℕ) (k : Kind) (ts : Types) (c count body : List ℕ
       let r = refusal (at + 8 + used) ExtraInValue in
       let there = leads level rest head back size s.1 (type_copies n ts) NoMore vs used (sym (followed_none (type_copies n ts))) spelled within (omega arith) in
       let q = place (at + 8 + used) (Close_of level ends n ∷ rest) in
-      let here : IsRefused l q (drop used body ++ back) r = refused_now l q (drop used body ++ back) r (rw (lt-ltb (at + 8 + used) ends (omega (arith, long))) refl) in
+      let here : IsStopped l q (drop used body ++ back) r = refused_now l q (drop used body ++ back) (at + 8 + used) ExtraInValue (rw (lt-ltb (at + 8 + used) ends (omega (arith, long))) refl) in
       let whole : head ++ (c ++ back) ≡ front ++ back = sym (append_assoc head c back) ∙ ap (λ (x : List ℕ). x ++ back) (sym s.0.parts) in
-      subst (λ (x : List ℕ). IsRefused l (value_at at k ts x level rest) x r) whole
-      (refused_then l (start level rest head back size s.1) q (head ++ (c ++ back)) (drop used body ++ back) there.0 r there.1 here)
+      subst (λ (x : List ℕ). IsStopped l (value_at at k ts x level rest) x r) whole
+      (refused_then l (start level rest head back size s.1) q (head ++ (c ++ back)) (drop used body ++ back) (((at, Enter level k n) ∷ []) ++ values_items l (level + 1) (at + 8) (type_copies n ts) vs) r there here)
 
 -- ---- tuples and user-defined types
 
@@ -218,10 +273,10 @@ module _ (l : Rules) (at : ℕ) (ts : Types) (c : List ℕ) where
 
   -- The first fields, this many, are read, and those of the other types are due after this many bytes.
   abbrev pub FieldsLead : (more : Types) (n used : ℕ) → Type 0
-  FieldsLead more n used = (level : ℕ) (rest : List CellSymbol) → (es : Events) × Runs (cell_step l) (place (at + 4) (Items_of ts level stop 0 ∷ rest)) c es (place (at + 4 + used) (Items_of more level stop n ∷ rest)) (drop used c)
+  FieldsLead more n used = (level : ℕ) (rest : List CellSymbol) → (es : Events) × Runs (cell_step l) (place (at + 4) (Items_of ts level stop 0 ∷ rest)) c es (place (at + 4 + used) (Items_of more level stop n ∷ rest)) (drop used c) × (l.parts ≡ false → 0 < n → take_memory es ≡ true)
 
   pub fields_begin : FieldsLead ts 0 0
-  fields_begin level rest = let none : at + 4 + 0 ≡ at + 4 = omega arith in ([], (ap (λ (m : ℕ). place m (Items_of ts level stop 0 ∷ rest)) none, refl))
+  fields_begin level rest = let none : at + 4 + 0 ≡ at + 4 = omega arith in ([], (ap (λ (m : ℕ). place m (Items_of ts level stop 0 ∷ rest)) none, refl), (λ whole lt. absurd (omega (arith, lt))))
 
   -- the step at the next field is that of its value
   field_step : (j : Kind) (inner more : Types) (x : ℕ) (n level : ℕ) (rest : List CellSymbol) → x < stop
@@ -246,11 +301,11 @@ module _ (l : Rules) (at : ℕ) (ts : Types) (c : List ℕ) where
       let left : drop m (drop used c) ≡ drop (used + m) c = dropped used m c in
       let later = runs_at l q (place (x + length front) due) y (front ++ drop m (drop used c)) (drop used c) (drop m (drop used c)) (drop (used + m) c) _ (take-append-drop m (drop used c)) (ap (λ (z : ℕ). place z due) far) left stays in
       let before = lead level rest in
-      (before.0 ++ values_items l (level + 1) x (Type_and j inner NoMore) one, runs_then (cell_step l) (place (at + 4) (Items_of ts level stop 0 ∷ rest)) q y c (drop used c) (drop (used + m) c) before.0 _ before.1 later)
+      (before.0 ++ values_items l (level + 1) x (Type_and j inner NoMore) one, runs_then (cell_step l) (place (at + 4) (Items_of ts level stop 0 ∷ rest)) q y c (drop used c) (drop (used + m) c) before.0 _ before.1 later, (λ whole lt. take_behind before.0 _ (item_takes l whole level x j inner NoMore one front spelled)))
 
   module _ (k : Kind) (fields : has_fields k ≡ true) where
     -- a content that is refused after its length and the first of its fields
-    refused_in : (more : Types) (n used : ℕ) (r : Refusal) → FieldsLead more n used → ((level : ℕ) (rest : List CellSymbol) → IsRefused l (place (at + 4 + used) (Items_of more level stop n ∷ rest)) (drop used c) r) → ContentRefused l at k ts c r
+    refused_in : (more : Types) (n used : ℕ) (r : ReadError) → FieldsLead more n used → ((level : ℕ) (rest : List CellSymbol) → IsStopped l (place (at + 4 + used) (Items_of more level stop n ∷ rest)) (drop used c) r) → ContentStops l at k ts c r
     unfolding Spells
     refused_in more n used r lead refused front back some s level rest =
         let head = s.0.head in
@@ -267,17 +322,25 @@ module _ (l : Rules) (at : ℕ) (ts : Types) (c : List ℕ) where
         let then = lead level rest in
         let there = place (at + 4 + used) (Items_of more level stop n ∷ rest) in
         let inside = refused_then l due there c (drop used c) then.0 r then.1 (refused level rest) in
-        subst (λ (y : List ℕ). IsRefused l (value_at at k ts y level rest) y r) whole
+        subst (λ (y : List ℕ). IsStopped l (value_at at k ts y level rest) y r) whole
         (refused_then l start due b (c ++ back) ((at, Enter level k (how_many ts)) ∷ []) r first (refused_stays l due c back r inside))
 
-    pub fields_stop : (j : Kind) (inner more : Types) (n used : ℕ) (r : Refusal) → FieldsLead (Type_and j inner more) n used → used < length c → FrontRefused l (at + 4 + used) j inner (drop used c) r → ContentRefused l at k ts c r
+    -- the first fields are kept
+    pub fields_want : l.parts ≡ false → (more : Types) (n used : ℕ) → FieldsLead more n used → 0 < n → ContentStops l at k ts c error.NoMemory
+    fields_want whole more n used lead lt = refused_in ts 0 0 error.NoMemory fields_begin (λ level rest.
+        let then = lead level rest in
+        let none : at + 4 ≡ at + 4 + 0 = omega arith in
+        subst (λ (m : ℕ). WantsMemory l (place m (Items_of ts level stop 0 ∷ rest)) c) none
+        (record { events = then.0; there = place (at + 4 + used) (Items_of more level stop n ∷ rest); left = drop used c; runs = then.1; takes = then.2 whole lt }))
+
+    pub fields_stop : (j : Kind) (inner more : Types) (n used : ℕ) (r : ReadError) → FieldsLead (Type_and j inner more) n used → used < length c → FrontStops l (at + 4 + used) j inner (drop used c) r → ContentStops l at k ts c r
     fields_stop j inner more n used r lead lt refused = refused_in (Type_and j inner more) n used r lead (λ level rest.
         let x = at + 4 + used in
         let due = Items_of more level stop (n + 1) ∷ rest in
         let far : x + length (drop used c) ≡ stop = omega (arith, length-drop used c) in
         refused_as l (place x (Value_of j inner (level + 1) stop ∷ due)) (place x (Items_of (Type_and j inner more) level stop n ∷ rest)) (drop used c) r (field_step j inner more x n level rest (omega arith))
-        (subst (λ (m : ℕ). IsRefused l (place x (Value_of j inner (level + 1) m ∷ due)) (drop used c) r) far (refused (level + 1) due)))
+        (subst (λ (m : ℕ). IsStopped l (place x (Value_of j inner (level + 1) m ∷ due)) (drop used c) r) far (refused (level + 1) due)))
 
-    pub fields_end : l.lenient ≡ false → (n used : ℕ) → FieldsLead NoMore n used → used < length c → ContentRefused l at k ts c (refusal (at + 4 + used) ExtraInValue)
+    pub fields_end : l.lenient ≡ false → (n used : ℕ) → FieldsLead NoMore n used → used < length c → ContentStops l at k ts c (refusal (at + 4 + used) ExtraInValue)
     fields_end strict n used lead lt = refused_in NoMore n used (refusal (at + 4 + used) ExtraInValue) lead (λ level rest.
-        refused_now l (place (at + 4 + used) (Items_of NoMore level stop n ∷ rest)) (drop used c) (refusal (at + 4 + used) ExtraInValue) (rw (strict, lt-ltb (at + 4 + used) stop (omega arith)) refl))
+        refused_now l (place (at + 4 + used) (Items_of NoMore level stop n ∷ rest)) (drop used c) (at + 4 + used) ExtraInValue (rw (strict, lt-ltb (at + 4 + used) stop (omega arith)) refl))

@@ -3,7 +3,6 @@ use Rattle.std.proofs.Common.{◌≡◌, ℕ, zero, suc, ◌+◌, ◌-◌, ◌<�
 use Rattle.std.proofs.Math.Seq.{take-append-add}
 use Rattle.std.proofs.lemmas.List.{length-drop, length-take-le, take-append-drop, take_all, drop_all}
 use Rattle.cqlp_note.specs.declared.field.Notation.TheVariants as notation
-use Rattle.cqlp_note.specs.declared.refusal.Refusal.{Refusal}
 use Rattle.cqlp_note.specs.declared.refusal.Reason.TheVariants.{ExtraInValue}
 use Rattle.cqlp_note.specs.Field.{Count}
 use Rattle.cqlp_note.specs.Limits.{Rules}
@@ -19,9 +18,11 @@ use Rattle.cqlp_value.specs.Measures.{listed_pairs, listed_values, types_by}
 use Rattle.cqlp_value.specs.Owned.{value_and, value_of}
 use Rattle.cqlp_value.specs.Values.{AreWithin, ValueSpells, Values, NoValue, Null_and, Empty_and, Scalar_and, Counted_and, Fields_and, ValuesSpell, has_fields, type_copies}
 use Rattle.cqlp_value.proofs.ReadBack.{spelled_after, with_others}
-use Rattle.cqlp_read.specs.Fronts.{AreCounted, ContentRefused, FrontRefused}
+use Rattle.cqlp_read.specs.declared.error.ReadError.{ReadError}
+use Rattle.cqlp_read.specs.declared.error.ReadError.TheVariants as error
+use Rattle.cqlp_read.specs.Fronts.{AreCounted, ContentStops, FrontStops}
 use Rattle.cqlp_read.proofs.Refusals.{refusal}
-use Rattle.cqlp_read.proofs.Contents.{FieldsLead, fields_begin, fields_follow, fields_stop, fields_end, counted_stops, counted_ends}
+use Rattle.cqlp_read.proofs.Contents.{FieldsLead, fields_begin, fields_follow, fields_stop, fields_end, fields_want, counted_stops, counted_ends, counted_wants}
 
 -- ---- values side by side
 
@@ -113,7 +114,7 @@ one_more_read l ts count body n vs ws used m r lt le spelled within = record {
 
 module _ (l : Rules) (at : ℕ) (k : Kind) (counted : is_counted k ≡ true) (c : List ℕ) (count : ℕ) (is : Spells notation.Count32 (Count count) (take 4 c)) where
   -- the next item is refused
-  pub item_refused : (j : Kind) (inner others : Types) (n : ℕ) (vs : Values) (used : ℕ) (r : Refusal) → let ts = Type_and j inner others in AreRead l ts count (drop 4 c) n vs used → n < count → FrontRefused l (at + 8 + used) j inner (drop used (drop 4 c)) r → ContentRefused l at k ts c r
+  pub item_refused : (j : Kind) (inner others : Types) (n : ℕ) (vs : Values) (used : ℕ) (r : ReadError) → let ts = Type_and j inner others in AreRead l ts count (drop 4 c) n vs used → n < count → FrontStops l (at + 8 + used) j inner (drop used (drop 4 c)) r → ContentStops l at k ts c r
   unfolding Spells
   item_refused j inner others n vs used r read lt refused =
       let ts = Type_and j inner others in
@@ -121,8 +122,8 @@ module _ (l : Rules) (at : ℕ) (k : Kind) (counted : is_counted k ≡ true) (c 
       (copies_at n count ts lt) read.spelled read.within read.inside refused
 
   -- the value after a key is refused
-  pub second_refused : (i j : Kind) (inner others : Types) (n : ℕ) (vs v : Values) (used m : ℕ) (r : Refusal) → let ts = Type_and i inner (Type_and j others NoMore) in AreRead l ts count (drop 4 c) n vs used → n < count → m ≤ length (drop used (drop 4 c)) → ValueSpells i inner v (take m (drop used (drop 4 c))) → AreWithin l v
-      → FrontRefused l (at + 8 + (used + m)) j others (drop (used + m) (drop 4 c)) r → ContentRefused l at k ts c r
+  pub second_refused : (i j : Kind) (inner others : Types) (n : ℕ) (vs v : Values) (used m : ℕ) (r : ReadError) → let ts = Type_and i inner (Type_and j others NoMore) in AreRead l ts count (drop 4 c) n vs used → n < count → m ≤ length (drop used (drop 4 c)) → ValueSpells i inner v (take m (drop used (drop 4 c))) → AreWithin l v
+      → FrontStops l (at + 8 + (used + m)) j others (drop (used + m) (drop 4 c)) r → ContentStops l at k ts c r
   unfolding Spells
   second_refused i j inner others n vs v used m r read lt le spelled within refused =
       let ts = Type_and i inner (Type_and j others NoMore) in
@@ -134,8 +135,22 @@ module _ (l : Rules) (at : ℕ) (k : Kind) (counted : is_counted k ≡ true) (c 
       let both = subst (λ (x : List ℕ). ValuesSpell done (with_others vs v) x) (take_both used m body read.inside) (spelled_after (type_copies n ts) key vs v (take used body) (take m (drop used body)) read.spelled spelled) in
       counted_stops l at k ts c (take 4 c) body count counted (sym (take-append-drop 4 c)) is.0 is.1 done more j others (with_others vs v) (used + m) r split both (within_both l vs v read.within within) (omega (arith, read.inside, length-drop used body)) refused
 
+  -- the first items are kept
+  pub items_want : l.parts ≡ false → (j : Kind) (inner others : Types) (n : ℕ) (vs : Values) (used : ℕ) → let ts = Type_and j inner others in AreRead l ts count (drop 4 c) n vs used → 0 < n → ContentStops l at k ts c error.NoMemory
+  unfolding Spells
+  items_want whole j inner others n vs used read some =
+      let ts = Type_and j inner others in
+      let m = n - 1 in
+      let body = drop 4 c in
+      let rest = type_copies (count - n) ts in
+      let e : n ≡ suc m = omega (arith, some) in
+      let f : count ≡ n + (count - n) = omega (arith, read.few) in
+      let split : type_copies count ts ≡ followed_by (type_copies (suc m) ts) rest = ap (λ (x : ℕ). type_copies x ts) f ∙ copies_split n (count - n) ts ∙ ap (λ (x : ℕ). followed_by (type_copies x ts) rest) e in
+      counted_wants l at k ts c (take 4 c) body count counted (sym (take-append-drop 4 c)) is.0 is.1 whole j inner (followed_by others (type_copies m ts)) rest vs used split
+      (subst (λ (x : ℕ). ValuesSpell (type_copies x ts) vs (take used body)) e read.spelled) read.within read.inside
+
   -- bytes are left after all items
-  pub items_end : (ts : Types) (n : ℕ) (vs : Values) (used : ℕ) → AreRead l ts count (drop 4 c) n vs used → count ≤ n → used < length (drop 4 c) → ContentRefused l at k ts c (refusal (at + 8 + used) ExtraInValue)
+  pub items_end : (ts : Types) (n : ℕ) (vs : Values) (used : ℕ) → AreRead l ts count (drop 4 c) n vs used → count ≤ n → used < length (drop 4 c) → ContentStops l at k ts c (refusal (at + 8 + used) ExtraInValue)
   unfolding Spells
   items_end ts n vs used read all lt =
       let e : n ≡ count = omega (arith, read.few) in
@@ -196,10 +211,14 @@ module _ {X : Type 0} (f : X → TypeTree) where
         lead = fields_follow l at (types_by f xs) c (kind_in (head_of (f x))) (types_in (inner_of (f x))) (types_by f (drop (i + 1) xs)) ws i used m due more le spelled within;
       }
 
-      pub field_refused : (k : Kind) → has_fields k ≡ true → (r : Refusal) → used < length c → FrontRefused l (at + 4 + used) (kind_in (head_of (f x))) (types_in (inner_of (f x))) (drop used c) r → ContentRefused l at k (types_by f xs) c r
+      pub field_refused : (k : Kind) → has_fields k ≡ true → (r : ReadError) → used < length c → FrontStops l (at + 4 + used) (kind_in (head_of (f x))) (types_in (inner_of (f x))) (drop used c) r → ContentStops l at k (types_by f xs) c r
       field_refused k fields r more refused = fields_stop l at (types_by f xs) c k fields (kind_in (head_of (f x))) (types_in (inner_of (f x))) (types_by f (drop (i + 1) xs)) i used r due more refused
 
-    pub fields_over : l.lenient ≡ false → (i : ℕ) (vs : Values) (used : ℕ) → AfterFields i vs used → length xs ≤ i → (k : Kind) → has_fields k ≡ true → used < length c → ContentRefused l at k (types_by f xs) c (refusal (at + 4 + used) ExtraInValue)
+    -- the first fields are kept
+    pub fields_keep : l.parts ≡ false → (i : ℕ) (vs : Values) (used : ℕ) → AfterFields i vs used → 0 < i → (k : Kind) → has_fields k ≡ true → ContentStops l at k (types_by f xs) c error.NoMemory
+    fields_keep whole i vs used read some k fields = fields_want l at (types_by f xs) c k fields whole (types_by f (drop i xs)) i used read.lead some
+
+    pub fields_over : l.lenient ≡ false → (i : ℕ) (vs : Values) (used : ℕ) → AfterFields i vs used → length xs ≤ i → (k : Kind) → has_fields k ≡ true → used < length c → ContentStops l at k (types_by f xs) c (refusal (at + 4 + used) ExtraInValue)
     fields_over strict i vs used read all k fields lt =
         let none : drop i xs ≡ [] = drop_all i xs all in
         fields_end l at (types_by f xs) c k fields strict i used (subst (λ (ys : List X). FieldsLead l at (types_by f xs) c (types_by f ys) i used) none read.lead) lt

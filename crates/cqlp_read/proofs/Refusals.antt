@@ -1,5 +1,5 @@
--- Where bytes are refused, in a container and inside a value.
-use Rattle.std.proofs.Common.{◌≡◌, ℕ, ◌+◌, ◌-◌, ◌<◌, ◌≤◌, ◌^◌, true, List, [], ◌∷◌, ◌++◌, length, take, drop, Some, None, refl, sym, ap, ◌∙◌, append_assoc, subst, arith}
+-- Where reading stops, in a container and inside a value.
+use Rattle.std.proofs.Common.{◌≡◌, ℕ, ◌+◌, ◌-◌, ◌<◌, ◌≤◌, ◌^◌, ◌||◌, Bool, true, false, List, [], ◌∷◌, ◌++◌, length, take, drop, Some, None, refl, sym, ap, ◌∙◌, append_assoc, subst, arith}
 use Rattle.std.specs.Int.{w32}
 use Rattle.std.proofs.Math.Seq.{take-append-add}
 use Rattle.std.proofs.lemmas.Bool.{lt-ltb, le-ltb, ne_eqb}
@@ -23,14 +23,16 @@ use Rattle.cqlp_value.specs.Values.{IsBytes}
 use Rattle.cqlp_value.proofs.ReadBack.{Events}
 use Rattle.cqlp_cell.specs.Sizes.{is_counted}
 use Rattle.cqlp_cell.proofs.Sizing.{counted_content}
-use Rattle.cqlp_read.specs.Reading.{IsRefused}
-use Rattle.cqlp_read.specs.Fronts.{ContentRefused, FrontRefused, value_at}
+use Rattle.cqlp_read.specs.declared.error.ReadError.{ReadError}
+use Rattle.cqlp_read.specs.declared.error.ReadError.TheVariants as error
+use Rattle.cqlp_read.specs.Reading.{IsRefused, IsStopped, WantsMemory, take_memory, takes_memory}
+use Rattle.cqlp_read.specs.Fronts.{ContentStops, FrontStops, value_at}
 
 abbrev place : (at : ℕ) → List CellSymbol → CellPlace
 place at symbols = record { offset = at; symbols = symbols }
 
-abbrev pub refusal : (at : ℕ) → Reason → Refusal
-refusal at why = record { at = at; why = why }
+abbrev pub refusal : (at : ℕ) → Reason → ReadError
+refusal at why = error.Refused (record { at = at; why = why })
 
 -- ---- what is said of a number
 
@@ -44,17 +46,54 @@ pub number_lacks : {A F : Type 0} (fault : F) (room : ℕ) (f : ℕ → Reader A
 unfolding number_of
 number_lacks fault room f taken bytes lt = rw (lt-ltb room 4 lt) refl
 
+-- ---- what takes memory
+
+either_takes : (a b c : Bool) → (a || b) ≡ true → (b ≡ true → c ≡ true) → (a || c) ≡ true
+either_takes true b c e f = refl
+either_takes false b c e f = f e
+
+or_right : (a b : Bool) → b ≡ true → (a || b) ≡ true
+or_right true b e = refl
+or_right false b e = e
+
+pub take_behind : (es fs : Events) → take_memory fs ≡ true → take_memory (es ++ fs) ≡ true
+take_behind [] fs e = e
+take_behind (x ∷ es) fs e = or_right (takes_memory x.1) (take_memory (es ++ fs)) (take_behind es fs e)
+
+neither : (a b c : Bool) → (a || b) ≡ false → (b ≡ false → c ≡ false) → (a || c) ≡ false
+neither true b c e f = absurd cc
+neither false b c e f = f e
+
+pub take_neither : (es fs : Events) → take_memory es ≡ false → take_memory fs ≡ false → take_memory (es ++ fs) ≡ false
+take_neither [] fs e f = f
+take_neither (x ∷ es) fs e f = neither (takes_memory x.1) (take_memory es) (take_memory (es ++ fs)) e (λ same. take_neither es fs same f)
+
+pub take_before : (es fs : Events) → take_memory es ≡ true → take_memory (es ++ fs) ≡ true
+take_before [] fs e = absurd cc
+take_before (x ∷ es) fs e = either_takes (takes_memory x.1) (take_memory es) (take_memory (es ++ fs)) e (take_before es fs)
+
 module _ (l : Rules) where
   abbrev pub Said : CellPlace → List ℕ → Refusal → Type 0
   Said p b r = says (cell_step l p) 0 b ≡ Bad (r.at, r.why)
 
   -- ---- refusals by steps
 
-  pub refused_now : (p : CellPlace) (b : List ℕ) (r : Refusal) → Said p b r → IsRefused l p b r
-  refused_now p b r s = record { events = []; there = p; left = b; runs = (refl, refl); refused = s }
+  now : (p : CellPlace) (b : List ℕ) (r : Refusal) → Said p b r → IsRefused l p b r
+  now p b r s = record { events = []; there = p; left = b; runs = (refl, refl); refused = s }
 
-  pub refused_stays : (p : CellPlace) (b t : List ℕ) (r : Refusal) → IsRefused l p b r → IsRefused l p (b ++ t) r
-  refused_stays p b t r h = record {
+  pub refused_now : (p : CellPlace) (b : List ℕ) (at : ℕ) (why : Reason) → says (cell_step l p) 0 b ≡ Bad (at, why) → IsStopped l p b (refusal at why)
+  refused_now p b at why s = now p b (record { at = at; why = why }) s
+
+  pub refused_stays : (p : CellPlace) (b t : List ℕ) (r : ReadError) → IsStopped l p b r → IsStopped l p (b ++ t) r
+  refused_stays p b t error.Unformed h = absurd h
+  refused_stays p b t error.NoMemory h = record {
+    events = h.events;
+    there = h.there;
+    left = h.left ++ t;
+    runs = runs_stay (cell_step l) p b t h.events h.there h.left h.runs;
+    takes = h.takes;
+  }
+  refused_stays p b t (error.Refused r) h = record {
     events = h.events;
     there = h.there;
     left = h.left ++ t;
@@ -62,8 +101,16 @@ module _ (l : Rules) where
     refused = stays_bad (r.at, r.why) (says_stays (cell_step l h.there) 0 h.left t) h.refused;
   }
 
-  pub refused_then : (p q : CellPlace) (b left : List ℕ) (es : Events) (r : Refusal) → Runs (cell_step l) p b es q left → IsRefused l q left r → IsRefused l p b r
-  refused_then p q b left es r a h = record {
+  pub refused_then : (p q : CellPlace) (b left : List ℕ) (es : Events) (r : ReadError) → Runs (cell_step l) p b es q left → IsStopped l q left r → IsStopped l p b r
+  refused_then p q b left es error.Unformed a h = absurd h
+  refused_then p q b left es error.NoMemory a h = record {
+    events = es ++ h.events;
+    there = h.there;
+    left = h.left;
+    runs = runs_then (cell_step l) p q h.there b left h.left es h.events a h.runs;
+    takes = take_behind es h.events h.takes;
+  }
+  refused_then p q b left es (error.Refused r) a h = record {
     events = es ++ h.events;
     there = h.there;
     left = h.left;
@@ -78,11 +125,17 @@ module _ (l : Rules) where
   refused_from p q b [] there left r e a s =
       let is = sym a.0 in
       let same = sym a.1 in
-      refused_now q b r (sym (step_as p q b e) ∙ (λ i. says (cell_step l (is i)) 0 (same i)) ∙ s)
+      now q b r (sym (step_as p q b e) ∙ (λ i. says (cell_step l (is i)) 0 (same i)) ∙ s)
   refused_from p q b (x ∷ es) there left r e a s = record { events = x ∷ es; there = there; left = left; runs = (a.0, a.1, sym (step_as p q b e) ∙ a.2, a.3); refused = s }
 
-  pub refused_as : (p q : CellPlace) (b : List ℕ) (r : Refusal) → cell_step l p ≡ cell_step l q → IsRefused l p b r → IsRefused l q b r
-  refused_as p q b r e h = refused_from p q b h.events h.there h.left r e h.runs h.refused
+  wanted_from : (p q : CellPlace) (b : List ℕ) (es : Events) (there : CellPlace) (left : List ℕ) → cell_step l p ≡ cell_step l q → Runs (cell_step l) p b es there left → take_memory es ≡ true → WantsMemory l q b
+  wanted_from p q b [] there left e a takes = absurd cc
+  wanted_from p q b (x ∷ es) there left e a takes = record { events = x ∷ es; there = there; left = left; runs = (a.0, a.1, sym (step_as p q b e) ∙ a.2, a.3); takes = takes }
+
+  pub refused_as : (p q : CellPlace) (b : List ℕ) (r : ReadError) → cell_step l p ≡ cell_step l q → IsStopped l p b r → IsStopped l q b r
+  refused_as p q b (error.Refused r) e h = refused_from p q b h.events h.there h.left r e h.runs h.refused
+  refused_as p q b error.NoMemory e h = wanted_from p q b h.events h.there h.left e h.runs h.takes
+  refused_as p q b error.Unformed e h = absurd h
 
   pub runs_as : (p p' q : CellPlace) (b : List ℕ) (es : Events) → 0 < length b → cell_step l p ≡ cell_step l p' → Runs (cell_step l) p b es q [] → Runs (cell_step l) p' b es q []
   runs_as p p' q b [] some e a = let none : length b ≡ 0 = ap length (sym a.1) in absurd (omega (arith, none))
@@ -103,44 +156,44 @@ module _ (l : Rules) where
         let room : 4 + length c ≤ at + length b - at = omega (arith, length-append head (c ++ back), length-append c back, is.long) in
         value_says (length c) head (c ++ back) is ∙ rw (positive (length c) low, ne_eqb (length c) 0 (λ e. omega (arith, e)), le-ltb (at + length b - at) (4 + length c) room) refl
 
-  pub front_short : (at : ℕ) (k : Kind) (inner : Types) (b : List ℕ) → length b < 4 → FrontRefused l at k inner b (refusal at Overrun)
+  pub front_short : (at : ℕ) (k : Kind) (inner : Types) (b : List ℕ) → length b < 4 → FrontStops l at k inner b (refusal at Overrun)
   front_short at k inner b lt level rest =
-      refused_now (value_at at k inner b level rest) b (refusal at Overrun) (number_lacks (at, Overrun) (at + length b - at) (sized_step l (value_at at k inner b level rest) rest k inner level (at + length b - at)) 0 b (omega arith))
+      refused_now (value_at at k inner b level rest) b at Overrun (number_lacks (at, Overrun) (at + length b - at) (sized_step l (value_at at k inner b level rest) rest k inner level (at + length b - at)) 0 b (omega arith))
 
-  pub front_long : (at n : ℕ) (k : Kind) (inner : Types) (head more : List ℕ) → IsNumber 4 w32 n head → n < 2 ^ 31 → 0 < n → length more < n → FrontRefused l at k inner (head ++ more) (refusal at Overrun)
+  pub front_long : (at n : ℕ) (k : Kind) (inner : Types) (head more : List ℕ) → IsNumber 4 w32 n head → n < 2 ^ 31 → 0 < n → length more < n → FrontStops l at k inner (head ++ more) (refusal at Overrun)
   front_long at n k inner head more is low some lt level rest =
       let b = head ++ more in
       let room : at + length b - at < 4 + n = omega (arith, length-append head more, is.long) in
-      refused_now (value_at at k inner b level rest) b (refusal at Overrun)
+      refused_now (value_at at k inner b level rest) b at Overrun
       (value_says at k inner level rest n head more is ∙ rw (positive n low, ne_eqb n 0 (λ e. omega (arith, e)), lt-ltb (at + length b - at) (4 + n) room) refl)
 
   -- a content that is refused at once, by its value's step
-  pub content_now : (at : ℕ) (k : Kind) (inner : Types) (c : List ℕ) (r : Refusal)
-      → ((p : CellPlace) (rest : List CellSymbol) (level : ℕ) (back : List ℕ) → p.offset ≡ at → says (content_step l p rest level k inner (length c)) 4 (c ++ back) ≡ Bad (r.at, r.why)) → ContentRefused l at k inner c r
+  pub content_now : (at m : ℕ) (why : Reason) (k : Kind) (inner : Types) (c : List ℕ)
+      → ((p : CellPlace) (rest : List CellSymbol) (level : ℕ) (back : List ℕ) → p.offset ≡ at → says (content_step l p rest level k inner (length c)) 4 (c ++ back) ≡ Bad (m, why)) → ContentStops l at k inner c (refusal m why)
   unfolding Spells
-  content_now at k inner c r f front back some s level rest =
+  content_now at m why k inner c f front back some s level rest =
       let head = s.0.head in
       let b = head ++ (c ++ back) in
       let whole : b ≡ front ++ back = sym (append_assoc head c back) ∙ ap (λ (x : List ℕ). x ++ back) (sym s.0.parts) in
-      subst (λ (x : List ℕ). IsRefused l (value_at at k inner x level rest) x r) whole
-      (refused_now (value_at at k inner b level rest) b r (content_says at k inner level rest c head back s.0.counts s.1 some ∙ f (value_at at k inner b level rest) rest level back refl))
+      subst (λ (x : List ℕ). IsStopped l (value_at at k inner x level rest) x (refusal m why)) whole
+      (refused_now (value_at at k inner b level rest) b m why (content_says at k inner level rest c head back s.0.counts s.1 some ∙ f (value_at at k inner b level rest) rest level back refl))
 
-  pub front_past : (at n : ℕ) (k : Kind) (inner : Types) (b : List ℕ) → IsNumber 4 w32 n (take 4 b) → n < 2 ^ 31 → length b - 4 < n → FrontRefused l at k inner b (refusal at Overrun)
+  pub front_past : (at n : ℕ) (k : Kind) (inner : Types) (b : List ℕ) → IsNumber 4 w32 n (take 4 b) → n < 2 ^ 31 → length b - 4 < n → FrontStops l at k inner b (refusal at Overrun)
   front_past at n k inner b is low lt =
-      subst (λ (x : List ℕ). FrontRefused l at k inner x (refusal at Overrun)) (take-append-drop 4 b)
+      subst (λ (x : List ℕ). FrontStops l at k inner x (refusal at Overrun)) (take-append-drop 4 b)
       (front_long at n k inner (take 4 b) (drop 4 b) is low (omega arith) (omega (arith, length-drop 4 b)))
 
   -- ---- counts
 
   count_now : (at : ℕ) (k : Kind) (ts : Types) (c : List ℕ) (why : Reason) → is_counted k ≡ true
-      → ((p : CellPlace) (rest : List CellSymbol) (level : ℕ) (back : List ℕ) → p.offset ≡ at → says (counted_step p rest level k ts (length c)) 4 (c ++ back) ≡ Bad (at + 4, why)) → ContentRefused l at k ts c (refusal (at + 4) why)
-  count_now at k ts c why counted f = content_now at k ts c (refusal (at + 4) why) (λ p rest level back here. ap (λ (s : Step CellEvent CellPlace). says s 4 (c ++ back)) ((counted_content l (length c) k counted).is p rest ts level) ∙ f p rest level back here)
+      → ((p : CellPlace) (rest : List CellSymbol) (level : ℕ) (back : List ℕ) → p.offset ≡ at → says (counted_step p rest level k ts (length c)) 4 (c ++ back) ≡ Bad (at + 4, why)) → ContentStops l at k ts c (refusal (at + 4) why)
+  count_now at k ts c why counted f = content_now at (at + 4) why k ts c (λ p rest level back here. ap (λ (s : Step CellEvent CellPlace). says s 4 (c ++ back)) ((counted_content l (length c) k counted).is p rest ts level) ∙ f p rest level back here)
 
-  pub count_short : (at : ℕ) (k : Kind) (ts : Types) (c : List ℕ) → is_counted k ≡ true → length c < 4 → ContentRefused l at k ts c (refusal (at + 4) Overrun)
+  pub count_short : (at : ℕ) (k : Kind) (ts : Types) (c : List ℕ) → is_counted k ≡ true → length c < 4 → ContentStops l at k ts c (refusal (at + 4) Overrun)
   count_short at k ts c counted lt = count_now at k ts c Overrun counted (λ p rest level back here.
       number_lacks (p.offset + 4, Overrun) (length c) _ 4 (c ++ back) lt ∙ ap (λ (n : ℕ). Bad (n + 4, Overrun)) here)
 
-  pub count_negative : (at n : ℕ) (k : Kind) (ts : Types) (c : List ℕ) → is_counted k ≡ true → IsNumber 4 w32 n (take 4 c) → 4 ≤ length c → 2 ^ 31 ≤ n → ContentRefused l at k ts c (refusal (at + 4) BadCount)
+  pub count_negative : (at n : ℕ) (k : Kind) (ts : Types) (c : List ℕ) → is_counted k ≡ true → IsNumber 4 w32 n (take 4 c) → 4 ≤ length c → 2 ^ 31 ≤ n → ContentStops l at k ts c (refusal (at + 4) BadCount)
   count_negative at n k ts c counted is le high = count_now at k ts c BadCount counted (λ p rest level back here.
       let whole : take 4 c ++ (drop 4 c ++ back) ≡ c ++ back = sym (append_assoc (take 4 c) (drop 4 c) back) ∙ ap (λ (x : List ℕ). x ++ back) (take-append-drop 4 c) in
       ap (λ (x : List ℕ). says (counted_step p rest level k ts (length c)) 4 x) (sym whole)

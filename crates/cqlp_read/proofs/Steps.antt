@@ -8,7 +8,6 @@ use Rattle.std.specs.declared.string.String.{String}
 use Rattle.std.specs.declared.alloc.Global.{Global}
 use Rattle.std.proofs.lemmas.Bool.{eqb-true, eqb-false}
 use Rattle.std.proofs.lemmas.List.{length-append, length-drop, take-append-drop}
-use Rattle.cqlp_note.specs.declared.refusal.Refusal.{Refusal}
 use Rattle.cqlp_note.specs.Limits.{Rules}
 use Rattle.cqlp_kind.specs.declared.kind.Kind.{Kind}
 use Rattle.cqlp_kind.specs.declared.kind.Kind.TheVariants as kind
@@ -28,7 +27,7 @@ use Rattle.cqlp_value.proofs.ValueFits.{tuple_types, udt_types}
 use Rattle.cqlp_value.proofs.ReadBack.{alone, with_others}
 use Rattle.cqlp_read.specs.declared.error.ReadError.{ReadError}
 use Rattle.cqlp_read.specs.declared.error.ReadError.TheVariants as error
-use Rattle.cqlp_read.specs.Fronts.{AreCounted, ContentRefused, Fails, FrontRefused, HasContent, Holds, IsReadable, ReadsContent, ReadsScalar}
+use Rattle.cqlp_read.specs.Fronts.{AreCounted, ContentStops, Fails, FrontStops, HasContent, Holds, IsReadable, ReadsContent, ReadsScalar}
 use Rattle.cqlp_read.proofs.Progress.{AreRead, AfterFields, one_more_read, next_field, pair_spells, values_snoc, pairs_snoc, within_both}
 use Rattle.cqlp_read.proofs.Contents.{dropped}
 
@@ -38,9 +37,9 @@ pub err_of : {A : Type 0} (P : ReadError → Type 0) (Q : Result A ReadError →
 err_of P Q (Ok x) e is same q = absurd is.1
 err_of P Q (Err y) e is same q = subst (λ (z : ReadError). Q (Err z)) (sym (same y is.1)) q
 
-pub fails_as : (P Q : Refusal → Type 0) → ((r : Refusal) → P r → Q r) → (e : ReadError) → Fails P e → Fails Q e
-fails_as P Q f (error.Refused r) h = f r h
-fails_as P Q f error.NoMemory h = tt
+pub fails_as : (P Q : ReadError → Type 0) → ((r : ReadError) → P r → Q r) → (e : ReadError) → Fails P e → Fails Q e
+fails_as P Q f (error.Refused r) h = f (error.Refused r) h
+fails_as P Q f error.NoMemory h = f error.NoMemory h
 fails_as P Q f error.Unformed h = absurd h
 
 -- ---- types
@@ -118,7 +117,7 @@ plain_readable t k is (inr e) = let raw = plain_kind k kind.Raw (sym is ∙ e) i
 
 pub scalar_content : (l : Rules) (at : ℕ) (t : TypeTree) (k : Kind) (c : List ℕ) (r : Result Value ReadError) → kind_in (head_of t) ≡ k → ReadsScalar l at k c r → ReadsContent l at t c r
 scalar_content l at t k c (Ok v) e h = subst (λ (j : Kind). HasContent l at j (types_in (inner_of t)) c v) (sym e) (h (types_in (inner_of t)))
-scalar_content l at t k c (Err why) e h = subst (λ (j : Kind). Fails (ContentRefused l at j (types_in (inner_of t)) c) why) (sym e) (fails_as _ (ContentRefused l at k (types_in (inner_of t)) c) (λ r g. g (types_in (inner_of t))) why h)
+scalar_content l at t k c (Err why) e h = subst (λ (j : Kind). Fails (ContentStops l at j (types_in (inner_of t)) c) why) (sym e) (fails_as (λ r. (inner : Types) → ContentStops l at k inner c r) (ContentStops l at k (types_in (inner_of t)) c) (λ r g. g (types_in (inner_of t))) why h)
 
 module _ (l : Rules) (at : ℕ) (c : List ℕ) where
   counted_content : (k : Kind) (ts : Types) (n : ℕ) (items : Values) (v : Value) → is_counted k ≡ true → value_of v ≡ Counted_and k n items NoValue → AreCounted l at ts n items c → HasContent l at k ts c v
@@ -159,17 +158,17 @@ module _ (l : Rules) (at : ℕ) (c : List ℕ) where
       let these = subst (λ (x : Types). ValuesSpell (first_types (length v.items) x) (listed_values v.items) c × AreWithin l (listed_values v.items)) inner h in
       subst (λ (x : TypeTree). ReadsContent l at x c (Ok (UdtValue v))) (sym is) (fielded_content kind.Udt (types_in (inner_of (UdtTree keyspace name fields))) v.items (UdtValue v) refl some (udt_is v) these)
 
-  pub tuple_fails : (t : TypeTree) (types : Vec TypeTree Global) (ts : List TypeTree) (e : ReadError) → t ≡ TupleTree types → ts ≡ types.items → Fails (λ r. (k : Kind) → has_fields k ≡ true → ContentRefused l at k (types_by (λ x. x) ts) c r) e → ReadsContent l at t c (Err e)
+  pub tuple_fails : (t : TypeTree) (types : Vec TypeTree Global) (ts : List TypeTree) (e : ReadError) → t ≡ TupleTree types → ts ≡ types.items → Fails (λ r. (k : Kind) → has_fields k ≡ true → ContentStops l at k (types_by (λ x. x) ts) c r) e → ReadsContent l at t c (Err e)
   tuple_fails t types ts e is same h =
       let inner : types_by (λ x. x) ts ≡ types_in (inner_of (TupleTree types)) = ap (λ (x : List TypeTree). types_by (λ y. y) x) same ∙ sym (tuple_types types) in
       subst (λ (x : TypeTree). ReadsContent l at x c (Err e)) (sym is)
-      (fails_as _ (ContentRefused l at kind.Tuple (types_in (inner_of (TupleTree types))) c) (λ r g. subst (λ (x : Types). ContentRefused l at kind.Tuple x c r) inner (g kind.Tuple refl)) e h)
+      (fails_as (λ r. (k : Kind) → has_fields k ≡ true → ContentStops l at k (types_by (λ x. x) ts) c r) (ContentStops l at kind.Tuple (types_in (inner_of (TupleTree types))) c) (λ r g. subst (λ (x : Types). ContentStops l at kind.Tuple x c r) inner (g kind.Tuple refl)) e h)
 
-  pub udt_fails : (t : TypeTree) (keyspace name : String Global) (fields : Vec (String Global × TypeTree) Global) (xs : List (String Global × TypeTree)) (e : ReadError) → t ≡ UdtTree keyspace name fields → xs ≡ fields.items → Fails (λ r. (k : Kind) → has_fields k ≡ true → ContentRefused l at k (types_by (λ x. x.1) xs) c r) e → ReadsContent l at t c (Err e)
+  pub udt_fails : (t : TypeTree) (keyspace name : String Global) (fields : Vec (String Global × TypeTree) Global) (xs : List (String Global × TypeTree)) (e : ReadError) → t ≡ UdtTree keyspace name fields → xs ≡ fields.items → Fails (λ r. (k : Kind) → has_fields k ≡ true → ContentStops l at k (types_by (λ x. x.1) xs) c r) e → ReadsContent l at t c (Err e)
   udt_fails t keyspace name fields xs e is same h =
       let inner : types_by (λ x. x.1) xs ≡ types_in (inner_of (UdtTree keyspace name fields)) = ap (λ (x : List (String Global × TypeTree)). types_by (λ y. y.1) x) same ∙ sym (udt_types keyspace name fields) in
       subst (λ (x : TypeTree). ReadsContent l at x c (Err e)) (sym is)
-      (fails_as _ (ContentRefused l at kind.Udt (types_in (inner_of (UdtTree keyspace name fields))) c) (λ r g. subst (λ (x : Types). ContentRefused l at kind.Udt x c r) inner (g kind.Udt refl)) e h)
+      (fails_as (λ r. (k : Kind) → has_fields k ≡ true → ContentStops l at k (types_by (λ x. x.1) xs) c r) (ContentStops l at kind.Udt (types_in (inner_of (UdtTree keyspace name fields))) c) (λ r g. subst (λ (x : Types). ContentStops l at kind.Udt x c r) inner (g kind.Udt refl)) e h)
 
 -- ---- a value at the front
 
@@ -191,10 +190,10 @@ longer : (c : List ℕ) → c ≢ [] → 0 < length c
 longer [] ne = absurd (ne refl)
 longer (x ∷ c) ne = omega arith
 
-pub value_refused : (l : Rules) (at : ℕ) (k : Kind) (inner : Types) (b c : List ℕ) (e : ReadError) → eqb (length c) 0 ≡ false → (4 + length c ≤ length b) × IsBytes (Some c) (take (4 + length c) b) → Fails (ContentRefused l at k inner c) e → Fails (FrontRefused l at k inner b) e
-value_refused l at k inner b c e some h f = fails_as (ContentRefused l at k inner c) (FrontRefused l at k inner b) (λ r g.
+pub value_refused : (l : Rules) (at : ℕ) (k : Kind) (inner : Types) (b c : List ℕ) (e : ReadError) → eqb (length c) 0 ≡ false → (4 + length c ≤ length b) × IsBytes (Some c) (take (4 + length c) b) → Fails (ContentStops l at k inner c) e → Fails (FrontStops l at k inner b) e
+value_refused l at k inner b c e some h f = fails_as (ContentStops l at k inner c) (FrontStops l at k inner b) (λ r g.
     let long : 0 < length c = longer c (some_bytes c some) in
-    subst (λ (x : List ℕ). FrontRefused l at k inner x r) (take-append-drop (4 + length c) b) (g (take (4 + length c) b) (drop (4 + length c) b) long h.1)) e f
+    subst (λ (x : List ℕ). FrontStops l at k inner x r) (take-append-drop (4 + length c) b) (g (take (4 + length c) b) (drop (4 + length c) b) long h.1)) e f
 
 -- ---- items
 

@@ -2,7 +2,6 @@
 use Rattle.std.proofs.Common.{◌≡◌, ℕ, ◌+◌, ◌<◌, ◌≤◌, List, [], ◌∷◌, length, take, drop, true, Some, None, Result, Ok, Err, refl, ap, subst, arith}
 use Rattle.std.proofs.lemmas.Bool.{lt-ltb}
 use Rattle.std.proofs.lemmas.List.{length-take-le, take-append-drop, take_all}
-use Rattle.cqlp_note.specs.declared.refusal.Refusal.{Refusal}
 use Rattle.cqlp_note.specs.declared.refusal.Reason.TheVariants.{ExtraInValue}
 use Rattle.cqlp_note.specs.Limits.{Rules}
 use Rattle.cqlp_note.proofs.Runs.{runs_stay}
@@ -18,8 +17,8 @@ use Rattle.cqlp_value.specs.Values.{AreWithin, ValueSpells, Values}
 use Rattle.cqlp_value.proofs.SpelledRead.{all_read}
 use Rattle.cqlp_read.specs.declared.error.ReadError.{ReadError}
 use Rattle.cqlp_read.specs.declared.error.ReadError.TheVariants as error
-use Rattle.cqlp_read.specs.Fronts.{Fails, FrontRefused}
-use Rattle.cqlp_read.specs.Reading.{IsRefused, Reads, ReadsAll, whole_value}
+use Rattle.cqlp_read.specs.Fronts.{Fails, FrontStops}
+use Rattle.cqlp_read.specs.Reading.{IsStopped, Reads, ReadsAll, whole_value}
 use Rattle.cqlp_read.proofs.Refusals.{refusal, refused_now, refused_then}
 use Rattle.cqlp_read.proofs.Contents.{runs_at}
 use Rattle.cqlp_read.proofs.Steps.{fails_as}
@@ -28,14 +27,14 @@ module _ (l : Rules) (k : Kind) (inner : Types) (b : List ℕ) where
   abbrev pub one : Types
   one = Type_and k inner NoMore
 
-  abbrev pub Refused : Refusal → Type 0
-  Refused r = IsRefused l (whole_value one (length b)) b r
+  abbrev pub Refused : ReadError → Type 0
+  Refused r = IsStopped l (whole_value one (length b)) b r
 
   -- what is refused at the front of all bytes
-  pub front_refused : (e : ReadError) → Fails (FrontRefused l 0 k inner b) e → Fails Refused e
-  front_refused e h = fails_as (FrontRefused l 0 k inner b) Refused (λ r f.
+  pub front_refused : (e : ReadError) → Fails (FrontStops l 0 k inner b) e → Fails Refused e
+  front_refused e h = fails_as (FrontStops l 0 k inner b) Refused (λ r f.
       let stop : 0 + length b ≡ length b = omega arith in
-      subst (λ (n : ℕ). IsRefused l (record { offset = 0; symbols = Value_of k inner 0 n ∷ (Close_of 0 (length b) 1 ∷ []) }) b r) stop (f 0 (Close_of 0 (length b) 1 ∷ []))) e h
+      subst (λ (n : ℕ). IsStopped l (record { offset = 0; symbols = Value_of k inner 0 n ∷ (Close_of 0 (length b) 1 ∷ []) }) b r) stop (f 0 (Close_of 0 (length b) 1 ∷ []))) e h
 
   -- bytes that are left after the value
   pub more_refused : (v : Values) (used : ℕ) → ValueSpells k inner v (take used b) → AreWithin l v → used < length b → Refused (refusal used ExtraInValue)
@@ -50,14 +49,14 @@ module _ (l : Rules) (k : Kind) (inner : Types) (b : List ℕ) where
       let there = ap (λ (n : ℕ). let p : CellPlace = record { offset = n; symbols = close } in p) far in
       let runs = runs_at l start _ q _ b _ (drop used b) _ (take-append-drop used b) there refl stays in
       refused_then l start q b (drop used b) _ (refusal used ExtraInValue) runs
-      (refused_now l q (drop used b) (refusal used ExtraInValue) (rw (lt-ltb used (length b) lt) refl))
+      (refused_now l q (drop used b) used ExtraInValue (rw (lt-ltb used (length b) lt) refl))
 
   pub whole_spells : (v : Values) (used : ℕ) → used ≤ length b → length b ≤ used → ValueSpells k inner v (take used b) → ValueSpells k inner v b
   whole_spells v used le all spelled = subst (λ (x : List ℕ). ValueSpells k inner v x) (take_all used b all) spelled
 
-  pub reads_fails : (e : ReadError) → Fails (FrontRefused l 0 k inner b) e → ReadsAll l one b (Err e)
+  pub reads_fails : (e : ReadError) → Fails (FrontStops l 0 k inner b) e → ReadsAll l one b (Err e)
   reads_fails (error.Refused r) h = front_refused (error.Refused r) h
-  reads_fails error.NoMemory h = tt
+  reads_fails error.NoMemory h = front_refused error.NoMemory h
   reads_fails error.Unformed h = absurd h
 
 pub raw_value : (l : Rules) (b : List ℕ) (r : Result Value ReadError) → ReadsAll l (cell_type None) b r → Reads l None b r

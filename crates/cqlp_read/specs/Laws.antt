@@ -1,14 +1,24 @@
 -- Laws of the reading of values.
-use Rattle.std.specs.Prelude.{◌≡◌, ℕ, ◌<◌, ◌^◌, true, List, length, Option, Result, Ok, Err}
+use Rattle.std.specs.Prelude.{◌≡◌, ℕ, ◌<◌, ◌^◌, Bool, true, false, List, length, MatchResult, Option, Result, Ok, Err}
 use Rattle.std.specs.List.{All}
+use Rattle.cqlp_note.specs.declared.limits.Limits.{Limits}
 use Rattle.cqlp_note.specs.Limits.{Rules}
 use Rattle.cqlp_type.specs.declared.tree.TypeTree.{TypeTree}
 use Rattle.cqlp_value.specs.declared.value.Value.{Value}
 use Rattle.cqlp_value.specs.Owned.{cell_type, fits_type, value_of}
-use Rattle.cqlp_value.specs.Values.{AreInRange, AreWithin, ValuesSpell, values_bytes, values_size}
+use Rattle.cqlp_value.specs.Values.{AreInRange, AreWithin, Values, NoValue, Null_and, Empty_and, Scalar_and, Counted_and, Fields_and, ValuesSpell, values_bytes, values_size}
 use Rattle.cqlp_read.specs.declared.error.ReadError.{ReadError}
 use Rattle.cqlp_read.specs.declared.error.ReadError.TheVariants as error
-use Rattle.cqlp_read.specs.Reading.{Reads, is_formed}
+use Rattle.cqlp_read.specs.Reading.{Reads, has_bytes, is_formed, whole_rules}
+
+-- It owns memory: the bytes of a scalar, or the items in it.
+abbrev pub owns_memory : Values → Bool
+owns_memory (Scalar_and v vs) = has_bytes v
+owns_memory (Counted_and k n NoValue vs) = false
+owns_memory (Counted_and k n items vs) = true
+owns_memory (Fields_and k NoValue vs) = false
+owns_memory (Fields_and k items vs) = true
+owns_memory _ = false
 
 -- the same value, or the same refusal; or memory was refused to one of them
 abbrev pub AreSame : Result Value ReadError → Result Value ReadError → Type 0
@@ -24,6 +34,12 @@ abbrev pub OneAnswerOfReadValue : Type 0
 OneAnswerOfReadValue =
     (l : Rules) (t : Option TypeTree) (b : List ℕ) (r s : Result Value ReadError)
     → Reads l t b r → Reads l t b s → AreSame r s
+
+-- Of bytes that spell a value that owns no memory, nothing but the value is read, whatever memory there is.
+abbrev pub UnownedIsRead : Type 0
+UnownedIsRead =
+    (l : Limits) (t : Option TypeTree) (v : Value) (b : List ℕ) (r : Result Value ReadError) → owns_memory (value_of v) ≡ false
+    → Reads (whole_rules l) t b (Ok v) → Reads (whole_rules l) t b r → MatchResult r (λ w. value_of w ≡ value_of v) (λ _. ⊥)
 
 -- A value that fits its type and is within the limits is what is read of the bytes that are written of it.
 abbrev pub WrittenIsRead : Type 0

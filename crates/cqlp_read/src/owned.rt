@@ -1,8 +1,9 @@
 //! Scalars that are owned.
 
-ghost use Rattle.std.specs.Prelude.{◌≡◌, IfOk};
+ghost use Rattle.std.specs.Prelude.{◌≡◌, true, IfErr, IfOk};
 ghost use Rattle.cqlp_kind.specs.Contents.{value_of};
 ghost use Rattle.cqlp_value.specs.Owned.{atom_of};
+ghost use Rattle.cqlp_read.specs.Reading.{has_bytes};
 
 use cqlp_value::{Atom, Scalar};
 use std::alloc::{AllocError, Global};
@@ -10,7 +11,8 @@ use std::alloc::{AllocError, Global};
 /// The same scalar, with bytes of its own.
 #[inline]
 pub fn own(alloc: Global, scalar: Scalar<'_>) -> Result<Atom, AllocError>
-    ensures { IfOk result (λ atom. atom_of atom ≡ value_of scalar.entry) }
+    ensures same { IfOk result (λ atom. atom_of atom ≡ value_of scalar.entry) }
+    ensures fails { IfErr result (λ _. has_bytes (value_of scalar.entry) ≡ true) }
 {
     let atom = match scalar {
         Scalar::Custom(bytes) => Atom::Custom(Vec::from_slice(alloc, bytes)?),

@@ -2,10 +2,9 @@
 //! A frame behind bytes in memory, written while it is checked.
 
 use crate::kit_std::prelude::{Vec};
-use crate::cqlp_encode::binding::Gathered;
 use crate::cqlp_encode::staged::Staged;
 use crate::cqlp_message::{Frame, PartRef, TakesParts, Tally, Unfit};
-use crate::cqlp_note::{Header, Target};
+use crate::cqlp_note::{Header, IoFault, Target};
 use core::mem::replace;
 
 /// The longest body of a frame.
@@ -18,7 +17,7 @@ pub enum AppendError {
     /// No bytes spell the frame.
     #[error("{0}")]
     Unfit(Unfit),
-    /// Memory was refused.
+    /// There was no room for the frame, and memory was refused.
     #[error("no memory")]
     NoMemory,
 }
@@ -29,12 +28,12 @@ pub enum AppendError {
 ///
 /// Each part is measured and then written, so a frame is gone through once, where `encode` goes through it twice. The bytes grow as
 /// `Vec::extend_from_slice` has them grow, by up to 512 bytes or by one content at a time, and in all by no more than a frame can
-/// have: 268,435,465. Where there is room for the frame no memory is asked for.
+/// have: 268,435,465. Where there is room for the frame it is appended, whatever the allocator says: no memory is asked for.
 ///
 /// # Errors
 ///
-/// [`AppendError::Unfit`] where [`Frame::unfit`] says why no bytes spell the frame, and else [`AppendError::NoMemory`] where memory was
-/// refused. The bytes are then as they were; what memory they got they keep.
+/// [`AppendError::Unfit`] where [`Frame::unfit`] says why no bytes spell the frame, and else [`AppendError::NoMemory`] where the bytes have
+/// no room for it and memory was refused. The bytes are then as they were; what memory they got they keep.
 pub fn append(frame: &Frame, bytes: &mut Vec<u8>) -> Result<u32, AppendError>
 {
     let start = bytes.len();
@@ -58,7 +57,7 @@ fn extend(frame: &Frame, bytes: &mut Vec<u8>) -> Option<u32>
         return None;
     }
     let none = Vec::new(*bytes.allocator());
-    let mut target = Gathered::behind(replace(bytes, none));
+    let mut target = Growing::behind(replace(bytes, none));
     let len = write_checked(frame, &mut target);
     *bytes = target.into_bytes();
     len
@@ -78,11 +77,13 @@ fn write_checked<W: Target>(frame: &Frame, target: &mut W) -> Option<u32>
     out.flush();
     let taken = out.taken();
     let _ = out.into_inner();
-    if is_whole(&tally) && taken == tally.size + 9 {
-        Some(taken as u32)
-    } else {
-        None
+    if !is_whole(&tally) {
+        return None;
     }
+    if taken < tally.size + 9 {
+        return None;
+    }
+    Some(taken as u32)
 }
 
 /// Takes parts, and passes each on while all so far have no more bytes than a body.
@@ -105,4 +106,67 @@ impl<'a, W: Target> TakesParts for Checked<'a, W> {
 fn is_whole(tally: &Tally) -> bool
 {
     tally.counts && tally.texts && tally.cells && tally.size <= LONGEST
+}
+
+/// Bytes in memory that more are put behind. The room that there is is filled before memory that is refused is told.
+pub struct Growing {
+    bytes: Vec<u8>,
+    /// How many bytes there was room for at first.
+    room: usize,
+    /// Whether memory was refused once, after which none is asked for.
+    refused: bool,
+    /// How many calls found no memory, up to 2^64 - 1.
+    failures: u64,
+}
+
+impl Growing {
+    /// Behind these bytes, and no call made.
+    fn behind(bytes: Vec<u8>) -> Growing
+    {
+        Growing {
+            room: bytes.capacity(),
+            bytes,
+            refused: false,
+            failures: 0,
+        }
+    }
+
+    /// The bytes. Where a call found no memory they fill the room that there was at first.
+    fn into_bytes(self) -> Vec<u8>
+    {
+        let Growing {
+            bytes,
+            room: _,
+            refused: _,
+            failures: _,
+        } = self;
+        bytes
+    }
+
+    /// Takes as many bytes as there is room for, where no memory was found for all of them.
+    #[cold]
+    fn fill(&mut self, bytes: &[u8]) -> Result<usize, IoFault>
+    {
+        self.refused = true;
+        let room = self.bytes.capacity().saturating_sub(self.bytes.len());
+        if room == 0 {
+            self.failures = self.failures.saturating_add(1);
+            return Err(IoFault);
+        }
+        let count = room.min(bytes.len());
+        let _ = self.bytes.extend_from_slice(&bytes[..count]);
+        Ok(count)
+    }
+}
+
+impl Target for Growing {
+    fn write(&mut self, bytes: &[u8]) -> Result<usize, IoFault> {
+        if self.refused {
+            return self.fill(bytes);
+        }
+        match self.bytes.extend_from_slice(bytes) {
+            Ok(()) => Ok(bytes.len()),
+            Err(_) => self.fill(bytes),
+        }
+    }
 }

@@ -30,7 +30,8 @@ struct Reading {
 /// [`ReadError::Refused`] at the first byte that a reader of cells would refuse, for its reason, where the bytes spell no value of the
 /// type within the limits: offsets are those in the bytes. `Overrun` where a length passes them or the value around it,
 /// `BadCount` where a count is negative, `BadSize`, `TooLong`, `BadUtf8` and `BadScalar` at a scalar, and `ExtraInValue`
-/// at the first byte after the last item of a value, or after the value itself. [`ReadError::NoMemory`] where memory was refused.
+/// at the first byte after the last item of a value, or after the value itself. [`ReadError::NoMemory`] where memory was
+/// refused, which is asked for only for a text or bytes, or for a value in another, once it is read.
 pub fn read_value(
     alloc: Global,
     limits: &Limits,

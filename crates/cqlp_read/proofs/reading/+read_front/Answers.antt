@@ -1,17 +1,18 @@
-use Rattle.std.proofs.Common.{◌≡◌, ℕ, ◌+◌, ◌≤◌, List, length, drop, take, true, Ok, refl, sym, ap, ◌∙◌, subst, arith}
-use Rattle.std.proofs.lemmas.List.{length-drop}
+use Rattle.std.proofs.Common.{◌≡◌, ℕ, ◌+◌, ◌≤◌, List, [], ◌∷◌, ◌++◌, length, drop, take, true, Ok, refl, sym, ap, ◌∙◌, subst, arith}
+use Rattle.std.proofs.lemmas.List.{length-append, length-drop}
 use Rattle.cqlp_kind.specs.declared.kind.Kind.{Kind}
 use Rattle.cqlp_kind.specs.declared.kind.Kind.TheVariants as kind
-use Rattle.cqlp_kind.specs.Types.{NoMore, Type_and}
+use Rattle.cqlp_kind.specs.Types.{Types, NoMore, Type_and}
 use Rattle.cqlp_type.specs.Trees.{kind_in, types_in}
 use Rattle.cqlp_type.specs.TypeTrees.{head_of, inner_of}
 use Rattle.cqlp_cell.specs.Sizes.{is_counted}
 use Rattle.cqlp_value.specs.Values.{has_fields}
 use Rattle.cqlp_value.specs.Measures.{listed_pairs, listed_values, types_by}
 use Rattle.cqlp_value.specs.Owned.{value_of}
-use Rattle.cqlp_read.specs.Fronts.{ContentRefused, FrontRefused, ReadsContent, ReadsFields, ReadsFront, ReadsItems, ReadsPairs}
+use Rattle.cqlp_read.specs.declared.error.ReadError.TheVariants as error
+use Rattle.cqlp_read.specs.Fronts.{ContentStops, FrontStops, ReadsContent, ReadsFields, ReadsFront, ReadsItems, ReadsPairs}
 use Rattle.cqlp_read.specs.Reading.{whole_rules}
-use Rattle.cqlp_read.proofs.Progress.{item_refused, second_refused, items_end, all_counted, field_refused, fields_over}
+use Rattle.cqlp_read.proofs.Progress.{item_refused, second_refused, items_end, items_want, all_counted, field_refused, fields_keep, fields_over}
 use Rattle.cqlp_read.proofs.Steps.{err_of, fails_as, list_readable, set_readable, keys_readable, values_readable, tuple_readable, udt_readable, type_readable, field_readable, scalar_content, list_content, set_content, map_content, tuple_content, udt_content, tuple_fails, udt_fails, null_value, some_bytes, empty_value, value_refused, body_short, content_short, item_read, pair_read, field_read}
 use Rattle.cqlp_read.proofs.reading.+read_front.Goals as goal
 
@@ -94,7 +95,7 @@ read_front-returns-in_err-content t c =
     let l = whole_rules c.args.reading.now.limits in
     let e = c.in_err-content.field-0.0 in
     err_of _ (λ r. ReadsFront l c.args.at c.args.tree.now c.args.bytes.now r) c.from_residual.result e c.from_residual.ensures (λ y same. same)
-    (fails_as _ (FrontRefused l c.args.at (kind_in (head_of c.args.tree.now)) (types_in (inner_of c.args.tree.now)) c.args.bytes.now) (λ r h. h (kind_in (head_of c.args.tree.now)) (types_in (inner_of c.args.tree.now))) e (c.in_err-content.ensures l))
+    (fails_as (λ r. (k : Kind) (inner : Types) → FrontStops l c.args.at k inner c.args.bytes.now r) (FrontStops l c.args.at (kind_in (head_of c.args.tree.now)) (types_in (inner_of c.args.tree.now)) c.args.bytes.now) (λ r h. h (kind_in (head_of c.args.tree.now)) (types_in (inner_of c.args.tree.now))) e (c.in_err-content.ensures l))
 
 pub read_front-returns-in_default : goal.read_front-returns-in_default
 read_front-returns-in_default t c =
@@ -132,7 +133,7 @@ read_items-returns-in_err-count t c =
     let l = whole_rules c.args.reading.now.limits in
     let e = c.in_err-count.field-0.0 in
     err_of _ (λ r. ReadsItems l c.args.at (Type_and (kind_in (head_of c.args.inner.now)) (types_in (inner_of c.args.inner.now)) NoMore) c.args.content.now r) c.from_residual.result e c.from_residual.ensures (λ y same. same)
-    (fails_as _ (λ r. (k : Kind) → is_counted k ≡ true → ContentRefused l c.args.at k (Type_and (kind_in (head_of c.args.inner.now)) (types_in (inner_of c.args.inner.now)) NoMore) c.args.content.now r) (λ r h k is. h k (Type_and (kind_in (head_of c.args.inner.now)) (types_in (inner_of c.args.inner.now)) NoMore) is) e (c.in_err-count.ensures l))
+    (fails_as (λ r. (k : Kind) (ts : Types) → is_counted k ≡ true → ContentStops l c.args.at k ts c.args.content.now r) (λ r. (k : Kind) → is_counted k ≡ true → ContentStops l c.args.at k (Type_and (kind_in (head_of c.args.inner.now)) (types_in (inner_of c.args.inner.now)) NoMore) c.args.content.now r) (λ r h k is. h k (Type_and (kind_in (head_of c.args.inner.now)) (types_in (inner_of c.args.inner.now)) NoMore) is) e (c.in_err-count.ensures l))
 
 pub read_items-rest-body-requires : goal.read_items-rest-body-requires
 read_items-rest-body-requires t c =
@@ -178,9 +179,9 @@ read_items-returns-in_err-front t c =
     let e = c.in_err-front.field-0.0 in
     let here = c.rest.ensures ∙ ap (drop c.loop-body.used) c.rest-body.ensures in
     err_of _ (λ r. ReadsItems l c.args.at (Type_and (kind_in (head_of c.args.inner.now)) (types_in (inner_of c.args.inner.now)) NoMore) c.args.content.now r) c.from_residual-in_err-front.result e c.from_residual-in_err-front.ensures (λ y same. same)
-    (fails_as (FrontRefused l (c.args.at + 8 + c.loop-body.used) (kind_in (head_of c.args.inner.now)) (types_in (inner_of c.args.inner.now)) c.rest.result.now) (λ r. (k : Kind) → is_counted k ≡ true → ContentRefused l c.args.at k (Type_and (kind_in (head_of c.args.inner.now)) (types_in (inner_of c.args.inner.now)) NoMore) c.args.content.now r) (λ r h k is.
+    (fails_as (FrontStops l (c.args.at + 8 + c.loop-body.used) (kind_in (head_of c.args.inner.now)) (types_in (inner_of c.args.inner.now)) c.rest.result.now) (λ r. (k : Kind) → is_counted k ≡ true → ContentStops l c.args.at k (Type_and (kind_in (head_of c.args.inner.now)) (types_in (inner_of c.args.inner.now)) NoMore) c.args.content.now r) (λ r h k is.
     item_refused l c.args.at k is c.args.content.now c.in_ok-count.count counted.1 (kind_in (head_of c.args.inner.now)) (types_in (inner_of c.args.inner.now)) NoMore (length c.loop-body.items.items) (listed_values c.loop-body.items.items) c.loop-body.used r c.loop-body.invariant (omega arith)
-    (subst (λ (x : List ℕ). FrontRefused l (c.args.at + 8 + c.loop-body.used) (kind_in (head_of c.args.inner.now)) (types_in (inner_of c.args.inner.now)) x r) here h)) e c.in_err-front.ensures)
+    (subst (λ (x : List ℕ). FrontStops l (c.args.at + 8 + c.loop-body.used) (kind_in (head_of c.args.inner.now)) (types_in (inner_of c.args.inner.now)) x r) here h)) e c.in_err-front.ensures)
 
 pub read_items-loop-body-preserved : goal.read_items-loop-body-preserved
 read_items-loop-body-preserved t c =
@@ -192,7 +193,7 @@ read_pairs-returns-in_err-count t c =
     let l = whole_rules c.args.reading.now.limits in
     let e = c.in_err-count.field-0.0 in
     err_of _ (λ r. ReadsPairs l c.args.at (Type_and (kind_in (head_of c.args.keys.now)) (types_in (inner_of c.args.keys.now)) (Type_and (kind_in (head_of c.args.values.now)) (types_in (inner_of c.args.values.now)) NoMore)) c.args.content.now r) c.from_residual.result e c.from_residual.ensures (λ y same. same)
-    (fails_as _ (λ r. (k : Kind) → is_counted k ≡ true → ContentRefused l c.args.at k (Type_and (kind_in (head_of c.args.keys.now)) (types_in (inner_of c.args.keys.now)) (Type_and (kind_in (head_of c.args.values.now)) (types_in (inner_of c.args.values.now)) NoMore)) c.args.content.now r) (λ r h k is. h k (Type_and (kind_in (head_of c.args.keys.now)) (types_in (inner_of c.args.keys.now)) (Type_and (kind_in (head_of c.args.values.now)) (types_in (inner_of c.args.values.now)) NoMore)) is) e (c.in_err-count.ensures l))
+    (fails_as (λ r. (k : Kind) (ts : Types) → is_counted k ≡ true → ContentStops l c.args.at k ts c.args.content.now r) (λ r. (k : Kind) → is_counted k ≡ true → ContentStops l c.args.at k (Type_and (kind_in (head_of c.args.keys.now)) (types_in (inner_of c.args.keys.now)) (Type_and (kind_in (head_of c.args.values.now)) (types_in (inner_of c.args.values.now)) NoMore)) c.args.content.now r) (λ r h k is. h k (Type_and (kind_in (head_of c.args.keys.now)) (types_in (inner_of c.args.keys.now)) (Type_and (kind_in (head_of c.args.values.now)) (types_in (inner_of c.args.values.now)) NoMore)) is) e (c.in_err-count.ensures l))
 
 pub read_pairs-rest-body-requires : goal.read_pairs-rest-body-requires
 read_pairs-rest-body-requires t c =
@@ -260,9 +261,9 @@ read_pairs-returns-in_err-key t c =
     let e = c.in_err-key.field-0.0 in
     let here = c.rest.ensures ∙ ap (drop c.loop-body.used) c.rest-body.ensures in
     err_of _ (λ r. ReadsPairs l c.args.at (Type_and (kind_in (head_of c.args.keys.now)) (types_in (inner_of c.args.keys.now)) (Type_and (kind_in (head_of c.args.values.now)) (types_in (inner_of c.args.values.now)) NoMore)) c.args.content.now r) c.from_residual-in_err-key.result e c.from_residual-in_err-key.ensures (λ y same. same)
-    (fails_as (FrontRefused l (c.args.at + 8 + c.loop-body.used) (kind_in (head_of c.args.keys.now)) (types_in (inner_of c.args.keys.now)) c.rest.result.now) (λ r. (k : Kind) → is_counted k ≡ true → ContentRefused l c.args.at k (Type_and (kind_in (head_of c.args.keys.now)) (types_in (inner_of c.args.keys.now)) (Type_and (kind_in (head_of c.args.values.now)) (types_in (inner_of c.args.values.now)) NoMore)) c.args.content.now r) (λ r h k is.
+    (fails_as (FrontStops l (c.args.at + 8 + c.loop-body.used) (kind_in (head_of c.args.keys.now)) (types_in (inner_of c.args.keys.now)) c.rest.result.now) (λ r. (k : Kind) → is_counted k ≡ true → ContentStops l c.args.at k (Type_and (kind_in (head_of c.args.keys.now)) (types_in (inner_of c.args.keys.now)) (Type_and (kind_in (head_of c.args.values.now)) (types_in (inner_of c.args.values.now)) NoMore)) c.args.content.now r) (λ r h k is.
     item_refused l c.args.at k is c.args.content.now c.in_ok-count.count counted.1 (kind_in (head_of c.args.keys.now)) (types_in (inner_of c.args.keys.now)) (Type_and (kind_in (head_of c.args.values.now)) (types_in (inner_of c.args.values.now)) NoMore) (length c.loop-body.pairs.items) (listed_pairs c.loop-body.pairs.items) c.loop-body.used r c.loop-body.invariant (omega arith)
-    (subst (λ (x : List ℕ). FrontRefused l (c.args.at + 8 + c.loop-body.used) (kind_in (head_of c.args.keys.now)) (types_in (inner_of c.args.keys.now)) x r) here h)) e c.in_err-key.ensures)
+    (subst (λ (x : List ℕ). FrontStops l (c.args.at + 8 + c.loop-body.used) (kind_in (head_of c.args.keys.now)) (types_in (inner_of c.args.keys.now)) x r) here h)) e c.in_err-key.ensures)
 
 pub read_pairs-returns-in_err-value : goal.read_pairs-returns-in_err-value
 read_pairs-returns-in_err-value t c =
@@ -273,9 +274,9 @@ read_pairs-returns-in_err-value t c =
     let key = subst (λ (x : List ℕ). ReadsFront l (c.args.at + 8 + c.loop-body.used) c.args.keys.now x (Ok c.in_ok-key.key)) at_key c.in_ok-key.ensures in
     let here = c.rest-in-loop-body.ensures ∙ ap (drop (c.loop-body.used + c.in_ok-key.key.used)) c.rest-body.ensures in
     err_of _ (λ r. ReadsPairs l c.args.at (Type_and (kind_in (head_of c.args.keys.now)) (types_in (inner_of c.args.keys.now)) (Type_and (kind_in (head_of c.args.values.now)) (types_in (inner_of c.args.values.now)) NoMore)) c.args.content.now r) c.from_residual-in_err-value.result e c.from_residual-in_err-value.ensures (λ y same. same)
-    (fails_as (FrontRefused l (c.args.at + 8 + (c.loop-body.used + c.in_ok-key.key.used)) (kind_in (head_of c.args.values.now)) (types_in (inner_of c.args.values.now)) c.rest-in-loop-body.result.now) (λ r. (k : Kind) → is_counted k ≡ true → ContentRefused l c.args.at k (Type_and (kind_in (head_of c.args.keys.now)) (types_in (inner_of c.args.keys.now)) (Type_and (kind_in (head_of c.args.values.now)) (types_in (inner_of c.args.values.now)) NoMore)) c.args.content.now r) (λ r h k is.
+    (fails_as (FrontStops l (c.args.at + 8 + (c.loop-body.used + c.in_ok-key.key.used)) (kind_in (head_of c.args.values.now)) (types_in (inner_of c.args.values.now)) c.rest-in-loop-body.result.now) (λ r. (k : Kind) → is_counted k ≡ true → ContentStops l c.args.at k (Type_and (kind_in (head_of c.args.keys.now)) (types_in (inner_of c.args.keys.now)) (Type_and (kind_in (head_of c.args.values.now)) (types_in (inner_of c.args.values.now)) NoMore)) c.args.content.now r) (λ r h k is.
     second_refused l c.args.at k is c.args.content.now c.in_ok-count.count counted.1 (kind_in (head_of c.args.keys.now)) (kind_in (head_of c.args.values.now)) (types_in (inner_of c.args.keys.now)) (types_in (inner_of c.args.values.now)) (length c.loop-body.pairs.items) (listed_pairs c.loop-body.pairs.items) (value_of c.in_ok-key.key.value) c.loop-body.used c.in_ok-key.key.used r c.loop-body.invariant (omega arith) key.0 key.1 key.2
-    (subst (λ (x : List ℕ). FrontRefused l (c.args.at + 8 + (c.loop-body.used + c.in_ok-key.key.used)) (kind_in (head_of c.args.values.now)) (types_in (inner_of c.args.values.now)) x r) here h)) e c.in_err-value.ensures)
+    (subst (λ (x : List ℕ). FrontStops l (c.args.at + 8 + (c.loop-body.used + c.in_ok-key.key.used)) (kind_in (head_of c.args.values.now)) (types_in (inner_of c.args.values.now)) x r) here h)) e c.in_err-value.ensures)
 
 pub read_pairs-loop-body-preserved : goal.read_pairs-loop-body-preserved
 read_pairs-loop-body-preserved t c =
@@ -292,9 +293,9 @@ read_types-returns-in_err-front t c =
     let l = whole_rules c.args.reading.now.limits in
     let e = c.in_err-front.field-0.0 in
     err_of _ (λ r. ReadsFields l c.args.at (types_by (λ t. t) c.args.types.now) c.args.content.now r) c.from_residual.result e c.from_residual.ensures (λ y same. same)
-    (fails_as (FrontRefused l (c.args.at + 4 + c.loop-tree.used) (kind_in (head_of c.tree-item.result)) (types_in (inner_of c.tree-item.result)) c.rest.result.now) (λ r. (k : Kind) → has_fields k ≡ true → ContentRefused l c.args.at k (types_by (λ t. t) c.args.types.now) c.args.content.now r) (λ r h k is.
+    (fails_as (FrontStops l (c.args.at + 4 + c.loop-tree.used) (kind_in (head_of c.tree-item.result)) (types_in (inner_of c.tree-item.result)) c.rest.result.now) (λ r. (k : Kind) → has_fields k ≡ true → ContentStops l c.args.at k (types_by (λ t. t) c.args.types.now) c.args.content.now r) (λ r h k is.
     field_refused (λ t. t) l c.args.at c.args.types.now c.args.content.now c.loop-tree.tree-index c.tree-item.result c.tree-item.is c.loop-tree-test.true (listed_values c.loop-tree.items.items) c.loop-tree.used c.loop-tree.invariant.fields k is r (omega (arith, c.loop-tree.invariant.fields.inside))
-    (subst (λ (y : List ℕ). FrontRefused l (c.args.at + 4 + c.loop-tree.used) (kind_in (head_of c.tree-item.result)) (types_in (inner_of c.tree-item.result)) y r) c.rest.ensures h)) e c.in_err-front.ensures)
+    (subst (λ (y : List ℕ). FrontStops l (c.args.at + 4 + c.loop-tree.used) (kind_in (head_of c.tree-item.result)) (types_in (inner_of c.tree-item.result)) y r) c.rest.ensures h)) e c.in_err-front.ensures)
 
 pub read_types-loop-tree-preserved : goal.read_types-loop-tree-preserved
 read_types-loop-tree-preserved t c =
@@ -319,9 +320,9 @@ read_fields-returns-in_err-front t c =
     let l = whole_rules c.args.reading.now.limits in
     let e = c.in_err-front.field-0.0 in
     err_of _ (λ r. ReadsFields l c.args.at (types_by (λ x. x.1) c.args.fields.now) c.args.content.now r) c.from_residual.result e c.from_residual.ensures (λ y same. same)
-    (fails_as (FrontRefused l (c.args.at + 4 + c.loop-tree.used) (kind_in (head_of c.loop-tree-item.result.1)) (types_in (inner_of c.loop-tree-item.result.1)) c.rest.result.now) (λ r. (k : Kind) → has_fields k ≡ true → ContentRefused l c.args.at k (types_by (λ x. x.1) c.args.fields.now) c.args.content.now r) (λ r h k is.
+    (fails_as (FrontStops l (c.args.at + 4 + c.loop-tree.used) (kind_in (head_of c.loop-tree-item.result.1)) (types_in (inner_of c.loop-tree-item.result.1)) c.rest.result.now) (λ r. (k : Kind) → has_fields k ≡ true → ContentStops l c.args.at k (types_by (λ x. x.1) c.args.fields.now) c.args.content.now r) (λ r h k is.
     field_refused (λ x. x.1) l c.args.at c.args.fields.now c.args.content.now c.loop-tree.tree-index c.loop-tree-item.result c.loop-tree-item.is c.loop-tree-test.true (listed_values c.loop-tree.items.items) c.loop-tree.used c.loop-tree.invariant.fields k is r (omega (arith, c.loop-tree.invariant.fields.inside))
-    (subst (λ (y : List ℕ). FrontRefused l (c.args.at + 4 + c.loop-tree.used) (kind_in (head_of c.loop-tree-item.result.1)) (types_in (inner_of c.loop-tree-item.result.1)) y r) c.rest.ensures h)) e c.in_err-front.ensures)
+    (subst (λ (y : List ℕ). FrontStops l (c.args.at + 4 + c.loop-tree.used) (kind_in (head_of c.loop-tree-item.result.1)) (types_in (inner_of c.loop-tree-item.result.1)) y r) c.rest.ensures h)) e c.in_err-front.ensures)
 
 pub read_fields-loop-tree-preserved : goal.read_fields-loop-tree-preserved
 read_fields-loop-tree-preserved t c =
@@ -335,3 +336,43 @@ pub read_fields-returns-then-used-content-2 : goal.read_fields-returns-then-used
 read_fields-returns-then-used-content-2 t c =
     let l = whole_rules c.args.reading.now.limits in
     rw c.refused.ensures (λ k is. fields_over (λ x. x.1) l c.args.at c.args.fields.now c.args.content.now refl c.loop-tree.tree-index (listed_values c.loop-tree.items.items) c.loop-tree.used c.loop-tree.invariant.fields (omega arith) k is (omega arith))
+
+pub read_items-returns-in_err-push : goal.read_items-returns-in_err-push
+read_items-returns-in_err-push t c =
+    let l = whole_rules c.args.reading.now.limits in
+    let counted = c.in_ok-count.ensures l in
+    let k = kind_in (head_of c.args.inner.now) in
+    let inner = types_in (inner_of c.args.inner.now) in
+    let new = c.loop-body.items.items ++ c.in_ok-front.front.value ∷ [] in
+    let read = item_read l (Type_and k inner NoMore) c.in_ok-count.count c.args.content.now c.rest-body.result.now c.rest-body.ensures k inner refl c.loop-body.items.items new c.in_ok-front.front.value c.loop-body.used c.in_ok-front.front.used c.rest.result.now refl c.loop-body.invariant (omega arith) c.rest.ensures c.in_ok-front.ensures in
+    err_of _ (λ r. ReadsItems l c.args.at (Type_and k inner NoMore) c.args.content.now r) c.from_residual-in_err-push.result error.NoMemory c.from_residual-in_err-push.ensures (λ y same. same)
+    (λ j is. items_want l c.args.at j is c.args.content.now c.in_ok-count.count counted.1 refl k inner NoMore (length new) (listed_values new) (c.loop-body.used + c.in_ok-front.front.used) read (omega (arith, length-append c.loop-body.items.items (c.in_ok-front.front.value ∷ []))))
+
+pub read_pairs-returns-in_err-push : goal.read_pairs-returns-in_err-push
+read_pairs-returns-in_err-push t c =
+    let l = whole_rules c.args.reading.now.limits in
+    let counted = c.in_ok-count.ensures l in
+    let k = kind_in (head_of c.args.keys.now) in
+    let inner = types_in (inner_of c.args.keys.now) in
+    let j = kind_in (head_of c.args.values.now) in
+    let others = types_in (inner_of c.args.values.now) in
+    let new = c.loop-body.pairs.items ++ (c.in_ok-key.key.value, c.in_ok-value.value.value) ∷ [] in
+    let read = pair_read l k j inner others c.in_ok-count.count c.args.content.now c.rest-body.result.now c.rest-body.ensures c.loop-body.pairs.items new c.in_ok-key.key.value c.in_ok-value.value.value c.loop-body.used c.in_ok-key.key.used c.in_ok-value.value.used c.rest.result.now c.rest-in-loop-body.result.now refl c.loop-body.invariant (omega arith) c.rest.ensures c.rest-in-loop-body.ensures c.in_ok-key.ensures c.in_ok-value.ensures in
+    err_of _ (λ r. ReadsPairs l c.args.at (Type_and k inner (Type_and j others NoMore)) c.args.content.now r) c.from_residual-in_err-push.result error.NoMemory c.from_residual-in_err-push.ensures (λ y same. same)
+    (λ i is. items_want l c.args.at i is c.args.content.now c.in_ok-count.count counted.1 refl k inner (Type_and j others NoMore) (length new) (listed_pairs new) (c.loop-body.used + c.in_ok-key.key.used + c.in_ok-value.value.used) read (omega (arith, length-append c.loop-body.pairs.items ((c.in_ok-key.key.value, c.in_ok-value.value.value) ∷ []))))
+
+pub read_types-returns-in_err-push : goal.read_types-returns-in_err-push
+read_types-returns-in_err-push t c =
+    let l = whole_rules c.args.reading.now.limits in
+    let new = c.loop-tree.items.items ++ c.in_ok-front.front.value ∷ [] in
+    let read = field_read (λ t. t) l c.args.at c.args.types.now c.args.content.now c.loop-tree.tree-index c.tree-item.result c.loop-tree.items.items new c.in_ok-front.front.value c.loop-tree.used c.in_ok-front.front.used c.rest.result.now c.tree-item.is c.loop-tree-test.true refl c.loop-tree.invariant.fields (omega (arith, c.loop-tree.invariant.fields.inside)) c.rest.ensures c.in_ok-front.ensures in
+    err_of _ (λ r. ReadsFields l c.args.at (types_by (λ t. t) c.args.types.now) c.args.content.now r) c.from_residual-in_err-push.result error.NoMemory c.from_residual-in_err-push.ensures (λ y same. same)
+    (λ k is. fields_keep (λ t. t) l c.args.at c.args.types.now c.args.content.now refl (c.loop-tree.tree-index + 1) (listed_values new) (c.loop-tree.used + c.in_ok-front.front.used) read (omega arith) k is)
+
+pub read_fields-returns-in_err-push : goal.read_fields-returns-in_err-push
+read_fields-returns-in_err-push t c =
+    let l = whole_rules c.args.reading.now.limits in
+    let new = c.loop-tree.items.items ++ c.in_ok-front.front.value ∷ [] in
+    let read = field_read (λ x. x.1) l c.args.at c.args.fields.now c.args.content.now c.loop-tree.tree-index c.loop-tree-item.result c.loop-tree.items.items new c.in_ok-front.front.value c.loop-tree.used c.in_ok-front.front.used c.rest.result.now c.loop-tree-item.is c.loop-tree-test.true refl c.loop-tree.invariant.fields (omega (arith, c.loop-tree.invariant.fields.inside)) c.rest.ensures c.in_ok-front.ensures in
+    err_of _ (λ r. ReadsFields l c.args.at (types_by (λ x. x.1) c.args.fields.now) c.args.content.now r) c.from_residual-in_err-push.result error.NoMemory c.from_residual-in_err-push.ensures (λ y same. same)
+    (λ k is. fields_keep (λ x. x.1) l c.args.at c.args.fields.now c.args.content.now refl (c.loop-tree.tree-index + 1) (listed_values new) (c.loop-tree.used + c.in_ok-front.front.used) read (omega arith) k is)
