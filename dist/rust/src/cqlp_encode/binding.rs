@@ -94,7 +94,7 @@ fn content(alloc: Global, value: &Value, of: Option<&TypeTree>) -> Result<Vec<u8
 }
 
 /// Bytes that are gathered in memory.
-pub struct Gathered {
+struct Gathered {
     bytes: Vec<u8>,
     /// How many calls found no memory, up to 2^64 - 1.
     failures: u64,
@@ -110,14 +110,8 @@ impl Gathered {
         })
     }
 
-    /// Behind these bytes, and no call made.
-    pub fn behind(bytes: Vec<u8>) -> Gathered
-    {
-        Gathered { bytes, failures: 0 }
-    }
-
     /// The bytes.
-    pub fn into_bytes(self) -> Vec<u8>
+    fn into_bytes(self) -> Vec<u8>
     {
         let Gathered { bytes, failures: _ } = self;
         bytes
