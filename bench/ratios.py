@@ -20,6 +20,8 @@ EVENTS = {'rows': 4_000_000, 'collections': 3_600_000, 'columns': 1_000_000}
 PAGES = ('rows', 'collections', 'columns', 'kinds', 'blobs')
 OPTIONS = bytes([4, 0, 0, 0, 5, 0, 0, 0, 0])
 WRITES = 20
+# Each is a time by hand and one of ours.
+RATIOS_OF_WRITING = [('checked', 'encode'), ('checked', 'cells'), ('trusting', 'encode'), ('trusting', 'append'), ('trusting', 'cells')]
 
 
 def spent(command, given=None):
@@ -68,6 +70,8 @@ class Programs:
         self.cqlp = os.environ.get('CQLP') or self.program()
         self.batches = self.c('bindings/c/speed.c', TOP / 'bindings/out/libcqlp.a')
         self.events = self.c('bench/events.c')
+        self.ways = {'checked': (self.encode, 'checked'), 'trusting': (self.encode, '')}
+        self.ways.update({name: (self.pages, how) for name, how in (('encode', ''), ('append', 'append'), ('cells', 'cells'))})
 
     def rust(self, name):
         made = self.room / name
@@ -142,11 +146,12 @@ def writings(program, programs, page, how):
 
 def encode_table(programs, rounds):
     """A time of one writing is the least of many of them less the least of one: a difference of one run and another is as often too small as too large."""
-    table('writing', 'by hand, checked', 'trusting', '`encode`', 'cell by cell', 'ratio, trusting', 'ratio, `encode`', 'ratio, cell by cell')
+    table('writing', 'by hand, checked', 'trusting', '`encode`', '`append`', 'cell by cell', *(f'{one} / {other}' for one, other in RATIOS_OF_WRITING))
     for page in ('rows 1000000', 'collections 200000', 'columns 5000', 'blobs 96'):
-        ways = ((programs.encode, 'checked'), (programs.encode, ''), (programs.pages, ''), (programs.pages, 'cells'))
-        times = least(rounds, [task for program, how in ways for task in writings(program, programs, page, how)])
-        tell(page, [(many - one) / WRITES for one, many in zip(times[::2], times[1::2])])
+        runs = least(rounds, [task for program, how in programs.ways.values() for task in writings(program, programs, page, how)])
+        times = dict(zip(programs.ways, ((many - one) / WRITES for one, many in zip(runs[::2], runs[1::2]))))
+        ratios = (f'{times[one] / times[other]:.2f}' for one, other in RATIOS_OF_WRITING)
+        print(f'| {page} | {" | ".join(told_times(times.values()))} | {" | ".join(ratios)} |', flush=True)
 
 
 def start_line(programs, rounds):
