@@ -26,9 +26,9 @@ use Rattle.cqlp_value.proofs.ScalarItems.{is_own}
 use Rattle.cqlp_value.proofs.SpelledRead.{all_read}
 use Rattle.cqlp_read.specs.declared.error.ReadError.{ReadError}
 use Rattle.cqlp_read.specs.declared.error.ReadError.TheVariants as error
-use Rattle.cqlp_read.specs.Reading.{IsStopped, WantsMemory, has_bytes, take_memory, takes_memory}
+use Rattle.cqlp_read.specs.Reading.{IsStopped, WantsMemory, has_bytes, take_memory}
 use Rattle.cqlp_read.specs.Fronts.{ContentStops, FrontStops, value_at}
-use Rattle.cqlp_read.proofs.Refusals.{take_behind, take_before, refusal, number_says, content_now, content_says, refused_now, refused_stays, refused_then, refused_as, runs_as}
+use Rattle.cqlp_read.proofs.Refusals.{take_behind, refusal, number_says, content_now, content_says, refused_now, refused_stays, refused_then, refused_as, runs_as}
 
 abbrev place : (at : ℕ) → List CellSymbol → CellPlace
 place at symbols = record { offset = at; symbols = symbols }

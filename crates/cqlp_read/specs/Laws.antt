@@ -6,7 +6,7 @@ use Rattle.cqlp_note.specs.Limits.{Rules}
 use Rattle.cqlp_type.specs.declared.tree.TypeTree.{TypeTree}
 use Rattle.cqlp_value.specs.declared.value.Value.{Value}
 use Rattle.cqlp_value.specs.Owned.{cell_type, fits_type, value_of}
-use Rattle.cqlp_value.specs.Values.{AreInRange, AreWithin, Values, NoValue, Null_and, Empty_and, Scalar_and, Counted_and, Fields_and, ValuesSpell, values_bytes, values_size}
+use Rattle.cqlp_value.specs.Values.{AreInRange, AreWithin, Values, NoValue, Scalar_and, Counted_and, Fields_and, ValuesSpell, values_bytes, values_size}
 use Rattle.cqlp_read.specs.declared.error.ReadError.{ReadError}
 use Rattle.cqlp_read.specs.declared.error.ReadError.TheVariants as error
 use Rattle.cqlp_read.specs.Reading.{Reads, has_bytes, is_formed, whole_rules}
