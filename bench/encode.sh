@@ -1,6 +1,6 @@
 #!/usr/bin/env bash
 # Times the encoder on the pages that pages.py makes, as values in memory. The program in pages/, which cargo compiles over dist/rust, writes
-# each page once and 21 times into a Vec, whole, cell by cell or by `append`, and so does encode.rs, an encoder written by hand, with and without a
+# each page once and 21 times into a Vec, whole, cell by cell, by `append` or cell by cell by `PageAppender`, and so does encode.rs, an encoder written by hand, with and without a
 # check of what it writes. A twentieth of the difference, in time of the processor, is the time of one writing: of the best of five of each,
 # and told with its MB/s.
 set -euo pipefail
@@ -44,4 +44,5 @@ for page in 'rows 1000000' 'collections 200000' 'columns 5000' 'blobs 96'; do
     tell encode "$(once "$program" "$page")"
     tell 'cell by cell' "$(once "$program" "$page" cells)"
     tell append "$(once "$program" "$page" append)"
+    tell 'appended cells' "$(once "$program" "$page" cells-append)"
 done

@@ -1,6 +1,6 @@
 //! Builds pages in memory and writes them there, as the lines of its standard input say: the name of a page, how many rows
-//! it has, how many times it is written, and `cells` where it is written cell by cell, or `append` where it is appended to bytes in
-//! memory. bench/encode.sh times it.
+//! it has, how many times it is written, and `cells` where it is written cell by cell, `append` where it is appended to bytes in
+//! memory, or `cells-append` where it is appended cell by cell. bench/encode.sh times it.
 //!
 //! With the word `count` it writes instead how many events the stream on standard input says, which it reads in pieces of 4,096
 //! bytes. With the digits of a stream after it, the types of the last metadata of that stream are given for the first page
@@ -12,7 +12,7 @@ mod pages;
 
 use crate::count::print_count;
 use crate::pages::{Column, cells, columns_of, page};
-use cqlp::frame::{Frame, PageError, PageWriter, Value, append, encode, value_size};
+use cqlp::frame::{Frame, PageAppender, PageError, PageWriter, Value, append, encode, value_size};
 use cqlp::memory::Vec as Bytes;
 use cqlp::{Global, OfStd};
 use std::error::Error;
@@ -23,6 +23,7 @@ enum Way {
     Whole,
     ByCell,
     Appended,
+    CellsAppended,
 }
 
 /// What a line asks for.
@@ -61,6 +62,7 @@ fn task_of(line: &str) -> Option<Task> {
     let way = match words.next() {
         None => Way::Whole,
         Some("append") => Way::Appended,
+        Some("cells-append") => Way::CellsAppended,
         Some(_) => Way::ByCell,
     };
     Some(Task { columns, rows, times, way })
@@ -72,6 +74,7 @@ fn written(task: &Task) -> Result<Vec<u8>, Box<dyn Error>> {
     let mut target = OfStd::new(Vec::new());
     match task.way {
         Way::Appended => return appended(&page(task.columns, task.rows, cells)?, task.times),
+        Way::CellsAppended => return appended_by_cell(&page(task.columns, task.rows, Vec::new())?, &cells, task.times),
         Way::ByCell => write_by_cell(&page(task.columns, task.rows, Vec::new())?, &cells, task.times, &mut target)?,
         Way::Whole => write_whole(&page(task.columns, task.rows, cells)?, task.times, &mut target)?,
     }
@@ -83,6 +86,20 @@ fn appended(frame: &Frame, times: u32) -> Result<Vec<u8>, Box<dyn Error>> {
     for _ in 0..times {
         bytes.clear();
         append(frame, &mut bytes)?;
+    }
+    Ok(bytes.into_std())
+}
+
+/// The same, cell by cell, out of a page that does not hold them.
+fn appended_by_cell(frame: &Frame, cells: &[Value], times: u32) -> Result<Vec<u8>, Box<dyn Error>> {
+    let mut bytes = Bytes::new(Global);
+    for _ in 0..times {
+        bytes.clear();
+        let mut page = PageAppender::begin(frame, bytes)?;
+        for cell in cells {
+            page.cell(cell)?;
+        }
+        bytes = page.finish()?;
     }
     Ok(bytes.into_std())
 }
@@ -124,6 +141,8 @@ mod tests {
             "rows 3 2: 218 bytes, which add up to 7178",
             "rows 3 2 cells: 218 bytes, which add up to 7178",
             "rows 3 2 append: 218 bytes, which add up to 7178",
+            "rows 3 2 cells-append: 218 bytes, which add up to 7178",
+            "collections 2 2 cells-append: 395 bytes, which add up to 8105",
             "collections 2 2: 395 bytes, which add up to 8105",
             "collections 2 2 cells: 395 bytes, which add up to 8105",
             "collections 2 2 append: 395 bytes, which add up to 8105",

@@ -12,6 +12,7 @@ pub mod FramesTaken
 pub mod Checking
 pub mod PageSteps
 pub mod PageRests
+pub mod PageBehind
 pub mod UntoldCells
 pub mod WrittenValues
 pub mod Made

@@ -7,4 +7,5 @@ pub mod Binding
 pub mod PageWriting
 pub mod UntoldPages
 pub mod PagePlaces
+pub mod PageAppending
 pub mod Laws

@@ -70,7 +70,7 @@ fn extend(frame: &Frame, bytes: &mut Vec<u8>) -> Option<u32>
 
 /// Writes nine bytes and the parts of a frame, each once it is measured, and answers how many bytes these are, if all parts fit and the
 /// target took them all.
-fn write_checked<W: Target>(frame: &Frame, target: &mut W) -> Option<u32>
+pub fn write_checked<W: Target>(frame: &Frame, target: &mut W) -> Option<u32>
     ensures { WritesChecked (frame_of frame.now) (written W.Target target.old) result (written W.Target target.new) }
 {
     let mut walk = Checked {

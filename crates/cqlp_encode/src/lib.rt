@@ -6,6 +6,7 @@ mod binding;
 mod fields;
 mod kept_values;
 pub mod laws;
+mod page_appending;
 mod page_writer;
 mod parts;
 mod staged;
@@ -16,6 +17,7 @@ mod writing;
 
 pub use appending::{AppendError, append};
 pub use binding::{BindError, bind_value, raw_value};
+pub use page_appending::{NotAppended, PageAppendError, PageAppender};
 pub use page_writer::{PageError, PageWriter};
 pub use value_writing::{ValueError, write_value};
 pub use writing::{EncodeError, encode, encode_from};

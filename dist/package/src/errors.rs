@@ -4,6 +4,7 @@ use core::fmt;
 
 use crate::cqlp_capture::CaptureRefusal;
 use crate::cqlp_decode::GiveError;
+use crate::cqlp_encode::NotAppended;
 use crate::cqlp_note::Refusal;
 use crate::cqlp_segment::NoSegment;
 use crate::cqlp_session::Refused;
@@ -60,3 +61,12 @@ impl<E: fmt::Display, T> fmt::Display for Refused<E, T> {
 }
 
 impl<E: fmt::Debug + fmt::Display, T: fmt::Debug> Error for Refused<E, T> {}
+
+/// Why the page does not stand behind the bytes.
+impl fmt::Display for NotAppended {
+    fn fmt(&self, f: &mut fmt::Formatter<'_>) -> fmt::Result {
+        self.why.fmt(f)
+    }
+}
+
+impl Error for NotAppended {}

@@ -346,7 +346,8 @@ pub mod frame {
     pub use crate::cqlp_build::{BuildError, BuildLimits, BuiltFrame, FrameBuilder};
     pub use crate::cqlp_compose::Composer;
     pub use crate::cqlp_encode::{
-        AppendError, BindError, EncodeError, PageError, PageWriter, ValueError, append, bind_value, encode, encode_from, raw_value, write_value,
+        AppendError, BindError, EncodeError, NotAppended, PageAppendError, PageAppender, PageError, PageWriter, ValueError, append, bind_value,
+        encode, encode_from, raw_value, write_value,
     };
     pub use crate::cqlp_message::{
         BatchEntry, ErrorExtra, Frame, Message, Metadata, OwnedBound, PartRef, Prepared, QueryParams, Rows, SchemaChange,

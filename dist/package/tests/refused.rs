@@ -5,8 +5,8 @@ use cqlp::capture::{CaptureEnd, CaptureLimits, CaptureReader, CaptureStep, Contr
 use cqlp::cells::{CellError, CellLimits, PageCellError, PageCells, PagePlace};
 use cqlp::columns::{BatchLimits, Columns, MakeError, TakeError};
 use cqlp::frame::{
-    AppendError, Atom, BindError, BuildError, BuildLimits, Composer, Frame, FrameBuilder, Message, Metadata, OwnedBound, ReadError, Rows, Spec, TypeTree,
-    Value, append, bind_value, raw_value, read_value,
+    AppendError, Atom, BindError, BuildError, BuildLimits, Composer, Frame, FrameBuilder, Message, Metadata, NotAppended, OwnedBound, PageAppendError,
+    PageAppender, ReadError, Rows, Spec, TypeTree, Value, append, bind_value, raw_value, read_value,
 };
 use cqlp::memory::{AllocError, Box, String, Vec};
 use cqlp::{Event, Field, Global, Header, Kind, Limits, Opcode, Scalar, TableError, table_of, table_of_specs};
@@ -313,6 +313,41 @@ fn frames_appended() {
     let room = RefCell::new(Vec::with_capacity(Global, 3 + 22217).unwrap());
     room.borrow_mut().extend_from_slice(&[1, 2, 3]).unwrap();
     assert_eq!(refused(1, u64::MAX, || appended(&mut room.borrow_mut())), (Answer::Granted, 0, 0));
+}
+
+/// A page behind other bytes, cell by cell, of which each part and each cell asks for memory where there is too little. Where it is refused
+/// the bytes are as they were before the call, and the same cell is taken later.
+#[test]
+fn pages_appended_by_cell() {
+    let meta = Metadata { flags: 4, columns: 1, paging: None, table: None, specs: None };
+    let frame = Frame::plain(0, Message::Rows(Rows { meta, rows: 3, cells: Vec::new(Global) }));
+    let cells: std::vec::Vec<Value> =
+        [20, 2000, 20000].map(|len| Value::Leaf(Atom::Raw(std::vec::Vec::from_iter((0..len).map(|_| 7)).into()))).into();
+    let appended = |bytes: Vec<u8>| {
+        let mut page = match PageAppender::begin(&frame, bytes) {
+            Ok(page) => page,
+            Err(NotAppended { why: PageAppendError::NoMemory, bytes }) if bytes[..] == [1, 2, 3] => return Answer::NoMemory,
+            Err(_) => return Answer::Other,
+        };
+        for cell in &cells {
+            match page.cell(cell) {
+                Ok(()) => {}
+                Err(PageAppendError::NoMemory) if page.cancel()[..] == [1, 2, 3] => return Answer::NoMemory,
+                Err(_) => return Answer::Other,
+            }
+        }
+        match page.finish() {
+            Ok(bytes) if bytes.len() == 3 + 9 + 16 + 12 + 22020 => Answer::Granted,
+            _ => Answer::Other,
+        }
+    };
+    finds_just_what_is_there(3, || match Vec::from_slice(Global, &[1, 2, 3]) {
+        Ok(bytes) => appended(bytes),
+        Err(_) => Answer::NoMemory,
+    });
+    let room = RefCell::new(Vec::with_capacity(Global, 30_000).unwrap());
+    room.borrow_mut().extend_from_slice(&[1, 2, 3]).unwrap();
+    assert_eq!(refused(1, u64::MAX, || appended(room.replace(Vec::new(Global)))).0, Answer::Granted);
 }
 
 /// The cell of a page, of its events: what holds them, the text, and the bytes.

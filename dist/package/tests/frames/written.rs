@@ -3,10 +3,11 @@
 use crate::again::{cells_again, frame_again};
 use crate::sockets::{Narrow, Stops, is_told};
 use crate::words::all_of;
-use cqlp::frame::{AppendError, EncodeError, Frame, append, encode, encode_from};
+use cqlp::frame::{AppendError, EncodeError, Frame, Message, PageAppendError, PageAppender, Unfit, Value, append, encode, encode_from};
 use cqlp::memory;
 use cqlp::text::{Ending, ending_line, render_events};
 use cqlp::{Decoder, Event, Global, Limits, OfStd, Outcome, Sink, SinkFault, run};
+use std::mem::replace;
 
 pub const LIMITS: Limits = Limits { text: 65_536, cell: 65_536, entries: 65_536, depth: 64, types: true, parts: false };
 
@@ -17,6 +18,7 @@ const CUT: usize = 10;
 /// for a target that fails.
 pub fn said(name: &str, line: &str) -> String {
     let frame = all_of(line, |words| words.read());
+    append_by_cell(all_of(line, |words| words.read()), &frame);
     let said = match name.split_once(" --") {
         Some((_, "sum")) => sum(&frame),
         Some((_, "cut")) => cut(&frame),
@@ -44,6 +46,28 @@ fn appended(frame: &Frame) -> (Result<u32, EncodeError>, Vec<u8>) {
     let (before, came) = bytes.split_at(3);
     assert_eq!(before, [1, 2, 3]);
     (answer, came.to_vec())
+}
+
+/// A page whose cells are appended one by one to other bytes is what `encode` writes. Before each cell one that is no cell of any page is
+/// refused, and so is one after all; a page that is done too early, or given up, leaves the other bytes.
+fn append_by_cell(mut bare: Frame, frame: &Frame) {
+    let (Ok(_), bytes) = write(frame) else { return };
+    let Message::Rows(page) = &mut bare.message else { return };
+    let cells = replace(&mut page.cells, Vec::new().into());
+    let begin = || PageAppender::begin(&bare, vec![1, 2, 3].into()).expect("it is a page");
+    let mut page = begin();
+    for cell in &cells {
+        assert_eq!(page.cell(&Value::Tuple(Vec::new().into())), Err(PageAppendError::Unfit(Unfit::CellType)));
+        assert_eq!(page.cell(cell), Ok(()));
+    }
+    assert_eq!(page.cell(&Value::Null), Err(PageAppendError::OutOfTurn));
+    let appended = page.finish().expect("all cells are there");
+    assert_eq!((&appended[..3], &appended[3..]), (&[1, 2, 3][..], &bytes[..]));
+    assert_eq!(begin().cancel()[..], [1, 2, 3]);
+    if !cells.is_empty() {
+        let early = begin().finish().expect_err("cells are to come");
+        assert_eq!((early.why, &early.bytes[..]), (PageAppendError::NotDone, &[1, 2, 3][..]));
+    }
 }
 
 /// The answer, the bytes, the lines of their events, the verdict, how many rests of the bytes are written after a stop, how many stops

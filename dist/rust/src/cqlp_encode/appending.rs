@@ -66,7 +66,7 @@ fn extend(frame: &Frame, bytes: &mut Vec<u8>) -> Option<u32>
 
 /// Writes nine bytes and the parts of a frame, each once it is measured, and answers how many bytes these are, if all parts fit and the
 /// target took them all.
-fn write_checked<W: Target>(frame: &Frame, target: &mut W) -> Option<u32>
+pub fn write_checked<W: Target>(frame: &Frame, target: &mut W) -> Option<u32>
 {
     let mut walk = Checked {
         out: Staged::new(target, 0),

@@ -5,6 +5,7 @@ mod appending;
 mod binding;
 mod fields;
 mod kept_values;
+mod page_appending;
 mod page_writer;
 mod parts;
 mod staged;
@@ -15,6 +16,7 @@ mod writing;
 
 pub use appending::{AppendError, append};
 pub use binding::{BindError, bind_value, raw_value};
+pub use page_appending::{NotAppended, PageAppendError, PageAppender};
 pub use page_writer::{PageError, PageWriter};
 pub use value_writing::{ValueError, write_value};
 pub use writing::{EncodeError, encode, encode_from};

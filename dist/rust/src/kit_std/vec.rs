@@ -97,7 +97,19 @@ impl<T: Copy, A: Allocator> Vec<T, A> {
     }
 
     /// Adds copies of these items at the end.
+    #[inline(always)]
     pub fn extend_from_slice(&mut self, items: &[T]) -> Result<(), AllocError> {
+        if items.len() > self.items.capacity() - self.items.len() {
+            return self.extend_growing(items);
+        }
+        self.items.extend_from_slice(items);
+        Ok(())
+    }
+
+    /// The same where there is no room for them.
+    #[cold]
+    #[inline(never)]
+    fn extend_growing(&mut self, items: &[T]) -> Result<(), AllocError> {
         self.items.try_reserve(items.len()).map(|()| self.items.extend_from_slice(items)).map_err(|_| AllocError)
     }
 
