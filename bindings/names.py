@@ -37,7 +37,10 @@ def group_of(group, word_of):
 
 
 def codes():
-    return {number: camel(word) for word, number in constants(NUMBERS).items() if word.split("_")[0] not in GROUPS}
+    """Those of the sources, and the one that bindings/c/layout.c answers before a call comes to them."""
+    named = {number: camel(word) for word, number in constants(NUMBERS).items() if word.split("_")[0] not in GROUPS}
+    other = re.search(r"^#define CQLP_OTHER_LAYOUT (\d+)\b", read("include/cqlp.h"), re.M)
+    return {**named, int(other.group(1)): "OtherLayout"}
 
 
 def lines_have(enum, group):

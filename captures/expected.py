@@ -84,13 +84,13 @@ def content_6(ip, beyond):
     size, kind = struct.unpack_from('>HB', ip, 4)
     rest = ip[40:]
     size = size or len(rest) + beyond
-    while kind in (0, 43, 60):
+    while kind in (0, 43, 44, 51, 60):
         want(len(rest) >= 2, 'CutInIp')
-        length = (rest[1] + 1) * 8
+        length = {44: 8, 51: (rest[1] + 2) * 4}.get(kind, (rest[1] + 1) * 8)
         want(length <= size, 'BadIpLength')
         want(length <= len(rest), 'CutInIp')
+        want(kind != 44 or struct.unpack_from('>H', rest, 2)[0] & 0xfff9 == 0, 'Fragment')
         kind, size, rest = rest[0], size - length, rest[length:]
-    want(kind != 44, 'Fragment')
     want(kind == 6, 'NotTcp')
     return ip[8:24], ip[24:40], size, rest
 

@@ -8,11 +8,16 @@ requests     1,024 connections, of each of which 100 requests wait with all that
 contents     256 connections, of each of which both directions have a text that is not all there, the responses types of columns too, and then as much as there is
              room for comes too early
 packets      packets as long as a record may have, and IP and TCP headers whose lengths are the greatest
+headers      a request over IPv6, before whose segments headers come: of fragments that are whole packets, authentication, options; and two of fragments
+             that are not
 record       a record whose length is the greatest that its field can say
 batches      BATCHes and what answers them: of no statement, of a text and an id, of a statement that was prepared, of a long text, of a kind of statement
              that there is none of, and one that is compressed
 prepared     one connection, on which statements are prepared and executed, and pages come that describe no columns
 statements   one connection, on which 300 statements are prepared, each with as many columns as are known, and executed
+flight       one connection, on which 100 requests are sent before the first of their 100 responses
+versions     three connections: one begins in version 5 on both sides, one is in version 3 from the middle, and one is from the middle of a body
+tls          one connection, which begins with TLS on both sides
 pages        one connection, whose responses are five pages in pieces: of the third a cell has no lawful length, within the fourth three bytes are
              lost, and within the fifth the capture ends
 block        a pcapng file with as many interfaces as there may be, options and a packet of 262,144 bytes, and a block of 4 GiB that never comes
@@ -232,6 +237,48 @@ def blocks():
     yield struct.pack("<II", 0x0BAD, 0xFFFFFFFC) + bytes(1_000_000)
 
 
+def over_6(number, payload, *headers):
+    """A record of a packet of IPv6, with each of these headers: its number, and its bytes after the number of the next."""
+    kind, content = 6, segment(0, 10_000, number, payload)[20:]
+    for before, rest in reversed(headers):
+        kind, content = before, bytes([kind]) + rest + content
+    return record(struct.pack(">IHBB", 6 << 28, len(content), kind, 64) + (1).to_bytes(16) + (2).to_bytes(16) + content)
+
+
+def headers():
+    options, whole, authentication = (0, bytes(7)), (44, bytes(7)), (51, b"\4" + bytes(22))
+    first, last = (44, b"\0\0\1" + bytes(4)), (44, b"\0\0\x08" + bytes(4))
+    sent = query(0)
+    for i, before in enumerate([(), (whole,), (authentication,), (options, whole, authentication), (first,), (options, last)]):
+        yield over_6(i * 90, sent[i * 90:i * 90 + 90], *before)
+
+
+def on(port, *directions, syn=True):
+    """A connection from this port, of whose directions, requests first, these are the bytes, each before the others in a segment."""
+    for is_response, payloads in enumerate(directions):
+        number = 0
+        if syn:
+            yield record(segment(1, port, number, b"", is_response, flags=SYN))
+            number = 1
+        for payload in payloads:
+            yield record(segment(1, port, number, payload, is_response))
+            number += len(payload)
+
+
+def flight():
+    yield from on(10_000, map(query, range(100)), [frame(0x84, 0, i, 0x08, b"\0\0\0\1") for i in range(100)])
+
+
+def versions():
+    yield from on(10_000, [frame(0x05, 0, 0, 0x05, b"")], [frame(0x85, 0, 0, 0x06, b"\0\0")])
+    yield from on(10_001, [frame(0x03, 0, 0, 0x05, b"")], [frame(0x83, 0, 0, 0x06, b"\0\0")], syn=False)
+    yield from on(10_002, [b"\5\0\0\0c" + bytes(9)], [b"\x81" * 20], syn=False)
+
+
+def tls():
+    yield from on(10_000, [bytes.fromhex("1603010200010001fc")], [bytes.fromhex("160303007a02000076")])
+
+
 def greatest_record():
     yield record(bytes(1_000), 0xFFFFFFFF, 0xFFFFFFFF)
 
@@ -246,7 +293,7 @@ def capture(kind, *count):
         return blocks()
     made = {"connections": connections, "lost": lost, "requests": requests, "contents": contents, "pages": pages, "packets": packets,
             "prepared": lambda: in_turn(statements_in_turn()), "statements": lambda: in_turn(many_statements()),
-            "record": greatest_record, "batches": batches}[kind]
+            "headers": headers, "record": greatest_record, "batches": batches, "flight": flight, "versions": versions, "tls": tls}[kind]
     return of_pcap(made(*map(int, count)))
 
 

@@ -74,9 +74,9 @@
  * is to live longer. The batch ends after an event whose content is in the decoder, so all contents of one batch can be read
  * together. A content of no bytes is no null pointer, so it may be copied as any other.
  *
- * Threads: a decoder and a core have no thread of their own and take no lock. A handle may go from one thread to another
- * between two calls, if the program orders them (by a lock, a thread's start or join, or a sequentially consistent
- * atomic), and each handle is in one call at a time. Different handles share nothing, and may be used at the same time.
+ * Threads: a decoder and a core have no thread of their own and take no lock, so no call waits for another one: the program sees to it that each
+ * handle is in one call at a time. A handle may go from one thread to another between two calls, if the program orders them (by a lock, a
+ * thread's start or join, or a sequentially consistent atomic). Different handles share nothing, and may be used at the same time.
  * That a handle may go to another thread is proved of each but that of a page.
  *
  * The numbers below never change; new ones come at the end of their group, so take a number that you do not know as one to
@@ -91,6 +91,13 @@
 /* The version of this file and of its library. */
 #define CQLP_VERSION "0.1.0"
 #define CQLP_VERSION_NUMBER 1000     /* 1000000 for each of its first part, 1000 of its second, 1 of its third */
+
+/* How the structs below lie in memory: a number that is another one where any of them lies otherwise. The calls that make a handle or are given none
+ * (cqlp_new, cqlp_new_lenient, cqlp_check, cqlp_types_of, cqlp_take_given, cqlp_columns_new, cqlp_client_new, cqlp_server_new, cqlp_write_header,
+ * cqlp_encode, cqlp_page_measure, cqlp_page_begin) tell it to the library. One whose structs lie otherwise answers CQLP_OTHER_LAYOUT and touches none of
+ * the caller's; so does each to a program that was compiled with a header without this number. A wrapper in another language makes these calls by
+ * their names with _by_layout, as at the end of this file, with the number of the layout that it has itself. */
+#define CQLP_LAYOUT 0xCF3119DD
 
 #ifdef __cplusplus
 extern "C" {
@@ -147,7 +154,7 @@ extern "C" {
 #define CQLP_NO_ROWS 46              /* the last event of a head is no count of rows */
 #define CQLP_NOT_PAGE 47             /* the head is that of another frame than a page */
 #define CQLP_TOO_MANY_ROWS 48        /* there are more than 2147483647 rows */
-#define CQLP_BAD_SIZE 49             /* no cells of as many rows and columns have this many bytes */
+#define CQLP_BAD_SIZE 49             /* no call answers it */
 #define CQLP_PAST_SIZE 50            /* the cells would have more bytes than were said */
 #define CQLP_NOT_ENDED 51            /* the last cell has begun and not ended */
 #define CQLP_NO_TYPE 52              /* the type of a column is the type of no cell */
@@ -160,6 +167,7 @@ extern "C" {
 #define CQLP_UNSUPPORTED 62          /* values of the kind have items */
 #define CQLP_NO_COLUMNS 63           /* the handle has no columns */
 #define CQLP_NO_COLUMN 64            /* there is no column of this number */
+#define CQLP_OTHER_LAYOUT 65         /* the caller was compiled with a header whose structs lie otherwise than the library's */
 
 /* Why a batch of events ends. */
 #define CQLP_STOP_MORE 0             /* all of the input was used, and more is wanted */
@@ -498,7 +506,9 @@ typedef struct cqlp_batch_limits {
   uint32_t content; /* how many bytes one value may have */
 } cqlp_batch_limits;
 
-/* The arrays of a column, in the layout of Apache Arrow; 64 bytes. A bit of an array of bits is the least of its byte first. */
+/* The arrays of a column, in the layout of Apache Arrow; 64 bytes. A bit of an array of bits is the least of its byte first. Each array that has
+ * something begins where malloc gave memory, so it is aligned as C says, to 16 bytes where a pointer has 8: Arrow asks for 8. For the 64 that it
+ * prefers, and for the bytes up to the next 8 or 64, which are not there, copy it. */
 typedef struct cqlp_column {
   const uint8_t *values;   /* the values, one after the other, zeros where a cell has none: numbers with their lowest byte first; of booleans a bit each */
   const uint64_t *offsets; /* where each value begins among these bytes, and where the last one ends */
@@ -589,21 +599,21 @@ typedef struct cqlp_put {
  * runs out of memory.
  * Answers CQLP_DONE; else the handle is as it was: CQLP_BAD_TEXT, CQLP_BAD_CELL, CQLP_BAD_ENTRIES or CQLP_BAD_DEPTH for the
  * first limit in this order that is out of its range, CQLP_NO_MEMORY, or CQLP_IN_USE where the handle has a decoder. */
-uint32_t cqlp_new(const cqlp_limits *limits, cqlp_decoder *decoder);
+static inline uint32_t cqlp_new(const cqlp_limits *limits, cqlp_decoder *decoder);
 
 /* The same, for a lenient reading, which takes what nodes and drivers send against the standard, as a time of 24 hours: a content that its
  * type does not have, by its length or by its bytes, is put as a CQLP_TAG_LEAF of the kind CQLP_KIND_RAW with all its bytes; bytes after the
  * last field of a tuple or a udt come as CQLP_TAG_PARTs of the level of the fields; a type option of an id that no kind has is put as a
  * CQLP_TAG_TYPE_NODE of the kind CQLP_KIND_RAW. The reading goes on. All else is read as by a decoder that cqlp_new makes.
  * Answers what cqlp_new does. */
-uint32_t cqlp_new_lenient(const cqlp_limits *limits, cqlp_decoder *decoder);
+static inline uint32_t cqlp_new_lenient(const cqlp_limits *limits, cqlp_decoder *decoder);
 
 /* Takes the next bytes of the stream, and puts the events that they end into the array, at most `room`; the members after
- * them stay as they were. `batch` says how many bytes were used and why it stopped:
+ * them stay as they were. **A loop `while (used < length)` hangs: the end of a frame may take one more call, with no bytes. Call it again
+ * while `stop` is CQLP_STOP_FULL**, as the loop at the head of this file does. `batch` says how many bytes were used and why it stopped:
  * - CQLP_STOP_MORE: all of the input was used. Give the bytes that come after it.
  * - CQLP_STOP_FULL: the array is full, or the last content lies in the decoder. Give the rest of the input again, from
- *   `used` on, also where nothing is left of it: an end of a frame or of a value may still be due. With a `room` over 0 there
- *   is at least one event. A call with a `room` of 0 uses no byte and answers this, before a refusal.
+ *   `used` on, also where nothing is left of it. With a `room` over 0 there is at least one event. A call with a `room` of 0 uses no byte and answers this, before a refusal.
  * - CQLP_STOP_REFUSED: the bytes after those used are no frame of the protocol, or past a limit. The events before them are
  *   in the array. Every later call answers the same, and no event, also one with a `room` of 0, until the frame is passed over.
  * After a cqlp_skip the first bytes are used unread, those that the frame still has, and `used` counts them too, also with a `room` of 0.
@@ -639,13 +649,13 @@ uint32_t cqlp_free(cqlp_decoder *decoder);
 
 /* How a stream ends that is there whole: what a decoder with these limits says of it. It keeps nothing.
  * Answers CQLP_DONE; else `end` is as it was: a bad limit as in cqlp_new, or CQLP_NO_MEMORY. */
-uint32_t cqlp_check(const cqlp_limits *limits, const uint8_t *stream, size_t length, cqlp_end *end);
+static inline uint32_t cqlp_check(const cqlp_limits *limits, const uint8_t *stream, size_t length, cqlp_end *end);
 
 /* Puts a copy of the types of the metadata that was read last into a handle that has no table: after the End of a RESULT of the kind
  * PREPARED those of the result's columns, after that of a page those of its columns. It changes nothing in the decoder. The copy has
  * room for as many type options as the decoder's limit `entries`, however few they are.
  * Answers CQLP_DONE; else the handle is as it was: CQLP_NO_DECODER, CQLP_IN_USE where the handle has a table, or CQLP_NO_MEMORY. */
-uint32_t cqlp_types_of(cqlp_decoder *decoder, cqlp_types *types);
+static inline uint32_t cqlp_types_of(cqlp_decoder *decoder, cqlp_types *types);
 
 /* Gives the handle's table to a decoder, for a page without metadata, as EXECUTE asks for it: the cells of the first page that has the flag
  * No_metadata, section 4.2.5.2, and as many columns as the table, are read by its types, and no other page after it, unless the table is
@@ -659,7 +669,7 @@ uint32_t cqlp_give(cqlp_decoder *decoder, cqlp_types *types);
  * for memory.
  * Answers CQLP_DONE; else nothing changes: CQLP_NO_DECODER, CQLP_IN_USE where the handle has a table, CQLP_NO_TYPES where the decoder has
  * none or its table types the frame under way, or CQLP_NO_MEMORY. */
-uint32_t cqlp_take_given(cqlp_decoder *decoder, cqlp_types *types);
+static inline uint32_t cqlp_take_given(cqlp_decoder *decoder, cqlp_types *types);
 
 /* Frees the table, and what memory the handle has where it gave its table away, and leaves a handle that has none.
  * Answers CQLP_DONE, or CQLP_NO_TYPES where there was nothing, which does nothing. */
@@ -669,7 +679,7 @@ uint32_t cqlp_types_free(cqlp_types *types);
  * for here: for each column `bytes` and `content`, 8 bytes for each row and one more, and three bits for each row.
  * Answers CQLP_DONE; else the handle is as it was, and the first of these that is so: CQLP_IN_USE, CQLP_TOO_MANY_COLUMNS, CQLP_BAD_KIND,
  * CQLP_UNSUPPORTED, CQLP_NO_MEMORY. (Without memory for the kinds it is CQLP_NO_MEMORY before CQLP_BAD_KIND.) */
-uint32_t cqlp_columns_new(const cqlp_batch_limits *limits, const uint8_t *kinds, size_t count, cqlp_columns *columns);
+static inline uint32_t cqlp_columns_new(const cqlp_batch_limits *limits, const uint8_t *kinds, size_t count, cqlp_columns *columns);
 
 /* Reads on, as cqlp_next does, with cells of a page put into the columns: those that come in their order, of their column's kind, whole and not
  * longer than `content`. It stops, and says so in the batch,
@@ -698,7 +708,7 @@ uint32_t cqlp_columns_free(cqlp_columns *columns);
  * may be open at a time; their stream ids are those below it. All of its memory is asked for here.
  * Answers CQLP_DONE; else the handle is as it was: CQLP_BAD_SLOTS, CQLP_NO_MEMORY, or CQLP_IN_USE where the handle has a
  * core. */
-uint32_t cqlp_client_new(uint32_t slots, cqlp_client *client);
+static inline uint32_t cqlp_client_new(uint32_t slots, cqlp_client *client);
 
 /* Begins a request of the kind that has this opcode, and puts its ticket: the least stream id that is free, and the next
  * number. Send its message, whose header has this id, in the order in which requests begin. `carried` is any number of the
@@ -732,7 +742,7 @@ uint32_t cqlp_client_free(cqlp_client *client);
  * be open at a time; their stream ids are those below it. All of its memory is asked for here.
  * Answers CQLP_DONE; else the handle is as it was: CQLP_BAD_SLOTS, CQLP_NO_MEMORY, or CQLP_IN_USE where the handle has a
  * core. */
-uint32_t cqlp_server_new(uint32_t slots, cqlp_server *server);
+static inline uint32_t cqlp_server_new(uint32_t slots, cqlp_server *server);
 
 /* Takes the event of a frame that came, one with CQLP_TAG_FRAME as cqlp_next put it, as a request. Its stream id is taken until it
  * is answered. `carried` is any number of the caller's: the answer to this request tells it again.
@@ -770,7 +780,7 @@ uint32_t cqlp_version_error(const uint8_t header[9], uint8_t *bytes, size_t room
 /* Writes the nine bytes of a header, of which the decoder reads these fields again.
  * Answers CQLP_DONE; else the bytes are as they were, and the first of these that is so: CQLP_COMPRESSED, CQLP_BAD_OPCODE,
  * CQLP_BAD_DIRECTION, CQLP_BAD_LENGTH. */
-uint32_t cqlp_write_header(const cqlp_header *fields, uint8_t bytes[9]);
+static inline uint32_t cqlp_write_header(const cqlp_header *fields, uint8_t bytes[9]);
 
 /* Writes the frame that has these events: those that cqlp_next puts of it, in their order, a CQLP_TAG_FRAME, then its fields, and
  * CQLP_TAG_END, which may be left out. `contents` has the contents of the events, one after the other: of each text, of each CQLP_TAG_BYTES and
@@ -792,8 +802,8 @@ uint32_t cqlp_write_header(const cqlp_header *fields, uint8_t bytes[9]);
  *   due, or does not agree with what comes before it, as a count and how many come or a cell and its column's type, or some are missing, or a text has
  *   more bytes than its length can say.
  * - CQLP_NO_MEMORY, and `event` says at which event. */
-uint32_t cqlp_encode(const cqlp_event *events, size_t count, const uint8_t *contents, size_t length, uint8_t *bytes, size_t room,
-                     cqlp_encoded *encoded);
+static inline uint32_t cqlp_encode(const cqlp_event *events, size_t count, const uint8_t *contents, size_t length, uint8_t *bytes,
+                                   size_t room, cqlp_encoded *encoded);
 
 /* A page of any size is written in pieces: cqlp_page_begin puts its head, and cqlp_page_put its cells, as many at a time as the caller likes. The events
  * are those that cqlp_next puts of the page, in their order, with their contents as in cqlp_encode: the head has the CQLP_TAG_FRAME and all else up to
@@ -804,7 +814,7 @@ uint32_t cqlp_encode(const cqlp_event *events, size_t count, const uint8_t *cont
  * Adds to `size` how many bytes of a page these events tell of: none but those of cells tell of any. It asks for no memory. `size` is 2^64 - 1 where
  * it would be more.
  * Answers CQLP_DONE; else `size` is as it was: CQLP_UNBUILT or CQLP_NO_EVENT, as in cqlp_encode, of the event that `event` names. */
-uint32_t cqlp_page_measure(const cqlp_event *events, size_t count, const uint8_t *contents, size_t length, cqlp_measured *measured);
+static inline uint32_t cqlp_page_measure(const cqlp_event *events, size_t count, const uint8_t *contents, size_t length, cqlp_measured *measured);
 
 /* Begins a page in a handle that has none, and puts all of its bytes before the first cell. `size` is how many bytes its cells will have. Where there is
  * no event, no content or no room, its pointer may be null. It asks for memory for a copy of the contents and for each event, keeps what the head
@@ -814,11 +824,10 @@ uint32_t cqlp_page_measure(const cqlp_event *events, size_t count, const uint8_t
  * - CQLP_NO_ROOM: `length` says how many bytes the head has.
  * - Of the event that `event` names, and the first that is so: those of cqlp_encode; CQLP_NO_ROWS where the last one is no count of rows.
  * - Of all events together: CQLP_LEFT_OVER; CQLP_MISPLACED where no header or an end comes before the count; CQLP_NO_SUCH_FRAME where no page, also without
- *   rows, has this head, as in cqlp_encode; CQLP_NOT_PAGE; CQLP_TOO_MANY_ROWS; CQLP_BAD_LENGTH where the body would have more than 268435456 bytes;
- *   CQLP_BAD_SIZE where `size` is less than four for each cell, or not 0 where there is no cell.
+ *   rows, has this head, as in cqlp_encode; CQLP_NOT_PAGE; CQLP_TOO_MANY_ROWS; CQLP_BAD_LENGTH where the body would have more than 268435456 bytes.
  * - CQLP_NO_MEMORY. */
-uint32_t cqlp_page_begin(const cqlp_event *events, size_t count, const uint8_t *contents, size_t length, uint64_t size, uint8_t *bytes, size_t room,
-                         cqlp_page *page, cqlp_encoded *begun);
+static inline uint32_t cqlp_page_begin(const cqlp_event *events, size_t count, const uint8_t *contents, size_t length, uint64_t size,
+                                       uint8_t *bytes, size_t room, cqlp_page *page, cqlp_encoded *begun);
 
 /* Puts the next cells of a page, each whole, and says how many events they have and how many bytes. It goes on over all events, or stops at the first
  * that is refused, or whose cell has no room. The cells before are put, and the page stands behind them; of the cell that is refused nothing is put, and
@@ -851,6 +860,72 @@ const char *cqlp_name(uint32_t group, int64_t number);
 /* The version of the library that is linked or loaded, as CQLP_VERSION and CQLP_VERSION_NUMBER are that of this file. */
 const char *cqlp_version(void);
 uint32_t cqlp_version_number(void);
+
+/* What the calls above are that tell the layout to the library. */
+uint32_t cqlp_new_by_layout(uint32_t layout, const cqlp_limits *limits, cqlp_decoder *decoder);
+static inline uint32_t cqlp_new(const cqlp_limits *limits, cqlp_decoder *decoder) {
+  return cqlp_new_by_layout(CQLP_LAYOUT, limits, decoder);
+}
+
+uint32_t cqlp_new_lenient_by_layout(uint32_t layout, const cqlp_limits *limits, cqlp_decoder *decoder);
+static inline uint32_t cqlp_new_lenient(const cqlp_limits *limits, cqlp_decoder *decoder) {
+  return cqlp_new_lenient_by_layout(CQLP_LAYOUT, limits, decoder);
+}
+
+uint32_t cqlp_check_by_layout(uint32_t layout, const cqlp_limits *limits, const uint8_t *stream, size_t length, cqlp_end *end);
+static inline uint32_t cqlp_check(const cqlp_limits *limits, const uint8_t *stream, size_t length, cqlp_end *end) {
+  return cqlp_check_by_layout(CQLP_LAYOUT, limits, stream, length, end);
+}
+
+uint32_t cqlp_types_of_by_layout(uint32_t layout, cqlp_decoder *decoder, cqlp_types *types);
+static inline uint32_t cqlp_types_of(cqlp_decoder *decoder, cqlp_types *types) {
+  return cqlp_types_of_by_layout(CQLP_LAYOUT, decoder, types);
+}
+
+uint32_t cqlp_take_given_by_layout(uint32_t layout, cqlp_decoder *decoder, cqlp_types *types);
+static inline uint32_t cqlp_take_given(cqlp_decoder *decoder, cqlp_types *types) {
+  return cqlp_take_given_by_layout(CQLP_LAYOUT, decoder, types);
+}
+
+uint32_t cqlp_columns_new_by_layout(uint32_t layout, const cqlp_batch_limits *limits, const uint8_t *kinds, size_t count, cqlp_columns *columns);
+static inline uint32_t cqlp_columns_new(const cqlp_batch_limits *limits, const uint8_t *kinds, size_t count, cqlp_columns *columns) {
+  return cqlp_columns_new_by_layout(CQLP_LAYOUT, limits, kinds, count, columns);
+}
+
+uint32_t cqlp_client_new_by_layout(uint32_t layout, uint32_t slots, cqlp_client *client);
+static inline uint32_t cqlp_client_new(uint32_t slots, cqlp_client *client) {
+  return cqlp_client_new_by_layout(CQLP_LAYOUT, slots, client);
+}
+
+uint32_t cqlp_server_new_by_layout(uint32_t layout, uint32_t slots, cqlp_server *server);
+static inline uint32_t cqlp_server_new(uint32_t slots, cqlp_server *server) {
+  return cqlp_server_new_by_layout(CQLP_LAYOUT, slots, server);
+}
+
+uint32_t cqlp_write_header_by_layout(uint32_t layout, const cqlp_header *fields, uint8_t bytes[9]);
+static inline uint32_t cqlp_write_header(const cqlp_header *fields, uint8_t bytes[9]) {
+  return cqlp_write_header_by_layout(CQLP_LAYOUT, fields, bytes);
+}
+
+uint32_t cqlp_encode_by_layout(uint32_t layout, const cqlp_event *events, size_t count, const uint8_t *contents, size_t length,
+                               uint8_t *bytes, size_t room, cqlp_encoded *encoded);
+static inline uint32_t cqlp_encode(const cqlp_event *events, size_t count, const uint8_t *contents, size_t length, uint8_t *bytes,
+                                   size_t room, cqlp_encoded *encoded) {
+  return cqlp_encode_by_layout(CQLP_LAYOUT, events, count, contents, length, bytes, room, encoded);
+}
+
+uint32_t cqlp_page_measure_by_layout(uint32_t layout, const cqlp_event *events, size_t count, const uint8_t *contents, size_t length,
+                                     cqlp_measured *measured);
+static inline uint32_t cqlp_page_measure(const cqlp_event *events, size_t count, const uint8_t *contents, size_t length, cqlp_measured *measured) {
+  return cqlp_page_measure_by_layout(CQLP_LAYOUT, events, count, contents, length, measured);
+}
+
+uint32_t cqlp_page_begin_by_layout(uint32_t layout, const cqlp_event *events, size_t count, const uint8_t *contents, size_t length,
+                                   uint64_t size, uint8_t *bytes, size_t room, cqlp_page *page, cqlp_encoded *begun);
+static inline uint32_t cqlp_page_begin(const cqlp_event *events, size_t count, const uint8_t *contents, size_t length, uint64_t size,
+                                       uint8_t *bytes, size_t room, cqlp_page *page, cqlp_encoded *begun) {
+  return cqlp_page_begin_by_layout(CQLP_LAYOUT, events, count, contents, length, size, bytes, room, page, begun);
+}
 
 #ifdef __cplusplus
 }

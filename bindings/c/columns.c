@@ -23,6 +23,9 @@ static void see_arrays(told *told, cqlp_columns *columns, int print) {
   for (size_t k = 0; k < 3; k++) {
     CHECK(cqlp_columns_get(columns, k, &column) == CQLP_DONE && column.kind == KINDS[k]);
     size_t bits = (column.cells + 7) / 8;
+    const uintptr_t places[] = {column.size ? (uintptr_t)column.values : 0, column.bounds ? (uintptr_t)column.offsets : 0,
+                                bits ? (uintptr_t)column.validity : 0, bits ? (uintptr_t)column.empties : 0};
+    for (size_t i = 0; i < 4; i++) CHECK(places[i] % _Alignof(max_align_t) == 0);
     told->arrays = add(told->arrays, column.values, column.size);
     told->arrays = add(told->arrays, (const uint8_t *)column.offsets, column.bounds * sizeof *column.offsets);
     told->arrays = add(told->arrays, column.validity, bits);

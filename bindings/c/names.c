@@ -21,6 +21,7 @@ static const char *const CODE[] = {
     [CQLP_NO_TYPE] = "NoType", [CQLP_NO_VALUE] = "NoValue", [CQLP_CELLS_MISSING] = "CellsMissing", [CQLP_BYTES_MISSING] = "BytesMissing",
     [CQLP_TOO_MANY_COLUMNS] = "TooManyColumns", [CQLP_BAD_KIND] = "BadKind",
     [CQLP_UNSUPPORTED] = "Unsupported", [CQLP_NO_COLUMNS] = "NoColumns", [CQLP_NO_COLUMN] = "NoColumn",
+    [CQLP_OTHER_LAYOUT] = "OtherLayout",
 };
 
 static const char *const STOP[] = {

@@ -2,12 +2,6 @@
  * prints, and bindings/c/expected is what it must print. */
 #include "give.h"
 
-static_assert(sizeof(cqlp_event) == 56 + 2 * sizeof(void *), "as in crates/cqlp_c/src/event.rt");
-static_assert(offsetof(cqlp_event, bytes) == 32 + 2 * sizeof(void *), "as in crates/cqlp_c/src/event.rt");
-static_assert(offsetof(cqlp_event, octets) == 54 + 2 * sizeof(void *), "as in crates/cqlp_c/src/event.rt");
-static_assert(sizeof(cqlp_limits) == 20, "as in crates/cqlp_c/src/shown.rt");
-static_assert(sizeof(cqlp_holding) == 12, "as in crates/cqlp_c/src/shown.rt");
-
 /* A response with one page, of one row with one list<int>, whose elements are 1 and null. */
 static const uint8_t page[] = {0x84, 0, 0, 0, 8, 0, 0, 0, 49, 0, 0, 0, 2, 0, 0, 0, 1, 0, 0, 0, 1, 0, 1, 'k', 0, 1, 't', 0, 1,
                                'c', 0, 0x20, 0, 9, 0, 0, 0, 1, 0, 0, 0, 16, 0, 0, 0, 2, 0, 0, 0, 4, 0, 0, 0, 1, 0xFF, 0xFF,

@@ -1,24 +1,30 @@
+//go:build cgo
+
 package cqlp
 
 // What writes bodies. This is plain Go, and nothing of the proved library stands behind it but the header; the tests read all that it writes
-// with the decoder. A text or a list that is longer than its length can say is refused, and nothing else is looked at.
+// with the decoder. A text that is not UTF-8 is refused, and a text or a list that is longer than its length can say; nothing else is looked at.
 
 import (
 	"errors"
 	"fmt"
 	"math"
 	"net"
+	"unicode/utf8"
 )
 
 // ErrTooLong says that a text, a list or a body is longer than its length can say.
 var ErrTooLong = errors.New("cqlp: longer than its length can say")
+
+// ErrNotText says that a text is not UTF-8, or a string of an ascii column not ASCII, so that no decoder would read it.
+var ErrNotText = errors.New("cqlp: a text that is not UTF-8, or not ASCII where it has to be")
 
 // ErrNotWritten says that there is no writer of such a message, type or value here.
 var ErrNotWritten = errors.New("cqlp: there is no writer of this")
 
 // AppendMessage appends a frame without flags under this stream id. The values of Rows are those that Bind takes; columns are told with their
 // tables, but where the flag 4 of the metadata is set: then Columns may have their types, and a reader has to know them. The error is
-// ErrTooLong, ErrNotWritten, or one that says what does not go together, and b is then as it was.
+// ErrTooLong, ErrNotText, ErrNotWritten, or one that says what does not go together, and b is then as it was.
 func AppendMessage(b []byte, stream int16, m Message) ([]byte, error) {
 	return AppendFrame(b, &Frame{Stream: stream, Message: m})
 }
@@ -88,8 +94,19 @@ func (w *writer) count(n int) {
 }
 
 func (w *writer) text(s string) {
+	w.isText(utf8.ValidString(s))
+	w.shortBytes(s)
+}
+
+func (w *writer) shortBytes(s string) {
 	w.count(len(s))
 	w.body = append(w.body, s...)
+}
+
+func (w *writer) isText(is bool) {
+	if !is && w.err == nil {
+		w.err = ErrNotText
+	}
 }
 
 func (w *writer) texts(texts ...string) {
@@ -105,6 +122,7 @@ func (w *writer) list(texts []string) {
 }
 
 func (w *writer) longText(s string) {
+	w.isText(utf8.ValidString(s))
 	w.length(len(s))
 	w.body = append(w.body, s...)
 }
@@ -168,7 +186,7 @@ func (w *writer) message(m Message) {
 	case *Prepare:
 		w.longText(m.Query)
 	case *Execute:
-		w.text(string(m.ID))
+		w.shortBytes(string(m.ID))
 		w.parameters(&m.Parameters)
 	case *Batch:
 		w.batch(m)
@@ -286,7 +304,8 @@ func (w *writer) serverError(m Message) {
 	case *AlreadyExists:
 		w.failure(ErrorAlreadyExists, m.Message, m.Keyspace, m.Table)
 	case *Unprepared:
-		w.failure(ErrorUnprepared, m.Message, string(m.ID))
+		w.failure(ErrorUnprepared, m.Message)
+		w.shortBytes(string(m.ID))
 	default:
 		w.err = fmt.Errorf("%w: %T", ErrNotWritten, m)
 	}
@@ -368,7 +387,7 @@ func (w *writer) batch(m *Batch) {
 	for _, statement := range m.Statements {
 		if statement.ID != nil {
 			w.byte(1)
-			w.text(string(statement.ID))
+			w.shortBytes(string(statement.ID))
 		} else {
 			w.byte(0)
 			w.longText(statement.Query)
@@ -382,7 +401,7 @@ func (w *writer) batch(m *Batch) {
 
 func (w *writer) prepared(m *Prepared) {
 	w.int(int32(ResultPrepared))
-	w.text(string(m.ID))
+	w.shortBytes(string(m.ID))
 	w.int(0)
 	w.int(int32(len(m.Bound)))
 	w.int(int32(len(m.Keys)))

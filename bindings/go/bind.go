@@ -1,3 +1,5 @@
+//go:build cgo
+
 package cqlp
 
 // What writes values. This is plain Go, as AppendMessage is.
@@ -10,12 +12,14 @@ import (
 	"net/netip"
 	"reflect"
 	"time"
+	"unicode/utf8"
 )
 
 // Bind makes a value of this type, as of a Column of Prepared.Bound. It takes what RowReader.Values gives of the type, and what Scan puts
 // it into: integers of any width in whose range they are, floats, strings and []byte, bool, time.Time, time.Duration, UUID, net.IP, netip.Addr,
-// *big.Int, Decimal, slices and maps of these, nil and pointers that are nil for null, Empty, and a Value as it is. The error says what does
-// not go together.
+// *big.Int, Decimal, slices and maps of these, nil and pointers that are nil for null, Empty, and a Value as it is. A string of a text has to be
+// one, or the error is ErrNotText; []byte is not looked at, since a lenient reading has it of what is none. Another error says what does not go
+// together.
 func Bind(typ Type, value any) (Value, error) {
 	if value, ok := value.(Value); ok {
 		return value, nil
@@ -60,7 +64,14 @@ func (w *writer) typed(typ Type, value any) {
 // content writes a value without its length, and says whether it is of the type.
 func (w *writer) content(typ Type, value any) bool {
 	switch typ.Kind {
-	case KindASCII, KindVarchar, KindBlob, KindCustom, KindRaw:
+	case KindASCII, KindVarchar:
+		at := len(w.body)
+		is := w.contentOf(value)
+		if _, lent := value.([]byte); !lent {
+			w.isText(areText(w.body[at:], typ.Kind))
+		}
+		return is
+	case KindBlob, KindCustom, KindRaw:
 		return w.contentOf(value)
 	case KindTinyint:
 		return w.integer(value, 1)
@@ -79,6 +90,16 @@ func (w *writer) content(typ Type, value any) bool {
 		return w.items(typ, value)
 	}
 	return w.scalar(typ.Kind, value)
+}
+
+// areText says whether these are a content of an ascii or a varchar.
+func areText(content []byte, kind Kind) bool {
+	for _, b := range content {
+		if kind == KindASCII && b >= utf8.RuneSelf {
+			return false
+		}
+	}
+	return utf8.Valid(content)
 }
 
 func (w *writer) contentOf(value any) bool {

@@ -1,6 +1,6 @@
-package cqlp
+//go:build cgo
 
-import "runtime"
+package cqlp
 
 // Empty is a value of no bytes, of a type that is neither a text nor bytes.
 type Empty struct{}
@@ -36,14 +36,18 @@ func (c *cells) begin(page *Metadata, types *Types) {
 	}
 }
 
+// clear leaves no row.
+func (c *cells) clear() {
+	c.events, c.starts, c.kept, c.memory = c.events[:0], c.starts[:0], 0, c.memory[:0]
+}
+
 // next gathers the events of the next row, where one comes.
 func (c *cells) next() bool {
-	c.events, c.starts, c.kept, c.memory = c.events[:0], c.starts[:0], 0, c.memory[:0]
+	c.clear()
 	if c.width == 0 {
 		return false
 	}
 	d := c.parser.reader.decoder
-	defer runtime.KeepAlive(d)
 	for open := false; open || len(c.starts) < c.width; {
 		if !c.comes() {
 			return false

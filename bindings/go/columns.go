@@ -9,7 +9,6 @@ import (
 	"fmt"
 	"io"
 	"math"
-	"runtime"
 	"unsafe"
 )
 
@@ -37,8 +36,8 @@ type BatchLimits struct {
 // DefaultBatchLimits are 8192 rows, and 64 MiB of memory.
 func DefaultBatchLimits() BatchLimits { return BatchLimits{Rows: 8192, Memory: 1 << 26} }
 
-// A ColumnArray has the values of a column of a batch, in the layout of Apache Arrow. Its slices lie in memory of C, and live until the next call
-// of the ColumnReader.
+// A ColumnArray has the values of a column of a batch, in the layout of Apache Arrow, copied out of the library's memory: each array begins at a
+// multiple of 8 bytes. The ColumnReader writes the next batch over them, and nothing else does: they outlive the reader.
 type ColumnArray struct {
 	// Column is what is told of the column; its name is empty where nothing is.
 	Column Column
@@ -164,8 +163,9 @@ type ColumnReader struct {
 	told   []Column
 	// how many rows of the page came before the batch, and which they are
 	first int
-	// the arrays of the batch, which are lent till the next call
+	// the arrays of the batch, and the memory that they lie in, of words so that numbers can be read there
 	arrays []ColumnArray
+	memory []uint64
 	count  int
 }
 
@@ -189,7 +189,12 @@ func NewColumnReader(source io.Reader, limits Limits, batch BatchLimits) (*Colum
 func (r *ColumnReader) Next() bool {
 	r.first += r.count
 	r.count, r.arrays = 0, r.arrays[:0]
-	r.clear()
+	if !r.parser.enter() {
+		r.within, r.filling = false, false
+		return false
+	}
+	defer r.decoder.leave()
+	C.cqlp_columns_clear(&r.decoder.box.columns)
 	for r.within || r.begins() {
 		if r.goOn() {
 			return true
@@ -198,7 +203,7 @@ func (r *ColumnReader) Next() bool {
 	return false
 }
 
-// Columns are the arrays of the batch, one for each column of its page. They live until the next call.
+// Columns are the arrays of the batch, one for each column of its page, until the next call of Next.
 func (r *ColumnReader) Columns() []ColumnArray { return r.arrays }
 
 // Rows is how many rows the batch has, and First which row of its page is the first of them, counted from 0.
@@ -214,20 +219,6 @@ func (r *ColumnReader) Err() error {
 		return err
 	}
 	return nil
-}
-
-// Close frees the arrays and the decoder; a second time does nothing.
-func (r *ColumnReader) Close() error {
-	r.within, r.filling, r.arrays, r.count = false, false, nil, 0
-	return r.Reader.Close()
-}
-
-// clear removes the rows that were lent.
-func (r *ColumnReader) clear() {
-	if box := r.decoder.box; box != nil {
-		C.cqlp_columns_clear(&box.columns)
-	}
-	runtime.KeepAlive(r.decoder)
 }
 
 // begins reads on up to the rows of the next page.
@@ -270,7 +261,6 @@ func (r *ColumnReader) beginPage(head Event) bool {
 
 // make makes arrays for the page, whose body has this many bytes. Those that are there are used again where they are as large.
 func (r *ColumnReader) make(body uint64) error {
-	defer runtime.KeepAlive(r.decoder)
 	width := r.page.Metadata.Width
 	if uint32(width) > r.limits.Entries {
 		return CodeTooManyColumns
@@ -372,7 +362,7 @@ func (r *ColumnReader) goOn() bool {
 		return p.failed == nil
 	}
 	err := r.fill()
-	r.lend()
+	r.copyOut()
 	if err == errFull {
 		return true
 	}
@@ -394,23 +384,47 @@ func (r *ColumnReader) goOn() bool {
 	return r.count > 0
 }
 
-// lend gives out the whole rows that came.
-func (r *ColumnReader) lend() {
-	defer runtime.KeepAlive(r.decoder)
-	r.arrays, r.count = r.arrays[:0], 0
-	if r.decoder.box == nil {
-		return
-	}
-	box := r.decoder.box
-	r.count = int(C.cqlp_box_rows(box, C.size_t(len(r.kinds))))
+// copyOut copies the whole rows that came.
+func (r *ColumnReader) copyOut() {
+	box, words := r.decoder.box, 0
+	r.arrays, r.count = r.arrays[:0], int(C.cqlp_box_rows(box, C.size_t(len(r.kinds))))
 	for i := range r.kinds {
 		C.cqlp_columns_get(&box.columns, C.size_t(i), &box.column)
 		found := arrayOf(&box.column, r.count)
 		if i < len(r.told) {
 			found.Column = r.told[i]
 		}
+		words += wordCount(found.Values) + len(found.Offsets) + wordCount(found.Valid) + wordCount(found.Empty)
 		r.arrays = append(r.arrays, found)
 	}
+	if cap(r.memory) < words {
+		r.memory = make([]uint64, words)
+	}
+	left := r.memory[:words]
+	for i := range r.arrays {
+		a := &r.arrays[i]
+		a.Values = copied(a.Values, &left)
+		if a.Offsets != nil {
+			bounds := left[:len(a.Offsets):len(a.Offsets)]
+			left = left[copy(bounds, a.Offsets):]
+			a.Offsets = bounds
+		}
+		a.Valid, a.Empty = copied(a.Valid, &left), copied(a.Empty, &left)
+	}
+}
+
+// wordCount is how many words of 8 bytes these take.
+func wordCount(b []byte) int { return (len(b) + 7) / 8 }
+
+// copied copies bytes to the first of the words that are left, and takes these from them.
+func copied(b []byte, left *[]uint64) []byte {
+	if len(b) == 0 {
+		return []byte{}
+	}
+	to := unsafe.Slice((*byte)(unsafe.Pointer(&(*left)[0])), len(b))
+	*left = (*left)[wordCount(b):]
+	copy(to, b)
+	return to
 }
 
 func bytesOf(first *C.uint8_t, length int) []byte {
@@ -420,7 +434,7 @@ func bytesOf(first *C.uint8_t, length int) []byte {
 	return unsafe.Slice((*byte)(unsafe.Pointer(first)), length)
 }
 
-// arrayOf has the first cells of a column.
+// arrayOf has the first cells of a column, in the memory of C.
 func arrayOf(native *C.cqlp_column, cells int) ColumnArray {
 	a := ColumnArray{Kind: Kind(native.kind), Cells: cells}
 	bits, size := (cells+7)/8, int(native.size)

@@ -19,6 +19,7 @@ import (
 	"fmt"
 	"io"
 	"runtime"
+	"sync/atomic"
 	"unsafe"
 )
 
@@ -172,10 +173,12 @@ const (
 	space = 1 << 16
 )
 
-// A Decoder reads the frames of one stream. It is not to be used by several goroutines at a time. A goroutine may move from one
-// thread to another between two calls, and the library's handle with it: that is proved.
+// A Decoder reads the frames of one stream. It is not to be used by several goroutines at a time, but for Close, which any may call. A
+// goroutine may move from one thread to another between two calls, and the library's handle with it: that is proved.
 type Decoder struct {
 	box *C.cqlp_box
+	// twice how many calls are under way, and one more once it is closed
+	calls atomic.Int64
 	// the events of the last batch that were not given out: from next to count
 	next, count int
 	// what the contents of the last batch are lent of, but for one that lies in the decoder, which is copied
@@ -205,16 +208,45 @@ func newDecoder(limits Limits, lenient C.int) (*Decoder, error) {
 	return d, nil
 }
 
+// enter begins a call, and says whether it may go on: it may not once the decoder is closed. Until its leave the memory of C stays.
+func (d *Decoder) enter() bool {
+	for {
+		calls := d.calls.Load()
+		if calls&1 != 0 {
+			return false
+		}
+		if d.calls.CompareAndSwap(calls, calls+2) {
+			return true
+		}
+	}
+}
+
+// leave ends a call. The last one of a decoder that is closed frees it.
+func (d *Decoder) leave() {
+	if d.calls.Add(-2) == 1 {
+		d.free()
+	}
+}
+
+// closed says whether it was closed, as it may be during a call.
+func (d *Decoder) closed() bool { return d.calls.Load()&1 != 0 }
+
+func (d *Decoder) free() {
+	C.cqlp_box_free(d.box)
+	d.box = nil
+	runtime.SetFinalizer(d, nil)
+}
+
 // Decode puts the events of the next bytes of the stream into events, no more than there is room for, and says how many, and how many
-// bytes of p were used: the next call takes those after them, p[n:]. It may leave room. The error is as that of Next, and none beside an
-// event. Room for 256 events costs the least.
+// bytes of p were used: the next call takes those after them, p[n:], also where none are left, up to the one that answers ErrMore. It may leave
+// room. The error is as that of Next, and none beside an event. Room for 256 events costs the least.
 //
 // Contents are lent of p, so they live as long as p is left as it is, but for that of the last event, which lives until the next call.
 func (d *Decoder) Decode(events []Event, p []byte) (count, n int, err error) {
-	defer runtime.KeepAlive(d)
-	if d.box == nil {
+	if !d.enter() {
 		return 0, 0, ErrClosed
 	}
+	defer d.leave()
 	if len(events) == 0 {
 		return 0, 0, nil
 	}
@@ -265,15 +297,16 @@ func (d *Decoder) full() bool {
 }
 
 // Next gives the next event of the stream, of which p has the bytes after those used so far, and says how many bytes of p were used:
-// the next call takes those after them, p[n:]. The error is ErrMore where all of p was used and no event is due, a *Refusal after the
+// the next call takes those after them, p[n:], also where none are left: a loop that ends once all bytes are used misses the end of a frame.
+// The error is ErrMore where all of p was used and no event is due, a *Refusal after the
 // last event of a stream that is refused, at every call before a Skip, and ErrClosed after Close.
 //
 // The content of the event lives until the next call.
 func (d *Decoder) Next(p []byte) (event Event, n int, err error) {
-	defer runtime.KeepAlive(d)
-	if d.box == nil {
+	if !d.enter() {
 		return Event{}, 0, ErrClosed
 	}
+	defer d.leave()
 	for d.next == d.count {
 		piece := p[n:]
 		if len(piece) > space {
@@ -331,10 +364,10 @@ func (d *Decoder) put(event *Event) {
 // error is CodeNotRefused, also while events before the refusal were not given out, CodeInHeader where what is refused is a header, so
 // that nobody knows where its frame ends, or CodeTooFar.
 func (d *Decoder) Skip() (Skipped, error) {
-	defer runtime.KeepAlive(d)
-	if d.box == nil {
+	if !d.enter() {
 		return Skipped{}, ErrClosed
 	}
+	defer d.leave()
 	if d.next < d.count {
 		return Skipped{}, CodeNotRefused
 	}
@@ -349,33 +382,40 @@ func (d *Decoder) Skip() (Skipped, error) {
 
 // Finish says how the stream ends, if it ends after the bytes that were used. It changes nothing.
 func (d *Decoder) Finish() (Verdict, error) {
-	defer runtime.KeepAlive(d)
-	if d.box == nil {
+	if !d.enter() {
 		return Verdict{}, ErrClosed
 	}
+	defer d.leave()
 	C.cqlp_finish(&d.box.decoder, &d.box.end)
 	return verdictOf(&d.box.end), nil
 }
 
 // Held says how much is held of the stream. It changes nothing.
 func (d *Decoder) Held() (Held, error) {
-	defer runtime.KeepAlive(d)
-	if d.box == nil {
+	if !d.enter() {
 		return Held{}, ErrClosed
 	}
+	defer d.leave()
 	C.cqlp_held(&d.box.decoder, &d.box.holding)
 	h := d.box.holding
 	return Held{uint32(h.bytes), uint32(h.entries), uint32(h.levels)}, nil
 }
 
-// Close frees the decoder; a second time does nothing. Each other call answers ErrClosed from then on.
+// Close frees the decoder, at the end of the call that is under way, if one is; a second time does nothing. Each other call answers
+// ErrClosed from then on. Any goroutine may call it at any time.
 func (d *Decoder) Close() error {
-	if d.box != nil {
-		C.cqlp_box_free(d.box)
-		d.box = nil
-		runtime.SetFinalizer(d, nil)
+	for {
+		calls := d.calls.Load()
+		if calls&1 != 0 {
+			return nil
+		}
+		if d.calls.CompareAndSwap(calls, calls|1) {
+			if calls == 0 {
+				d.free()
+			}
+			return nil
+		}
 	}
-	return nil
 }
 
 // Check says how a stream ends that is there whole: what a decoder with these limits says of it.

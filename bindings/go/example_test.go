@@ -8,7 +8,7 @@ import (
 	"log"
 	"os"
 
-	"cqlp"
+	"cqlp.example.org/cqlp"
 )
 
 // pages are two pages of bench/pages.py.

@@ -1,3 +1,5 @@
+//go:build cgo
+
 package cqlp
 
 import (
@@ -86,6 +88,10 @@ func newFrames(reader *Reader, err error) (*Frames, error) {
 // Next gives the next frame, which lives on. The error after the last one is as that of a Reader.
 func (f *Frames) Next() (*Frame, error) {
 	p := &f.parser
+	if !p.enter() {
+		return nil, p.failed
+	}
+	defer f.decoder.leave()
 	for {
 		head, err := p.begin()
 		if err != nil {
@@ -125,6 +131,15 @@ type parser struct {
 	reader *Reader
 	event  Event
 	failed error
+}
+
+// enter begins a call of its reader, and says whether it may go on; where it may not, it has failed.
+func (p *parser) enter() bool {
+	is := p.reader.decoder.enter()
+	if !is && (p.failed == nil || p.failed == errPassed) {
+		p.failed = ErrClosed
+	}
+	return is
 }
 
 // pull takes the next event of the frame under way.

@@ -378,6 +378,53 @@ func TestWhatIsNotWritten(t *testing.T) {
 	}
 }
 
+// TestTextsThatAreNone gives each text of each message bytes that are none: nothing is written that no decoder would read. Ids are no texts.
+func TestTextsThatAreNone(t *testing.T) {
+	const bad = "a\xffb"
+	failed := ServerError{ErrorInvalid, bad}
+	column := func(typ Type) Metadata { return Metadata{Columns: []Column{{"k", "t", "c", typ}}} }
+	typ := func(typ Type) Message { return &Rows{Metadata: column(typ)} }
+	row := func(typ Type, value any) Message { return &Rows{Metadata: column(typ), Rows: [][]any{{value}}} }
+	varchar, integer := Type{Kind: KindVarchar}, Type{Kind: KindInt}
+	for _, m := range []Message{
+		&Startup{[]Option{{bad, "v"}}}, &Startup{[]Option{{"k", bad}}}, &Query{Query: bad}, &Prepare{bad}, &Register{[]string{bad}},
+		&Query{Query: "q", Parameters: Parameters{Values: []Value{{}}, Names: []string{bad}}}, &Batch{Statements: []Statement{{Query: bad}}},
+		&Authenticate{bad}, &Supported{[]SupportedOption{{Key: bad}}}, &Supported{[]SupportedOption{{"k", []string{bad}}}},
+		&NodeEvent{bad, "UP", net.IPv4(1, 2, 3, 4), 5}, &NodeEvent{"STATUS_CHANGE", bad, net.IPv4(1, 2, 3, 4), 5}, &UnknownEvent{bad},
+		&SetKeyspace{bad}, &SchemaChange{Change: bad}, &SchemaChange{Target: bad}, &SchemaChange{Target: "KEYSPACE", Keyspace: bad},
+		&SchemaEvent{SchemaChange{Target: "FUNCTION", Arguments: []string{bad}}},
+		&failed, &Unavailable{ServerError: failed}, &WriteTimeout{WriteType: bad}, &WriteFailure{WriteType: bad}, &FunctionFailure{Keyspace: bad},
+		&FunctionFailure{Arguments: []string{bad}}, &AlreadyExists{Table: bad}, &Unprepared{ServerError: failed},
+		&Prepared{Bound: []Column{{bad, "t", "c", integer}}}, &Prepared{Result: Metadata{Columns: []Column{{"k", bad, "c", integer}}}},
+		&Rows{Metadata: Metadata{Columns: []Column{{"k", "t", bad, integer}}}}, typ(Type{Kind: KindCustom, Name: bad}),
+		typ(Type{Kind: KindUDT, Keyspace: bad}), typ(Type{Kind: KindUDT, Name: bad}),
+		typ(Type{Kind: KindUDT, Names: []string{bad}, Inner: []Type{integer}}), row(varchar, bad), row(Type{Kind: KindASCII}, "\u00e9"),
+		row(Type{Kind: KindList, Inner: []Type{varchar}}, []string{bad}),
+		row(Type{Kind: KindMap, Inner: []Type{varchar, integer}}, map[string]int{bad: 1}),
+	} {
+		if b, err := AppendMessage([]byte("before"), 1, m); err != ErrNotText || string(b) != "before" {
+			t.Errorf("%T %+v: %q, %v", m, m, b, err)
+		}
+	}
+	for _, f := range []*Frame{
+		{Message: &Ready{}, Warnings: []string{bad}}, {Message: &Ready{}, Payload: []PayloadItem{{bad, nil}}}, {Message: &Options{}, Payload: []PayloadItem{{bad, nil}}},
+	} {
+		if _, err := AppendFrame(nil, f); err != ErrNotText {
+			t.Errorf("%+v: %v", f, err)
+		}
+	}
+	if _, err := Bind(varchar, bad); err != ErrNotText {
+		t.Error(err)
+	}
+	for _, m := range []Message{&Execute{ID: []byte(bad)}, &Unprepared{ID: []byte(bad)}, &Prepared{ID: []byte(bad)}, &Batch{Statements: []Statement{{ID: []byte(bad)}}},
+		row(varchar, "\u00e9"), row(Type{Kind: KindBlob}, bad)} {
+		b, err := AppendMessage(nil, 1, m)
+		if v, e := Check(DefaultLimits(), b); err != nil || e != nil || v.End != EndWhole {
+			t.Errorf("%T %+v: %v, %v, %v", m, m, err, v, e)
+		}
+	}
+}
+
 func TestFramesThatAreTooLong(t *testing.T) {
 	pages, err := os.ReadFile("../pages.bin")
 	if err != nil {

@@ -1,3 +1,3 @@
-module cqlp
+module cqlp.example.org/cqlp
 
 go 1.19

@@ -1,3 +1,5 @@
+//go:build cgo
+
 package cqlp
 
 // The numbers of include/cqlp.h, by name. They never change; new ones come at the end of their group.
@@ -548,7 +550,7 @@ const (
 	CodeNotPage Code = 47
 	// CodeTooManyRows: there are more than 2147483647 rows.
 	CodeTooManyRows Code = 48
-	// CodeBadSize: no cells of as many rows and columns have this many bytes.
+	// CodeBadSize: no call answers it.
 	CodeBadSize Code = 49
 	// CodePastSize: the cells would have more bytes than were said.
 	CodePastSize Code = 50
@@ -572,6 +574,8 @@ const (
 	CodeNoColumns Code = 63
 	// CodeNoColumn: there is no column of this number.
 	CodeNoColumn Code = 64
+	// CodeOtherLayout: the package was compiled with a header whose structs lie otherwise than the library's.
+	CodeOtherLayout Code = 65
 )
 
 // Error is its name, as BadPhase.

@@ -1,15 +1,16 @@
+//go:build cgo
+
 package cqlp
 
 import (
 	"errors"
 	"io"
-	"runtime"
 )
 
 // headerLength is how many bytes a header has.
 const headerLength = 9
 
-// A Reader gives the events of what an io.Reader reads. It is not to be used by several goroutines at a time.
+// A Reader gives the events of what an io.Reader reads. It is not to be used by several goroutines at a time, but for Close.
 type Reader struct {
 	// Skip is told of each frame that is refused within its body, and the events go on with the next frame; where it is nil the Reader ends
 	// there. Of such a frame there is no End.
@@ -26,6 +27,9 @@ type Reader struct {
 	rest []byte
 	// how many bytes are still to come of the header or the body under way: none after them is given to the decoder before its event came
 	due int64
+	// whether a header is under way, and as much as came of it, or of the one before the body under way
+	inHeader bool
+	header   []byte
 	// whether the body under way is passed over
 	passing bool
 	given   *Types
@@ -56,7 +60,9 @@ func newReader(source io.Reader, limits Limits, newDecoder func(Limits) (*Decode
 	if err != nil {
 		return nil, err
 	}
-	return &Reader{decoder: decoder, source: source, buffer: make([]byte, space), due: headerLength, room: room}, nil
+	r := &Reader{decoder: decoder, source: source, buffer: make([]byte, space), room: room}
+	r.beginHeader()
+	return r, nil
 }
 
 // Next gives the next event. After the last one the error is io.EOF where the stream is whole, a *Cut where it is cut, and a *Refusal
@@ -64,28 +70,30 @@ func newReader(source io.Reader, limits Limits, newDecoder func(Limits) (*Decode
 //
 // The content of the event lives until the next call.
 func (r *Reader) Next() (event Event, err error) {
+	if !r.decoder.enter() {
+		return Event{}, ErrClosed
+	}
+	defer r.decoder.leave()
 	err = r.next(&event)
 	return event, err
 }
 
 func (r *Reader) next(event *Event) error {
 	d := r.decoder
-	if d.next == d.count || d.box == nil {
+	if d.next == d.count {
 		if err := r.fill(); err != nil {
 			return err
 		}
 	}
 	d.put(event)
-	runtime.KeepAlive(d)
 	return nil
 }
 
 // fill makes a batch with an event at least. Contents of the last batch live no longer.
 func (r *Reader) fill() error {
 	d := r.decoder
-	defer runtime.KeepAlive(d)
 	for {
-		if d.box == nil {
+		if d.closed() {
 			return ErrClosed
 		}
 		r.advance()
@@ -119,14 +127,33 @@ func (r *Reader) advance() {
 		most = 0
 	}
 	n := r.decoder.take(piece, most)
+	if r.inHeader {
+		r.header = append(r.header, piece[:n]...)
+	}
 	r.rest = r.rest[n:]
 	r.due -= int64(n)
 	r.endPassing()
 }
 
+func (r *Reader) beginHeader() { r.due, r.inHeader, r.header = headerLength, true, r.header[:0] }
+
+// Header is as much as came of the header of the frame under way, which is the one that is refused, where one is: VersionError answers it. It
+// lives until the next call.
+func (r *Reader) Header() []byte {
+	if !r.inHeader {
+		return r.header
+	}
+	missing := r.rest
+	if left := headerLength - len(r.header); len(missing) > left {
+		missing = missing[:left]
+	}
+	return append(r.header, missing...)
+}
+
 func (r *Reader) endPassing() {
 	if r.passing && r.due == 0 {
-		r.passing, r.due = false, headerLength
+		r.passing = false
+		r.beginHeader()
 	}
 }
 
@@ -134,11 +161,11 @@ func (r *Reader) endPassing() {
 func (r *Reader) began() (err error) {
 	d := r.decoder
 	if first := &d.box.events[0]; Tag(first.tag) == TagFrame {
-		r.due, r.typing = int64(first.number), nil
+		r.due, r.inHeader, r.typing = int64(first.number), false, nil
 		err = r.give()
 	}
 	if last := &d.box.events[d.count-1]; Tag(last.tag) == TagEnd {
-		r.due = headerLength
+		r.beginHeader()
 		r.takeBack()
 	}
 	return err
@@ -219,8 +246,6 @@ func (r *Reader) TypesOf() (*Types, error) { return r.decoder.TypesOf() }
 // Held says how much is held of the stream.
 func (r *Reader) Held() (Held, error) { return r.decoder.Held() }
 
-// Close frees the decoder; a second time does nothing.
-func (r *Reader) Close() error {
-	r.takeBack()
-	return r.decoder.Close()
-}
+// Close frees the decoder; a second time does nothing. Any goroutine may call it at any time: a call that is under way answers ErrClosed, once the
+// io.Reader has answered it, which Close does not close.
+func (r *Reader) Close() error { return r.decoder.Close() }

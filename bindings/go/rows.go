@@ -1,3 +1,5 @@
+//go:build cgo
+
 package cqlp
 
 import (
@@ -63,19 +65,41 @@ func newRowReader(reader *Reader, err error) (*RowReader, error) {
 
 // Next goes on to the next row, of this page or of the next, and says whether there is one.
 func (r *RowReader) Next() bool {
+	if !r.enter() {
+		return false
+	}
+	defer r.decoder.leave()
 	for {
 		if r.within && r.cells.next() {
 			return true
 		}
-		if !r.NextPage() {
+		if !r.nextPage() {
 			return false
 		}
 	}
 }
 
+// enter begins a call, and says whether it may go on; where it may not, there is no row.
+func (r *RowReader) enter() bool {
+	is := r.parser.enter()
+	if !is {
+		r.within = false
+		r.cells.clear()
+	}
+	return is
+}
+
 // NextPage passes over what is left of a page, and says whether there is another one. Its first row is the next that Next gives, so a
 // page without rows can be told too.
 func (r *RowReader) NextPage() bool {
+	if !r.enter() {
+		return false
+	}
+	defer r.decoder.leave()
+	return r.nextPage()
+}
+
+func (r *RowReader) nextPage() bool {
 	p := &r.parser
 	for r.within && r.cells.next() {
 	}

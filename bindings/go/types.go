@@ -18,10 +18,10 @@ type Types struct {
 // after that of a page those of its columns. Events that were not given out yet may be past that place, so give no more bytes than those of
 // the frame; those of a Reader never are.
 func (d *Decoder) TypesOf() (*Types, error) {
-	defer runtime.KeepAlive(d)
-	if d.box == nil {
+	if !d.enter() {
 		return nil, ErrClosed
 	}
+	defer d.leave()
 	t := new(Types)
 	if err := done(C.cqlp_types_of(&d.box.decoder, &t.native)); err != nil {
 		return nil, err
@@ -35,11 +35,11 @@ func (d *Decoder) TypesOf() (*Types, error) {
 // before, if something was. Where the error is CodeNoTypes, t has no table; else it is CodeEnded, CodeOff, CodeBusy, CodeTooMany or
 // CodeTooDeep, and nothing changes.
 func (d *Decoder) Give(t *Types) error {
-	defer runtime.KeepAlive(d)
 	defer runtime.KeepAlive(t)
-	if d.box == nil {
+	if !d.enter() {
 		return ErrClosed
 	}
+	defer d.leave()
 	return done(C.cqlp_give(&d.box.decoder, &t.native))
 }
 
@@ -47,11 +47,11 @@ func (d *Decoder) Give(t *Types) error {
 // which has to be closed. The error is CodeInUse where it has one, and CodeNoTypes where the decoder has none or its table types the frame
 // under way.
 func (d *Decoder) TakeGiven(t *Types) error {
-	defer runtime.KeepAlive(d)
 	defer runtime.KeepAlive(t)
-	if d.box == nil {
+	if !d.enter() {
 		return ErrClosed
 	}
+	defer d.leave()
 	return done(C.cqlp_take_given(&d.box.decoder, &t.native))
 }
 

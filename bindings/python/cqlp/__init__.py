@@ -12,15 +12,18 @@ from ._arrays import ArrayBatch, CellTooLong, ColumnArray, arrays
 from ._client import Client, Reply, Ticket
 from ._columns import PageColumns, Series, columns
 from ._core import event_header, header, version_error
-from ._decoder import BadCall, BadLimits, Closed, Cut, Decoder, Error, Held, Limits, Refused, Skipped, Verdict, check
+from ._decoder import BadCall, BadLimits, Closed, Cut, Decoder, Held, Limits, Refused, Skipped, Verdict, check
 from ._encode import BadEvent, encode, encode_frames
 from ._events import Event
+from ._missing import Missing, ValuesMissing
 from ._names import name, version, version_number
 from ._paged import PageWriter, cells_size
 from ._pages import Column, Page, Pages, Type, Types, rows
 from ._server import Answered, Server
 from ._sources import events
+from ._turns import Error, InUse
 from ._values import EMPTY, UNSET, Days, Milliseconds, Nanoseconds, Unset
+from ._version import __version__ as __version__
 from .messages import Frame, FrameTooLong, frames
 from .numbers import (
     BatchType,
@@ -77,11 +80,13 @@ __all__ = [
     "Group",
     "header",
     "Held",
+    "InUse",
     "Kind",
     "Limits",
     "Mark",
     "messages",
     "Milliseconds",
+    "Missing",
     "name",
     "Nanoseconds",
     "Opcode",
@@ -105,6 +110,7 @@ __all__ = [
     "Types",
     "UNSET",
     "Unset",
+    "ValuesMissing",
     "Verdict",
     "version",
     "version_error",

@@ -8,10 +8,12 @@ from functools import lru_cache
 from typing import Any, Dict, Iterator, List, NamedTuple, Optional, Tuple, Union
 
 from . import _native
-from ._decoder import _KINDS, BadCall, Decoder, Error, Limits, Refusal, Refused, Skip, _address, _must_be_done, event_of
+from ._decoder import _KINDS, BadCall, Behind, Decoder, Limits, Refusal, Refused, Skip, _address, _must_be_done, event_of
 from ._events import Event
+from ._missing import Missing, numpy_of
 from ._pages import _NO_METADATA, _ROWS_RESULT, Column, Types, _Metadata
 from ._sources import Progress, Source, _must_be_whole, _pieces, _pieces_of_frames
+from ._turns import Error
 from .numbers import Code, Field, Kind, Stop, Tag
 
 # The kinds whose values are numbers in their array, and the code of its items.
@@ -64,7 +66,8 @@ class ColumnArray(NamedTuple):
     `validity`."""
 
     def numbers(self) -> memoryview:
-        """The values of a kind that has numbers, as this machine has them, over the same memory where its bytes are in this order."""
+        """The values of a kind that has numbers, as this machine has them, over the same memory where its bytes are in this order: 0 where a cell
+        has none, of which `validity` says."""
         code = _CODES.get(self.kind)
         if code is None:
             raise TypeError("the values of this column are no numbers")
@@ -74,12 +77,24 @@ class ColumnArray(NamedTuple):
         found.byteswap()
         return memoryview(found)
 
-    def numpy(self) -> Any:
-        """The numbers as an array of NumPy, over the same memory where `numbers` is. NumPy has to be there."""
-        numbers = self.numbers()
-        import numpy
+    def numpy(self, missing: Missing = "refuse") -> Any:
+        """The numbers as an array of NumPy, over the same memory where `numbers` is. NumPy has to be there. Where a cell has no value it raises
+        ValuesMissing; with `missing="mask"` it is a masked array, and with `missing="zero"` such a cell is 0."""
+        numbers, valid = self.numbers(), self.validity or b""
+        count = 0 if self.validity is None else self.cells - bin(int.from_bytes(valid, "little")).count("1")
 
-        return numpy.asarray(numbers)
+        def mask(module: Any) -> Any:
+            return module.unpackbits(module.frombuffer(valid, module.uint8), count=self.cells, bitorder="little") == 0
+
+        return numpy_of(numbers, self.column, missing, count, mask)
+
+    def __reduce__(self) -> Tuple[Any, ...]:
+        """Offsets pickle as their bytes."""
+        return _unpickled, (tuple(self._replace(offsets=None)), None if self.offsets is None else bytes(self.offsets))
+
+
+def _unpickled(members: Tuple[Any, ...], offsets: Optional[bytes]) -> ColumnArray:
+    return ColumnArray(*members)._replace(offsets=None if offsets is None else memoryview(offsets).cast("q"))
 
 
 @dataclass(frozen=True)
@@ -230,6 +245,7 @@ class _Reader:
         self.given = given
         self.metadata = _Metadata()
         self.page: Optional[_Page] = None
+        self.behind = Behind()
         self.pages = self.first = self.body = 0
         self.event, self.batch = _native.Event(), _native.Batch()
 
@@ -246,8 +262,11 @@ class _Reader:
             elif stop == _REFUSED:
                 refusal = self.decoder._refusal(self.batch)
                 yield from self.rest()
-                self.pass_over(refusal, skip)
+                self.pass_over(refusal, skip, place, length)
                 stop = _FULL
+        last = min(8, length)
+        self.behind.offset += length - last
+        self.behind.add(ctypes.string_at(place + length - last, last))
 
     def call(self, place: int, length: int) -> None:
         """One call of the library: within a page it fills the arrays, else it puts one event."""
@@ -305,28 +324,29 @@ class _Reader:
         if count or last and not first:
             yield ArrayBatch(tuple(arrays), count, first, page.number, page.rows, page.paging_state)
 
-    def pass_over(self, refusal: Tuple[int, Any], skip: Optional[Skip]) -> None:
-        """Goes on with the next frame after a refusal, where that is asked for and can be done."""
-        if skip is None:
-            raise Refused(*refusal, [])
-        with self.decoder._lock:
+    def pass_over(self, refusal: Tuple[int, Any], skip: Optional[Skip], place: int, length: int) -> None:
+        """Goes on with the next frame after a refusal in the piece that lies there, where that is asked for and can be done."""
+        if skip is not None:
             code, skipped = self.decoder._skip()
-        if code:
-            raise Refused(*refusal, [])
-        self.page = None
-        skip(skipped)
+            if not code:
+                self.page = None
+                skip(skipped)
+                return
+        raise Refused(*refusal, [], header=self.behind.header(refusal, ctypes.string_at(place, length)))
 
 
 def _places(source: Source, piece: int, of_frames: bool) -> Iterator[Tuple[int, int, Optional[int]]]:
     """Where the pieces of a source lie, until the next is asked for, each with its length and the bytes of the whole."""
-    if isinstance(source, bytes) and not of_frames:
-        base, total = _address(source), len(source)
-        for at in range(0, total, piece):
-            yield base + at, min(piece, total - at), total
-        return
     pieces = _pieces(source, piece)
-    for data, length in _pieces_of_frames(pieces) if of_frames else pieces:
-        yield _address(data), len(data), length
+    if type(source) is bytes and not of_frames:
+        return _places_in(source, piece)
+    return ((_address(data), len(data), total) for data, total in (_pieces_of_frames(pieces) if of_frames else pieces))
+
+
+def _places_in(source: bytes, piece: int) -> Iterator[Tuple[int, int, Optional[int]]]:
+    base, total = _address(source), len(source)
+    for at in range(0, total, piece):
+        yield base + at, min(piece, total - at), total
 
 
 def arrays(
@@ -352,15 +372,25 @@ def arrays(
     """
     if rows < 1 or memory < 1:
         raise ValueError("rows and memory are over 0")
-    read = 0
-    with Decoder(limits, room=1) as decoder, _Arrays(limits, min(rows, 1 << 24), memory) as held:
+    return _batches_of(_places(source, piece, types is not None), limits, min(rows, 1 << 24), memory, progress, types, skip)
+
+
+def _batches_of(
+    places: Iterator[Tuple[int, int, Optional[int]]],
+    limits: Limits,
+    rows: int,
+    memory: int,
+    progress: Optional[Progress],
+    types: Optional[Types],
+    skip: Optional[Skip],
+) -> Iterator[ArrayBatch]:
+    with Decoder(limits, room=1) as decoder, _Arrays(limits, rows, memory) as held:
         reader = _Reader(decoder, held, types.columns if types else None)
-        for place, length, total in _places(source, piece, types is not None):
+        for place, length, total in places:
             if types:
                 types._give(decoder)
             yield from reader.read(place, length, skip)
-            read += length
             if progress:
-                progress(read, total)
+                progress(reader.behind.offset, total)
         yield from reader.rest()
         _must_be_whole(decoder.finish())

@@ -8,8 +8,9 @@ from typing import Any, Dict, Iterator, List, NamedTuple, Optional, Tuple, Union
 
 from . import _native, _pages
 from ._arrays import _Arrays
-from ._decoder import Decoder, Limits, Placed, Record, Refused, Skip, event_of
+from ._decoder import Behind, Decoder, Limits, Placed, Record, Refused, Skip, event_of
 from ._events import Event
+from ._missing import Missing, numpy_of
 from ._pages import Column, Row, Type, _Cells, _cells, _CompiledCells
 from ._sources import Batch, Progress, Source, _must_be_whole, _pieces, batches
 from ._values import ValueOf
@@ -51,13 +52,16 @@ class Series(NamedTuple):
     """None where no number is missing; else a byte for each: 0 where it is there, 1 where it is null, 2 where it has no bytes, 3 where a
     lenient reading found a content that is none of its type: `rows` gives its bytes."""
 
-    def numpy(self) -> Any:
-        """The numbers as an array of NumPy, over the same memory. NumPy has to be there."""
+    def numpy(self, missing: Missing = "refuse") -> Any:
+        """The numbers as an array of NumPy, over the same memory. NumPy has to be there. Where a number is missing it raises ValuesMissing; with
+        `missing="mask"` it is a masked array, and with `missing="zero"` such a number is 0."""
         if not isinstance(self.values, array):
             raise TypeError("the values of this column are no numbers")
-        import numpy
-
-        return numpy.asarray(memoryview(self.values))
+        states = self.missing or b""
+        count = len(states) - states.count(0)
+        return numpy_of(
+            memoryview(self.values), self.column, missing, count, lambda module: module.frombuffer(states, module.uint8) != 0
+        )
 
 
 @dataclass(frozen=True)
@@ -236,20 +240,25 @@ class _Filling:
 
 
 def _filled(
-    found: _Columns, source: Source, limits: Limits, piece: int, progress: Optional[Progress], skip: Optional[Skip], lenient: bool
+    found: _Columns,
+    pieces: Iterator[Tuple[bytes, Optional[int]]],
+    limits: Limits,
+    progress: Optional[Progress],
+    skip: Optional[Skip],
+    lenient: bool,
 ) -> Iterator[Frame]:
-    """The frames of a source, the cells of whose pages go through the library's arrays where they may."""
-    read = 0
+    """The frames of these pieces, the cells of whose pages go through the library's arrays where they may."""
+    behind = Behind()
     with Decoder(limits, room=_ROOM, lenient=lenient) as decoder:
         filling = _Filling(found, decoder, limits)
-        for data, total in _pieces(source, piece):
+        for data, total in pieces:
             for batch, refusal in decoder._placed(data, skip):
                 yield from filling.take(batch)
                 if refusal:
-                    raise Refused(*refusal, [event_of(*one) for one in batch])
-            read += len(data)
+                    raise Refused(*refusal, [event_of(*one) for one in batch], header=behind.header(refusal, data))
+            behind.add(data)
             if progress:
-                progress(read, total)
+                progress(behind.offset, total)
         _must_be_whole(decoder.finish())
 
 
@@ -271,10 +280,8 @@ def columns(
     """
     found = _Columns(longest, limits.types)
     if _pages._compiled is not None:
-        frames = _filled(found, source, limits, piece, progress, skip, lenient)
+        frames = _filled(found, _pieces(source, piece), limits, progress, skip, lenient)
     else:
         events = batches(source, limits, piece, progress, skip=skip, lenient=lenient)
         frames = (frame for batch in events for frame in found.take(batch))
-    for frame in frames:
-        if isinstance(frame.message, Rows):
-            yield found.page(frame.message)
+    return (found.page(frame.message) for frame in frames if isinstance(frame.message, Rows))

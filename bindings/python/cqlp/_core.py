@@ -1,12 +1,12 @@
 """What a client's core and a server's share, and headers."""
 
 import ctypes
-import threading
 from typing import Any, Callable, Dict, NamedTuple, Union
 
 from . import _native
-from ._decoder import BadCall, Closed, _named
+from ._decoder import BadCall, Closed, _named, must_be_new
 from ._events import Event
+from ._turns import Turns, one_at_a_time
 from .messages import Frame
 from .numbers import Code, Mark, Phase, Tag
 
@@ -83,15 +83,16 @@ class Calls(NamedTuple):
 class Core:
     """The core of one connection, on which nothing was sent yet, with a value for each open request.
 
-    It is closed by `close`, or as a context manager, or when it is let go. A lock keeps calls from several threads apart.
+    It is closed by `close`, or as a context manager, or when it is let go. Threads may share it: their calls come one after the other.
     """
 
     _calls: Calls
 
     def __init__(self, slots: int = 32768) -> None:
         """`slots` is how many requests may be open at a time, 1 to 32768; their stream ids are those below it."""
+        must_be_new(self)
+        self._turns = Turns()
         self._handle = _native.Handle(0, None)
-        self._lock = threading.Lock()
         # The library carries a number with each request: the place of its value here.
         self._values: Dict[int, Any] = {}
         self._given = 0
@@ -106,23 +107,23 @@ class Core:
         self._given += 1
 
     @property
+    @one_at_a_time
     def phase(self) -> Union[Phase, int]:
         """How far the setting up of the connection has come."""
         phase = ctypes.c_uint8()
-        with self._lock:
-            must_be_done(self._calls.phase(self._handle, phase))
+        must_be_done(self._calls.phase(self._handle, phase))
         found: Union[Phase, int] = _PHASES[phase.value]
         return found
 
+    @one_at_a_time
     def close(self) -> None:
         """Frees the core, and lets the values go; a second time does nothing. Each other call raises Closed from then on."""
-        with self._lock:
-            self._calls.free(self._handle)
-            self._values.clear()
+        self._calls.free(self._handle)
+        self._values.clear()
 
     def __exit__(self, *_: object) -> None:
         self.close()
 
     def __del__(self) -> None:
-        if hasattr(self, "_lock"):
+        if hasattr(self, "_handle"):
             self._calls.free(self._handle)

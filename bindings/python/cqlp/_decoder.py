@@ -1,21 +1,23 @@
 """The decoder, and how it ends."""
 
 import ctypes
-import threading
 from dataclasses import dataclass
-from typing import Any, Callable, Iterator, List, NamedTuple, Optional, Tuple, Union
+from typing import TYPE_CHECKING, Any, Callable, Iterator, List, NamedTuple, Optional, Tuple, Union
 
 from . import _native
 from ._events import Event, camel
 from ._names import name
+from ._turns import Error, Turns, one_at_a_time
 from .numbers import Code, End, Field, Group, Kind, Mark, Opcode, Reason, Stop, Tag
 
+if TYPE_CHECKING:
+    from _typeshed import ReadableBuffer
+
+    Buffer = ReadableBuffer
+else:
+    Buffer = Any
 
 _CODES = {int(code): code for code in Code}
-
-
-class Error(Exception):
-    """What this package raises."""
 
 
 class BadLimits(Error, ValueError):
@@ -36,14 +38,18 @@ class BadCall(Error, ValueError):
 
 class Refused(Error, ValueError):
     """A stream is refused: at the offset `at` of the field that could not be made, for `reason`. `events` are those of the last
-    piece that come before, and `rest` its bytes that come after them: give them to the decoder again after `Decoder.skip`."""
+    piece that come before, and `rest` its bytes that come after them: give them to the decoder again after `Decoder.skip`. `header` has
+    the nine bytes of the header of a frame of another version, for `version_error`; for other reasons none."""
 
-    def __init__(self, at: int, reason: Union[Reason, int], events: "List[Event]", rest: bytes = b"") -> None:
+    def __init__(
+        self, at: int, reason: Union[Reason, int], events: "List[Event]", rest: bytes = b"", header: bytes = b""
+    ) -> None:
         super().__init__("refused at %d: %s" % (at, camel(reason)))
         self.at = at
         self.reason = reason
         self.events = events
         self.rest = rest
+        self.header = header
 
 
 class Cut(Error, EOFError):
@@ -161,6 +167,26 @@ def _must_be_done(code: int) -> None:
     raise MemoryError("cqlp") if code == _native.NO_MEMORY else Error("code %d" % code)
 
 
+def view_of(data: Any) -> memoryview:
+    """The bytes of a buffer, which cannot be resized as long as the view lives. Raises TypeError of another object, an int, a str or a list, and
+    BufferError of a buffer whose bytes do not lie one after the other."""
+    view = memoryview(data)
+    if not view.c_contiguous:
+        raise BufferError("the bytes of this buffer do not lie one after the other: give a copy, as bytes(data)")
+    return view.cast("B") if view.nbytes else memoryview(b"")
+
+
+def octets_of(data: Any) -> bytes:
+    """The bytes of a buffer, a copy where it is no bytes object."""
+    return data if type(data) is bytes else bytes(view_of(data))
+
+
+def must_be_new(made: Any) -> None:
+    """Refuses a second `__init__`, which would leak what the first one made."""
+    if hasattr(made, "_turns"):
+        raise TypeError("__init__ is called once")
+
+
 def _address(data: bytes) -> int:
     """Where the bytes of an object lie, as long as it lives."""
     return ctypes.cast(ctypes.c_char_p(data), ctypes.c_void_p).value or 0
@@ -220,10 +246,32 @@ Refusal = Optional[Tuple[int, Any]]
 """The offset and the reason of a refusal, if there is one."""
 
 
+class Behind:
+    """The last eight bytes that were read of a stream: the header of a frame may begin in them."""
+
+    def __init__(self) -> None:
+        self.offset = 0
+        """How many bytes were read."""
+        self._last = b""
+
+    def add(self, piece: bytes) -> None:
+        self.offset += len(piece)
+        self._last = piece[-8:] if len(piece) >= 8 else (self._last + piece)[-8:]
+
+    def header(self, refusal: Tuple[int, Any], piece: bytes) -> bytes:
+        """The header of a frame that is refused in this piece, the next one, for its version; of another refusal no bytes."""
+        at, reason = refusal
+        if reason != Reason.BAD_VERSION:
+            return b""
+        first = at - self.offset
+        return piece[first : first + 9] if first >= 0 else self._last[first:] + piece[: 9 + first]
+
+
 class Decoder:
     """Reads the frames of one stream, from pieces of any size.
 
-    It is closed by `close`, or as a context manager, or when it is let go. A lock keeps calls from several threads apart.
+    It is closed by `close`, or as a context manager, or when it is let go. Threads may share it: each call has the decoder for itself until it
+    returns, `decode` for its whole piece, and those of other threads wait.
     """
 
     def __init__(self, limits: Limits = Limits(), *, room: int = 256, lenient: bool = False) -> None:
@@ -231,8 +279,11 @@ class Decoder:
         reading goes on at three things that are refused else: a content that its type does not have, by its length or by its bytes, is a Leaf
         of the kind RAW with all its bytes; bytes after the last field of a tuple or a udt are Parts; a type of an id that no kind has is a
         TypeNode of the kind RAW."""
+        must_be_new(self)
+        self._turns = Turns()
+        self._behind = Behind()
+        self._header = b""
         self._handle = _native.DecoderHandle()
-        self._lock = threading.Lock()
         self._room = max(1, room)
         self._array = (_native.Event * self._room)()
         self._bytes = (ctypes.c_char * ctypes.sizeof(self._array)).from_buffer(self._array)
@@ -242,58 +293,69 @@ class Decoder:
         new = _native.library.cqlp_new_lenient if lenient else _native.library.cqlp_new
         _must_be_done(new(limits._native(), self._handle))
 
-    def decode(self, data: bytes) -> List[Event]:
-        """The events that the next bytes of the stream end. Where the stream is refused, here or before, Refused is raised, and has
-        the events before it."""
+    @one_at_a_time
+    def decode(self, data: Buffer) -> List[Event]:
+        """All events that the next bytes of the stream end, that of the end of a frame with its last byte: **no call without bytes is due after
+        it**. The bytes are in any buffer, and copied. Where the stream is refused, here or before, Refused is raised, and has the events
+        before it."""
         events: List[Event] = []
-        data, used = bytes(data), 0
-        for batch, refusal in self._batches(data):
+        piece, used = octets_of(data), 0
+        for batch, refusal in self._batches(piece):
             events += [event_of(*one) for one in batch]
             used += self._batch.used
             if refusal:
-                raise Refused(*refusal, events, data[used:])
+                self._header = self._header or self._behind.header(refusal, piece)
+                self._behind.add(piece[:used])
+                raise Refused(*refusal, events, piece[used:], self._header)
+        self._behind.add(piece)
         return events
 
+    @one_at_a_time
     def skip(self) -> Skipped:
         """Passes over the rest of the frame within which the stream is refused. `decode` goes on with the `rest` of Refused: the bytes that the
         frame still has give no event, and those behind it are read, with their offsets in the whole stream. Raises BadCall with
         NOT_REFUSED, or IN_HEADER where what is refused is a header, so that nobody knows where its frame ends; or TOO_FAR."""
-        with self._lock:
-            code, skipped = self._skip()
+        code, skipped = self._skip()
         if code in (Code.NOT_REFUSED, Code.IN_HEADER, Code.TOO_FAR):
             raise BadCall(code)
         _must_be_done(code)
         return skipped
 
+    @one_at_a_time
     def finish(self) -> Verdict:
         """How the stream ends, if it ends here. It changes nothing."""
         end = _native.End()
-        with self._lock:
-            _must_be_done(_native.library.cqlp_finish(self._handle, end))
+        _must_be_done(_native.library.cqlp_finish(self._handle, end))
         return _verdict(end)
 
+    @one_at_a_time
     def held(self) -> Held:
         """How much is held of the stream. It changes nothing."""
         holding = _native.Holding()
-        with self._lock:
-            _must_be_done(_native.library.cqlp_held(self._handle, holding))
+        _must_be_done(_native.library.cqlp_held(self._handle, holding))
         return Held(holding.bytes, holding.entries, holding.levels)
 
     def _give(self, types: "Decoder") -> int:
         """Gives a copy of the types of the metadata that another decoder read last, and answers the code of cqlp_give."""
         table = _native.Handle(0, None)
         try:
-            with types._lock:
-                _must_be_done(_native.library.cqlp_types_of(types._handle, table))
-            with self._lock:
-                return int(_native.library.cqlp_give(self._handle, table))
+            types._types_of(table)
+            return self._take(table)
         finally:
             _native.library.cqlp_types_free(table)
 
+    @one_at_a_time
+    def _types_of(self, table: _native.Handle) -> None:
+        _must_be_done(_native.library.cqlp_types_of(self._handle, table))
+
+    @one_at_a_time
+    def _take(self, table: _native.Handle) -> int:
+        return int(_native.library.cqlp_give(self._handle, table))
+
+    @one_at_a_time
     def close(self) -> None:
         """Frees the decoder; a second time does nothing. Each other call raises Closed from then on."""
-        with self._lock:
-            _native.library.cqlp_free(self._handle)
+        _native.library.cqlp_free(self._handle)
 
     def __enter__(self) -> "Decoder":
         return self
@@ -314,31 +376,29 @@ class Decoder:
 
     def _batches(self, data: bytes, skip: Optional[Skip] = None) -> Iterator[Tuple[List[Tuple[Record, bytes]], Refusal]]:
         """The events of a piece with their contents, a list for each call of the library; and beside the last one the refusal. With
-        `skip` each frame that can be is passed over."""
+        `skip` each frame that can be is passed over. The caller has this decoder for itself."""
         used, stop, base = 0, _FULL, _address(data)
         while stop == _FULL:
             skipped = None
-            with self._lock:
-                taken, stop, refusal = self._call(base, len(data), used)
-                batch = self._copied(data, base)
-                if refusal and skip:
-                    stop, refusal, skipped = self._passed(refusal)
+            taken, stop, refusal = self._call(base, len(data), used)
+            batch = self._copied(data, base)
+            if refusal and skip:
+                stop, refusal, skipped = self._passed(refusal)
             used += taken
             yield batch, refusal
             if skip and skipped:
                 skip(skipped)
 
     def _placed(self, data: bytes, skip: Optional[Skip] = None) -> Iterator[Tuple[Placed, Refusal]]:
-        """The same for a caller that has this decoder for itself, and is done with a batch before it asks for the next."""
+        """The same for a caller that is done with a batch before it asks for the next."""
         used, stop, base = 0, _FULL, _address(data)
         batch = Placed(self._array, self._bytes)
         while stop == _FULL:
             skipped = None
-            with self._lock:
-                taken, stop, refusal = self._call(base, len(data), used)
-                if refusal and skip:
-                    # the contents of a batch before a refusal lie in the piece, so they stay
-                    stop, refusal, skipped = self._passed(refusal)
+            taken, stop, refusal = self._call(base, len(data), used)
+            if refusal and skip:
+                # the contents of a batch before a refusal lie in the piece, so they stay
+                stop, refusal, skipped = self._passed(refusal)
             used += taken
             batch.count = self._batch.events
             yield batch, refusal
@@ -383,8 +443,8 @@ class Decoder:
         return found
 
 
-def check(data: bytes, limits: Limits = Limits()) -> Verdict:
-    """How a stream ends that is there whole: what a decoder with these limits says of it."""
-    data, end = bytes(data), _native.End()
-    _must_be_done(_native.library.cqlp_check(limits._native(), _address(data), len(data), end))
+def check(data: Buffer, limits: Limits = Limits()) -> Verdict:
+    """How a stream ends that is there whole, in any buffer: what a decoder with these limits says of it."""
+    stream, end = octets_of(data), _native.End()
+    _must_be_done(_native.library.cqlp_check(limits._native(), _address(stream), len(stream), end))
     return _verdict(end)

@@ -1,12 +1,15 @@
 """The calls of include/cqlp.h, by ctypes."""
 
 import ctypes
+import functools
 import importlib
 import os
 import struct
 from ctypes import POINTER, c_char_p, c_int16, c_int32, c_int64, c_size_t, c_uint8, c_uint32, c_uint64, c_void_p
 from pathlib import Path
 from typing import Any
+
+from ._version import __version__
 
 
 class Limits(ctypes.Structure):
@@ -120,6 +123,16 @@ if RECORD.size != ctypes.sizeof(Event):
 VIEW = struct.Struct("@PPPPNNNB0Q")
 
 
+# The number of the layout of these structs, CQLP_LAYOUT of include/cqlp.h, and the calls that tell it to the library.
+LAYOUT = 0xCF3119DD
+BY_LAYOUT = frozenset(
+    "cqlp_" + name
+    for name in (
+        "new new_lenient check types_of take_given columns_new client_new server_new write_header encode page_measure page_begin".split()
+    )
+)
+
+
 def compiled(name: str) -> Any:
     """The module in C of this name, where it was built and its events have this size; else None."""
     try:
@@ -142,10 +155,22 @@ def _load() -> ctypes.CDLL:
     for place in (here.parent, here.parents[2] / "out"):
         if (place / "libcqlp.so").exists():
             return ctypes.CDLL(str(place / "libcqlp.so"))
-    return ctypes.CDLL("libcqlp.so")
+    try:
+        return ctypes.CDLL("libcqlp.so")
+    except OSError as error:
+        raise ImportError("cqlp: there is no libcqlp.so; in a clone `bindings/build --erased` makes it") from error
 
 
-library = _load()
+def _same(loaded: ctypes.CDLL) -> ctypes.CDLL:
+    """A library that has the version of this package."""
+    loaded.cqlp_version.restype = c_char_p
+    version = loaded.cqlp_version().decode()
+    if version != __version__:
+        raise ImportError("cqlp %s: the library %s has version %s" % (__version__, loaded._name, version))
+    return loaded
+
+
+library: ctypes.CDLL = _same(_load())
 
 for name, result, arguments in (
     ("cqlp_new", c_uint32, [POINTER(Limits), POINTER(DecoderHandle)]),
@@ -192,6 +217,12 @@ for name, result, arguments in (
     ("cqlp_version", c_char_p, []),
     ("cqlp_version_number", c_uint32, []),
 ):
-    call = getattr(library, name)
-    call.argtypes = arguments
+    given: Any = arguments
+    if name in BY_LAYOUT:
+        call = getattr(library, name + "_by_layout")
+        setattr(library, name, functools.partial(call, LAYOUT))
+        given = [c_uint32, *given]
+    else:
+        call = getattr(library, name)
+    call.argtypes = given
     call.restype = result

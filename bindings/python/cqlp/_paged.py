@@ -2,13 +2,13 @@
 
 import ctypes
 import itertools
-import threading
 from typing import Callable, Iterable, List, NoReturn, Sequence
 
 from . import _encode, _native
-from ._decoder import Closed
+from ._decoder import Closed, must_be_new
 from ._encode import BadEvent
 from ._events import Event
+from ._turns import Turns, one_at_a_time
 from .numbers import Field, Tag
 
 # How many bytes one call puts, where no cell wants more, and how many events are measured at a time.
@@ -41,16 +41,17 @@ class PageWriter:
     puts, 16 KiB, or as many as one cell has where it has more. A cell is held whole.
 
     After a refusal the page is closed: what was given of it stays, and of that call nothing is given. It is closed by `close` too, or as a context
-    manager, or when it is let go. A lock keeps calls from several threads apart.
+    manager, or when it is let go. Threads may share it: their calls come one after the other.
     """
 
     def __init__(self, size: int = 0) -> None:
+        must_be_new(self)
+        self._turns = Turns()
         self.size = size
         """How many bytes the cells have: the header counts the body, and it is written before them. It is looked at when the count of the rows
         comes. Where the cells keep their lengths it is what is left of the body of the page that is read; else go over the events of the cells
         twice, and let `cells_size` add them up."""
         self._page = _native.Handle(0, None)
-        self._lock = threading.Lock()
         self._room = ctypes.create_string_buffer(_ROOM)
         # Those that are not written, and how many were.
         self._held: List[Event] = []
@@ -74,10 +75,10 @@ class PageWriter:
         if not self._ended:
             self._until_refused(self._end)
 
+    @one_at_a_time
     def close(self) -> None:
         """Frees the page, whole or not; a second time does nothing. `put` raises Closed from then on."""
-        with self._lock:
-            self._free()
+        self._free()
 
     def __enter__(self) -> "PageWriter":
         return self
@@ -94,16 +95,16 @@ class PageWriter:
         self._closed = True
         self._held = []
 
+    @one_at_a_time
     def _until_refused(self, step: Callable[[], bytes]) -> bytes:
         """Makes a step, and closes the page where it raises something."""
-        with self._lock:
-            if self._closed:
-                raise Closed("the page")
-            try:
-                return step()
-            except BaseException:
-                self._free()
-                raise
+        if self._closed:
+            raise Closed("the page")
+        try:
+            return step()
+        except BaseException:
+            self._free()
+            raise
 
     def _put(self, given: Sequence[Event]) -> bytes:
         held, before = self._held, len(self._held)

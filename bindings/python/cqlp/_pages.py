@@ -1,12 +1,13 @@
 """The rows of pages, as Python values."""
 
-from itertools import chain
+import threading
 from typing import Any, Dict, Iterator, List, NamedTuple, Optional, Tuple, Union
 
 from . import _native
 from ._decoder import BadCall, Cut, Decoder, Limits, Record, Skip, event_of
 from ._events import Event
 from ._sources import Batch, Progress, Source, _pieces, batches
+from ._turns import InUse
 from ._values import EMPTY, LEAVES, ValueOf
 from .numbers import Code, End, Field, Kind, Mark, Tag
 
@@ -151,11 +152,11 @@ class Page:
 
     def __iter__(self) -> Iterator[Row]:
         pages = self._pages
-        while pages._current is self:
-            rows = pages._rows
+        page, rows = pages._now
+        while page is self:
             yield from rows
-            if pages._rows is rows:
-                pages._go_on()
+            pages._go_on(rows)
+            page, rows = pages._now
 
     def __next__(self) -> Row:
         for row in self:
@@ -168,7 +169,8 @@ class Pages:
 
     Of frames that are no page nothing is told. Where the stream is refused or cut, the error comes after the last row before
     that place. With `skip` a frame that is refused within its body is passed over, and it is told which, after the last row before that
-    place: so a page may give fewer rows than its `count`.
+    place: so a page may give fewer rows than its `count`. Threads that share it take rows in turn; where one reads on in the stream another
+    that would do so too gets InUse at once.
     """
 
     def __init__(
@@ -188,31 +190,47 @@ class Pages:
         placed = _compiled is not None
         found = batches(source, limits, piece, progress, placed, types._give if types else None, skip, lenient)
         self._found = _found(self, found, limits.types, types.columns if types else None)
-        self._current: Optional[Page] = None
-        self._rows: Iterator[Row] = iter(())
+        # the page under way and its rows that were read, together, since threads look at both
+        self._now: Tuple[Optional[Page], Iterator[Row]] = (None, iter(()))
         self._coming: Optional[Page] = None
+        self._turn = threading.Lock()
 
     def __iter__(self) -> "Pages":
         return self
 
     def __next__(self) -> Page:
-        for _ in self._current or ():
-            pass
-        if self._coming is None:
-            self._go_on()
-        page = self._coming
-        if page is None:
-            raise StopIteration
-        self._current, self._coming = page, None
-        return page
+        if not self._turn.acquire(blocking=False):
+            raise InUse
+        try:
+            while self._now[0] is not None:  # what is left of it is passed over
+                self._take()
+            if self._coming is None:
+                self._take()
+            page = self._coming
+            if page is None:
+                raise StopIteration
+            self._now, self._coming = (page, iter(())), None
+            return page
+        finally:
+            self._turn.release()
 
-    def _go_on(self) -> None:
+    def _go_on(self, rows: Iterator[Row]) -> None:
+        """Takes what comes after these rows, unless that was taken."""
+        if not self._turn.acquire(blocking=False):
+            raise InUse
+        try:
+            if self._now[1] is rows:
+                self._take()
+        finally:
+            self._turn.release()
+
+    def _take(self) -> None:
         """Takes what comes next: more rows of the page that is under way, or its end and the page after it, or the end of all."""
         found = next(self._found, None)
         if isinstance(found, list):
-            self._rows = iter(found)
+            self._now = self._now[0], iter(found)
         else:
-            self._current, self._rows, self._coming = None, iter(()), found
+            self._now, self._coming = (None, iter(())), found
 
 
 class _Metadata:
@@ -409,5 +427,10 @@ def rows(
 ) -> Iterator[Row]:
     """The rows of all pages of a stream, as tuples. `types` are those of pages without metadata, and `skip` is told of each frame that is
     passed over, as in `Pages`, and so is `lenient`."""
-    found = Pages(source, limits, piece=piece, progress=progress, types=types, skip=skip, lenient=lenient)._found
-    return chain.from_iterable(rows for rows in found if isinstance(rows, list))
+    return _rows_of(Pages(source, limits, piece=piece, progress=progress, types=types, skip=skip, lenient=lenient)._found)
+
+
+def _rows_of(found: "Iterator[Union[Page, List[Row]]]") -> Iterator[Row]:
+    for some in found:
+        if isinstance(some, list):
+            yield from some

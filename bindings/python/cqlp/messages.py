@@ -11,12 +11,12 @@ from dataclasses import dataclass
 from typing import Any, Callable, Dict, Generator, Iterator, List, Optional, Tuple, TypeVar, Union
 
 from . import _pages
-from ._decoder import Error as _PackageError
 from ._decoder import Limits, Skip, event_of
 from ._events import Event as _Event
 from ._pages import Column, Row, Type, _cells, _Types
 from ._sources import Batch as _EventBatch
 from ._sources import Progress, Source, batches
+from ._turns import Error as _PackageError
 from ._values import Unset, address
 from .numbers import BatchType, Consistency, ErrorCode, Field, Mark, Opcode, ResultKind, Tag
 
@@ -706,5 +706,5 @@ def frames(
     its body is held. With `lenient` a content that its type does not have is bytes.
     """
     found = _Frames(longest, limits.types)
-    for batch in batches(source, limits, piece, progress, _pages._compiled is not None, skip=skip, lenient=lenient):
-        yield from found.take(batch)
+    batched = batches(source, limits, piece, progress, _pages._compiled is not None, skip=skip, lenient=lenient)
+    return (frame for batch in batched for frame in found.take(batch))

@@ -352,3 +352,4 @@ class Code(IntEnum):
     UNSUPPORTED = 62
     NO_COLUMNS = 63
     NO_COLUMN = 64
+    OTHER_LAYOUT = 65

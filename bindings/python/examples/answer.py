@@ -7,29 +7,19 @@ from cqlp import Opcode
 
 
 def ask(client: cqlp.Client, opcode: Opcode, task: str, body: bytes = b"") -> None:
-    try:
-        ticket = client.begin(opcode, task)
-    except cqlp.BadCall as bad:
-        print("%s: %s" % (opcode.name, bad))
-    else:
-        message = cqlp.header(opcode, ticket.id, len(body)) + body
-        print("request %d, %s: %s" % (ticket.number, opcode.name, message.hex(" ")))
+    ticket = client.begin(opcode, task)
+    print(opcode.name, (cqlp.header(opcode, ticket.id, len(body)) + body).hex(" "))
 
 
-def main() -> None:
-    with cqlp.Client(1024) as client:
-        ask(client, Opcode.QUERY, "read")
-        ask(client, Opcode.STARTUP, "open", b"\0\0")
-        for frame in cqlp.frames(sys.stdin.buffer):
-            try:
-                reply = client.reply(frame)
-            except cqlp.BadCall as bad:
-                print(type(frame.message).__name__, "is no reply:", bad)
-                continue
-            print(type(frame.message).__name__, "answers", reply.ticket, reply.carried)
-            if reply.request == Opcode.STARTUP:
-                ask(client, Opcode.QUERY, "read")
-                ask(client, Opcode.PREPARE, "prepare")
-
-
-main()
+with cqlp.Client(1024) as client:
+    ask(client, Opcode.STARTUP, "open", b"\0\0")
+    for frame in cqlp.frames(sys.stdin.buffer):
+        try:
+            reply = client.reply(frame)
+        except cqlp.BadCall as bad:
+            print(type(frame.message).__name__, "is no reply:", bad)
+            continue
+        print(type(frame.message).__name__, "answers", reply.ticket, reply.carried)
+        if reply.request == Opcode.STARTUP:
+            ask(client, Opcode.QUERY, "read")
+            ask(client, Opcode.PREPARE, "prepare")

@@ -6,10 +6,8 @@ import cqlp
 
 try:
     for batch in cqlp.arrays(sys.argv[1], rows=2):
-        print("page", batch.page, "from row", batch.first, "on:", batch.count, "of", batch.rows, "rows")
+        print("from row", batch.first, "on:", batch.count, "of", batch.rows, "rows")
         for one in batch.arrays:
-            told = "%s %s" % (one.column.name, one.column.type) if one.column else "a column that is not told"
-            print(told, one.values.hex(), None if one.offsets is None else list(one.offsets), one.validity)
-        print("the sum of column1 is", sum(batch["column1"].numbers()))
+            print(one.column and one.column.name, one.values.hex(), list(one.offsets or ()), one.validity)
 except cqlp.BadCall as error:
     print("the next page has columns with items:", error)

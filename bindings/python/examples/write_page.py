@@ -1,40 +1,24 @@
-"""Writes a page of this many rows to standard output, 500 rows at a time: python3 write_page.py ROWS"""
+"""Writes a page of this many orders to standard output, 500 at a time, with functions of serve.py: python3 write_page.py ORDERS"""
 
 import itertools
 import sys
 from typing import Iterator
 
 import cqlp
-from cqlp import Event, Field, Kind, Mark, Opcode, ResultKind, Tag
-
-
-def head(rows: int) -> Iterator[Event]:
-    yield Event(tag=Tag.FRAME, mark=Mark.RESPONSE, opcode=Opcode.RESULT, extra=3)
-    yield Event(tag=Tag.INT, field=Field.RESULT_KIND, number=ResultKind.ROWS)
-    yield Event(tag=Tag.INT, field=Field.META_FLAGS, number=1)  # one table for all columns
-    yield Event(tag=Tag.COUNT, field=Field.COLUMNS, number=2)
-    yield Event(tag=Tag.TEXT, field=Field.KEYSPACE, content=b"shop")
-    yield Event(tag=Tag.TEXT, field=Field.TABLE, content=b"orders")
-    yield Event(tag=Tag.TEXT, field=Field.COLUMN_NAME, content=b"id")
-    yield Event(tag=Tag.TYPE_NODE, kind=Kind.INT)
-    yield Event(tag=Tag.TEXT, field=Field.COLUMN_NAME, content=b"name")
-    yield Event(tag=Tag.TYPE_NODE, kind=Kind.VARCHAR)
-    yield Event(tag=Tag.COUNT, field=Field.ROWS, number=rows)
+from cqlp import Event, Field, Mark, Opcode, ResultKind, Tag
+from serve import leaf, metadata, number
 
 
 def cells(rows: int) -> Iterator[Event]:
-    """Two for each row, of which the name of each third one is null."""
     for row in range(rows):
-        yield Event(tag=Tag.LEAF, kind=Kind.INT, row=row, number=row)
-        if row % 3 == 2:
-            yield Event(tag=Tag.NULL, row=row, column=1)
-        else:
-            yield Event(tag=Tag.LEAF, kind=Kind.VARCHAR, row=row, column=1, content=b"order %d" % row)
+        yield from (leaf(row, row, 0), leaf("order %d" % row, row, 1))
 
 
 rows = int(sys.argv[1])
+frame = Event(tag=Tag.FRAME, mark=Mark.RESPONSE, opcode=Opcode.RESULT, extra=3)
+kind, count = number(Field.RESULT_KIND, ResultKind.ROWS), number(Field.ROWS, rows, Tag.COUNT)
 with cqlp.PageWriter(cqlp.cells_size(cells(rows))) as page:
-    sys.stdout.buffer.write(page.put(head(rows)))
+    sys.stdout.buffer.write(page.put([frame, kind, *metadata("shop.orders"), count]))
     rest = cells(rows)
     while some := list(itertools.islice(rest, 1000)):
         sys.stdout.buffer.write(page.put(some))

@@ -60,6 +60,8 @@ def read(data: bytes) -> None:
         one: cqlp.ColumnArray = arrays["c"]
         view: memoryview = one.numbers()
         assert len(view) == arrays.count == one.cells
+        missing: cqlp.Missing = "mask"
+        assert missing in ("mask", "zero") and issubclass(cqlp.ValuesMissing, cqlp.Error)
 
 
 def read_given() -> None:
@@ -73,6 +75,8 @@ def frames() -> None:
         whole: cqlp.Frame = frame
         message: messages.Message = whole.message
         assert isinstance(message, messages.Options) and whole.stream == 0
+    other: Optional[cqlp.Error] = refusal(b"\3\0\0\4\5\0\0\0\0")
+    assert isinstance(other, cqlp.Refused) and cqlp.version_error(other.header)[2:4] == b"\0\4"
     reason: Union[cqlp.Reason, int] = skipped[0].reason
     assert reason == cqlp.Reason.BAD_UTF8
     assert [bytes(frame) for frame in cqlp.encode_frames(cqlp.events(OPTIONS))] == [OPTIONS]
@@ -83,6 +87,7 @@ def decode() -> None:
         events: List[Event] = decoder.decode(OPTIONS)
         held: cqlp.Held = decoder.held()
         verdict: cqlp.Verdict = decoder.finish()
+    assert issubclass(cqlp.InUse, ValueError) and not isinstance(cqlp.check(bytearray(OPTIONS)), cqlp.InUse)
     assert len(events) == 2 and held.bytes == 0 and verdict.end == cqlp.End.WHOLE and verdict == cqlp.check(OPTIONS)
 
 
@@ -147,6 +152,7 @@ def words() -> None:
     assert cqlp.name(cqlp.Group.CONSISTENCY, cqlp.Consistency.ONE) == "ONE"
     assert cqlp.name(cqlp.Group.BATCH, cqlp.BatchType.LOGGED) == "logged"
     number: int = cqlp.version_number()
+    assert cqlp.__version__ == cqlp.version()
     assert cqlp.version().startswith("%d." % (number // 1_000_000))
 
 

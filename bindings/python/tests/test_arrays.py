@@ -230,7 +230,7 @@ class Arrays(unittest.TestCase):
         self.assertEqual(raised.exception.code, Code.UNSUPPORTED)
         self.agrees(of_items, cqlp.Limits(types=False))
         for words in ({"rows": 0}, {"memory": 0}):
-            self.assertRaises(ValueError, list, cqlp.arrays(SMALL, **words))
+            self.assertRaises(ValueError, cqlp.arrays, SMALL, **words)
         self.assertRaises(cqlp.BadLimits, list, cqlp.arrays(SMALL, cqlp.Limits(cell=1)))
 
     def test_a_number_of_columns_that_lies_takes_no_memory(self) -> None:

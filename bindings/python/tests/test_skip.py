@@ -25,6 +25,48 @@ def told(skipped: "List[cqlp.Skipped]") -> list:
     return [(one.frame.at, one.frame.extra, one.at, one.reason) for one in skipped]
 
 
+class Versions(unittest.TestCase):
+    def test_a_frame_of_another_version_leaves_its_header(self) -> None:
+        """However the stream is cut, so that `version_error` answers under its stream id."""
+        other = bytes.fromhex("050000070500000004") + b"tail"
+        readers = (cqlp.rows, cqlp.events, cqlp.frames, cqlp.columns, cqlp.arrays, lambda *given, **named: map(tuple, cqlp.Pages(*given, **named)))
+        for before in (b"", OPTIONS, OPTIONS * 3, BAD_TEXT + OPTIONS, OPTIONS + BAD_TEXT):
+            wanted = (len(before), other[:9])
+            for piece in range(1, 50):
+                for read in readers:
+                    with self.assertRaises(cqlp.Refused) as caught:
+                        list(read(before + other, piece=piece, skip=lambda skipped: None))
+                    self.assertEqual((caught.exception.at, caught.exception.header), wanted)
+                with self.assertRaises(cqlp.Refused) as caught, cqlp.Decoder() as decoder:
+                    self.give(decoder, before + other, piece)
+                self.assertEqual((caught.exception.at, caught.exception.header), wanted)
+        with cqlp.Decoder() as decoder:
+            decoder.decode(OPTIONS + other[:1])
+            for given in (other[1:], OPTIONS):  # the refusal stays, and so does its header
+                with self.assertRaises(cqlp.Refused) as caught:
+                    decoder.decode(given)
+                self.assertEqual((caught.exception.at, caught.exception.header), (9, other[:9]))
+        self.assertEqual(cqlp.version_error(other[:9])[:5], bytes.fromhex("8400000700"))
+        for bad in (BAD_TEXT, BAD_OPCODE):
+            with self.assertRaises(cqlp.Refused) as caught:
+                cqlp.Decoder().decode(OPTIONS + bad)
+            self.assertEqual(caught.exception.header, b"")
+
+    def give(self, decoder: cqlp.Decoder, data: bytes, piece: int) -> None:
+        """Gives the pieces of a stream, and passes over the frames that may be."""
+        for at in range(0, len(data), piece):
+            some = data[at : at + piece]
+            while some:
+                try:
+                    decoder.decode(some)
+                    some = b""
+                except cqlp.Refused as refused:
+                    if refused.header:
+                        raise
+                    decoder.skip()
+                    some = refused.rest
+
+
 class Skips(unittest.TestCase):
     def test_frames_behind_bad_ones_in_pieces_of_each_size(self) -> None:
         for piece in range(1, len(STREAM) + 1):

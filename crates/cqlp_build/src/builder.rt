@@ -76,6 +76,7 @@ pub struct FrameBuilder {
 
 impl FrameBuilder {
     /// A builder between frames, which asks for no memory yet.
+    #[must_use]
     pub fn new(alloc: Global, limits: BuildLimits) -> FrameBuilder
         ensures { state result ≡ empty limits }
     {

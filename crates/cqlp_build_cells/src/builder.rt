@@ -56,6 +56,7 @@ pub struct CellBuilder {
 
 impl CellBuilder {
     /// A builder between cells, which asks for no memory yet.
+    #[must_use]
     pub fn new(alloc: Global, limits: CellLimits) -> CellBuilder
         ensures { state result ≡ empty limits }
     {

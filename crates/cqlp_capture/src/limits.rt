@@ -30,6 +30,7 @@ impl CaptureLimits {
     };
 
     /// Whether the limits are in their ranges.
+    #[must_use]
     pub fn is_in_range(&self) -> bool
         ensures { result ≡ is_in_range self.now }
     {

@@ -79,6 +79,10 @@ impl<A: Allocator + Clone> CaptureReader<A> {
 
     /// A reader at the start of a file, with room for a packet of the greatest length that the limits allow and for as many
     /// interfaces as they allow: two requests for memory, and the only ones.
+    ///
+    /// # Errors
+    ///
+    /// Limits out of their ranges, and memory that is refused.
     pub fn new(alloc: A, limits: CaptureLimits) -> Result<Self, NewReaderError>
         ensures bad { IsErrOf result NewReaderError.BadLimits ↔ (is_in_range limits ≡ false) }
         ensures fresh { IfOk result (λ reader. reader ≡ new_state limits) }

@@ -17,6 +17,7 @@ pub enum Layout {
 }
 
 /// How the values of a column of this kind lie in memory, if they are scalars.
+#[must_use]
 #[inline(always)]
 pub fn layout_of(kind: Kind) -> Option<Layout>
     ensures { result ≡ layout_of kind }

@@ -38,6 +38,7 @@ pub struct Composer {
 
 impl Composer {
     /// A composer that no event came to, which asks for no memory yet.
+    #[must_use]
     pub fn new(alloc: Global, limits: BuildLimits) -> Composer
         ensures { composed result ≡ start limits }
     {

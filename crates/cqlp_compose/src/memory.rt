@@ -10,21 +10,31 @@ pub struct InMemory {
     bytes: Vec<u8>,
     /// How many calls found no memory, up to 2^64 - 1.
     failures: u64,
+    /// How many calls took all of their bytes, up to 2^64 - 1.
+    writes: u64,
 }
 
 impl InMemory {
     /// With these bytes, and no call made.
     pub fn new(bytes: Vec<u8>) -> InMemory
-        ensures { result ≡ record { bytes = bytes; failures = 0 } }
+        ensures { result ≡ record { bytes = bytes; failures = 0; writes = 0 } }
     {
-        InMemory { bytes, failures: 0 }
+        InMemory {
+            bytes,
+            failures: 0,
+            writes: 0,
+        }
     }
 
     /// The bytes.
     pub fn into_bytes(self) -> Vec<u8>
         ensures { result ≡ self.bytes }
     {
-        let InMemory { bytes, failures: _ } = self;
+        let InMemory {
+            bytes,
+            failures: _,
+            writes: _,
+        } = self;
         bytes
     }
 }
@@ -34,9 +44,14 @@ impl Target for InMemory {
 
     ghost failures = { λ target. target.failures };
 
+    ghost writes = { λ target. target.writes };
+
     fn write(&mut self, bytes: &[u8]) -> Result<usize, IoFault> {
         match self.bytes.extend_from_slice(bytes) {
-            Ok(()) => Ok(bytes.len()),
+            Ok(()) => {
+                self.writes = self.writes.saturating_add(1);
+                Ok(bytes.len())
+            }
             Err(_) => {
                 self.failures = self.failures.saturating_add(1);
                 Err(IoFault)

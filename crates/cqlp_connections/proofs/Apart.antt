@@ -1,19 +1,17 @@
 -- Two answers are the same, and connections are apart.
-use Rattle.std.proofs.Common.{◌≡◌, ℕ, zero, suc, ◌+◌, ◌<◌, ◌≤◌, ◌⊎◌, inl, inr, Bool, true, false, cond, List, [], ◌∷◌, ◌++◌, length, take, drop, map, refl, sym, ap, subst, ◌∙◌, arith}
+use Rattle.std.proofs.Common.{◌≡◌, ℕ, suc, ◌≤◌, ◌⊎◌, inl, inr, Bool, true, false, cond, List, [], ◌∷◌, ◌++◌, length, take, drop, map, refl, sym, ap, subst, ◌∙◌, arith}
 use Rattle.std.specs.Prelude.{Option, Some, None, nat_lt, unwrap_or}
 use Rattle.std.proofs.lemmas.List.{take-append-drop}
 use Rattle.cqlp_segment.specs.declared.segments.SegmentHead.{SegmentHead}
 use Rattle.cqlp_segment.specs.Segment.{Seen}
 use Rattle.cqlp_connections.specs.declared.ends.Way.{Way}
 use Rattle.cqlp_connections.specs.declared.ends.Way.TheVariants.{Requests, Responses}
-use Rattle.cqlp_connections.specs.declared.told.Departure.{Departure}
 use Rattle.cqlp_connections.specs.declared.told.Told.{Told}
 use Rattle.cqlp_connections.specs.Ends.{ends_of, first_way, way_between}
 use Rattle.cqlp_connections.specs.Totals.{counted}
-use Rattle.cqlp_connections.specs.Known as one
-use Rattle.cqlp_connections.specs.Known.{Known, Telling, begins_anew, closed, counted_on}
-use Rattle.cqlp_connections.specs.Tables.{Departing, Pulling, Table, Taking, begun, cells_of, crowded, crowded_by, departing, found_in, held_on, left, left_as, left_by, left_in, new_known, pulled, pulled_in, pulling, read_in, read_on, seen_as, seen_first, seen_in, taken, taken_by, taken_in, taking, to_front, with_known}
-use Rattle.cqlp_connections.specs.Laws.{ChangesNoStream, Keeps, LeavesTheOthers, OneAnswerOfNew, OneAnswerOfRead, OthersStay, Reads, pair_of, pairs}
+use Rattle.cqlp_connections.specs.Known.{Known, begins_anew, closed, counted_on}
+use Rattle.cqlp_connections.specs.Tables.{Departing, Pulling, Table, Taking, begun, cells_of, crowded, crowded_by, found_in, left_by, left_in, new_known, pulled_in, read_in, read_on, seen_in, taken_by, taken_in, to_front, with_known}
+use Rattle.cqlp_connections.specs.Laws.{ChangesNoStream, Keeps, LeavesTheOthers, OneAnswerOfNew, OneAnswerOfRead, OthersStay, pair_of, pairs}
 use Rattle.cqlp_connections.specs.Laws.Keeps.{same, front, begun as begun_by}
 
 pub one_new : OneAnswerOfNew

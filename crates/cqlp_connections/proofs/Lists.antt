@@ -1,12 +1,12 @@
 -- Lists of connections: one is brought to the front, one is found.
 use Rattle.std.proofs.Common.{inl, inr, ◌≡◌, ℕ, zero, suc, ◌+◌, ◌-◌, ◌<◌, ◌≤◌, Bool, true, false, cond, List, [], ◌∷◌, ◌++◌, length, take, drop, map, get_or, set, refl, sym, ap, subst, ◌∙◌, arith, append_assoc}
-use Rattle.std.specs.Prelude.{not, ◌&&◌, nat_le, nat_lt, slice_index, Option, Some, None}
+use Rattle.std.specs.Prelude.{not, ◌&&◌, nat_le, nat_lt, Some, None}
 use Rattle.std.specs.List.{list_all, position, position_or_len, remove}
 use Rattle.std.proofs.lemmas.Bool.{cases_lt, lt-ltb, le-leb}
-use Rattle.std.proofs.lemmas.List.{drop-take, take-take, take_at, map-append, take-map, drop-map}
+use Rattle.std.proofs.lemmas.List.{drop-take, take-take, map-append, take-map, drop-map}
 use Rattle.cqlp_connections.specs.Known.{Known}
 use Rattle.cqlp_segment.specs.declared.segments.SegmentHead.{SegmentHead}
-use Rattle.cqlp_connections.specs.Tables.{found_in, is_of, least_of, lesser, numbers, to_front}
+use Rattle.cqlp_connections.specs.Tables.{found_in, is_of, least_of, lesser, to_front}
 
 after_one : (x y : List Known) (l : ℕ) → length x ≡ 1 → take (suc l) (x ++ y) ≡ x ++ take l y
 after_one [] y l h = absurd (omega arith)

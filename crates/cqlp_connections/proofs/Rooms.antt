@@ -1,7 +1,7 @@
 -- A direction has the cells that it was made with.
-use Rattle.std.proofs.Common.{◌≡◌, ℕ, ◌+◌, Bool, true, false, cond, List, length, refl, sym, ◌∙◌, ap, arith}
+use Rattle.std.proofs.Common.{◌≡◌, ℕ, Bool, true, false, cond, List, length, refl, ◌∙◌}
 use Rattle.std.specs.Prelude.{◌==◌, ◌||◌, Option, Some, None, nat_lt}
-use Rattle.std.proofs.lemmas.List.{length-replicate, length-drop}
+use Rattle.std.proofs.lemmas.List.{length-replicate}
 use Rattle.cqlp_segment.specs.Segment.{Seen}
 use Rattle.cqlp_reassembly.specs.declared.sequence.Distance.{Distance}
 use Rattle.cqlp_reassembly.specs.declared.sequence.Distance.TheVariants.{Ahead, Behind}
@@ -12,17 +12,16 @@ use Rattle.cqlp_reassembly.specs.declared.stream.StreamStep.{StreamStep}
 use Rattle.cqlp_reassembly.specs.declared.stream.StreamStep.TheVariants as step
 use Rattle.cqlp_reassembly.specs.Sequence.{distance}
 use Rattle.cqlp_reassembly.specs.Cells.{put_from}
-use Rattle.cqlp_reassembly.specs.Windows.{View, new_view, passed, taken}
-use Rattle.cqlp_reassembly.specs.Streams.{Settling, StreamState, Told, after_acknowledgement, after_acknowledgement_at, after_close, after_segment, after_segment_at, at_stage, begun, fin_number, first_number, fresh, gap_or_done, goes, held, hole, is_lost, kept_early, lacking, or_else, or_step, overlap, received, received_from, settled, settling, stream_state, told, up_to_end, with_end, with_window}
+use Rattle.cqlp_reassembly.specs.Windows.{new_view, taken}
+use Rattle.cqlp_reassembly.specs.Streams.{Settling, StreamState, Told, after_acknowledgement, after_acknowledgement_at, after_segment, after_segment_at, at_stage, begun, first_number, fresh, gap_or_done, goes, held, hole, is_lost, kept_early, lacking, or_else, or_step, overlap, received, settled, settling, stream_state, told, up_to_end, with_end, with_window}
 use Rattle.cqlp_reassembly.proofs.Puts.{length-put}
 use Rattle.cqlp_reassembly.proofs.Emptied.{length_moved}
 use Rattle.cqlp_connections.specs.declared.ends.Way.{Way}
 use Rattle.cqlp_connections.specs.declared.ends.Way.TheVariants.{Requests, Responses}
-use Rattle.cqlp_connections.specs.declared.told.Told as connection_told
 use Rattle.cqlp_connections.specs.Ends.{way_between}
 use Rattle.cqlp_connections.specs.Sides as sides
 use Rattle.cqlp_connections.specs.Sides.{SideState, SideTold}
-use Rattle.cqlp_connections.specs.Known.{HasRoom, Known, Telling, acknowledged, answered, closed, closed_way, control_of, counted_on, or_next, or_next_as, other, pulled, pulled_on, side_of, taken as one_taken, telling, told_of, with_side}
+use Rattle.cqlp_connections.specs.Known.{HasRoom, Known, Telling, acknowledged, answered, closed, closed_way, control_of, counted_on, or_next, or_next_as, other, pulled, pulled_on, side_of, taken as one_taken, telling, with_side}
 
 abbrev room : StreamState → ℕ
 room s = length s.window.cells

@@ -3,7 +3,9 @@ use Rattle.std.specs.Prelude.{◌≡◌, ℕ, ◌≤◌, ◌⊎◌, List, ◌∷
 use Rattle.cqlp_segment.specs.declared.segments.SegmentHead.{SegmentHead}
 use Rattle.cqlp_segment.specs.Segment.{Seen}
 use Rattle.cqlp_reassembly.specs.Streams.{StreamState, unseen}
+use Rattle.cqlp_connections.specs.declared.ends.TheConstants.{DEFAULT_PORT}
 use Rattle.cqlp_connections.specs.declared.ends.Way.{Way}
+use Rattle.cqlp_connections.specs.declared.limits.TheConstants.ConnectionLimits.{DEFAULT}
 use Rattle.cqlp_connections.specs.declared.limits.ConnectionLimits.{ConnectionLimits}
 use Rattle.cqlp_connections.specs.declared.told.Departure.{Departure}
 use Rattle.cqlp_connections.specs.declared.told.Sight.{Sight}
@@ -64,3 +66,10 @@ LeavesTheOthers =
     × ((way : Way) (n : ℕ) (old new : Table) → new ≡ read_on way n old → OthersStay old new)
     × ((d : Departure) (old new : Table)
     → departing d new ≡ left old → OthersStay old new ⊎ (new.known ≡ drop 1 old.known))
+
+-- ---- numbers
+
+-- the port of a node, and the limits where none are given
+pub record PromisedNumbers : Type 0 where
+  pub port : DEFAULT_PORT ≡ 9042
+  pub limits : DEFAULT ≡ record { connections = 1024; early = 10240 }

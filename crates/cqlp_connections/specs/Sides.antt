@@ -1,5 +1,5 @@
 -- One direction of a connection: its stream, and what was told of it.
-use Rattle.std.specs.Prelude.{ℕ, List, length, min}
+use Rattle.std.specs.Prelude.{ℕ, List, min}
 use Rattle.cqlp_reassembly.specs.declared.stream.Control.{Control}
 use Rattle.cqlp_reassembly.specs.declared.stream.StreamStep.{StreamStep}
 use Rattle.cqlp_reassembly.specs.declared.stream.StreamStep.TheVariants as step

@@ -1,12 +1,11 @@
 -- The table of connections.
-use Rattle.std.specs.Prelude.{ℕ, suc, ◌+◌, ◌-◌, Bool, true, false, List, [], ◌∷◌, ◌++◌, length, map, take, drop, slice_index, nat_le, nat_lt}
+use Rattle.std.specs.Prelude.{ℕ, suc, ◌-◌, Bool, true, false, List, [], ◌∷◌, ◌++◌, length, map, take, drop, slice_index, nat_le, nat_lt}
 use Rattle.std.specs.List.{list_all, position, remove}
 use Rattle.std.specs.Prelude.{Option, Some, None, is_some, unwrap_or, if◌then◌else◌}
 use Rattle.cqlp_segment.specs.declared.addresses.Endpoint.{Endpoint}
 use Rattle.cqlp_segment.specs.declared.segments.SegmentHead.{SegmentHead}
 use Rattle.cqlp_segment.specs.Segment.{Seen}
 use Rattle.cqlp_connections.specs.declared.ends.Way.{Way}
-use Rattle.cqlp_connections.specs.declared.ends.Way.TheVariants.{Requests, Responses}
 use Rattle.cqlp_connections.specs.declared.limits.ConnectionLimits.{ConnectionLimits}
 use Rattle.cqlp_connections.specs.declared.told.Departure.{Departure}
 use Rattle.cqlp_connections.specs.declared.told.Departure.TheVariants as departure

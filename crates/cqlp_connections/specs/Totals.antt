@@ -2,9 +2,7 @@
 use Rattle.std.specs.Prelude.{ℕ, ◌+◌, ◌-◌, ◌^◌, Bool, min, if◌then◌else◌}
 use Rattle.cqlp_reassembly.specs.declared.stream.StreamStep.{StreamStep}
 use Rattle.cqlp_reassembly.specs.declared.stream.StreamStep.TheVariants as step
-use Rattle.cqlp_connections.specs.declared.totals.Begin.{Begin}
 use Rattle.cqlp_connections.specs.declared.totals.Begin.TheVariants.{Unseen, Syn, Middle}
-use Rattle.cqlp_connections.specs.declared.totals.End.{End}
 use Rattle.cqlp_connections.specs.declared.totals.End.TheVariants.{Open, Fin, Reset}
 use Rattle.cqlp_connections.specs.declared.totals.DirectionTotals.{DirectionTotals}
 

@@ -1,6 +1,6 @@
 //! Laws of a table. No code needs them.
 
-ghost use Rattle.cqlp_connections.specs.Laws.{ChangesNoStream, OneAnswerOfNew, OneAnswerOfRead, LeavesTheOthers};
+ghost use Rattle.cqlp_connections.specs.Laws.{ChangesNoStream, OneAnswerOfNew, OneAnswerOfRead, LeavesTheOthers, PromisedNumbers};
 
 /// `new` has one answer where memory is granted, and `read` has one. The clauses of all other calls are equations.
 pub fn one_answer()
@@ -13,4 +13,9 @@ pub fn one_answer()
 pub fn connections_are_apart()
     ensures take { ChangesNoStream }
     ensures first { LeavesTheOthers }
+{}
+
+/// The default port is 9042, and the default limits are 1,024 connections and 10,240 bytes that came early.
+pub fn promised_numbers()
+    ensures { PromisedNumbers }
 {}

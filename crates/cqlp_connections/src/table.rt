@@ -1,7 +1,7 @@
 //! The table of connections.
 
 ghost use Rattle.std.specs.Prelude.{◌≡◌, ◌↔◌, ◌==◌, ◌<◌, ◌≤◌, ◌∷◌, false, drop, length, map};
-ghost use Rattle.std.specs.Prelude.{slice_index, take, IfOk, IsErrOf, Some};
+ghost use Rattle.std.specs.Prelude.{slice_index, take, vec_capacity, IfOk, IsErrOf, Some};
 ghost use Rattle.cqlp_segment.specs.Segment.{seen};
 ghost use Rattle.cqlp_connections.specs.Limits.{is_in_range};
 ghost use Rattle.std.specs.Box.{box_value};
@@ -27,7 +27,7 @@ use std::marker::Model;
 pub struct Connections<A: Allocator = Global> {
     limits: ConnectionLimits,
     ports: Vec<u16, A>,
-    /// The connections, of which the one whose segment came last is first; and after them memory for more.
+    /// The connections, of which the one whose segment came last is first; and after them memory for more, as much as the limit says.
     places: Vec<Box<Connection<A>, A>, A>,
     /// How many connections there are.
     len: usize,
@@ -35,7 +35,7 @@ pub struct Connections<A: Allocator = Global> {
 }
 
 impl<A: Allocator> Model for Connections<A> {
-    ghost use Rattle.std.specs.Prelude.{map, take};
+    ghost use Rattle.std.specs.Prelude.{◌≡◌, map, take, vec_capacity};
     ghost use Rattle.std.specs.Box.{box_value};
     ghost use Rattle.cqlp_connections.specs.Places.{IsLawful};
     ghost use Rattle.cqlp_connections.specs.Tables.{Table, table};
@@ -44,10 +44,12 @@ impl<A: Allocator> Model for Connections<A> {
 
     ghost view = { λ c. table c.limits c.ports.items (take c.len (map box_value c.places.items)) c.counts };
 
-    ghost invariant = { λ c. IsLawful c.limits c.len (map box_value c.places.items) };
+    ghost invariant = { λ c. IsLawful c.limits c.len (map box_value c.places.items) × (vec_capacity c.places ≡ c.limits.connections) };
 }
 
 impl<A: Allocator> Connections<A> {
+    ghost use Rattle.std.specs.Prelude.{is_some};
+    ghost use Rattle.cqlp_connections.specs.Ends.{first_way};
     ghost use Rattle.cqlp_connections.specs.Tables.{begun, cells_of, crowded, departing, finished, first_number, found_in, held_on, left};
     ghost use Rattle.cqlp_connections.specs.Tables.{lesser, new_known, new_table, numbers, pulled, pulling, read_on};
     ghost use Rattle.cqlp_connections.specs.Tables.{seen_first, taken, taking, with_known};
@@ -114,6 +116,13 @@ impl<A: Allocator> Connections<A> {
             None if self.len < self.places.len() => self.begin(way, head),
             None => self.crowd(),
         }
+    }
+
+    /// Whether one of a segment's ports is asked for, so that it is of a connection.
+    pub fn asks_for(&self, head: &SegmentHead) -> bool
+        ensures { result ≡ is_some (first_way self.now.ports head.now) }
+    {
+        first_way(&self.ports, head).is_some()
     }
 
     /// The next that a segment tells which was taken. First its acknowledgement tells of the other way, gaps and bytes that were held
@@ -345,7 +354,8 @@ fn make_places<A: Allocator + Clone>(
     count: usize,
     room: usize,
 ) -> Result<Vec<Box<Connection<A>, A>, A>, AllocError>
-    ensures { IfOk result (λ places. AreMade count room (map box_value places.items)) }
+    ensures made { IfOk result (λ places. AreMade count room (map box_value places.items)) }
+    ensures capacity { IfOk result (λ places. vec_capacity places ≡ count) }
 {
     let mut places = Vec::with_capacity(alloc.clone()?, count)?;
     for _ in 0..count {

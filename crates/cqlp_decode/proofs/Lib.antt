@@ -1,3 +1,4 @@
+pub mod Asking
 pub mod Columns
 pub mod Always
 pub mod Within

@@ -1,6 +1,7 @@
 -- What a sink gets of a stream.
 use Rattle.std.specs.Prelude.{◌≡◌, ℕ, ◌+◌, ◌-◌, ◌*◌, ◌≤◌, ◌++◌, true, List, [], ◌∷◌, length, take, Option, Some, None, ◌⊎◌, ⊤}
 use Rattle.cqlp_note.specs.declared.refusal.Refusal.{Refusal}
+use Rattle.cqlp_note.specs.declared.streams.Source.{Ghosts}
 use Rattle.cqlp_note.specs.Streams.{counted, CountsUp}
 use Rattle.cqlp_decode.specs.declared.running.Drained.{Drained}
 use Rattle.cqlp_decode.specs.declared.running.Drained.TheVariants as drained
@@ -194,11 +195,20 @@ WaitsAt outcome.ReadFault new = new.refusal ≡ None
 WaitsAt outcome.Turns new = new.refusal ≡ None
 WaitsAt o new = ⊤
 
+-- how often a reader was called, and how many bytes of room the calls had
+pub record Calls : Type 0 where
+  pub reads : ℕ
+  pub asked : ℕ
+
+abbrev pub calls : {R : Type 0} → Ghosts R → R → Calls
+calls members reader = record { reads = members.reads reader; asked = members.asked reader }
+
 -- A run that may make so many reads made this many that gave some bytes, and those that gave nothing; and no other. Each
--- turn was one that gave some bytes, where they ran out.
-pub record MakesReads (turns : ℕ) (o : Outcome) (old new : ℕ) (was left : Option (List ℕ)) : Type 0 where
+-- had room for 4,096 bytes. Each turn was one that gave some bytes, where they ran out.
+pub record MakesReads (turns : ℕ) (o : Outcome) (old new : Calls) (was left : Option (List ℕ)) : Type 0 where
   pub giving : ℕ
-  pub counted : CountsUp (giving + idle_reads o) old new
+  pub counted : CountsUp (giving + idle_reads o) old.reads new.reads
+  pub asked : CountsUp (4096 * (giving + idle_reads o)) old.asked new.asked
   pub within : giving + idle_reads o ≤ turns
   pub all : o ≡ outcome.Turns → giving ≡ turns
   pub gives : (xs : List ℕ) → was ≡ Some xs → InReads giving xs left

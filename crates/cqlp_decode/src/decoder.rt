@@ -6,7 +6,7 @@ ghost use denote.RawPtr.{◌+ₚ◌};
 ghost use Rattle.std.specs.Borrow.{sem};
 ghost use Rattle.cqlp_note.specs.Limits.{first_bad, rules_asked, rules_of, with_lenient};
 ghost use Rattle.cqlp_note.specs.Head.{value_of};
-ghost use Rattle.cqlp_note.specs.Streams.{ReadsPiece, counted};
+ghost use Rattle.cqlp_note.specs.Streams.{ReadsPiece, counted, counted_up};
 ghost use Rattle.cqlp_cell.specs.Items as cell;
 ghost use Rattle.cqlp_grammar.specs.Events.{event_of};
 ghost use Rattle.cqlp_decode.specs.Reading as reading;
@@ -67,6 +67,10 @@ impl<A: Allocator + Clone> Decoder<A> {
     /// A decoder at the start of a stream, with room for one content of the greatest length that the limits allow, for
     /// the types of one metadata, for their nesting, and for that of a cell's values: four requests for memory, and the
     /// only ones.
+    ///
+    /// # Errors
+    ///
+    /// Limits out of their ranges, and memory that is refused.
     pub fn new(alloc: A, limits: Limits) -> Result<Self, NewError>
         ensures bad { (b : Bad) → IsErrOf result (NewError.BadLimits b) ↔ (first_bad limits ≡ Err b) }
         ensures fresh { IfOk result (λ d. After (state d) [] []) }
@@ -87,6 +91,10 @@ impl<A: Allocator + Clone> Decoder<A> {
     /// - A type option of an id that no kind has is told as [`Kind::Raw`](cqlp_kind::Kind::Raw), and has no parameters.
     ///
     /// All else is read as by a decoder that `new` makes.
+    ///
+    /// # Errors
+    ///
+    /// As [`Decoder::new`].
     pub fn lenient(alloc: A, limits: Limits) -> Result<Self, NewError>
         ensures bad { (b : Bad) → IsErrOf result (NewError.BadLimits b) ↔ (first_bad limits ≡ Err b) }
         ensures fresh { IfOk result (λ d. After (state d) [] []) }
@@ -155,6 +163,23 @@ impl<A: Allocator> Decoder<A> {
 
     /// The next event that the input leads to. The caller hands in the bytes after those that were used, and goes on
     /// until more are wanted. A refusal is final: each later call says it again.
+    ///
+    /// **Call until [`Step::More`], not while bytes are left: the end of a frame, and of an open value, takes one more call
+    /// with no bytes.** A loop `while used < n` misses that event, or never ends. This one is right:
+    ///
+    /// ```text
+    /// let mut used = 0;
+    /// loop {
+    ///     match decoder.next(&input[used..]) {
+    ///         Step::Event { at, used: taken, event } => {
+    ///             used += taken; // may be 0
+    ///             // the event is here
+    ///         }
+    ///         Step::More { .. } => break, // all bytes are used: read more
+    ///         Step::Refused(refusal) => return Err(refusal),
+    ///     }
+    /// }
+    /// ```
     pub fn next<'a>(&'a mut self, input: &'a [u8]) -> Step<'a>
         ensures* next { sem 𝓛 (LeavesAnswer A.row A.Allocator self.entry self.old input.now result) }
         ensures uses { Uses input.now result }
@@ -187,6 +212,10 @@ impl<A: Allocator> Decoder<A> {
     /// cells, and type no other page unless they are given again. Given once a frame's header came, and taken back at its
     /// end, they type that frame's page or none. The table that was held before comes back. A table that is not taken
     /// comes back with the first reason against it, and nothing changes.
+    ///
+    /// # Errors
+    ///
+    /// The first reason against the table, which comes back with it: nothing changes.
     pub fn give(&mut self, table: TypeTable<A>) -> Result<Option<TypeTable<A>>, GiveError<A>>
         ensures refused { (w : Why) → reason_against (state self.old) table.nodes ≡ Some w
             → (result ≡ Err (record { why = w; table = table })) × (self.new ≡ self.old) }
@@ -302,6 +331,7 @@ impl<A: Allocator> Decoder<A> {
             (λ piece. Answers (state self.old) piece (Step.More (length piece)) (state self.new)) }
         ensures failures { R.failures reader.new ≡ counted (is_err result) (R.failures reader.old) }
         ensures reads { R.reads reader.new ≡ counted true (R.reads reader.old) }
+        ensures asked { R.asked reader.new ≡ counted_up 4096 (R.asked reader.old) }
     {
         self.parts.partial.read_from(reader, 4096)
     }
@@ -366,6 +396,10 @@ impl<A: Allocator> Decoder<A> {
     /// and over their items take them, and answers how many bytes of the input they take. It may stop before any of them:
     /// the next call is `next`, which decides what is left. At a sink's fault the event at which it failed was taken too.
     /// After a refusal nothing is handed out.
+    ///
+    /// # Errors
+    ///
+    /// The fault of the sink, with how many bytes the events before it and its own take.
     #[inline]
     pub fn hand_whole<S: Sink>(&mut self, input: &[u8], sink: &mut S) -> Result<usize, FaultAfter>
         ensures stays { StaysWithin (state self.old) input.now result (state self.new) }

@@ -1,7 +1,7 @@
 //! A reader's stream, drained into a sink.
 
 ghost use Rattle.std.specs.Prelude.{◌≡◌, List, ℕ, Some};
-ghost use Rattle.cqlp_decode.specs.Draining.{Counts, DrainsBy, DrainsTo, MakesReads, Passes, ReadsInTime, RunsTo, WaitsAt};
+ghost use Rattle.cqlp_decode.specs.Draining.{Counts, DrainsBy, DrainsTo, MakesReads, Passes, ReadsInTime, RunsTo, WaitsAt, calls};
 ghost use Rattle.cqlp_decode.specs.Streams.{state};
 ghost use Rattle.cqlp_note.specs.declared.refusal.Refusal.{Refusal};
 
@@ -32,7 +32,7 @@ enum Drained {
     Fault,
 }
 
-/// Hands all events of a reader's bytes to the sink, from at most `turns` reads of up to 4,096 bytes, none of which is
+/// Hands all events of a reader's bytes to the sink, from at most `turns` reads, each with room for 4,096 bytes and none
 /// tried again. The events of bytes that the decoder was given before come first. No read is made before the sink has got
 /// all events of the bytes read so far.
 pub fn run<R: Source, S: Sink, A: Allocator>(
@@ -48,7 +48,7 @@ pub fn run<R: Source, S: Sink, A: Allocator>(
     ensures refused { (r : Refusal) → (state decoder.old).refusal ≡ Some r →
         (result ≡ Outcome.Finished (Finish.Refused r)) × (state decoder.new ≡ state decoder.old)
         × (reader.new ≡ reader.old) × (sink.new ≡ sink.old) }
-    ensures reads { MakesReads turns result (R.reads reader.old) (R.reads reader.new)
+    ensures reads { MakesReads turns result (calls R.Source reader.old) (calls R.Source reader.new)
         (R.left reader.old) (R.left reader.new) }
     ensures in_time { (xs : List ℕ) → R.left reader.old ≡ Some xs → S.tells sink.old →
         ReadsInTime S.after S.faulted turns result (state decoder.old) (state decoder.new) xs (R.reads reader.old)
@@ -64,7 +64,7 @@ pub fn run<R: Source, S: Sink, A: Allocator>(
         Drained::Refused => return Outcome::Finished(decoder.finish()),
         Drained::Fault => return Outcome::SinkFault,
     }
-    for after_cell in 0..turns {
+    for turn in 0..turns {
         if decoder.gathers() {
             let Ok(gathered) = decoder.read_content(reader) else {
                 return Outcome::ReadFault;

@@ -1,5 +1,5 @@
 -- Parts that are checked and then written.
-use Rattle.std.proofs.Common.{◌≡◌, ◌≢◌, ◌+◌, ◌≤◌, ◌<◌, ◌^◌, ◌&&◌, ℕ, Bool, true, false, List, [], ◌∷◌, ◌++◌, length, take, nat_le, nat_lt, Option, Some, None, refl, sym, ap, ◌∙◌, subst, append-nil, inl, inr, arith}
+use Rattle.std.proofs.Common.{◌≡◌, ◌≢◌, ◌+◌, ◌-◌, ◌≤◌, ◌<◌, ◌^◌, ◌&&◌, ℕ, Bool, true, false, List, [], ◌∷◌, ◌++◌, length, take, nat_le, nat_lt, Option, Some, None, refl, sym, ap, ◌∙◌, subst, append-nil, inl, inr, arith}
 use Rattle.std.proofs.lemmas.Bool.{cases_lt, lt-ltb}
 use Rattle.std.proofs.lemmas.Bool.Decides.{nat_tests}
 use Rattle.std.proofs.lemmas.List.{length-append, length-take-le, take_all, take_at}
@@ -19,7 +19,7 @@ use Rattle.cqlp_message.specs.PartRefs.{Takes}
 use Rattle.cqlp_message.specs.Tallies.{IsTally}
 use Rattle.cqlp_message.specs.Frames.{frame_parts, unfit_of, frame_size, first_of}
 use Rattle.cqlp_encode.specs.Encoding.{Continued}
-use Rattle.cqlp_encode.specs.Progress.{Start, Before, Progress, HasTaken, HasTakenParts, Puts, begun}
+use Rattle.cqlp_encode.specs.Progress.{Start, Before, Progress, Flushes, HasTaken, HasTakenWith, HasTakenParts, Puts, begun}
 use Rattle.cqlp_encode.specs.Appending.{is_whole, HasCheckedParts, PartsFit, WritesChecked}
 use Rattle.cqlp_message.proofs.Tallies.{size_more}
 use Rattle.cqlp_encode.proofs.Continuing.{anew}
@@ -126,9 +126,9 @@ filled f room room' old new bytes r n e failed full lacks none =
 abbrev pub nine : List ℕ
 nine = replicate 9 0
 
-module _ {X : Type 0} (o : X → Output) (first : X) (f : FrameValue) (lender : ℕ) where
+module _ {X : Type 0} (o : X → Output) (w : X → ℕ) (first : X) (f : FrameValue) (lender : ℕ) where
   abbrev pub start : Start
-  start = record { output = o first; skip = 0 }
+  start = record { output = o first; skip = 0; calls = w first }
 
   pub before : Before
   before = record { start = start; front = nine; lender = lender }
@@ -147,7 +147,7 @@ module _ {X : Type 0} (o : X → Output) (first : X) (f : FrameValue) (lender : 
     all = λ le. refl;
   }
 
-  module _ (b c : Progress) (t : Tally) (last end : X) (h : HasCheckedParts before b t (frame_parts f)) (rest : Puts b [] c) (none : c.waiting ≡ []) (left : o last ≡ c.output) (is_last : c.lender ≡ lender → end ≡ last) where
+  module _ (b c : Progress) (t : Tally) (last end : X) (h : HasCheckedParts before b t (frame_parts f)) (rest : Flushes b c) (left : o last ≡ c.output) (is_last : c.lender ≡ lender → end ≡ last) where
     all : List ℕ
     all = nine ++ parts_bytes h.passed
 
@@ -155,13 +155,13 @@ module _ {X : Type 0} (o : X → Output) (first : X) (f : FrameValue) (lender : 
     unfolding all
     passed_long = omega (arith, length-append nine (parts_bytes h.passed), h.taken.size)
 
-    taken_so : HasTaken start all c
+    taken_so : HasTakenWith (256 - length b.waiting) start all c
     unfolding before all
-    taken_so = subst (λ (x : List ℕ). HasTaken start x c) (append-nil all) (rest.taken start all (h.taken.taken h.small))
+    taken_so = rest.taken start all (h.taken.taken h.small)
 
     sent_so : Continued 0 (o first) all c.taken (o end) × (c.taken < 2 ^ 32)
     unfolding before
-    sent_so = sent o start last end all c taken_so none (omega (arith, passed_long, h.small)) left (is_last (rest.lender ∙ h.taken.lender))
+    sent_so = sent o _ start last end all c taken_so rest.empty (omega (arith, passed_long, h.small)) left (is_last (rest.lender ∙ h.taken.lender))
 
     pub few_taken : c.taken < 2 ^ 32
     few_taken = sent_so.1

@@ -1,5 +1,5 @@
 -- The bytes of a caller's values.
-use Rattle.std.proofs.Common.{◌≡◌, ℕ, ◌+◌, ◌-◌, ◌^◌, ◌<◌, List, [], ◌∷◌, ◌++◌, get_or, length, take, min, refl, sym, ap, ◌∙◌, append_assoc, append-nil, arith}
+use Rattle.std.proofs.Common.{◌≡◌, ℕ, ◌+◌, ◌-◌, ◌^◌, ◌<◌, List, [], ◌∷◌, ◌++◌, get_or, length, take, min, refl, sym, ap, subst, ◌∙◌, append_assoc, append-nil, arith}
 use Rattle.std.proofs.lemmas.List.{take_more}
 use Rattle.std.specs.Int.{w32, to_be_bytes}
 use Rattle.cqlp_value.specs.declared.value.Value.{Value, Null, Empty, Leaf, List', Map', Set', Tuple', Udt'}
@@ -100,3 +100,9 @@ pub pair_put : (xs : List (Value × Value)) (i : ℕ) (x : Value × Value) (a b 
 pair_put xs i x a b c d e l s t u =
     let more : take (i + 1) xs ≡ take i xs ++ x ∷ [] = take_more xs i x l ∙ ap (λ (y : Value × Value). take i xs ++ y ∷ []) (sym e) in
     same_put _ _ _ _ a d (pair_next xs i x e l ∙ omega arith) (ap (λ (y : List (Value × Value)). values_bytes (listed_pairs y)) more ∙ many_pair_bytes (take i xs) x) (within_then a b d _ _ _ _ s (within_then b c d _ _ _ _ t u))
+
+-- a decimal, after its length
+pub decimal_put : (count : ℕ) (scale unscaled : List ℕ) (a b c d : Progress) → count ≡ length (scale ++ unscaled) → Puts a (to_be_bytes w32 count) b → Puts b scale c → Puts c unscaled d
+    → Puts a (to_be_bytes w32 (length (scale ++ unscaled)) ++ (scale ++ unscaled)) d
+decimal_put count scale unscaled a b c d many s t u =
+    subst (λ (n : ℕ). Puts a (to_be_bytes w32 n ++ (scale ++ unscaled)) d) many (puts_then a b d _ _ s (puts_then b c d _ _ t u))

@@ -17,14 +17,14 @@ use Rattle.cqlp_encode.specs.declared.writing.EncodeError.{EncodeError}
 use Rattle.cqlp_encode.specs.declared.writing.EncodeError.TheVariants as error
 use Rattle.cqlp_encode.specs.Encoding.{header_and_parts, CanBeWritten, Continued, Encodes, EncodesFrom}
 use Rattle.cqlp_encode.proofs.Continuing.{anew, drop_nil, rest_taken, stops_alike}
-use Rattle.cqlp_encode.specs.Progress.{Start, Progress, Before, HasTaken, HasTakenParts, Puts, PutsWithin, begun}
+use Rattle.cqlp_encode.specs.Progress.{FewCalls, Flushes, Start, Progress, Before, HasTaken, HasTakenWith, HasTakenParts, Puts, PutsWithin, begun}
 
 some_left : (xs : List ℕ) → xs ≢ [] → 0 < length xs
 some_left [] some = absurd (some refl)
 some_left (x ∷ xs) some = omega arith
 
 -- what a target took of all, where nothing waits any more
-module _ (start : Start) (all : List ℕ) (p : Progress) (t : HasTaken start all p) (none : p.waiting ≡ []) (short : length all < 2 ^ 32) where
+module _ (spare : ℕ) (start : Start) (all : List ℕ) (p : Progress) (t : HasTakenWith spare start all p) (none : p.waiting ≡ []) (short : length all < 2 ^ 32) where
   parts : length all ≡ length t.sent + length t.left
   parts = ap length t.whole ∙ length-append t.sent t.left
 
@@ -58,18 +58,25 @@ module _ (start : Start) (all : List ℕ) (p : Progress) (t : HasTaken start all
     };
   }
 
+  pub has_few : FewCalls (p.taken - start.skip) start.calls p.calls
+  has_few = subst (λ (n : ℕ). FewCalls (n - start.skip) start.calls p.calls) (sym count) t.calls
+
 pub nothing_taken : (s : Start) (lender : ℕ) → Appends s.output.given s.output.given [] → HasTaken s [] (begun s lender)
 nothing_taken s lender same = record {
-  sent = [];
-  left = [];
-  whole = refl;
-  given = rw (drop_nil s.skip) same;
-  count = refl;
-  skip = omega arith;
-  passed = λ e. absurd cc;
-  failures = refl;
-  waits = λ e. refl;
-  lost = λ e. absurd cc;
+  so = record {
+    sent = [];
+    left = [];
+    whole = refl;
+    given = rw (drop_nil s.skip) same;
+    count = refl;
+    skip = omega arith;
+    passed = λ e. absurd cc;
+    failures = refl;
+    waits = λ e. refl;
+    lost = λ e. absurd cc;
+    calls = record { some = omega arith; few = omega arith };
+    dense = λ e. omega arith;
+  };
 }
 
 pub nothing_more : (o : Option (List ℕ)) → Appends o o []
@@ -80,15 +87,20 @@ pub lawful : (f : FrameValue) (n : ℕ) → unfit_of f ≡ None → n ≡ parts_
 lawful f n e is = record { plain = not_compressed f (is_fit f e).agrees; direction = refl; bounded = omega (arith, is, small_enough f e) }
 
 -- all was passed on through a borrow that ended
-pub sent : {X : Type 0} (o : X → Output) (start : Start) (last end : X) (all : List ℕ) (c : Progress) → HasTaken start all c → c.waiting ≡ [] → length all < 2 ^ 32 → o last ≡ c.output → end ≡ last
+pub sent : {X : Type 0} (o : X → Output) (spare : ℕ) (start : Start) (last end : X) (all : List ℕ) (c : Progress) → HasTakenWith spare start all c → c.waiting ≡ [] → length all < 2 ^ 32 → o last ≡ c.output → end ≡ last
     → Continued start.skip start.output all c.taken (o end) × (c.taken < 2 ^ 32)
-sent o start last end all c t none short left same =
-    let r = has_continued start all c t none short in
+sent o spare start last end all c t none short left same =
+    let r = has_continued spare start all c t none short in
     (rw (same, left) r, omega (arith, r.bound, short))
+
+-- in how many calls
+sent_few : {X : Type 0} (w : X → ℕ) (spare : ℕ) (start : Start) (last end : X) (all : List ℕ) (c : Progress) → HasTakenWith spare start all c → c.waiting ≡ [] → length all < 2 ^ 32 → w last ≡ c.calls → end ≡ last
+    → FewCalls (c.taken - start.skip) start.calls (w end)
+sent_few w spare start last end all c t none short left same = rw (same, left) (has_few spare start all c t none short)
 
 -- ---- a header and parts
 
-module _ (f : FrameValue) (start : Start) (lender : ℕ) (bytes : List ℕ) (a b c : Progress) (header : Puts (begun start lender) bytes a) (parts : Takes HasTakenParts a b (frame_parts f)) (rest : Puts b [] c) where
+module _ (f : FrameValue) (start : Start) (lender : ℕ) (bytes : List ℕ) (a b c : Progress) (header : Puts (begun start lender) bytes a) (parts : Takes HasTakenParts a b (frame_parts f)) (rest : Flushes b c) where
   head_taken : HasTaken start bytes a
   head_taken = header.taken start [] (nothing_taken start lender (nothing_more start.output.given))
 
@@ -107,28 +119,36 @@ module _ (f : FrameValue) (start : Start) (lender : ℕ) (bytes : List ℕ) (a b
   frame_long : length (parts_bytes (frame_parts f)) ≡ parts_size (frame_parts f)
   frame_long = (parts.takes before [] no_parts).size
 
-  frame_taken : parts_size (frame_parts f) ≤ LONGEST_BODY → HasTaken start (bytes ++ parts_bytes (frame_parts f)) c
+  frame_taken : parts_size (frame_parts f) ≤ LONGEST_BODY → HasTakenWith (256 - length b.waiting) start (bytes ++ parts_bytes (frame_parts f)) c
   unfolding before
-  frame_taken small =
-      let all : List ℕ = bytes ++ parts_bytes (frame_parts f) in
-      subst (λ (x : List ℕ). HasTaken start x c) (append-nil all) (rest.taken start all ((parts.takes before [] no_parts).taken small))
+  frame_taken small = rest.taken start (bytes ++ parts_bytes (frame_parts f)) ((parts.takes before [] no_parts).taken small)
 
 -- as `write_parts` leaves the target
-pub parts_sent : {X : Type 0} (o : X → Output) (first last end : X) (f : FrameValue) (body skip lender : ℕ) (bytes : List ℕ) (a b c : Progress) → IsLawful (header_of f body) → parts_size (frame_parts f) ≤ body → bytes ≡ header_bytes (header_of f body)
-    → Puts (begun (record { output = o first; skip = skip }) lender) bytes a → Takes HasTakenParts a b (frame_parts f) → Puts b [] c → c.waiting ≡ [] → o last ≡ c.output → (c.lender ≡ lender → end ≡ last)
+pub parts_sent : {X : Type 0} (o : X → Output) (w : X → ℕ) (first last end : X) (f : FrameValue) (body skip lender : ℕ) (bytes : List ℕ) (a b c : Progress) → IsLawful (header_of f body) → parts_size (frame_parts f) ≤ body → bytes ≡ header_bytes (header_of f body)
+    → Puts (begun (record { output = o first; skip = skip; calls = w first }) lender) bytes a → Takes HasTakenParts a b (frame_parts f) → Flushes b c → o last ≡ c.output → (c.lender ≡ lender → end ≡ last)
     → Continued skip (o first) (header_and_parts f body) c.taken (o end) × (c.taken < 2 ^ 32) × (length (header_and_parts f body) ≡ frame_size f 0)
-parts_sent o first last end f body skip lender bytes a b c law fits is header parts rest none left is_last =
+parts_sent o w first last end f body skip lender bytes a b c law fits is header parts rest left is_last =
     let small : parts_size (frame_parts f) ≤ LONGEST_BODY = omega (arith, law.bounded, fits) in
-    let start : Start = record { output = o first; skip = skip } in
+    let start : Start = record { output = o first; skip = skip; calls = w first } in
     let t = rw is at (frame_taken f start lender bytes a b c header parts rest small) in
     let long : length (header_and_parts f body) ≡ frame_size f 0 = omega (arith, length-append (header_bytes (header_of f body)) (parts_bytes (frame_parts f)), frame_long f start lender bytes a b c header parts rest) in
-    let s = sent o start last end (header_and_parts f body) c t none (omega (arith, long, small)) left (is_last (frame_lender f start lender bytes a b c header parts rest)) in
+    let s = sent o _ start last end (header_and_parts f body) c t rest.empty (omega (arith, long, small)) left (is_last (frame_lender f start lender bytes a b c header parts rest)) in
     (s.0, s.1, long)
 
-pub parts_offered : {X : Type 0} (o : X → Output) (first last end : X) (f : FrameValue) (body skip lender : ℕ) (bytes : List ℕ) (a b c : Progress) → IsLawful (header_of f body) → parts_size (frame_parts f) ≤ body → bytes ≡ header_bytes (header_of f body)
-    → Puts (begun (record { output = o first; skip = skip }) lender) bytes a → Takes HasTakenParts a b (frame_parts f) → Puts b [] c → c.waiting ≡ [] → o last ≡ c.output → (c.lender ≡ lender → end ≡ last)
+pub parts_offered : {X : Type 0} (o : X → Output) (w : X → ℕ) (first last end : X) (f : FrameValue) (body skip lender : ℕ) (bytes : List ℕ) (a b c : Progress) → IsLawful (header_of f body) → parts_size (frame_parts f) ≤ body → bytes ≡ header_bytes (header_of f body)
+    → Puts (begun (record { output = o first; skip = skip; calls = w first }) lender) bytes a → Takes HasTakenParts a b (frame_parts f) → Flushes b c → o last ≡ c.output → (c.lender ≡ lender → end ≡ last)
     → Continued skip (o first) (header_and_parts f body) c.taken (o end)
-parts_offered o first last end f body skip lender bytes a b c law fits is header parts rest none left is_last = (parts_sent o first last end f body skip lender bytes a b c law fits is header parts rest none left is_last).0
+parts_offered o w first last end f body skip lender bytes a b c law fits is header parts rest left is_last = (parts_sent o w first last end f body skip lender bytes a b c law fits is header parts rest left is_last).0
+
+pub parts_few : {X : Type 0} (o : X → Output) (w : X → ℕ) (first last end : X) (f : FrameValue) (body skip lender : ℕ) (bytes : List ℕ) (a b c : Progress) → IsLawful (header_of f body) → parts_size (frame_parts f) ≤ body → bytes ≡ header_bytes (header_of f body)
+    → Puts (begun (record { output = o first; skip = skip; calls = w first }) lender) bytes a → Takes HasTakenParts a b (frame_parts f) → Flushes b c → w last ≡ c.calls → (c.lender ≡ lender → end ≡ last)
+    → FewCalls (c.taken - skip) (w first) (w end)
+parts_few o w first last end f body skip lender bytes a b c law fits is header parts rest left is_last =
+    let small : parts_size (frame_parts f) ≤ LONGEST_BODY = omega (arith, law.bounded, fits) in
+    let start : Start = record { output = o first; skip = skip; calls = w first } in
+    let t = rw is at (frame_taken f start lender bytes a b c header parts rest small) in
+    let long : length (header_and_parts f body) ≡ frame_size f 0 = omega (arith, length-append (header_bytes (header_of f body)) (parts_bytes (frame_parts f)), frame_long f start lender bytes a b c header parts rest) in
+    sent_few w _ start last end (header_and_parts f body) c t rest.empty (omega (arith, long, small)) left (is_last (frame_lender f start lender bytes a b c header parts rest))
 
 module _ (f : FrameValue) (old new : Output) (len before taken : ℕ) (fits : unfit_of f ≡ None) (is : len ≡ frame_size f 0) (continued : Continued before old (header_and_parts f (len - 9)) taken new) (long : length (header_and_parts f (len - 9)) ≡ frame_size f 0) where
   same_bytes : header_and_parts f (len - 9) ≡ frame_bytes f
@@ -154,16 +174,25 @@ from_start f old new (Err (error.Write n)) e = (e.0, e.1, anew old new (frame_by
 -- ---- a value
 
 -- as `offer_value` and `offer_content` leave the target
-pub value_sent : {X : Type 0} (o : X → Output) (first last end : X) (size : ℕ) (bytes : List ℕ) (skip lender : ℕ) (a c : Progress) → size ≤ LONGEST_BODY → length bytes ≤ size
-    → PutsWithin size (begun (record { output = o first; skip = skip }) lender) bytes a → Puts a [] c → c.waiting ≡ [] → o last ≡ c.output → (c.lender ≡ lender → end ≡ last)
+pub value_sent : {X : Type 0} (o : X → Output) (w : X → ℕ) (first last end : X) (size : ℕ) (bytes : List ℕ) (skip lender : ℕ) (a c : Progress) → size ≤ LONGEST_BODY → length bytes ≤ size
+    → PutsWithin size (begun (record { output = o first; skip = skip; calls = w first }) lender) bytes a → Flushes a c → o last ≡ c.output → (c.lender ≡ lender → end ≡ last)
     → Continued skip (o first) bytes c.taken (o end) × (c.taken < 2 ^ 32)
-value_sent o first last end size bytes skip lender a c small long value rest none left is_last =
-    let start : Start = record { output = o first; skip = skip } in
+value_sent o w first last end size bytes skip lender a c small long value rest left is_last =
+    let start : Start = record { output = o first; skip = skip; calls = w first } in
     let whole : HasTaken start bytes a = (value.puts small).taken start [] (nothing_taken start lender (nothing_more start.output.given)) in
-    let t : HasTaken start bytes c = subst (λ (x : List ℕ). HasTaken start x c) (append-nil bytes) (rest.taken start bytes whole) in
-    sent o start last end bytes c t none (omega (arith, small, long)) left (is_last (rest.lender ∙ value.lender))
+    let t = rest.taken start bytes whole in
+    sent o _ start last end bytes c t rest.empty (omega (arith, small, long)) left (is_last (rest.lender ∙ value.lender))
 
-pub value_offered : {X : Type 0} (o : X → Output) (first last end : X) (size : ℕ) (bytes : List ℕ) (skip lender : ℕ) (a c : Progress) → size ≤ LONGEST_BODY → length bytes ≤ size
-    → PutsWithin size (begun (record { output = o first; skip = skip }) lender) bytes a → Puts a [] c → c.waiting ≡ [] → o last ≡ c.output → (c.lender ≡ lender → end ≡ last)
+pub value_offered : {X : Type 0} (o : X → Output) (w : X → ℕ) (first last end : X) (size : ℕ) (bytes : List ℕ) (skip lender : ℕ) (a c : Progress) → size ≤ LONGEST_BODY → length bytes ≤ size
+    → PutsWithin size (begun (record { output = o first; skip = skip; calls = w first }) lender) bytes a → Flushes a c → o last ≡ c.output → (c.lender ≡ lender → end ≡ last)
     → Continued skip (o first) bytes c.taken (o end)
-value_offered o first last end size bytes skip lender a c small long value rest none left is_last = (value_sent o first last end size bytes skip lender a c small long value rest none left is_last).0
+value_offered o w first last end size bytes skip lender a c small long value rest left is_last = (value_sent o w first last end size bytes skip lender a c small long value rest left is_last).0
+
+pub value_few : {X : Type 0} (o : X → Output) (w : X → ℕ) (first last end : X) (size : ℕ) (bytes : List ℕ) (skip lender : ℕ) (a c : Progress) → size ≤ LONGEST_BODY → length bytes ≤ size
+    → PutsWithin size (begun (record { output = o first; skip = skip; calls = w first }) lender) bytes a → Flushes a c → w last ≡ c.calls → (c.lender ≡ lender → end ≡ last)
+    → FewCalls (c.taken - skip) (w first) (w end)
+value_few o w first last end size bytes skip lender a c small long value rest left is_last =
+    let start : Start = record { output = o first; skip = skip; calls = w first } in
+    let whole : HasTaken start bytes a = (value.puts small).taken start [] (nothing_taken start lender (nothing_more start.output.given)) in
+    let t = rest.taken start bytes whole in
+    sent_few w _ start last end bytes c t rest.empty (omega (arith, small, long)) left (is_last (rest.lender ∙ value.lender))

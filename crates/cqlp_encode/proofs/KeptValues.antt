@@ -7,9 +7,9 @@ use Rattle.cqlp_value.specs.declared.value.Value.{Value}
 use Rattle.cqlp_value.specs.Values.{Values, NoValue, Counted_and, Fields_and, values_bytes}
 use Rattle.cqlp_value.specs.Owned.{value_of}
 use Rattle.cqlp_value.specs.Measures.{listed_values, listed_pairs}
-use Rattle.cqlp_encode.specs.Progress.{Progress, Keeps, Puts, PutsWithin, told}
+use Rattle.cqlp_encode.specs.Progress.{Flushes, Progress, Keeps, Puts, PutsWithin, told}
 use Rattle.cqlp_encode.proofs.Contents.{many_bytes, many_pair_bytes, whole}
-use Rattle.cqlp_encode.proofs.Taking.{flushed_then, keeps}
+use Rattle.cqlp_encode.proofs.Taking.{flushed_many, keeps, puts_then}
 use Rattle.cqlp_encode.proofs.Kept.{kept_then, kept_told}
 
 same_kept : (a b : Progress) (whole : Bool) (x y : List ℕ) → x ≡ y → Keeps a whole x b → Keeps a whole y b
@@ -61,8 +61,8 @@ pair_kept xs i x a b c d e l s t u =
 pub whole_put : (n : ℕ) (x : List ℕ) (a b : Progress) → b ≡ record a { waiting = a.waiting ++ x } → PutsWithin n a x b
 whole_put n x a b e = rw e (whole n x a (record a { waiting = a.waiting ++ x }) (keeps a x))
 
--- all that waited was passed on first
-pub flushed_put : (n : ℕ) (x : List ℕ) (a b c d : Progress) → b ≡ a → Puts b [] c → PutsWithin n c x d → PutsWithin n a x d
-flushed_put n x a b c d same s t =
-    let first : Puts a [] c = rw (← same) s in
-    record { puts = λ le. flushed_then a c d x first (t.puts le); lender = t.lender ∙ first.lender }
+-- all that waited, which is more than 256 bytes, was passed on first
+pub flushed_put : (n : ℕ) (x : List ℕ) (a b c d : Progress) → b ≡ a → 256 < length b.waiting → Flushes b c → PutsWithin n c x d → PutsWithin n a x d
+flushed_put n x a b c d same many s t =
+    let first : Puts a [] c = rw (← same) (flushed_many b c s many) in
+    record { puts = λ le. puts_then a c d [] x first (t.puts le); lender = t.lender ∙ first.lender }

@@ -1,5 +1,6 @@
 pub mod Continuing
 pub mod Taking
+pub mod Calls
 pub mod Kept
 pub mod Options
 pub mod Bindings

@@ -51,11 +51,12 @@ abbrev pub room_and_parts : FrameValue → List ℕ
 room_and_parts f = replicate 9 0 ++ parts_bytes (frame_parts f)
 
 -- Bytes in memory that more are put behind, how many bytes there was room for at first, and how many calls found no memory,
--- up to 2^64 - 1.
+-- and how many took all of their bytes, up to 2^64 - 1.
 pub record Growth : Type 0 where
   pub items : List ℕ
   pub room : ℕ
   pub failures : ℕ
+  pub writes : ℕ
 
 -- A target was given some bytes: nine and the parts of a frame, all of which fit, if there is an answer. If there is none,
 -- though nothing keeps the frame from being spelled, the target failed before it had them all.

@@ -3,7 +3,7 @@
 ghost use Rattle.std.specs.Prelude.{◌≡◌, ◌<◌, ◌≤◌, ◌∷◌, Some, length, vec_capacity, IfOk};
 ghost use Rattle.std.specs.Io.KnownBytes.{WriteAppends};
 ghost use Rattle.cqlp_note.specs.Outputs.{written};
-ghost use Rattle.cqlp_note.specs.Streams.{counted, took_none};
+ghost use Rattle.cqlp_note.specs.Streams.{counted, took_all, took_none};
 ghost use Rattle.cqlp_message.specs.Owned.{frame_of};
 ghost use Rattle.cqlp_encode.specs.Appending.{AppendsFrame, Extends, WritesChecked, is_whole as is_whole_of};
 
@@ -137,6 +137,8 @@ pub struct Growing {
     refused: bool,
     /// How many calls found no memory, up to 2^64 - 1.
     failures: u64,
+    /// How many calls took all of their bytes, up to 2^64 - 1.
+    writes: u64,
 }
 
 impl Model for Growing {
@@ -145,7 +147,7 @@ impl Model for Growing {
 
     ghost Value = { Growth };
 
-    ghost view = { λ g. record { items = g.bytes.items; room = g.room; failures = g.failures } };
+    ghost view = { λ g. record { items = g.bytes.items; room = g.room; failures = g.failures; writes = g.writes } };
 
     ghost invariant = { λ g. (g.room ≤ vec_capacity g.bytes) × (0 < g.failures → g.room ≤ length g.bytes.items) };
 }
@@ -153,13 +155,14 @@ impl Model for Growing {
 impl Growing {
     /// Behind these bytes, and no call made.
     fn behind(bytes: Vec<u8>) -> Growing
-        ensures { result ≡ record { items = bytes.items; room = vec_capacity bytes; failures = 0 } }
+        ensures { result ≡ record { items = bytes.items; room = vec_capacity bytes; failures = 0; writes = 0 } }
     {
         Growing {
             room: bytes.capacity(),
             bytes,
             refused: false,
             failures: 0,
+            writes: 0,
         }
     }
 
@@ -174,6 +177,7 @@ impl Growing {
             room: _,
             refused: _,
             failures: _,
+            writes: _,
         } = self;
         bytes
     }
@@ -184,6 +188,7 @@ impl Growing {
         ensures bound { IfOk result (λ n. n ≤ length bytes.now) }
         ensures bytes { WriteAppends (Some (self.old.room ∷ self.old.items)) (Some (self.new.room ∷ self.new.items)) result bytes.now }
         ensures failures { self.new.failures ≡ counted (took_none result bytes.now) self.old.failures }
+        ensures writes { self.new.writes ≡ counted (took_all result bytes.now) self.old.writes }
     {
         self.refused = true;
         let room = self.bytes.capacity().saturating_sub(self.bytes.len());
@@ -193,6 +198,9 @@ impl Growing {
         }
         let count = room.min(bytes.len());
         let _ = self.bytes.extend_from_slice(&bytes[..count]);
+        if count == bytes.len() {
+            self.writes = self.writes.saturating_add(1);
+        }
         Ok(count)
     }
 }
@@ -204,12 +212,17 @@ impl Target for Growing {
 
     ghost failures = { λ target. target.failures };
 
+    ghost writes = { λ target. target.writes };
+
     fn write(&mut self, bytes: &[u8]) -> Result<usize, IoFault> {
         if self.refused {
             return self.fill(bytes);
         }
         match self.bytes.extend_from_slice(bytes) {
-            Ok(()) => Ok(bytes.len()),
+            Ok(()) => {
+                self.writes = self.writes.saturating_add(1);
+                Ok(bytes.len())
+            }
             Err(_) => self.fill(bytes),
         }
     }

@@ -106,6 +106,8 @@ struct Gathered {
     bytes: Vec<u8>,
     /// How many calls found no memory, up to 2^64 - 1.
     failures: u64,
+    /// How many calls took all of their bytes, up to 2^64 - 1.
+    writes: u64,
 }
 
 impl Gathered {
@@ -117,6 +119,7 @@ impl Gathered {
         Ok(Gathered {
             bytes: Vec::with_capacity(alloc, len)?,
             failures: 0,
+            writes: 0,
         })
     }
 
@@ -124,7 +127,11 @@ impl Gathered {
     fn into_bytes(self) -> Vec<u8>
         ensures { result ≡ self.bytes }
     {
-        let Gathered { bytes, failures: _ } = self;
+        let Gathered {
+            bytes,
+            failures: _,
+            writes: _,
+        } = self;
         bytes
     }
 }
@@ -134,9 +141,14 @@ impl Target for Gathered {
 
     ghost failures = { λ target. target.failures };
 
+    ghost writes = { λ target. target.writes };
+
     fn write(&mut self, bytes: &[u8]) -> Result<usize, IoFault> {
         match self.bytes.extend_from_slice(bytes) {
-            Ok(()) => Ok(bytes.len()),
+            Ok(()) => {
+                self.writes = self.writes.saturating_add(1);
+                Ok(bytes.len())
+            }
             Err(_) => {
                 self.failures = self.failures.saturating_add(1);
                 Err(IoFault)

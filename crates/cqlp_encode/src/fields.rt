@@ -148,10 +148,15 @@ impl<'a, W: Target> Staged<'a, W> {
         ensures { Puts self.old (field_bytes notation.Inet (note.Inet address.now port)) self.new }
     {
         match address {
-            Address::V4(bytes) => self.put_address(bytes),
-            Address::V6(bytes) => self.put_address(bytes),
+            Address::V4(bytes) => {
+                self.put_address(bytes);
+                self.put_int(port);
+            }
+            Address::V6(bytes) => {
+                self.put_address(bytes);
+                self.put_int(port);
+            }
         }
-        self.put_int(port);
     }
 
     /// Takes an address after the number of its bytes, of which there are fewer than 256.

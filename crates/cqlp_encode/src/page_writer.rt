@@ -1,6 +1,6 @@
 //! A page whose cells are written one by one.
 
-ghost use Rattle.std.specs.Prelude.{◌≡◌, ◌+◌, ◌^◌, ◌<◌, ◌≤◌, List, ℕ, IfOk, IfSome, Some, is_some, false, length, true};
+ghost use Rattle.std.specs.Prelude.{◌≡◌, ◌+◌, ◌-◌, ◌^◌, ◌<◌, ◌≤◌, List, ℕ, IfOk, IfSome, Some, is_some, false, length, true};
 ghost use Rattle.cqlp_note.specs.declared.header.TheConstants.Header.{LONGEST_BODY};
 ghost use Rattle.cqlp_note.specs.Outputs.{written};
 ghost use Rattle.cqlp_kind.specs.Scalars.{content_of};
@@ -9,6 +9,8 @@ ghost use Rattle.cqlp_value.specs.Owned.{atom_of, value_of};
 ghost use Rattle.cqlp_value.specs.Values.{NoValue, Scalar_and, Values, values_size};
 ghost use Rattle.cqlp_message.specs.Owned.{message_of};
 ghost use Rattle.cqlp_encode.specs.PagePlaces.{HasSize};
+ghost use Rattle.cqlp_encode.specs.Laws.{head_taken};
+ghost use Rattle.cqlp_encode.specs.Progress.{FewCalls};
 ghost use Rattle.cqlp_encode.specs.UntoldPages.{fits_untold};
 
 use crate::value_writing::{offer_decimal, offer_lent, offer_number, offer_value};
@@ -111,14 +113,14 @@ impl<'a> PageWriter<'a> {
     /// # Errors
     ///
     /// [`PageError::Unfit`] where [`Frame::page_unfit`] says why the frame is no page without cells, or its body would be too
-    /// long, or no cells of its rows and columns have `cells_len` bytes, before anything is written, and [`PageError::Write`] at the
-    /// first call of the target that fails or takes nothing.
+    /// long, before anything is written, and [`PageError::Write`] at the first call of the target that fails or takes nothing.
     pub fn begin<W: Target>(
         frame: &'a Frame,
         cells_len: u32,
         target: &mut W,
     ) -> Result<PageWriter<'a>, PageError>
-        ensures { Begins frame.now cells_len (written W.Target target.old) result (written W.Target target.new) }
+        ensures begins { Begins frame.now cells_len (written W.Target target.old) result (written W.Target target.new) }
+        ensures calls { FewCalls (head_taken result) (W.writes target.old) (W.writes target.new) }
     {
         Self::begin_from(frame, cells_len, 0, target)
     }
@@ -135,7 +137,8 @@ impl<'a> PageWriter<'a> {
         before: u32,
         target: &mut W,
     ) -> Result<PageWriter<'a>, PageError>
-        ensures { BeginsFrom frame.now cells_len before (written W.Target target.old) result (written W.Target target.new) }
+        ensures begins { BeginsFrom frame.now cells_len before (written W.Target target.old) result (written W.Target target.new) }
+        ensures calls { FewCalls (head_taken result - before) (W.writes target.old) (W.writes target.new) }
     {
         let page_len = match frame.page_measure(cells_len) {
             Ok(len) => len,
@@ -172,6 +175,7 @@ impl<'a> PageWriter<'a> {
             Adds self.old cells (value_of value.now) (written W.Target target.old) result (written W.Target target.new) self.new }
         ensures after { (n : ℕ) (cells : List Values) → After self.old n cells →
             After self.new n (cells_after result cells (value_of value.now)) }
+        ensures calls { FewCalls (self.new.written - self.old.written) (W.writes target.old) (W.writes target.new) }
     {
         match self.specs.get(self.column) {
             Some(spec) => self.put_as(value, &spec.tree, target),
@@ -200,6 +204,7 @@ impl<'a> PageWriter<'a> {
             (written W.Target target.new) self.new }
         ensures after { (n : ℕ) (cells : List Values) → After self.old n cells →
             After self.new n (cells_after result cells (cell_of (page self.old) value.now of.now)) }
+        ensures calls { FewCalls (self.new.written - self.old.written) (W.writes target.old) (W.writes target.new) }
     {
         let size = untold_size(&self.frame.message, value, of);
         self.put(value, size, target)
@@ -220,6 +225,7 @@ impl<'a> PageWriter<'a> {
             self.new }
         ensures after { (n : ℕ) (cells : List Values) → After self.old n cells →
             After self.new n (cells_after result cells (value_of value.now)) }
+        ensures calls { FewCalls (self.new.written - self.old.written) (W.writes target.old) (W.writes target.new) }
     {
         let size = self.frame.column_size(self.column, value);
         self.put_rest(value, size, target)
@@ -241,6 +247,7 @@ impl<'a> PageWriter<'a> {
             (written W.Target target.new) self.new }
         ensures after { (n : ℕ) (cells : List Values) → After self.old n cells →
             After self.new n (cells_after result cells (cell_of (page self.old) value.now of.now)) }
+        ensures calls { FewCalls (self.new.written - self.old.written) (W.writes target.old) (W.writes target.new) }
     {
         let size = untold_size(&self.frame.message, value, of);
         self.put_rest(value, size, target)
@@ -275,8 +282,9 @@ impl<'a> PageWriter<'a> {
         of: &TypeTree,
         target: &mut W,
     ) -> Result<(), PageError>
-        ensures { (cells : List Values) (cell : Values) → StandsFor self.old cells (fits_tree value.now of.now) (value_of value.now) cell →
+        ensures adds { (cells : List Values) (cell : Values) → StandsFor self.old cells (fits_tree value.now of.now) (value_of value.now) cell →
             Adds self.old cells cell (written W.Target target.old) result (written W.Target target.new) self.new }
+        ensures calls { FewCalls (self.new.written - self.old.written) (W.writes target.old) (W.writes target.new) }
     {
         match value {
             Value::Leaf(atom) => match of {
@@ -297,8 +305,9 @@ impl<'a> PageWriter<'a> {
         of: &TypeTree,
         target: &mut W,
     ) -> Result<(), PageError>
-        ensures { (cells : List Values) (cell : Values) → StandsFor self.old cells (fits_tree value.now of.now) (value_of value.now) cell →
+        ensures adds { (cells : List Values) (cell : Values) → StandsFor self.old cells (fits_tree value.now of.now) (value_of value.now) cell →
             Adds self.old cells cell (written W.Target target.old) result (written W.Target target.new) self.new }
+        ensures calls { FewCalls (self.new.written - self.old.written) (W.writes target.old) (W.writes target.new) }
     {
         let size = fitting_size(value, Some(of));
         self.put(value, size, target)
@@ -313,8 +322,9 @@ impl<'a> PageWriter<'a> {
         target: &mut W,
     ) -> Result<(), PageError>
         requires is { content_in content ≡ content_of (atom_of atom.now) }
-        ensures { (cells : List Values) (cell : Values) → StandsFor self.old cells true (Scalar_and (atom_of atom.now) NoValue) cell →
+        ensures adds { (cells : List Values) (cell : Values) → StandsFor self.old cells true (Scalar_and (atom_of atom.now) NoValue) cell →
             Adds self.old cells cell (written W.Target target.old) result (written W.Target target.new) self.new }
+        ensures calls { FewCalls (self.new.written - self.old.written) (W.writes target.old) (W.writes target.new) }
     {
         match content {
             Content::One(number) => self.put_number(&[number], target),
@@ -330,8 +340,9 @@ impl<'a> PageWriter<'a> {
     #[inline(always)]
     fn put_number<W: Target>(&mut self, content: &[u8], target: &mut W) -> Result<(), PageError>
         requires { length content.now ≤ 8 }
-        ensures { (v : Values) → IsSized v content.now → (cells : List Values) (cell : Values) → StandsFor self.old cells true v cell →
+        ensures adds { (v : Values) → IsSized v content.now → (cells : List Values) (cell : Values) → StandsFor self.old cells true v cell →
             Adds self.old cells cell (written W.Target target.old) result (written W.Target target.new) self.new }
+        ensures calls { FewCalls (self.new.written - self.old.written) (W.writes target.old) (W.writes target.new) }
     {
         let size = self.check(Some(content.len() as u64 + 4))?;
         let taken = offer_number(content, target);
@@ -341,8 +352,9 @@ impl<'a> PageWriter<'a> {
     /// The same of a content that is lent.
     #[inline(always)]
     fn put_lent<W: Target>(&mut self, content: &[u8], target: &mut W) -> Result<(), PageError>
-        ensures { (v : Values) → IsSized v content.now → (cells : List Values) (cell : Values) → StandsFor self.old cells true v cell →
+        ensures adds { (v : Values) → IsSized v content.now → (cells : List Values) (cell : Values) → StandsFor self.old cells true v cell →
             Adds self.old cells cell (written W.Target target.old) result (written W.Target target.new) self.new }
+        ensures calls { FewCalls (self.new.written - self.old.written) (W.writes target.old) (W.writes target.new) }
     {
         let size = self.check(Some(content.len() as u64 + 4))?;
         let taken = offer_lent(content, target);
@@ -358,8 +370,9 @@ impl<'a> PageWriter<'a> {
     ) -> Result<(), PageError>
         requires long { length (content_of (atom_of atom.now)) ≡ 4 + unscaled }
         requires bounded { unscaled < 2 ^ 63 }
-        ensures { (cells : List Values) (cell : Values) → StandsFor self.old cells true (Scalar_and (atom_of atom.now) NoValue) cell →
+        ensures adds { (cells : List Values) (cell : Values) → StandsFor self.old cells true (Scalar_and (atom_of atom.now) NoValue) cell →
             Adds self.old cells cell (written W.Target target.old) result (written W.Target target.new) self.new }
+        ensures calls { FewCalls (self.new.written - self.old.written) (W.writes target.old) (W.writes target.new) }
     {
         let size = self.check(Some(unscaled + 8))?;
         let taken = offer_decimal(atom, target);
@@ -392,8 +405,9 @@ impl<'a> PageWriter<'a> {
         target: &mut W,
     ) -> Result<(), PageError>
         requires { IfSome size (HasSize (value_of value.now)) }
-        ensures { (cells : List Values) (cell : Values) → StandsFor self.old cells (is_some size) (value_of value.now) cell →
+        ensures adds { (cells : List Values) (cell : Values) → StandsFor self.old cells (is_some size) (value_of value.now) cell →
             Adds self.old cells cell (written W.Target target.old) result (written W.Target target.new) self.new }
+        ensures calls { FewCalls (self.new.written - self.old.written) (W.writes target.old) (W.writes target.new) }
     {
         let size = self.check(size)?;
         let taken = offer_value(value, size, 0, target);
@@ -408,8 +422,9 @@ impl<'a> PageWriter<'a> {
         target: &mut W,
     ) -> Result<(), PageError>
         requires { IfSome size (HasSize (value_of value.now)) }
-        ensures { (cells : List Values) (cell : Values) → StandsFor self.old cells (is_some size) (value_of value.now) cell →
+        ensures adds { (cells : List Values) (cell : Values) → StandsFor self.old cells (is_some size) (value_of value.now) cell →
             AddsRest self.old cells cell (written W.Target target.old) result (written W.Target target.new) self.new }
+        ensures calls { FewCalls (self.new.written - self.old.written) (W.writes target.old) (W.writes target.new) }
     {
         if !self.failed {
             return Err(PageError::OutOfTurn);

@@ -1,10 +1,11 @@
 //! Bytes on their way to a target.
 
-ghost use Rattle.std.specs.Prelude.{◌≡◌, ◌+◌, ◌≤◌, ◌++◌, [], length, min, take, ◌-◌, ◌^◌};
+ghost use Rattle.std.specs.Prelude.{◌≡◌, ◌+◌, ◌<◌, ◌≤◌, ◌++◌, ◌==◌, ◌&&◌, nat_lt, [], length, min, take, ◌-◌, ◌^◌};
 ghost use Rattle.std.specs.Int.{w32, to_be_bytes};
 ghost use Rattle.cqlp_note.specs.Outputs.{written};
+ghost use Rattle.cqlp_note.specs.Streams.{counted};
 ghost use Rattle.cqlp_encode.specs.Encoding.{Continued};
-ghost use Rattle.cqlp_encode.specs.Progress.{Keeps, Puts, begun, told};
+ghost use Rattle.cqlp_encode.specs.Progress.{Flushes, Keeps, PassesOn, Puts, begun, told};
 
 use cqlp_note::{Target, offer};
 use std::marker::Model;
@@ -12,8 +13,8 @@ use std::marker::Model;
 /// How many bytes wait at most before they are passed on.
 const ROOM: usize = 512;
 
-/// Gathers small pieces, so that a target gets them in few calls, and counts what it took. After the target failed once
-/// nothing more is passed on.
+/// Gathers small pieces, so that a target gets them in few calls, and counts what it took: but for two, the calls have 256 bytes each on
+/// average. After the target failed once nothing more is passed on.
 #[derive(Drop)]
 pub struct Staged<'a, W: Target> {
     target: &'a mut W,
@@ -35,6 +36,7 @@ impl<'a, W: Target> Model for Staged<'a, W> {
 
     ghost view = { λ s. record {
       output = written W.Target s.target.now;
+      calls = W.writes s.target.now;
       waiting = take s.len s.buffer;
       taken = s.taken;
       skip = s.skip;
@@ -48,7 +50,7 @@ impl<'a, W: Target> Model for Staged<'a, W> {
 impl<'a, W: Target> Staged<'a, W> {
     /// With nothing that waits. The target has the first of the bytes to come, this many, from before.
     pub fn new(target: &'a mut W, skip: u64) -> Self
-        ensures { result ≡ begun (record { output = written W.Target target.old; skip = skip }) target.entry.ghost_name }
+        ensures { result ≡ begun (record { output = written W.Target target.old; skip = skip; calls = W.writes target.old }) target.entry.ghost_name }
     {
         Staged {
             target,
@@ -71,6 +73,7 @@ impl<'a, W: Target> Staged<'a, W> {
     pub fn into_inner(self) -> &'a mut W
         ensures lender { result.ghost_name ≡ self.entry.lender }
         ensures output { written W.Target result.now ≡ self.entry.output }
+        ensures calls { W.writes result.now ≡ self.entry.calls }
     {
         let Staged {
             target,
@@ -175,8 +178,9 @@ impl<'a, W: Target> Staged<'a, W> {
         self.len = len;
     }
 
-    /// Takes bytes once all that waits is passed on.
+    /// Takes bytes that there is no room for, once all that waits is passed on.
     fn put_after_flush(&mut self, bytes: &[u8])
+        requires { 512 < length self.old.waiting + length bytes.now }
         ensures { Puts self.old bytes.now self.new }
     {
         self.flush();
@@ -189,8 +193,7 @@ impl<'a, W: Target> Staged<'a, W> {
 
     /// Passes on all that waits.
     pub fn flush(&mut self)
-        ensures puts { Puts self.old [] self.new }
-        ensures empty { self.new.waiting ≡ [] }
+        ensures { Flushes self.old self.new }
     {
         let len = self.len;
         self.len = 0;
@@ -202,10 +205,11 @@ impl<'a, W: Target> Staged<'a, W> {
         }
     }
 
-    /// Passes bytes on, where nothing waits.
+    /// Passes on more bytes than may wait, where nothing waits.
     fn pass_on(&mut self, bytes: &[u8])
-        requires { self.old.waiting ≡ [] }
-        ensures { Puts self.old bytes.now self.new }
+        requires none { self.old.waiting ≡ [] }
+        requires many { 512 < length bytes.now }
+        ensures { PassesOn self.old bytes.now self.new }
     {
         if !self.failed {
             let count = offer_after(self.target, self.skip, bytes);
@@ -227,10 +231,12 @@ impl<'a, W: Target> Staged<'a, W> {
     }
 }
 
-/// Passes bytes on, but for the first of them, this many, until the target fails, and answers how many of them it took or had from before.
+/// Passes bytes on, but for the first of them, this many, until the target fails, and answers how many of them it took or had from before. One call
+/// takes all that there are to pass on, or none does.
 #[inline(always)]
 pub fn offer_after<W: Target>(target: &mut W, skip: u64, bytes: &[u8]) -> usize
-    ensures { Continued skip (written W.Target target.old) bytes.now result (written W.Target target.new) }
+    ensures continued { Continued skip (written W.Target target.old) bytes.now result (written W.Target target.new) }
+    ensures writes { W.writes target.new ≡ counted (nat_lt skip (length bytes.now) && (result == length bytes.now)) (W.writes target.old) }
 {
     let from = (bytes.len() as u64).min(skip) as usize;
     from + offer(target, &bytes[from..])

@@ -1,13 +1,15 @@
 //! A value, written.
 
 ghost use Rattle.std.specs.Int.{w32, to_be_bytes};
-ghost use Rattle.std.specs.Prelude.{◌≡◌, ◌≤◌, ◌++◌, length, option_map};
+ghost use Rattle.std.specs.Prelude.{◌≡◌, ◌≤◌, ◌-◌, ◌++◌, length, option_map};
 ghost use Rattle.cqlp_note.specs.declared.header.TheConstants.Header.{LONGEST_BODY};
 ghost use Rattle.cqlp_note.specs.Outputs.{Offered, written};
 ghost use Rattle.cqlp_value.specs.Owned.{atom_of, value_of};
 ghost use Rattle.cqlp_value.specs.Values.{NoValue, Scalar_and, values_bytes, values_size};
 ghost use Rattle.cqlp_encode.specs.Binding.{content_written};
 ghost use Rattle.cqlp_encode.specs.Encoding.{Continued};
+ghost use Rattle.cqlp_encode.specs.Laws.{value_taken};
+ghost use Rattle.cqlp_encode.specs.Progress.{FewCalls};
 ghost use Rattle.cqlp_encode.specs.ValueWriting.{WritesValue};
 
 use crate::staged::{Staged, offer_after};
@@ -47,8 +49,9 @@ pub fn write_value<W: Target>(
     of: Option<&TypeTree>,
     target: &mut W,
 ) -> Result<u32, ValueError>
-    ensures { WritesValue value.now (option_map (λ t. t.now) of.entry) (written W.Target target.old) result
+    ensures writes { WritesValue value.now (option_map (λ t. t.now) of.entry) (written W.Target target.old) result
         (written W.Target target.new) }
+    ensures calls { FewCalls (value_taken result) (W.writes target.old) (W.writes target.new) }
 {
     let size = match fitting_size(value, of) {
         Some(size) => size,
@@ -72,7 +75,8 @@ pub fn write_value<W: Target>(
 pub fn offer_value<W: Target>(value: &Value, size: u32, before: u32, target: &mut W) -> u32
     requires size { size ≡ values_size (value_of value.now) }
     requires short { size ≤ LONGEST_BODY }
-    ensures { Continued before (written W.Target target.old) (values_bytes (value_of value.now)) result (written W.Target target.new) }
+    ensures continued { Continued before (written W.Target target.old) (values_bytes (value_of value.now)) result (written W.Target target.new) }
+    ensures calls { FewCalls (result - before) (W.writes target.old) (W.writes target.new) }
 {
     match value {
         Value::Leaf(atom) => {
@@ -90,8 +94,9 @@ pub fn offer_value<W: Target>(value: &Value, size: u32, before: u32, target: &mu
 #[inline(always)]
 fn offer_atom<W: Target>(atom: &Atom, target: &mut W) -> u32
     requires { values_size (Scalar_and (atom_of atom.now) NoValue) ≤ LONGEST_BODY }
-    ensures { Continued 0 (written W.Target target.old) (values_bytes (Scalar_and (atom_of atom.now) NoValue)) result
+    ensures continued { Continued 0 (written W.Target target.old) (values_bytes (Scalar_and (atom_of atom.now) NoValue)) result
         (written W.Target target.new) }
+    ensures calls { FewCalls result (W.writes target.old) (W.writes target.new) }
 {
     match atom.content() {
         Content::One(number) => offer_number(&[number], target),
@@ -107,8 +112,9 @@ fn offer_atom<W: Target>(atom: &Atom, target: &mut W) -> u32
 #[inline(always)]
 pub fn offer_number<W: Target>(content: &[u8], target: &mut W) -> u32
     requires { length content.now ≤ 8 }
-    ensures { Continued 0 (written W.Target target.old) (to_be_bytes w32 (length content.now) ++ content.now) result
+    ensures continued { Continued 0 (written W.Target target.old) (to_be_bytes w32 (length content.now) ++ content.now) result
         (written W.Target target.new) }
+    ensures calls { FewCalls result (W.writes target.old) (W.writes target.new) }
 {
     let mut bytes = [0; 12];
     let end = content.len() + 4;
@@ -121,8 +127,9 @@ pub fn offer_number<W: Target>(content: &[u8], target: &mut W) -> u32
 #[inline(always)]
 pub fn offer_lent<W: Target>(content: &[u8], target: &mut W) -> u32
     requires { length content.now ≤ LONGEST_BODY }
-    ensures { Continued 0 (written W.Target target.old) (to_be_bytes w32 (length content.now) ++ content.now) result
+    ensures continued { Continued 0 (written W.Target target.old) (to_be_bytes w32 (length content.now) ++ content.now) result
         (written W.Target target.new) }
+    ensures calls { FewCalls result (W.writes target.old) (W.writes target.new) }
 {
     let len = (content.len() as u32).to_be_bytes();
     let taken = offer_after(target, 0, &len);
@@ -136,8 +143,9 @@ pub fn offer_lent<W: Target>(content: &[u8], target: &mut W) -> u32
 #[inline(never)]
 pub fn offer_decimal<W: Target>(atom: &Atom, target: &mut W) -> u32
     requires { values_size (Scalar_and (atom_of atom.now) NoValue) ≤ LONGEST_BODY }
-    ensures { Continued 0 (written W.Target target.old) (values_bytes (Scalar_and (atom_of atom.now) NoValue)) result
+    ensures continued { Continued 0 (written W.Target target.old) (values_bytes (Scalar_and (atom_of atom.now) NoValue)) result
         (written W.Target target.new) }
+    ensures calls { FewCalls result (W.writes target.old) (W.writes target.new) }
 {
     let mut out = Staged::new(target, 0);
     put_atom(&mut out, atom);
@@ -152,7 +160,8 @@ pub fn offer_decimal<W: Target>(atom: &Atom, target: &mut W) -> u32
 fn offer_any<W: Target>(value: &Value, size: u32, before: u32, target: &mut W) -> u32
     requires size { size ≡ values_size (value_of value.now) }
     requires short { size ≤ LONGEST_BODY }
-    ensures { Continued before (written W.Target target.old) (values_bytes (value_of value.now)) result (written W.Target target.new) }
+    ensures continued { Continued before (written W.Target target.old) (values_bytes (value_of value.now)) result (written W.Target target.new) }
+    ensures calls { FewCalls (result - before) (W.writes target.old) (W.writes target.new) }
 {
     let mut out = Staged::new(target, u64::from(before));
     put_measured(&mut out, value, u64::from(size) - 4);

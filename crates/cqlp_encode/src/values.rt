@@ -1,6 +1,7 @@
 //! Values of cells, written.
 
-ghost use Rattle.std.specs.Prelude.{◌≡◌, ◌+◌, ◌-◌, ◌^◌, min};
+ghost use Rattle.std.specs.Prelude.{◌≡◌, ◌+◌, ◌-◌, ◌++◌, ◌^◌, length, min};
+ghost use Rattle.std.specs.Int.{w32, to_be_bytes};
 ghost use Rattle.cqlp_value.specs.Measures.{listed_pairs, listed_values};
 ghost use Rattle.cqlp_value.specs.Owned.{atom_of, value_and, value_of};
 ghost use Rattle.cqlp_kind.specs.Scalars.{content_of};
@@ -26,13 +27,16 @@ pub fn put_value<W: Target>(out: &mut Staged<'_, W>, value: &Value)
 }
 
 /// The same of a value that is no scalar. It goes as a whole where it has room among the bytes that wait, and is measured only where it
-/// has more than 256 bytes.
+/// has more than 256 bytes. Where no more than that wait they are not passed on for it.
 #[cycle(put_value)]
 fn put_nested<W: Target>(out: &mut Staged<'_, W>, value: &Value)
     ensures { PutsWithin (values_size (value_of value.now)) out.old (values_bytes (value_of value.now)) out.new }
 {
     if keep_whole(out, value) {
         return;
+    }
+    if out.waiting() <= 256 {
+        return put_measured(out, value, content_len(value));
     }
     out.flush();
     if !keep_whole(out, value) {
@@ -114,12 +118,17 @@ pub fn put_atom<W: Target>(out: &mut Staged<'_, W>, atom: &Atom)
         Content::Four(number) => out.put_number(&number.to_be_bytes()),
         Content::Eight(number) => out.put_number(&number.to_be_bytes()),
         Content::Lent(bytes) => out.put_content(bytes),
-        Content::Decimal(scale, unscaled) => {
-            out.put_count32(unscaled.len().saturating_add(scale.len()));
-            out.put(&scale);
-            out.put(unscaled);
-        }
+        Content::Decimal(scale, unscaled) => put_decimal(out, scale, unscaled),
     }
+}
+
+/// Takes the content of a decimal after its length.
+fn put_decimal<W: Target>(out: &mut Staged<'_, W>, scale: [u8; 4], unscaled: &[u8])
+    ensures { Puts out.old (to_be_bytes w32 (length (scale ++ unscaled.now)) ++ (scale ++ unscaled.now)) out.new }
+{
+    out.put_count32(unscaled.len().saturating_add(scale.len()));
+    out.put(&scale);
+    out.put(unscaled);
 }
 
 /// Takes the content of a scalar.

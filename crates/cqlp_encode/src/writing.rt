@@ -1,12 +1,14 @@
 //! A frame, written.
 
-ghost use Rattle.std.specs.Prelude.{◌≡◌, ◌≤◌, length};
+ghost use Rattle.std.specs.Prelude.{◌≡◌, ◌≤◌, ◌-◌, length};
 ghost use Rattle.cqlp_note.specs.Heading.{IsLawful};
 ghost use Rattle.cqlp_note.specs.Outputs.{written};
 ghost use Rattle.cqlp_message.specs.Frames.{frame_parts, frame_size, header_of};
 ghost use Rattle.cqlp_message.specs.Owned.{frame_of};
 ghost use Rattle.cqlp_message.specs.Parts.{parts_size};
 ghost use Rattle.cqlp_encode.specs.Encoding.{Continued, Encodes, EncodesFrom, header_and_parts};
+ghost use Rattle.cqlp_encode.specs.Laws.{taken};
+ghost use Rattle.cqlp_encode.specs.Progress.{FewCalls};
 
 use crate::staged::Staged;
 use cqlp_message::{Frame, Unfit};
@@ -27,14 +29,16 @@ pub enum EncodeError {
 /// Writes a frame, and answers how many bytes it has: its header, what its flags announce, and its message. Section 2 of
 /// `native_protocol_v4.spec`. Each null has the length -1, and each true is 01.
 ///
-/// It takes no memory. Small fields go to the target together, and a content longer than 512 bytes by a call of its own.
+/// It takes no memory. Small fields go to the target together, and a content longer than 512 bytes by a call of its own: but for two, the calls that take
+/// all of their bytes have 256 bytes each on average.
 ///
 /// # Errors
 ///
 /// [`EncodeError::Unfit`] where [`Frame::unfit`] says why no bytes spell the frame, before anything is written, and
 /// [`EncodeError::Write`] at the first call of the target that fails or takes nothing.
 pub fn encode<W: Target>(frame: &Frame, target: &mut W) -> Result<u32, EncodeError>
-    ensures { Encodes (frame_of frame.now) (written W.Target target.old) result (written W.Target target.new) }
+    ensures encodes { Encodes (frame_of frame.now) (written W.Target target.old) result (written W.Target target.new) }
+    ensures calls { FewCalls (taken result) (W.writes target.old) (W.writes target.new) }
 {
     encode_from(frame, 0, target)
 }
@@ -54,7 +58,8 @@ pub fn encode_from<W: Target>(
     before: u32,
     target: &mut W,
 ) -> Result<u32, EncodeError>
-    ensures { EncodesFrom (frame_of frame.now) before (written W.Target target.old) result (written W.Target target.new) }
+    ensures encodes { EncodesFrom (frame_of frame.now) before (written W.Target target.old) result (written W.Target target.new) }
+    ensures calls { FewCalls (taken result - before) (W.writes target.old) (W.writes target.new) }
 {
     let len = match frame.measure() {
         Ok(len) => len,
@@ -76,6 +81,7 @@ pub fn write_parts<W: Target>(frame: &Frame, body_len: u32, before: u32, target:
     ensures continued { Continued before (written W.Target target.old) (header_and_parts (frame_of frame.now) body_len) result
         (written W.Target target.new) }
     ensures size { length (header_and_parts (frame_of frame.now) body_len) ≡ frame_size (frame_of frame.now) 0 }
+    ensures calls { FewCalls (result - before) (W.writes target.old) (W.writes target.new) }
 {
     let header = frame.header(body_len);
     let mut out = Staged::new(target, u64::from(before));

@@ -10,13 +10,14 @@ use Rattle.cqlp_streams.specs.declared.fault.StreamsFault.TheVariants as fault
 use Rattle.cqlp_streams.specs.Captures.{ReadsMade}
 use Rattle.cqlp_streams.specs.Sayings.{Saying, Packet, New, Of, Left}
 use Rattle.cqlp_streams.specs.Streams.{ReadsCapture}
-use Rattle.cqlp_streams.proofs.Causes.{EndedBy, EndedIfFault, FailsSo, ended_by, fault_cause, none_failed}
+use Rattle.cqlp_streams.proofs.Causes.{EndedBy, EndedIfFault, FailsSo, ended_noted, fault_cause, none_failed}
 use Rattle.cqlp_exchanges.specs.declared.filter.ExchangeFilter.{ExchangeFilter}
 use Rattle.cqlp_exchanges.specs.declared.form.ExchangeForm.{ExchangeForm}
 use Rattle.cqlp_exchanges.specs.Accounts.{Account, StopsAmong, with_all, with_count, with_told}
 use Rattle.cqlp_exchanges.specs.Filters.{shows}
 use Rattle.cqlp_exchanges.specs.Listening.{Listening, StopsAt, account_at, change_of, new_listening, number_of, with_saying}
-use Rattle.cqlp_exchanges.specs.Capturing.{Closes, FaultsHaveCauses, connection_limits, default_limits, sums_words}
+use Rattle.cqlp_exchanges.specs.Losses.{losses_of, note_text}
+use Rattle.cqlp_exchanges.specs.Capturing.{Closes, FaultsHaveCauses, connection_limits, default_limits, last_words}
 
 -- ---- what is told does not make the output fail
 
@@ -70,5 +71,5 @@ module _ (filter : ExchangeFilter) (form : ExchangeForm) (ports xs : List ℕ) (
       subst (λ (z : StreamsFault). EndedBy m z out.failures out'.failures) (sym is) one
 
 pub exchanges_causes : FaultsHaveCauses
-exchanges_causes filter form ports xs m left out err out' err' (r, sums, (w, read, reads, are, closes), ends) =
-    ended_by (sums_words sums) m r out err out' err' (closed filter form ports xs m left out w read r out' reads closes) ends
+exchanges_causes filter form ports xs m left out err out' err' (r, sums, missed, (w, read, reads, are, miss, closes), ends) =
+    ended_noted (note_text (losses_of r missed)) (last_words sums missed r) m r out err out' err' (closed filter form ports xs m left out w read r out' reads closes) ends

@@ -2,6 +2,7 @@ pub mod Accounts
 pub mod Causes
 pub mod Heard
 pub mod Members
+pub mod Missing
 pub mod Talks
 pub mod Texts
 pub mod WrittenOnce

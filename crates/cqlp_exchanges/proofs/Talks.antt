@@ -5,6 +5,7 @@ use Rattle.cqlp_grammar.specs.declared.sink.SinkFault.{SinkFault}
 use Rattle.cqlp_watch.specs.declared.kept.Kept.{Kept}
 use Rattle.cqlp_watch.specs.declared.paired.Paired.{Paired}
 use Rattle.cqlp_watch.specs.declared.message.Message.{Message}
+use Rattle.cqlp_watch.specs.declared.missed.Missed.{Missed}
 use Rattle.cqlp_watch.specs.declared.speaker.Speaker.{Speaker}
 use Rattle.cqlp_watch.specs.declared.watch.WatchStep.{WatchStep}
 use Rattle.cqlp_watch.specs.Pairings.{alone, held, told_or_none}
@@ -103,21 +104,21 @@ on_ok_after (Err e) v n start now whole rest h is = tt
 
 -- ---- the messages that wait
 
-pub go_next : (q p : Speaker) (limit : ℕ) (ms : List (Message Kept)) (v : Watched) (r : Paired Kept) → telling (Some r) v ≡ finished (watched q p (held limit ms)) → let_go (watched q p (held limit ms)) ≡ before (Some r) (let_go v)
-go_next q p limit [] v r e = let no : ◌≡◌ {A = Option (Paired Kept)} (Some r) None = ap (λ (z : Tells). z.told) e in absurd cc
-go_next q p limit (m ∷ ms) v r e =
+pub go_next : (q p : Speaker) (missed : Missed) (limit : ℕ) (ms : List (Message Kept)) (v : Watched) (r : Paired Kept) → telling (Some r) v ≡ finished (watched q p (held limit ms) missed) → let_go (watched q p (held limit ms) missed) ≡ before (Some r) (let_go v)
+go_next q p missed limit [] v r e = let no : ◌≡◌ {A = Option (Paired Kept)} (Some r) None = ap (λ (z : Tells). z.told) e in absurd cc
+go_next q p missed limit (m ∷ ms) v r e =
     let same : ◌≡◌ {A = Option (Paired Kept)} (Some r) (Some (alone m)) = ap (λ (z : Tells). z.told) e in
     let is : r ≡ alone m = cc in
-    let after : v ≡ watched q p (held limit ms) = ap (λ (z : Tells). z.after) e in
+    let after : v ≡ watched q p (held limit ms) missed = ap (λ (z : Tells). z.after) e in
     λ i. before (Some (sym is i)) (let_go (sym after i))
 
-pub go_none : (q p : Speaker) (limit : ℕ) (ms : List (Message Kept)) (v : Watched) → telling None v ≡ finished (watched q p (held limit ms)) → let_go (watched q p (held limit ms)) ≡ talk [] v
-go_none q p limit [] v e = let after : v ≡ watched q p (held limit []) = ap (λ (z : Tells). z.after) e in ap (talk []) (sym after)
-go_none q p limit (m ∷ ms) v e = let no : ◌≡◌ {A = Option (Paired Kept)} None (Some (alone m)) = ap (λ (z : Tells). z.told) e in absurd cc
+pub go_none : (q p : Speaker) (missed : Missed) (limit : ℕ) (ms : List (Message Kept)) (v : Watched) → telling None v ≡ finished (watched q p (held limit ms) missed) → let_go (watched q p (held limit ms) missed) ≡ talk [] v
+go_none q p missed limit [] v e = let after : v ≡ watched q p (held limit []) missed = ap (λ (z : Tells). z.after) e in ap (talk []) (sym after)
+go_none q p missed limit (m ∷ ms) v e = let no : ◌≡◌ {A = Option (Paired Kept)} None (Some (alone m)) = ap (λ (z : Tells). z.told) e in absurd cc
 
-pub go_fewer : (q p : Speaker) (limit : ℕ) (ms : List (Message Kept)) (v : Watched) (r : Paired Kept) → telling (Some r) v ≡ finished (watched q p (held limit ms)) → length v.pairing.waiting < length ms
-go_fewer q p limit [] v r e = let no : ◌≡◌ {A = Option (Paired Kept)} (Some r) None = ap (λ (z : Tells). z.told) e in absurd cc
-go_fewer q p limit (m ∷ ms) v r e =
+pub go_fewer : (q p : Speaker) (missed : Missed) (limit : ℕ) (ms : List (Message Kept)) (v : Watched) (r : Paired Kept) → telling (Some r) v ≡ finished (watched q p (held limit ms) missed) → length v.pairing.waiting < length ms
+go_fewer q p missed limit [] v r e = let no : ◌≡◌ {A = Option (Paired Kept)} (Some r) None = ap (λ (z : Tells). z.told) e in absurd cc
+go_fewer q p missed limit (m ∷ ms) v r e =
     let after : v.pairing.waiting ≡ ms = ap (λ (z : Tells). z.after.pairing.waiting) e in
     rw after (omega arith)
 

@@ -3,12 +3,14 @@ use Rattle.std.proofs.Common.{◌≡◌, ◌≢◌, ◌∙◌, ℕ, List, Result
 use Rattle.cqlp_text.specs.Outputs.{Output, with_text}
 use Rattle.cqlp_streams.specs.declared.capturing.CaptureRead.{CaptureRead}
 use Rattle.cqlp_streams.specs.declared.fault.StreamsFault.{StreamsFault}
-use Rattle.cqlp_streams.specs.Endings.{Concludes}
-use Rattle.cqlp_streams.proofs.OneAnswer.{concluded, runs_once, well_read}
+use Rattle.cqlp_streams.specs.Endings.{ConcludesNoted}
+use Rattle.cqlp_watch.specs.declared.missed.Missed.{Missed}
+use Rattle.cqlp_streams.proofs.OneAnswer.{concluded, runs_noted, well_read}
 use Rattle.cqlp_exchanges.specs.declared.sums.ExchangeSums.{ExchangeSums}
 use Rattle.cqlp_exchanges.specs.Accounts.{Account, ending}
 use Rattle.cqlp_exchanges.specs.Listening.{Listening, StopsAt, new_listening, with_saying}
-use Rattle.cqlp_exchanges.specs.Capturing.{Closes, OneAnswerOfWriteExchanges, connection_limits, default_limits, sums_words}
+use Rattle.cqlp_exchanges.specs.Losses.{losses_of, missed_in, note_text}
+use Rattle.cqlp_exchanges.specs.Capturing.{Closes, ConcludesSums, OneAnswerOfWriteExchanges, connection_limits, default_limits, last_words}
 
 -- Where there is no fault, the capture was read, and all that is written at the end was.
 closed : (a : Account) (read r : Result CaptureRead StreamsFault) (x : CaptureRead) (out : Output) → r ≡ Ok x → Closes a read r out → (r ≡ read) × (out ≡ with_text a.output (ending a))
@@ -16,17 +18,36 @@ closed a (Err f) r x out is (e, o) = absurd (let z : Err f ≡ Ok x = sym e ∙ 
 closed a (Ok y) (Ok z) x out is (e, o) = (ap (λ k. Ok k) e, o)
 closed a (Ok y) (Err f) x out is c = absurd (let z = is in cc)
 
-ended : (a : Account) (read r : Result CaptureRead StreamsFault) (out err err' : Output) (status : ℕ) (words : List ℕ) → Concludes words r err status err' → status ≢ 3 → Closes a read r out → (r ≡ read) × (out ≡ with_text a.output (ending a))
-ended a read r out err err' status words ends well closes =
-    let c = concluded words r err err' status ends well in
-    let x = well_read r (λ is. well (c.0 ∙ is)) in
+ended : (a : Account) (read r : Result CaptureRead StreamsFault) (out err err' : Output) (status : ℕ) (note words : List ℕ) → ConcludesNoted note words r err status err' → status ≢ 3 → Closes a read r out → (r ≡ read) × (out ≡ with_text a.output (ending a))
+ended a read r out err err' status note words ends well closes =
+    let c = concluded note words r err err' status ends well in
+    let x = well_read note r (λ is. well (c.0 ∙ is)) in
     closed a read r x.0 out x.1 closes
 
+abbrev sums_of : Listening → ExchangeSums
+sums_of w = w.account.sums
+
+abbrev missed_of : Listening → Missed
+missed_of w = missed_in w.slots
+
+-- what was told and missed is what was heard
+told_of : (w : Listening) (sums : ExchangeSums) (missed : Missed) (read r : Result CaptureRead StreamsFault) (err err' : Output) (status : ℕ) → sums ≡ sums_of w → missed ≡ missed_of w → r ≡ read → ConcludesSums sums missed r err status err' → ConcludesSums (sums_of w) (missed_of w) read err status err'
+told_of w sums missed read r err err' status s m is ends =
+    subst (λ (z : ExchangeSums). ConcludesSums z (missed_of w) read err status err') s
+    (subst (λ (z : Missed). ConcludesSums sums z read err status err') m
+    (subst (λ (z : Result CaptureRead StreamsFault). ConcludesSums sums missed z err status err') is ends))
+
+abbrev note_of : Listening → Result CaptureRead StreamsFault → List ℕ
+note_of w r = note_text (losses_of r (missed_of w))
+
+abbrev words_of : Listening → Result CaptureRead StreamsFault → List ℕ
+words_of w r = last_words (sums_of w) (missed_of w) r
+
 pub exchanges_once : OneAnswerOfWriteExchanges
-exchanges_once filter form ports xs out err made made' left left' status status' out' out'' err' err'' (r, sums, (w, read, reads, are, closes), ends) well (r', sums', (w', read', reads', are', closes'), ends') well' =
-    let c = ended w.account read r out' err err' status (sums_words sums) ends well closes in
-    let c' = ended w'.account read' r' out'' err err'' status' (sums_words sums') ends' well' closes' in
-    let e = subst (λ (z : ExchangeSums). Concludes (sums_words z) read err status err') are (subst (λ (z : Result CaptureRead StreamsFault). Concludes (sums_words sums) z err status err') c.0 ends) in
-    let e' = subst (λ (z : ExchangeSums). Concludes (sums_words z) read' err status' err'') are' (subst (λ (z : Result CaptureRead StreamsFault). Concludes (sums_words sums') z err status' err'') c'.0 ends') in
-    let one = runs_once with_saying StopsAt (λ (z : Listening). sums_words z.account.sums) connection_limits ports xs (new_listening default_limits filter form out) w w' made made' left left' read read' err err' err'' status status' reads e well reads' e' well' in
+exchanges_once filter form ports xs out err made made' left left' status status' out' out'' err' err'' (r, sums, missed, (w, read, reads, are, miss, closes), ends) well (r', sums', missed', (w', read', reads', are', miss', closes'), ends') well' =
+    let c = ended w.account read r out' err err' status (note_text (losses_of r missed)) (last_words sums missed r) ends well closes in
+    let c' = ended w'.account read' r' out'' err err'' status' (note_text (losses_of r' missed')) (last_words sums' missed' r') ends' well' closes' in
+    let e = told_of w sums missed read r err err' status are miss c.0 ends in
+    let e' = told_of w' sums' missed' read' r' err err'' status' are' miss' c'.0 ends' in
+    let one = runs_noted with_saying StopsAt note_of words_of connection_limits ports xs (new_listening default_limits filter form out) w w' made made' left left' read read' err err' err'' status status' reads e well reads' e' well' in
     (one.0, c'.1 ∙ ap (λ (z : Listening). with_text z.account.output (ending z.account)) one.1 ∙ sym c.1, one.2)

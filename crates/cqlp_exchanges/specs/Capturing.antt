@@ -7,13 +7,15 @@ use Rattle.cqlp_streams.specs.declared.fault.StreamsFault.{StreamsFault}
 use Rattle.cqlp_streams.specs.declared.fault.StreamsFault.TheVariants as fault
 use Rattle.cqlp_streams.specs.Captures.{ReadsMade}
 use Rattle.cqlp_streams.specs.Streams.{ReadsCapture}
-use Rattle.cqlp_streams.specs.Endings.{Concludes}
+use Rattle.cqlp_streams.specs.Endings.{ConcludesNoted}
+use Rattle.cqlp_watch.specs.declared.missed.Missed.{Missed}
 use Rattle.cqlp_streams.specs.Causes.{HasCause}
 use Rattle.cqlp_exchanges.specs.declared.exchanges.ExchangeLimits.{ExchangeLimits}
 use Rattle.cqlp_exchanges.specs.declared.filter.ExchangeFilter.{ExchangeFilter}
 use Rattle.cqlp_exchanges.specs.declared.form.ExchangeForm.{ExchangeForm}
 use Rattle.cqlp_exchanges.specs.declared.sums.ExchangeSums.{ExchangeSums}
 use Rattle.cqlp_exchanges.specs.Accounts.{Account, ending}
+use Rattle.cqlp_exchanges.specs.Losses.{loss_words, losses_of, missed_in, note_text}
 use Rattle.cqlp_exchanges.specs.Listening.{Listening, StopsAt, new_listening, with_saying}
 
 -- how much is watched at one time
@@ -30,6 +32,14 @@ sums_words s =
     codes "exchanges " ++ decimal s.exchanges ++ codes " unanswered " ++ decimal s.unanswered ++ codes " unasked " ++ decimal s.unasked
     ++ codes " events " ++ decimal s.events ++ codes " cut " ++ decimal s.cut
 
+-- with what was missed
+abbrev pub last_words : ExchangeSums → Missed → Result CaptureRead StreamsFault → List ℕ
+last_words s m r = sums_words s ++ loss_words (losses_of r m)
+
+-- So ends what was told: before the last line is the reason not to trust its numbers, where something was missed.
+abbrev pub ConcludesSums : ExchangeSums → Missed → Result CaptureRead StreamsFault → (before : Output) → (status : ℕ) → (after : Output) → Type 0
+ConcludesSums s m r before status after = ConcludesNoted (note_text (losses_of r m)) (last_words s m r) r before status after
+
 -- Where the capture was read, what is written at the end was, or the output failed within it.
 abbrev pub Closes : Account → (read : Result CaptureRead StreamsFault) → Result CaptureRead StreamsFault → Output → Type 0
 Closes a (Err f) r out = (r ≡ Err f) × (out ≡ a.output)
@@ -38,18 +48,18 @@ Closes a (Ok x) (Err f) out = (f ≡ fault.Write) × StopsWithin a.output (endin
 
 -- What was heard of an input with the bytes xs by so many reads, what that was, and what was written.
 abbrev pub Listens : ExchangeFilter → ExchangeForm → (ports : List ℕ) → (xs : List ℕ) → ReadsMade → Result CaptureRead StreamsFault
-    → (left : Option (List ℕ)) → (out : Output) → ExchangeSums → (out' : Output) → Type 0
-Listens filter form ports xs m r left out sums out' =
+    → (left : Option (List ℕ)) → (out : Output) → ExchangeSums → Missed → (out' : Output) → Type 0
+Listens filter form ports xs m r left out sums missed out' =
     (w : Listening) × (read : Result CaptureRead StreamsFault)
     × ReadsCapture with_saying StopsAt connection_limits ports xs m read left (new_listening default_limits filter form out) w
-    × (sums ≡ w.account.sums) × Closes w.account read r out'
+    × (sums ≡ w.account.sums) × (missed ≡ missed_in w.slots) × Closes w.account read r out'
 
--- Its exchanges were written, and then the line of how it ended, with its status.
+-- Its exchanges were written, and then the lines of how it ended, with its status.
 abbrev pub WritesExchanges : ExchangeFilter → ExchangeForm → (ports : List ℕ) → (xs : List ℕ) → ReadsMade → (left : Option (List ℕ)) → (out err : Output)
     → (status : ℕ) → (out' err' : Output) → Type 0
 WritesExchanges filter form ports xs m left out err status out' err' =
-    (r : Result CaptureRead StreamsFault) × (sums : ExchangeSums) × Listens filter form ports xs m r left out sums out'
-    × Concludes (sums_words sums) r err status err'
+    (r : Result CaptureRead StreamsFault) × (sums : ExchangeSums) × (missed : Missed) × Listens filter form ports xs m r left out sums missed out'
+    × ConcludesSums sums missed r err status err'
 
 -- Where nothing outside fails, so that the status is not that of a fault, the same bytes, ports, filter, form and outputs lead to the
 -- same status, the same text and the same last line.

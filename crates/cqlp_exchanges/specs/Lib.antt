@@ -12,6 +12,7 @@ pub mod Forms
 pub mod Accounts
 pub mod Talks
 pub mod Tables
+pub mod Losses
 pub mod Listening
 pub mod Capturing
 pub mod Laws

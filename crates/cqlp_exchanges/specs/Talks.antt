@@ -65,7 +65,7 @@ begun_anew w = talk [] (begun true false (begun false false w))
 
 -- no message waits any more
 abbrev pub let_go : Watched → Talk
-let_go w = talk (map alone w.pairing.waiting) (watched w.requests w.responses (held w.pairing.limit []))
+let_go w = talk (map alone w.pairing.waiting) (watched w.requests w.responses (held w.pairing.limit []) w.missed)
 
 abbrev pub and_then : Talk → (Watched → Talk) → Talk
 and_then t f = talk (t.told ++ (f t.after).told) (f t.after).after

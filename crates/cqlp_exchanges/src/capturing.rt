@@ -1,20 +1,24 @@
 //! A capture whose exchanges are written.
 
-ghost use Rattle.std.specs.Prelude.{◌≡◌, ℕ, List, IfOk, IsSome, OnOk, Some, string_bytes};
+ghost use Rattle.std.specs.Prelude.{◌≡◌, ℕ, ◌++◌, List, IfOk, IsSome, OnOk, Some, string_bytes};
 ghost use Rattle.cqlp_text.specs.Endings.{IsStatusOfTask};
 ghost use Rattle.cqlp_text.specs.Outputs.{written};
 ghost use Rattle.cqlp_streams.specs.Captures.{AreCounted, ReadsMade};
-ghost use Rattle.cqlp_streams.specs.Endings.{Concludes};
-ghost use Rattle.cqlp_exchanges.specs.Capturing.{Closes, Listens, WritesExchanges, sums_words};
+ghost use Rattle.cqlp_watch.specs.Misses.{none_missed};
+ghost use Rattle.cqlp_exchanges.specs.Accounts.{no_sums};
+ghost use Rattle.cqlp_exchanges.specs.Capturing.{Closes, ConcludesSums, Listens, WritesExchanges, sums_words};
+ghost use Rattle.cqlp_exchanges.specs.Losses.{loss_words, note_text};
 
 use crate::exchanges::{ExchangeLimits, Exchanges};
 use crate::filter::ExchangeFilter;
 use crate::form::ExchangeForm;
+use crate::losses::{Losses, losses_of, note_of, push_losses};
 use crate::sums::ExchangeSums;
 use cqlp_connections::ConnectionLimits;
 use cqlp_grammar::SinkFault;
 use cqlp_note::{Source, Target};
-use cqlp_streams::{CaptureRead, StreamsFault, conclude_capture, read_capture};
+use cqlp_streams::{CaptureRead, StreamsFault, conclude_noted, read_capture};
+use cqlp_watch::Missed;
 use std::alloc::{AllocError, Allocator, Global};
 
 /// How many connections there are at one time, and how many bytes that came early each direction holds: as many connections as `ExchangeLimits::DEFAULT` has.
@@ -42,9 +46,29 @@ pub fn write_exchanges<R: Source, O: Target, E: Target>(
         × WritesExchanges filter form ports.now xs m (R.left input.new) (written O.Target out) (written E.Target err)
         result.0 (written O.Target result.1) (written E.Target result.2) }
 {
-    let (answer, sums, out) = listen(alloc, ports, filter, form, input, out);
-    let (status, err) = conclude(alloc, &answer, &sums, err);
+    let (answer, counts, out) = listen(alloc, ports, filter, form, input, out);
+    let (status, err) = conclude(alloc, &answer, &counts, err);
     (status, out, err)
+}
+
+/// What was told of a capture's connections, and what was missed.
+#[derive(Clone, Copy, Debug, PartialEq, Eq)]
+struct Counts {
+    sums: ExchangeSums,
+    missed: Missed,
+}
+
+impl Counts {
+    /// Nothing.
+    fn none() -> Self
+        ensures sums { result.sums ≡ no_sums }
+        ensures missed { result.missed ≡ none_missed }
+    {
+        Counts {
+            sums: ExchangeSums::none(),
+            missed: Missed::NONE,
+        }
+    }
 }
 
 /// Reads the capture, and writes the lines. Answers what it was, what was told, and the output.
@@ -55,19 +79,21 @@ fn listen<R: Source, O: Target>(
     form: ExchangeForm,
     input: &mut R,
     out: O,
-) -> (Result<CaptureRead, StreamsFault>, ExchangeSums, O)
+) -> (Result<CaptureRead, StreamsFault>, Counts, O)
     ensures { (xs : List ℕ) → R.left input.old ≡ Some xs → IsSome (O.contents out) →
         (m : ReadsMade) × AreCounted m (R.reads input.old) (R.reads input.new) (R.failures input.old) (R.failures input.new)
-        × Listens filter form ports.now xs m result.0 (R.left input.new) (written O.Target out) result.1 (written O.Target result.2) }
+        × Listens filter form ports.now xs m result.0 (R.left input.new) (written O.Target out) result.1.sums result.1.missed
+        (written O.Target result.2) }
 {
     let mut exchanges = match Exchanges::new(alloc, ExchangeLimits::DEFAULT, filter, form, out) {
         Ok(exchanges) => exchanges,
-        Err(out) => return (Err(StreamsFault::NoMemory), ExchangeSums::none(), out),
+        Err(out) => return (Err(StreamsFault::NoMemory), Counts::none(), out),
     };
     let read = read_capture(alloc, LIMITS, ports, input, &mut exchanges);
     let answer = finish(&mut exchanges, read);
+    let missed = exchanges.missed();
     let (out, sums) = exchanges.into_parts();
-    (answer, sums, out)
+    (answer, Counts { sums, missed }, out)
 }
 
 /// Where the capture was read, writes what stands at the end.
@@ -78,6 +104,7 @@ fn finish<O: Target>(
     ensures closes { OnOk read (IsSome exchanges.old.account.output.given) →
         Closes exchanges.old.account read result exchanges.new.account.output }
     ensures sums { OnOk read (IsSome exchanges.old.account.output.given) → exchanges.new.account.sums ≡ exchanges.old.account.sums }
+    ensures slots { exchanges.new.slots ≡ exchanges.old.slots }
 {
     match read {
         Ok(read) => match exchanges.finish() {
@@ -88,21 +115,43 @@ fn finish<O: Target>(
     }
 }
 
-/// Writes the line of how the reading ended. Answers the exit status.
+/// Writes the lines of how the reading ended. Answers the exit status.
 fn conclude<E: Target>(
     alloc: Global,
     answer: &Result<CaptureRead, StreamsFault>,
-    sums: &ExchangeSums,
+    counts: &Counts,
     err: E,
 ) -> (u8, E)
     ensures task { IsStatusOfTask result.0 }
     ensures concludes { IsSome (E.contents err) →
-        Concludes (sums_words sums.now) answer.now (written E.Target err) result.0 (written E.Target result.1) }
+        ConcludesSums counts.now.sums counts.now.missed answer.now (written E.Target err) result.0 (written E.Target result.1) }
 {
-    match words(alloc, sums) {
-        Ok(words) => conclude_capture(alloc, answer, &words, err),
-        Err(AllocError) => conclude_capture(alloc, &Err(StreamsFault::NoMemory), "", err),
+    let losses = losses_of(answer, &counts.missed);
+    match texts_of(alloc, &counts.sums, &losses) {
+        Ok(Texts { note, words }) => conclude_noted(alloc, answer, &note, &words, err),
+        Err(AllocError) => conclude_noted(alloc, &Err(StreamsFault::NoMemory), "", "", err),
     }
+}
+
+/// The note before the last line, and its words.
+#[derive(Drop)]
+struct Texts<A: Allocator> {
+    note: String<A>,
+    words: String<A>,
+}
+
+fn texts_of<A: Allocator + Clone>(
+    alloc: A,
+    sums: &ExchangeSums,
+    losses: &Losses,
+) -> Result<Texts<A>, AllocError>
+    ensures note { IfOk result (λ t. string_bytes t.note ≡ note_text losses.now) }
+    ensures words { IfOk result (λ t. string_bytes t.words ≡ sums_words sums.now ++ loss_words losses.now) }
+{
+    let note = note_of(alloc.clone()?, losses)?;
+    let mut text = words(alloc, sums)?;
+    push_losses(&mut text, losses)?;
+    Ok(Texts { note, words: text })
 }
 
 /// The words of what was told, in the last line.

@@ -18,6 +18,7 @@ use cqlp_grammar::SinkFault;
 use cqlp_note::Target;
 use cqlp_streams::{Listener, Saying, StreamsFault};
 use cqlp_summary::Summary;
+use cqlp_watch::Missed;
 use std::alloc::{AllocError, Allocator, Global};
 use std::marker::Model;
 
@@ -62,6 +63,7 @@ impl<O: Target, A: Allocator> Exchanges<O, A> {
     ghost use Rattle.cqlp_streams.specs.Sayings.{Left, New, Of, Packet, saying_of};
     ghost use Rattle.cqlp_exchanges.specs.Accounts.{Finishes};
     ghost use Rattle.cqlp_exchanges.specs.Listening.{Hears, new_listening, with_saying};
+    ghost use Rattle.cqlp_exchanges.specs.Losses.{missed_in};
 
     /// Nothing is watched, and exchanges go to this output in this form. All memory is taken here, in one request for each connection of the
     /// limit and five more; where it is not granted, the output is given back.
@@ -97,7 +99,8 @@ impl<O: Target, A: Allocator> Exchanges<O, A> {
 
     /// Writes what stands at the end: the lines of a summary.
     pub fn finish(&mut self) -> Result<(), SinkFault>
-        ensures { IsSome self.old.account.output.given → Finishes self.old.account result self.new.account }
+        ensures ends { IsSome self.old.account.output.given → Finishes self.old.account result self.new.account }
+        ensures slots { self.new.slots ≡ self.old.slots }
     {
         self.teller.finish()
     }
@@ -113,6 +116,13 @@ impl<O: Target, A: Allocator> Exchanges<O, A> {
             teller,
         } = self;
         teller.into_parts()
+    }
+
+    /// What was missed of the connections so far.
+    pub fn missed(&self) -> Missed
+        ensures { result ≡ missed_in self.now.slots }
+    {
+        self.table.missed()
     }
 
     /// Takes what is told next of the connections.
@@ -182,7 +192,7 @@ fn take_memory<A: Allocator + Clone>(
 ) -> Result<Room<A>, AllocError>
     ensures table { IfOk result (λ p. p.table ≡ replicate limits.connections (unused limits.waiting)) }
     ensures buffer { IfOk result (λ p. 128 ≤ vec_len p.buffer) }
-    ensures known { IfOk result (λ p. (p.known.items ≡ []) × (256 ≤ vec_capacity p.known)) }
+    ensures known { IfOk result (λ p. (p.known.items ≡ []) × (vec_capacity p.known ≡ 256)) }
     ensures summary { IfOk result (λ p. p.summary ≡ new_summary (statements_in form)) }
 {
     let table = Table::new(alloc.clone()?, limits.connections, limits.waiting)?;

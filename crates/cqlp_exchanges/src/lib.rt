@@ -9,6 +9,7 @@ mod filter;
 mod form;
 pub mod laws;
 mod lines;
+mod losses;
 mod member;
 mod noting;
 mod object;

@@ -9,7 +9,7 @@ use cqlp_connections::{Told, Way};
 use cqlp_grammar::SinkFault;
 use cqlp_note::Target;
 use cqlp_reassembly::StreamStep;
-use cqlp_watch::{Watch, WatchStep};
+use cqlp_watch::{Missed, Watch, WatchStep};
 use std::alloc::{Allocator, Global};
 use std::marker::Model;
 
@@ -76,6 +76,13 @@ impl<A: Allocator> Slot<A> {
             OnOk result (self.new ≡ slot self.old.number (told_heard time told.now bytes.now self.old.watch).after) }
     {
         hear_told(&mut self.watch, time, told, bytes, teller)
+    }
+
+    /// What was missed of the connections that are or were in it.
+    pub(crate) fn missed(&self) -> Missed
+        ensures { result ≡ self.now.watch.missed }
+    {
+        self.watch.missed()
     }
 
     /// The connection leaves, and the slot is free.

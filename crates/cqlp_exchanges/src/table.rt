@@ -1,7 +1,8 @@
 //! The connections that are watched.
 
-ghost use Rattle.std.specs.Prelude.{◌≡◌, IfOk, IsSome, OnOk, position, replicate};
+ghost use Rattle.std.specs.Prelude.{◌≡◌, IfOk, IsSome, OnOk, length, position, replicate, vec_capacity};
 ghost use Rattle.cqlp_exchanges.specs.Accounts.{ToldAll};
+ghost use Rattle.cqlp_exchanges.specs.Losses.{missed_in};
 ghost use Rattle.cqlp_exchanges.specs.Tables.{has_number, unused};
 
 use crate::slot::Slot;
@@ -9,7 +10,7 @@ use crate::teller::Teller;
 use cqlp_connections::Told;
 use cqlp_grammar::SinkFault;
 use cqlp_note::Target;
-use cqlp_watch::Watch;
+use cqlp_watch::{Missed, Watch};
 use std::alloc::{AllocError, Allocator, Global};
 use std::marker::Model;
 
@@ -20,12 +21,14 @@ pub(crate) struct Table<A: Allocator = Global> {
 }
 
 impl<A: Allocator> Model for Table<A> {
-    ghost use Rattle.std.specs.Prelude.{List};
+    ghost use Rattle.std.specs.Prelude.{◌≡◌, List, length, vec_capacity};
     ghost use Rattle.cqlp_exchanges.specs.Tables.{Slot};
 
     ghost Value = { List Slot };
 
     ghost view = { λ t. t.slots.items };
+
+    ghost invariant = { λ t. vec_capacity t.slots ≡ length t.slots.items };
 }
 
 impl<A: Allocator> Table<A> {
@@ -47,6 +50,13 @@ impl<A: Allocator> Table<A> {
         ensures { result ≡ place_of number self.now }
     {
         place_of(&self.slots, number)
+    }
+
+    /// What was missed of all connections so far.
+    pub(crate) fn missed(&self) -> Missed
+        ensures { result ≡ missed_in self.now }
+    {
+        missed_in(&self.slots)
     }
 
     /// The connection with this number begins, where a slot is free.
@@ -98,12 +108,23 @@ fn place_of<A: Allocator>(slots: &[Slot<A>], number: Option<u64>) -> Option<usiz
     slots.iter().position(|slot| slot.has_number(number))
 }
 
+fn missed_in<A: Allocator>(slots: &[Slot<A>]) -> Missed
+    ensures { result ≡ missed_in slots.now }
+{
+    let mut missed = Missed::NONE;
+    for slot in slots {
+        missed.add(&slot.missed());
+    }
+    missed
+}
+
 fn make_slots<A: Allocator + Clone>(
     alloc: A,
     count: usize,
     limit: u16,
 ) -> Result<Vec<Slot<A>, A>, AllocError>
-    ensures { IfOk result (λ slots. slots.items ≡ replicate count (unused limit)) }
+    ensures slots { IfOk result (λ slots. slots.items ≡ replicate count (unused limit)) }
+    ensures capacity { IfOk result (λ slots. vec_capacity slots ≡ length slots.items) }
 {
     let mut slots = Vec::with_capacity(alloc.clone()?, count)?;
     for _ in 0..count {

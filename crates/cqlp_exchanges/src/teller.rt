@@ -26,9 +26,9 @@ use std::marker::Model;
 pub(crate) struct Teller<O: Target, A: Allocator = Global> {
     filter: ExchangeFilter,
     form: ExchangeForm,
-    /// When the first packet was captured.
+    /// When the first packet with a segment was captured of which that is known.
     first: Option<u64>,
-    /// The statements that were prepared last.
+    /// Statements that were prepared, each by the first PREPARE whose response gave its id; of too many the one goes whose id came first.
     known: Vec<Preparation, A>,
     summary: Summary<A>,
     sums: ExchangeSums,
@@ -44,7 +44,7 @@ impl<O: Target, A: Allocator> Model for Teller<O, A> {
 
     ghost view = { λ t. account t.filter t.form t.first t.known.items t.summary t.sums (output t.writer.given t.writer.failures) };
 
-    ghost invariant = { λ t. (t.writer.waiting ≡ []) × (length t.known.items ≤ 256) × (256 ≤ vec_capacity t.known) };
+    ghost invariant = { λ t. (t.writer.waiting ≡ []) × (length t.known.items ≤ 256) × (vec_capacity t.known ≡ 256) };
 }
 
 impl<O: Target, A: Allocator> Teller<O, A> {
@@ -64,7 +64,7 @@ impl<O: Target, A: Allocator> Teller<O, A> {
     ) -> Self
         requires buffer { 128 ≤ vec_len buffer }
         requires none { known.items ≡ [] }
-        requires room { 256 ≤ vec_capacity known }
+        requires room { vec_capacity known ≡ 256 }
         ensures { result ≡ account filter form None [] summary no_sums (written O.Target out) }
     {
         Teller {

@@ -41,6 +41,7 @@ impl Facts {
     ghost use Rattle.cqlp_facts.specs.Facts.{no_facts, with_fact};
 
     /// Nothing is known.
+    #[must_use]
     pub fn new() -> Facts
         ensures { result ≡ no_facts }
     {

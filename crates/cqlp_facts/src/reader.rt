@@ -39,6 +39,7 @@ impl FactsReader {
     ghost use Rattle.cqlp_facts.specs.Reading.{before, begun, gone_on, idle, is_before, passed, read, taken};
 
     /// Nothing is read.
+    #[must_use]
     pub fn idle() -> FactsReader
         ensures { result ≡ idle }
     {
@@ -53,6 +54,7 @@ impl FactsReader {
     }
 
     /// Nothing came of a body with this header.
+    #[must_use]
     pub fn new(header: &Header) -> FactsReader
         ensures { result ≡ begun header.now }
     {
@@ -67,6 +69,7 @@ impl FactsReader {
     }
 
     /// What the bytes say that came so far.
+    #[must_use]
     pub fn facts(&self) -> Facts
         ensures { result ≡ self.now.facts }
     {

@@ -33,6 +33,10 @@ pub trait Sink {
     ghost also: { Self → ℕ → told.Event → Self → Type 0 } = { λ _ _ _ _. Unit {0} };
 
     /// Takes the event at an offset.
+    ///
+    /// # Errors
+    ///
+    /// Whatever keeps the sink from going on: who hands the events out stops there.
     fn take(&mut self, at: u64, event: &Event<'_>) -> Result<(), SinkFault>
         ensures ok { OnOk result (tells self.old → tells self.new × (view self.new ≡ after (view self.old) at (event_of event.now))) }
         ensures err { OnErr result (tells self.old → faulted (view self.old) at (event_of event.now) (view self.new)) }

@@ -24,6 +24,10 @@ use cqlp_note::{Address, BoundValue, Field, Header, Target};
 use cqlp_text::{Pen, TextWriter, field_name, kind_name, opcode_name};
 
 /// Appends the JSON line of an event at an offset. A fault is the target's own.
+///
+/// # Errors
+///
+/// The fault of the target.
 #[inline]
 pub fn json_line<W: Target>(at: u64, event: &Event<'_>, target: &mut W) -> Result<(), SinkFault>
     ensures { AppendsText (written W.Target target.old) (line_of at (event_of event.now)) result

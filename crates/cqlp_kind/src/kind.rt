@@ -31,7 +31,7 @@ pub enum Kind {
     Set,
     Udt,
     Tuple,
-    /// The kind of a cell whose type is not known; it stands in no table.
+    /// The kind of a cell whose type is not known. A table has it only after a lenient reading, for a type with an unknown id.
     Raw,
 }
 
@@ -42,6 +42,7 @@ impl Kind {
     ghost use Rattle.cqlp_kind.specs.Types.{is_plain};
 
     /// Whether a value of this kind has no items: all but lists, maps, sets, user-defined types and tuples.
+    #[must_use]
     pub fn is_scalar(self) -> bool
         ensures { result ≡ has_no_items self }
     {
@@ -52,6 +53,7 @@ impl Kind {
     }
 
     /// The kind whose type option has this id, if one has.
+    #[must_use]
     pub fn from_id(id: u16) -> Option<Kind>
         ensures { result ≡ beside_number id kinds }
     {
@@ -122,6 +124,7 @@ impl Kind {
     }
 
     /// How many inner types each type of this kind has; 0 where they are counted.
+    #[must_use]
     pub fn arity(self) -> u16
         ensures { result ≡ arity_of self }
     {
@@ -133,6 +136,7 @@ impl Kind {
     }
 
     /// Whether it is one of the 19 kinds whose options have no parameters.
+    #[must_use]
     pub fn is_plain(self) -> bool
         ensures { result ≡ is_plain self }
     {

@@ -23,6 +23,8 @@ pub mod RunsBack
 pub mod Due
 pub mod InnerRuns
 pub mod Offsets
+pub mod OwnBytes
+pub mod DueBytes
 pub mod PartsBack
 pub mod FrameEdges
 pub mod FramesBack

@@ -212,17 +212,24 @@ module _ (l : Rules) (p : Place) (within : p.offset ≤ p.stop) where
 
 -- ---- runs
 
--- A place is as many bytes on as were read.
-reads_advance : (l : Rules) (es : List (ℕ × Event)) (p q : Place) (b left : List ℕ) → IsInFrame l p → Reads l p b es q left → q.offset + length left ≡ p.offset + length b
-reads_advance l [] p q b left h r = rw (r.0, r.1) refl
+-- A place is as many bytes on as were read, and within its frame.
+reads_advance : (l : Rules) (es : List (ℕ × Event)) (p q : Place) (b left : List ℕ) → IsInFrame l p → Reads l p b es q left → (q.offset + length left ≡ p.offset + length b) × (q.offset ≤ q.stop)
+reads_advance l [] p q b left h r = (rw (r.0, r.1) refl, subst (λ (z : Place). z.offset ≤ z.stop) (sym r.0) h.within)
 reads_advance l (e ∷ es) p q b left h r =
     let x : Emitted Event Place = record { at = e.0; event = e.1; after = r.1 } in
     let t = taken (step l p) x r.0 b r.2 in
     let one : ((r.1 r.0).offset ≡ p.offset + r.0) × IsInFrame l (r.1 r.0) = rw t.long at (yields_always (Advances l (settled p) h.within) (step l p) x [] t.front (step_advances l (settled p) h.within p.symbols h.fits) t.yields) in
     let later = reads_advance l es (r.1 r.0) q (drop r.0 b) left one.1 r.3 in
-    omega (arith, later, one.0, ap length t.whole, length-append t.front t.back, t.long, ap length t.left)
+    (omega (arith, later.0, one.0, ap length t.whole, length-append t.front t.back, t.long, ap length t.left), later.1)
+
+from_start : (l : Rules) (gifts : Gifts) (es : List (ℕ × Event)) (q : Place) (b left : List ℕ) → Reads l (start_with gifts) b es q left → (q.offset + length left ≡ length b) × (q.offset ≤ q.stop)
+from_start l gifts es q b left r =
+    let start : IsInFrame l (start_with gifts) = record { within = omega arith; fits = tt } in
+    let a = reads_advance l es (start_with gifts) q b left start r in
+    (omega (arith, a.0), a.1)
 
 pub offset_is : (l : Rules) (gifts : Gifts) (es : List (ℕ × Event)) (q : Place) (b left : List ℕ) → Reads l (start_with gifts) b es q left → q.offset + length left ≡ length b
-offset_is l gifts es q b left r =
-    let start : IsInFrame l (start_with gifts) = record { within = omega arith; fits = tt } in
-    omega (arith, reads_advance l es (start_with gifts) q b left start r)
+offset_is l gifts es q b left r = (from_start l gifts es q b left r).0
+
+pub within_frame : (l : Rules) (gifts : Gifts) (es : List (ℕ × Event)) (q : Place) (b left : List ℕ) → Reads l (start_with gifts) b es q left → q.offset ≤ q.stop
+within_frame l gifts es q b left r = (from_start l gifts es q b left r).1

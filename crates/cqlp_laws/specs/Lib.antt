@@ -1,5 +1,6 @@
 pub mod Reading
 pub mod Contents
+pub mod Due
 pub mod Untyped
 pub mod Frames
 pub mod Excess

@@ -15,7 +15,7 @@ use Rattle.cqlp_decode.specs.Reading.{Event, Verdict, Waits, Refused, Gifts, Say
 use Rattle.cqlp_grammar.specs.Events.{event_of}
 use Rattle.cqlp_decode.specs.Progress.{StreamState, levels_of}
 use Rattle.cqlp_decode.specs.Streams.{Decoding, state, After, AfterGifts, Answers, Finishes, FinishesBy, given_nodes}
-use Rattle.cqlp_decode.specs.Draining.{MakesReads, RunsTo, WaitsAt, fold_events}
+use Rattle.cqlp_decode.specs.Draining.{Calls, MakesReads, RunsTo, WaitsAt, fold_events}
 use Rattle.cqlp_laws.specs.Reading.{BeginsWith}
 
 -- ---- the decoder
@@ -119,8 +119,8 @@ module _ {V : Type 0} (f : V → ℕ → Event → V) (faulted : V → ℕ → E
       (turns : ℕ) (o : Outcome) (old new : StreamState) (xs : List ℕ) (left : Option (List ℕ)) (before after : V)
       : Type 0 where
     pub runs : RunsTo f faulted turns o old new xs left before after
-    pub calls : ℕ
-    pub calls_after : ℕ
+    pub calls : Calls
+    pub calls_after : Calls
     pub reads : MakesReads turns o calls calls_after (Some xs) left
     pub waits : WaitsAt o new
     pub refused :

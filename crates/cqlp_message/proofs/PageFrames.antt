@@ -20,7 +20,7 @@ use Rattle.cqlp_message.specs.Parts.{Part, Field_is, Type_is, parts_size, part_b
 use Rattle.cqlp_message.specs.Bodies.{int, count, text, bytes, where_some, counted, texts, paging_parts, table_parts, spec_parts, metadata_parts, rows_parts, message_parts}
 use Rattle.cqlp_message.specs.Frames.{announced_parts, frame_parts, header_of}
 use Rattle.cqlp_message.specs.Agreement.{is_response, opcode_of, message_agrees, is_directed, frame_agrees, has_its_cells}
-use Rattle.cqlp_message.specs.Pages.{is_bare, can_have, page_unfit_of, filled, with_cells, page_columns, cells_wanted, types_of_page, fits_column, cells_fit, cells_bytes, cells_size, PagesAreFrames}
+use Rattle.cqlp_message.specs.Pages.{is_bare, page_unfit_of, filled, with_cells, page_columns, cells_wanted, types_of_page, fits_column, cells_fit, cells_bytes, cells_size, PagesAreFrames}
 use Rattle.cqlp_message.proofs.Agreements.{MessageAgrees, of_test}
 use Rattle.cqlp_message.proofs.Bounds.{parts_append}
 use Rattle.cqlp_message.proofs.FramesWritten.{not_false, none_left, fit_is}
@@ -164,7 +164,6 @@ pub record IsPage (f : FrameValue) (n : ℕ) : Type 0 where
   pub texts : list_all texts_fit (frame_parts f) ≡ true
   pub bare : is_bare f.message ≡ true
   pub short : parts_size (frame_parts f) + n ≤ LONGEST_BODY
-  pub possible : can_have (cells_wanted f.message) n ≡ true
 
 pub is_page : (f : FrameValue) (n : ℕ) → page_unfit_of f n ≡ None → IsPage f n
 is_page f n e =
@@ -174,7 +173,6 @@ is_page f n e =
     let d = none_left (not (list_all texts_fit (frame_parts f))) unfit.TextTooLong _ c.1 in
     let g = none_left (not (is_bare f.message)) unfit.RowShape _ d.1 in
     let h = none_left (ltb LONGEST_BODY (parts_size (frame_parts f) + n)) unfit.BodyTooLong _ g.1 in
-    let i = none_left (not (can_have (cells_wanted f.message) n)) unfit.RowShape _ h.1 in
     record {
       directed = not_false _ a.0;
       agrees = not_false _ b.0;
@@ -182,7 +180,6 @@ is_page f n e =
       texts = not_false _ d.0;
       bare = not_false _ g.0;
       short = ltb-false LONGEST_BODY (parts_size (frame_parts f) + n) h.0;
-      possible = not_false _ i.0;
     }
 
 -- a page without cells fits

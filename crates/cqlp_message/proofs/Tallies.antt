@@ -13,7 +13,7 @@ use Rattle.cqlp_message.specs.FrameValues.{FrameValue}
 use Rattle.cqlp_message.specs.Parts.{Part, part_size, parts_size, counts_fit, texts_fit, cell_fits, PartIsInRange}
 use Rattle.cqlp_message.specs.Frames.{frame_parts, first_obstacles, first_of, obstacles, unfit_of, if_none}
 use Rattle.cqlp_message.specs.Agreement.{has_its_cells}
-use Rattle.cqlp_message.specs.Pages.{is_bare, can_have, cells_wanted, page_unfit_of}
+use Rattle.cqlp_message.specs.Pages.{is_bare, page_unfit_of}
 use Rattle.cqlp_message.specs.Tallies.{IsTally, IsTallyOf}
 
 pub size_more : (ps : List Part) (p : Part) → parts_size (ps ++ p ∷ []) ≡ parts_size ps + part_size p
@@ -65,7 +65,7 @@ first_of_frame f why e =
 
 pub first_of_page : (f : FrameValue) (n : ℕ) (why : Unfit) → first_of (first_obstacles f) ≡ Some why → page_unfit_of f n ≡ Some why
 first_of_page f n why e =
-    first_of_more (first_obstacles f) ((not (is_bare f.message), unfit.RowShape) ∷ (nat_lt LONGEST_BODY (parts_size (frame_parts f) + n), unfit.BodyTooLong) ∷ (not (can_have (cells_wanted f.message) n), unfit.RowShape) ∷ []) why e
+    first_of_more (first_obstacles f) ((not (is_bare f.message), unfit.RowShape) ∷ (nat_lt LONGEST_BODY (parts_size (frame_parts f) + n), unfit.BodyTooLong) ∷ []) why e
 
 below : (m n : ℕ) → nat_lt m n ≡ false → n ≤ m
 below m n e = grind (arith, nat_tests)

@@ -19,7 +19,7 @@ use Rattle.cqlp_type.specs.Trees.{trees_items, notation_for, item_bytes, ItemIsI
 use Rattle.cqlp_kind.specs.Scalars.{content_of}
 use Rattle.cqlp_value.specs.Values.{Values, NoValue, Null_and, Empty_and, Scalar_and, Counted_and, Fields_and, values_bytes}
 use Rattle.cqlp_message.specs.Parts.{Part, Field_is, Type_is, Cell_is, parts_size, part_bytes, parts_bytes, PartIsInRange}
-use Rattle.cqlp_message.specs.Frames.{frame_parts, header_of}
+use Rattle.cqlp_message.specs.Frames.{frame_parts, header_of, frame_bytes}
 use Rattle.cqlp_message.specs.Fitting.{field_octets, item_octets, values_octets, part_octets, WrittenAreBytes, FitJustIfSpelled}
 use Rattle.cqlp_message.proofs.FramesWritten.{frame_written, frame_fits}
 
@@ -138,7 +138,7 @@ written_bytes f range o =
     join (header_bytes h) (parts_bytes (frame_parts f)) (header_small h range.flags) (parts_small (frame_parts f) range.parts o)
 
 pub fit_if_spelled : FitJustIfSpelled
-fit_if_spelled f range o = (
-  λ fits. (_, written_bytes f range o, (frame_written f range fits).0),
-  λ s. (frame_fits f 0 s.0 s.2 s.1 range.stream).0,
+fit_if_spelled f range = (
+  λ fits. let w = frame_written f range fits in (frame_bytes f, w.0, w.1, written_bytes f range),
+  λ b small s. (frame_fits f 0 b s small range.stream).0,
 )

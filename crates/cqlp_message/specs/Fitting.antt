@@ -1,5 +1,5 @@
 -- What fits is spelled: the laws of frames that bytes spell.
-use Rattle.std.specs.Prelude.{◌≡◌, ◌↔◌, ℕ, ◌++◌, ◌<◌, false, List, [], length, Some, None, All, FitsSigned}
+use Rattle.std.specs.Prelude.{◌≡◌, ℕ, ◌++◌, ◌<◌, false, List, [], length, Some, None, All, FitsSigned}
 use Rattle.std.specs.List.{flat_map}
 use Rattle.std.specs.Int.{w16}
 use Rattle.cqlp_note.specs.Field.{FieldValue, Uuid, Text, Bytes, Bound, Inet, Known}
@@ -63,8 +63,11 @@ HasOctets f = All (λ y. y < 256) (flat_map part_octets (frame_parts f))
 abbrev pub WrittenAreBytes : Type 0
 WrittenAreBytes = (f : FrameValue) → FrameIsInRange f → HasOctets f → All (λ y. y < 256) (frame_bytes f)
 
--- Nothing keeps a frame from being spelled exactly where some bytes spell it.
+-- Nothing keeps a frame from being spelled exactly where some bytes spell it, as many as its size says: bytes, where its
+-- octets are.
 abbrev pub FitJustIfSpelled : Type 0
 FitJustIfSpelled =
-    (f : FrameValue) → FrameIsInRange f → HasOctets f
-    → (unfit_of f ≡ None) ↔ ((b : List ℕ) × All (λ y. y < 256) b × FrameSpells f 0 b)
+    (f : FrameValue) → FrameIsInRange f
+    → (unfit_of f ≡ None
+    → (b : List ℕ) × FrameSpells f 0 b × (length b ≡ frame_size f 0) × (HasOctets f → All (λ y. y < 256) b))
+    × ((b : List ℕ) → All (λ y. y < 256) b → FrameSpells f 0 b → unfit_of f ≡ None)

@@ -1,6 +1,6 @@
 -- Pages whose cells are written one by one, after all else of their frame (section 4.2.5.2 of native_protocol_v4.spec).
 use Rattle.std.specs.Prelude.{◌≡◌, ℕ, zero, suc, ◌+◌, ◌*◌, ◌++◌, ◌==◌, Bool, true, false, not, List, [], ◌∷◌, length, Option, Some, None}
-use Rattle.std.specs.Prelude.{nat_le, nat_lt, if◌then◌else◌}
+use Rattle.std.specs.Prelude.{nat_lt}
 use Rattle.std.specs.List.{flat_map, list_all}
 use Rattle.std.specs.declared.alloc.Global.{Global}
 use Rattle.std.specs.declared.vec.Vec.{Vec}
@@ -30,10 +30,6 @@ abbrev pub cells_wanted : Message → ℕ
 cells_wanted (Rows p) = p.rows * p.meta.columns
 cells_wanted m = 0
 
--- Cells can have this many bytes: four at least for the length of each, and none where there is no cell.
-abbrev pub can_have : (cells bytes : ℕ) → Bool
-can_have cells bytes = if cells == 0 then bytes == 0 else nat_le (4 * cells) bytes
-
 -- What keeps a frame from being written with cells of this many bytes after it, each with its name, in the order in
 -- which it is told.
 abbrev pub page_obstacles : FrameValue → (cells : ℕ) → List (Bool × Unfit)
@@ -41,7 +37,6 @@ page_obstacles f n =
     first_obstacles f
     ++ (not (is_bare f.message), unfit.RowShape)
     ∷ (nat_lt LONGEST_BODY (parts_size (frame_parts f) + n), unfit.BodyTooLong)
-    ∷ (not (can_have (cells_wanted f.message) n), unfit.RowShape)
     ∷ []
 
 -- Why a frame is no page that can be written with cells of this many bytes after it, or None where it is one.

@@ -210,6 +210,7 @@ impl Prepared {
 
 impl Message {
     /// Its opcode.
+    #[must_use]
     pub fn opcode(&self) -> Opcode
         ensures { result ≡ agreement.opcode_of (message_of self.now) }
     {
@@ -239,6 +240,7 @@ impl Message {
     }
 
     /// Whether it is a response.
+    #[must_use]
     pub fn is_response(&self) -> bool
         ensures { result ≡ agreement.is_response (message_of self.now) }
     {
@@ -269,6 +271,7 @@ impl Message {
     }
 
     /// Whether a page has a cell of each row and each column.
+    #[must_use]
     pub fn has_its_cells(&self) -> bool
         ensures { result ≡ agreement.has_its_cells (message_of self.now) }
     {
@@ -297,6 +300,7 @@ impl Rows {
 
 impl Frame {
     /// Whether a request has neither a tracing id nor warnings.
+    #[must_use]
     pub fn is_directed(&self) -> bool
         ensures { result ≡ agreement.is_directed (frame_of self.now) }
     {
@@ -304,6 +308,7 @@ impl Frame {
     }
 
     /// Whether its flags, codes and names agree with its parts.
+    #[must_use]
     pub fn agrees(&self) -> bool
         ensures { result ≡ agreement.frame_agrees (frame_of self.now) }
     {

@@ -20,6 +20,10 @@ impl Frame {
 
     /// How many bytes it has, with its header and cells of this many bytes after its parts; or why it is no page that can be
     /// written with them.
+    ///
+    /// # Errors
+    ///
+    /// The first reason, as [`Frame::page_unfit`] gives it.
     pub fn page_measure(&self, cells_len: u32) -> Result<u32, Unfit>
         ensures is { let f = frame_of self.now in
             result ≡ if_none (page_unfit_of f cells_len) (frame_size f cells_len) }
@@ -33,17 +37,15 @@ impl Frame {
         if body > u64::from(Header::LONGEST_BODY) {
             return Err(Unfit::BodyTooLong);
         }
-        if !can_have(self.cells_wanted(), cells_len) {
-            return Err(Unfit::RowShape);
-        }
         Ok(body as u32 + 9)
     }
 
     /// Why it is no page that can be written with cells of this many bytes after its parts, or None where it is one.
     ///
-    /// [`Unfit::RowShape`] comes first where it is no page or holds cells, and last where no cells of its rows and columns have
-    /// this many bytes: less than four for each, or some where there are to be none. Of longer cells nothing is said: whether
-    /// some have just this many bytes is for the caller to know.
+    /// In this order: [`Unfit::Direction`], [`Unfit::Parts`], [`Unfit::TooManyItems`] and [`Unfit::TextTooLong`] as [`unfit`](Self::unfit)
+    /// has them; [`Unfit::RowShape`] where it is no page or holds cells; [`Unfit::BodyTooLong`] where its body and the cells together
+    /// pass 268,435,456 bytes. Whether some cells have just this many bytes is for the caller to know.
+    #[must_use]
     pub fn page_unfit(&self, cells_len: u32) -> Option<Unfit>
         ensures is { result ≡ page_unfit_of (frame_of self.now) cells_len }
         ensures range { page_unfit_of (frame_of self.now) cells_len ≡ None → FrameIsInRange (frame_of self.now) }
@@ -66,6 +68,7 @@ impl Frame {
     }
 
     /// The columns of its page; none where they are not told, and where it is no page.
+    #[must_use]
     pub fn specs(&self) -> &[Spec]
         ensures { result.now ≡ pages.columns_told self.now.message }
     {
@@ -79,6 +82,7 @@ impl Frame {
     }
 
     /// How many columns the cells of its page are of; 0 where it is no page.
+    #[must_use]
     pub fn columns(&self) -> u32
         ensures { result ≡ pages.page_columns (message_of self.now.message) }
     {
@@ -89,6 +93,7 @@ impl Frame {
     }
 
     /// How many cells its page is to have: rows times columns; 0 where it is no page.
+    #[must_use]
     pub fn cells_wanted(&self) -> u64
         ensures { result ≡ pages.cells_wanted (message_of self.now.message) }
     {
@@ -100,6 +105,7 @@ impl Frame {
 
     /// Whether a value is one of the type of this column of its page, the first of which is 0. Where no columns are told, it is
     /// Null, Empty or a Raw leaf. False past the last column, and where it is no page.
+    #[must_use]
     pub fn fits_column(&self, column: usize, value: &Value) -> bool
         ensures { result ≡ pages.fits_column (types_of_page (frame_of self.now).message) column (value_of value.now) }
     {
@@ -108,6 +114,7 @@ impl Frame {
 
     /// How many bytes spell a value of the type of this column of its page, as [`fitting_size`] says it; None where
     /// [`fits_column`](Self::fits_column) is false.
+    #[must_use]
     #[inline]
     pub fn column_size(&self, column: usize, value: &Value) -> Option<u64>
         ensures fits { is_some result ≡ pages.fits_column (types_of_page (frame_of self.now).message) column (value_of value.now) }
@@ -117,17 +124,6 @@ impl Frame {
             Message::Rows(page) => page.meta.column_size(column, value),
             _ => None,
         }
-    }
-}
-
-/// Whether so many cells can have this many bytes, four or more each.
-fn can_have(cells: u64, bytes: u32) -> bool
-    ensures { result ≡ pages.can_have cells bytes }
-{
-    if cells == 0 {
-        bytes == 0
-    } else {
-        cells <= u64::from(bytes / 4)
     }
 }
 

@@ -1,6 +1,6 @@
 //! Why a frame has no spelling.
 
-ghost use Rattle.std.specs.Prelude.{◌≡◌, ◌<◌, ◌^◌, FitsSigned, IfErr, IfOk, None, Some};
+ghost use Rattle.std.specs.Prelude.{◌≡◌, ◌<◌, ◌^◌, FitsSigned, IfErr, IfOk, None, Some, length};
 ghost use Rattle.std.specs.Int.{w16};
 ghost use Rattle.cqlp_message.specs.Owned.{frame_of};
 
@@ -25,8 +25,7 @@ pub enum Unfit {
     /// A \[string\] or \[short bytes\] above 65,535 bytes, or a longer field above 2,147,483,647, but for those in cells.
     #[error("a text is too long")]
     TextTooLong,
-    /// There are not as many cells as rows times columns. Of a page that is written cell by cell: it is none, or holds cells, or
-    /// no cells of its rows and columns have as many bytes as are said.
+    /// There are not as many cells as rows times columns. Of a page that is written cell by cell: it is none, or holds cells.
     #[error("a page has too few cells or too many")]
     RowShape,
     /// A cell is no value of its column's type.
@@ -38,11 +37,15 @@ pub enum Unfit {
 }
 
 impl Frame {
-    ghost use Rattle.cqlp_message.specs.Frames.{FrameIsInRange, first_obstacles, first_of, frame_parts, frame_size};
+    ghost use Rattle.cqlp_message.specs.Frames.{FrameIsInRange, first_obstacles, first_of, frame_bytes, frame_parts, frame_size};
     ghost use Rattle.cqlp_message.specs.Frames.{header_of, measure_of, unfit_of};
     ghost use Rattle.cqlp_message.specs.Tallies.{IsFrameTally, IsTally};
 
     /// How many bytes it has, with its header and nothing after its parts; or why no bytes spell it.
+    ///
+    /// # Errors
+    ///
+    /// The first reason, as [`Frame::unfit`] gives it.
     pub fn measure(&self) -> Result<u32, Unfit>
         ensures is { result ≡ measure_of (frame_of self.now) }
         ensures range { IfOk result (λ _. FrameIsInRange (frame_of self.now)) }
@@ -61,6 +64,7 @@ impl Frame {
     }
 
     /// Why no bytes spell it, or None where some do.
+    #[must_use]
     pub fn unfit(&self) -> Option<Unfit>
         ensures is { result ≡ unfit_of (frame_of self.now) }
         ensures range { unfit_of (frame_of self.now) ≡ None → FrameIsInRange (frame_of self.now) }
@@ -74,15 +78,17 @@ impl Frame {
     /// How many bytes it has, with its header and nothing after its parts.
     pub fn len(&self) -> u32
         requires { unfit_of (frame_of self.now) ≡ None }
-        ensures { result ≡ frame_size (frame_of self.now) 0 }
+        ensures size { result ≡ frame_size (frame_of self.now) 0 }
+        ensures bytes { result ≡ length (frame_bytes (frame_of self.now)) }
     {
-        match self.measure() {
-            Ok(len) => len,
-            Err(_) => unreachable!(),
-        }
+        let Ok(len) = self.measure() else {
+            unreachable!()
+        };
+        len
     }
 
     /// Its header, where its body has this many bytes.
+    #[must_use]
     pub fn header(&self, length: u32) -> Header
         ensures { result ≡ header_of (frame_of self.now) length }
     {

@@ -19,6 +19,10 @@ impl Frame {
     ///
     /// Its stream id is the request's: the third byte of a header of version 1 or 2, which has eight bytes, and the third and
     /// the fourth of any other. The frame has a spelling, so it can be encoded.
+    ///
+    /// # Errors
+    ///
+    /// Memory that is refused: the text of the message takes some.
     pub fn version_error(alloc: Global, header: &[u8; 9]) -> Result<Frame, AllocError>
         ensures says { IfOk result (λ frame. frame_of frame ≡ version_error header.now) }
         ensures fits { unfit_of (version_error header.now) ≡ None }

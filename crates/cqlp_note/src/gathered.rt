@@ -3,7 +3,7 @@
 ghost use Rattle.std.specs.Prelude.{◌≡◌, ◌==◌, ◌+◌, ◌≤◌, ◌++◌, [], length, min, replicate, take, true, is_err, vec_capacity, IfOk};
 ghost use denote.RawPtr.{InBlock, ◌+ₚ◌};
 ghost use Rattle.std.specs.Vec.{vec_ptr};
-ghost use Rattle.cqlp_note.specs.Streams.{ReadsPiece, counted};
+ghost use Rattle.cqlp_note.specs.Streams.{ReadsPiece, counted, counted_up};
 
 use crate::refusal::NoMemory;
 use crate::streams::{IoFault, Source};
@@ -109,6 +109,7 @@ impl<A: Allocator> GatheredContent<A> {
             (λ piece. self.new ≡ record self.old { items = self.old.items ++ piece }) }
         ensures failures { R.failures reader.new ≡ counted (is_err result) (R.failures reader.old) }
         ensures reads { R.reads reader.new ≡ counted true (R.reads reader.old) }
+        ensures asked { R.asked reader.new ≡ counted_up most (R.asked reader.old) }
     {
         let start = self.len as usize;
         let end = start + most;

@@ -111,6 +111,10 @@ impl Limits {
     };
 
     /// Whether the four numbers are in their ranges; else the first that is not, in the order of the fields.
+    ///
+    /// # Errors
+    ///
+    /// The first number that is out of its range, in the order of the fields.
     pub fn check(&self) -> Result<(), BadLimits>
         ensures { result ≡ first_bad self.now }
     {
@@ -132,6 +136,7 @@ impl LimitRange {
     ghost use Rattle.cqlp_note.specs.Limits.{is_in};
 
     /// Whether a limit may be this number.
+    #[must_use]
     pub fn contains(self, number: u32) -> bool
         ensures { result ≡ is_in self number }
     {

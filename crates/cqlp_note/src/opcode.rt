@@ -43,6 +43,7 @@ impl Opcode {
     ghost use Rattle.cqlp_note.specs.Heading.{answers, beside_number, code_of, opcodes};
 
     /// The opcode that has this number, if one has: 00 to 10 but for 04.
+    #[must_use]
     pub fn from_number(number: u8) -> Option<Opcode>
         ensures { result ≡ beside_number number opcodes }
     {
@@ -68,6 +69,7 @@ impl Opcode {
     }
 
     /// The opcode's number.
+    #[must_use]
     pub fn number(self) -> u8
         ensures { result ≡ code_of self }
     {
@@ -92,6 +94,7 @@ impl Opcode {
     }
 
     /// Whether messages of this kind are responses.
+    #[must_use]
     pub fn is_response(self) -> bool
         ensures { result ≡ answers self }
     {

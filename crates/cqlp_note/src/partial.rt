@@ -6,7 +6,7 @@ ghost use denote.RawPtr.{◌+ₚ◌};
 ghost use Rattle.std.specs.Borrow.{sem};
 ghost use Rattle.cqlp_note.specs.Head.{Tells, front_of, reader_of, value_of};
 ghost use Rattle.cqlp_note.specs.Partial.{IsContentHead, LeadsToContent};
-ghost use Rattle.cqlp_note.specs.Streams.{ReadsPiece, counted};
+ghost use Rattle.cqlp_note.specs.Streams.{ReadsPiece, counted, counted_up};
 ghost use Rattle.cqlp_note.specs.Reader.{More, says};
 
 use crate::advance::{ContentPlace, FieldAdvance, FieldOutline, FieldStage, Push};
@@ -389,6 +389,7 @@ impl<A: Allocator> Partial<A> {
             (λ piece. Waits self.old piece (length piece) self.new) }
         ensures failures { R.failures reader.new ≡ counted (is_err result) (R.failures reader.old) }
         ensures reads { R.reads reader.new ≡ counted true (R.reads reader.old) }
+        ensures asked { R.asked reader.new ≡ counted_up most (R.asked reader.old) }
     {
         match self.stage {
             FieldStage::Idle => unreachable!(),

@@ -31,6 +31,7 @@ pub struct PutCells<'a> {
 
 impl<'a> PutCells<'a> {
     /// The cells after the place of this page, none of which has come yet. It asks for no memory. `limits` is what may be held of one cell.
+    #[must_use]
     pub fn new(alloc: Global, page: &'a OpenPage, limits: CellLimits) -> PutCells<'a>
         ensures { putter result ≡ fresh_putter page.now.frame page.now.place limits }
     {

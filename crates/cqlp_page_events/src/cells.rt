@@ -63,6 +63,7 @@ pub struct WrittenCells {
 
 impl<'a> PageCells<'a> {
     /// The cells behind this place of this page, none of which has come yet. It asks for no memory. `limits` is what may be held of one cell.
+    #[must_use]
     pub fn new(
         alloc: Global,
         frame: &'a Frame,

@@ -2,7 +2,7 @@
 
 ghost use Rattle.std.specs.Prelude.{◌≡◌, ◌+◌, ◌-◌, ◌≤◌, ◌^◌, IfOk, false, is_err, length, min, true};
 ghost use Rattle.cqlp_note.specs.Outputs.{Output, written};
-ghost use Rattle.cqlp_note.specs.Streams.{counted};
+ghost use Rattle.cqlp_note.specs.Streams.{counted, counted_up};
 ghost use Rattle.cqlp_progress.specs.Marks.{Shows, read_after};
 
 use crate::marks::{marks, put_marks};
@@ -68,11 +68,14 @@ impl<S: Source, T: Target> Source for Progress<S, T> {
 
     ghost reads = { λ p. S.reads p.source };
 
+    ghost asked = { λ p. S.asked p.source };
+
     fn read(&mut self, buffer: &mut [u8]) -> Result<usize, IoFault>
         ensures bound { IfOk result (λ n. n ≤ length buffer.new) }
         ensures bytes { ReadConsumes (S.left self.old.source) (S.left self.new.source) result buffer.new }
         ensures failures { S.failures self.new.source ≡ counted (is_err result) (S.failures self.old.source) }
         ensures reads { S.reads self.new.source ≡ counted true (S.reads self.old.source) }
+        ensures asked { S.asked self.new.source ≡ counted_up (length buffer.new) (S.asked self.old.source) }
         ensures length { self.new.length ≡ self.old.length }
         ensures read { self.new.read ≡ read_after result self.old.read }
         ensures shows { (before : Output)

@@ -1,5 +1,6 @@
 pub mod Puts
 pub mod Emptied
+pub mod Reaching
 pub mod Firsts
 pub mod Ends
 pub mod Streamed

@@ -1,5 +1,5 @@
 -- The window of a direction.
-use Rattle.std.specs.Prelude.{◌≡◌, ℕ, ◌+◌, ◌≤◌, ◌%◌, ◌^◌, List, length, replicate, Option, None}
+use Rattle.std.specs.Prelude.{◌≡◌, ℕ, suc, ◌+◌, ◌≤◌, ◌%◌, ◌^◌, nat_lt, max, if◌then◌else◌, List, length, replicate, Option, None, IsSome}
 use Rattle.std.specs.Prelude.{slice_index_or}
 use Rattle.cqlp_reassembly.specs.Sequence.{distance}
 use Rattle.cqlp_reassembly.specs.Cells.{put_from, moved}
@@ -16,6 +16,15 @@ seen next cells = record { next = next; cells = cells }
 pub record IsEmptyFrom (n : ℕ) (cells : List (Option ℕ)) : Type 0 where
   pub within : n ≤ length cells
   pub none : (i : ℕ) → n ≤ i → slice_index_or cells i None ≡ None
+
+-- and the one before it has one
+pub record IsReach (n : ℕ) (cells : List (Option ℕ)) : Type 0 where
+  pub empty : IsEmptyFrom n cells
+  pub last : (i : ℕ) → n ≡ suc i → IsSome (slice_index_or cells i None)
+
+-- where that is after so many bytes were put in from a cell on
+abbrev pub reach_after : (reach start count : ℕ) → ℕ
+reach_after reach start count = if nat_lt 0 count then max reach (start + count) else reach
 
 abbrev pub new_view : (room next : ℕ) → View
 new_view room next = record { next = next; cells = replicate room None }

@@ -13,6 +13,7 @@ pub enum Distance {
 }
 
 /// How far this sequence number is from another, by the shorter way.
+#[must_use]
 pub fn distance_to(sequence: u32, from: u32) -> Distance
     ensures { result ≡ distance from sequence }
 {

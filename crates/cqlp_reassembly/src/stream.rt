@@ -98,6 +98,10 @@ impl<A: Allocator> Stream<A> {
 
     /// A stream of which nothing was seen, which can hold this many bytes that come early. This is the one call that takes
     /// memory: two bytes for each.
+    ///
+    /// # Errors
+    ///
+    /// Memory that is refused.
     pub fn new(alloc: A, room: usize) -> Result<Self, AllocError>
         ensures { IfOk result (λ stream. stream ≡ unseen room) }
     {

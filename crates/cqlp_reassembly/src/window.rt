@@ -1,7 +1,8 @@
 //! A window of a direction.
 
-ghost use Rattle.std.specs.Prelude.{◌≡◌, ◌+◌, ◌≤◌, ◌++◌, length, map, replicate, take, vec_capacity, IfOk, Some, None};
+ghost use Rattle.std.specs.Prelude.{◌≡◌, ◌+◌, ◌<◌, ◌≤◌, ◌^◌, ◌++◌, length, map, replicate, take, vec_capacity, IfOk, Some, None};
 ghost use Rattle.cqlp_reassembly.specs.Cells.{lead, put, ready};
+ghost use Rattle.cqlp_reassembly.specs.Windows.{reach_after};
 
 use crate::cells;
 use crate::sequence::{Distance, distance_to};
@@ -9,29 +10,31 @@ use std::alloc::{AllocError, Allocator, Global};
 use std::marker::Model;
 
 /// Bytes of one direction from a sequence number on, of which some have come, in whatever order and however often. At each place
-/// the byte of the first segment stays. All its memory is taken when it is made.
+/// the byte of the first segment stays. All its memory is taken when it is made: a cell for each byte.
 #[derive(Drop)]
 pub struct Window<A: Allocator = Global> {
     cells: Vec<Option<u8>, A>,
     next: u32,
-    /// The cells from this index on are empty.
+    /// The cells from this index on are empty, and the one before it has a byte.
     reach: usize,
 }
 
 impl<A: Allocator> Model for Window<A> {
-    ghost use Rattle.cqlp_reassembly.specs.Windows.{IsEmptyFrom, View, seen};
+    ghost use Rattle.std.specs.Prelude.{◌≡◌, length, vec_capacity};
+    ghost use Rattle.cqlp_reassembly.specs.Windows.{IsReach, View, seen};
 
     ghost Value = { View };
 
     ghost view = { λ w. seen w.next w.cells.items };
 
-    ghost invariant = { λ w. IsEmptyFrom w.reach w.cells.items };
+    ghost invariant = { λ w. IsReach w.reach w.cells.items × (vec_capacity w.cells ≡ length w.cells.items) };
 }
 
 impl<A: Allocator> Window<A> {
     ghost use Rattle.cqlp_reassembly.specs.Windows.{new_view, passed, seen, taken};
 
     /// An empty window of this many bytes, at this sequence number. This is the one call that takes memory.
+    #[tactic(auto, using(crate::proofs::Reaching::new_reach))]
     pub fn new(alloc: A, room: usize, next: u32) -> Result<Self, AllocError>
         ensures { IfOk result (λ window. window ≡ new_view room next) }
     {
@@ -66,7 +69,7 @@ impl<A: Allocator> Window<A> {
     }
 
     /// How many bytes are missing before the first that is there: all that it has cells for, if there is none.
-    #[tactic(auto, using(crate::proofs::Emptied::lead_none))]
+    #[tactic(auto, using(crate::proofs::Reaching::no_lead))]
     pub fn lead(&self) -> usize
         ensures { result ≡ lead self.now.cells }
     {
@@ -90,20 +93,20 @@ impl<A: Allocator> Window<A> {
     }
 
     /// Puts in the bytes that begin so far from the next one.
-    #[tactic(auto, using(crate::proofs::Emptied::put_empty_from))]
+    #[tactic(auto, using(crate::proofs::Reaching::put_reach))]
     fn put(&mut self, at: usize, bytes: &[u8])
         ensures { self.new ≡ seen self.old.next (put self.old.cells at bytes.now) }
     {
         let room = self.cells.len();
         let start = at.min(room);
-        let end = start + bytes.len().min(room - start);
+        let count = bytes.len().min(room - start);
         cells::put(self.cells.as_mut_slice(), at, bytes);
-        self.reach = self.reach.max(end);
+        self.reach = reach_after(self.reach, start, count);
     }
 
     /// Passes over this many bytes from the next one on, whether they came or not: after a gap, so many as are missing. It
     /// moves only the cells up to the last that has a byte.
-    #[tactic(auto, using(crate::proofs::Emptied::moved_empty))]
+    #[tactic(auto, using(crate::proofs::Reaching::moved_reach, crate::proofs::Reaching::reach_empty))]
     pub fn pass(&mut self, count: usize)
         ensures { self.new ≡ passed count self.old }
     {
@@ -114,7 +117,7 @@ impl<A: Allocator> Window<A> {
     }
 
     /// Forgets all that it has, and wants this sequence number next.
-    #[tactic(auto, using(crate::proofs::Emptied::new_empty))]
+    #[tactic(auto, using(crate::proofs::Reaching::new_reach, crate::proofs::Reaching::reach_empty))]
     pub fn restart(&mut self, next: u32)
         ensures { self.new ≡ new_view (length self.old.cells) next }
     {
@@ -136,10 +139,23 @@ impl<A: Allocator> Window<A> {
     }
 }
 
+/// Where the cells with bytes end after so many were put in from this one on.
+fn reach_after(reach: usize, start: usize, count: usize) -> usize
+    requires { start + count < 2 ^ 64 }
+    ensures { result ≡ reach_after reach start count }
+{
+    if count > 0 {
+        reach.max(start + count)
+    } else {
+        reach
+    }
+}
+
 /// Adds this many empty cells.
 fn add_empty<A: Allocator>(cells: &mut Vec<Option<u8>, A>, count: usize)
     requires { length cells.old.items + count ≤ vec_capacity cells.old }
-    ensures { cells.new.items ≡ cells.old.items ++ replicate count None }
+    ensures items { cells.new.items ≡ cells.old.items ++ replicate count None }
+    ensures capacity { vec_capacity cells.new ≡ vec_capacity cells.old }
 {
     for _ in 0..count {
         cells.push_reserved(None);

@@ -6,7 +6,7 @@ use Rattle.cqlp_decode.specs.declared.running.Outcome.TheVariants as outcome
 use Rattle.cqlp_decode.specs.Reading.{Event}
 use Rattle.cqlp_decode.specs.Progress.{StreamState}
 use Rattle.cqlp_decode.specs.Streams.{After, AfterGifts}
-use Rattle.cqlp_decode.specs.Draining.{Feeds, FeedsInto, GoesOnTo, InReads, LastRead, MakesReads, ReadsInTime, RunsTo, fold_events, idle_reads}
+use Rattle.cqlp_decode.specs.Draining.{Calls, Feeds, FeedsInto, GoesOnTo, InReads, LastRead, MakesReads, ReadsInTime, RunsTo, fold_events, idle_reads}
 use Rattle.cqlp_decode.proofs.Gets.{has_all_still}
 use Rattle.cqlp_text.specs.Outputs.{Output, output, StopsWithin}
 use Rattle.cqlp_text.specs.Written.{Written, bare, taken}
@@ -49,9 +49,9 @@ module _ (form : TextForm) (turns : ℕ) (old : StreamState) (xs : List ℕ) (wa
   })
 
 -- One more read, when all text so far was passed on.
-module _ (turns turn : ℕ) (old mid new : StreamState) (xs : List ℕ) (was now then : ℕ) (first before before' after : Rendering) (at_first left left' given : Option (List ℕ)) where
-  pub more_in_time : (o : Outcome) (ran : RunsTo with_event FallsShortAtEvent turn outcome.Turns old mid xs left first before) → at_first ≡ Some xs → MakesReads turn outcome.Turns was now at_first left → mid.refusal ≡ None → mid.rules ≡ old.rules → turn + 1 ≤ turns → LastRead with_event FallsShortAtEvent 1 o mid new ran.0.rest now then left' before' after → GoesOn before.output.given given
-      → ReadsOnlyAfterText first.form turns old xs was then left' first.output given
+module _ (turns turn : ℕ) (old mid new : StreamState) (xs : List ℕ) (was now : Calls) (then : ℕ) (first before before' after : Rendering) (at_first left left' given : Option (List ℕ)) where
+  pub more_in_time : (o : Outcome) (ran : RunsTo with_event FallsShortAtEvent turn outcome.Turns old mid xs left first before) → at_first ≡ Some xs → MakesReads turn outcome.Turns was now at_first left → mid.refusal ≡ None → mid.rules ≡ old.rules → turn + 1 ≤ turns → LastRead with_event FallsShortAtEvent 1 o mid new ran.0.rest now.reads then left' before' after → GoesOn before.output.given given
+      → ReadsOnlyAfterText first.form turns old xs was.reads then left' first.output given
   more_in_time o ran is reads waits rules more last goes =
       let all : reads.giving ≡ turn = reads.all refl in
       let within = last.within in

@@ -5,7 +5,8 @@ use Rattle.cqlp_decode.specs.declared.running.Outcome.{Outcome}
 use Rattle.cqlp_decode.specs.declared.running.Outcome.TheVariants as outcome
 use Rattle.cqlp_decode.specs.Reading.{Event}
 use Rattle.cqlp_decode.specs.Progress.{StreamState}
-use Rattle.cqlp_decode.specs.Draining.{Feeds, FeedsInto, HasAll, InReads, MakesReads, RunsTo}
+use Rattle.cqlp_decode.specs.Draining.{Calls, Feeds, FeedsInto, HasAll, InReads, MakesReads, RunsTo, idle_reads}
+use Rattle.cqlp_decode.proofs.Asking.{asks_then}
 use Rattle.cqlp_decode.proofs.Gets.{drains_then, fails_then}
 
 module _ {V : Type 0} (f : V → ℕ → Event → V) (old mid new : StreamState) (xs : List ℕ) (u v w : V) (d : Feeds f old mid xs u v) where
@@ -66,15 +67,16 @@ joined m n xs mid left d e = record {
   others = e.others;
 }
 
-module _ (turn : ℕ) (a b : ℕ) (was mid : Option (List ℕ)) where
+module _ (turn : ℕ) (a b : Calls) (was mid : Option (List ℕ)) where
   -- one more turn
-  pub reads_on : (o : Outcome) (c : ℕ) (left : Option (List ℕ)) → MakesReads turn outcome.Turns a b was mid → MakesReads 1 o b c mid left → MakesReads (turn + 1) o a c was left
+  pub reads_on : (o : Outcome) (c : Calls) (left : Option (List ℕ)) → MakesReads turn outcome.Turns a b was mid → MakesReads 1 o b c mid left → MakesReads (turn + 1) o a c was left
   reads_on o c left m n =
       let every = m.all refl in
       let within = n.within in
       record {
         giving = m.giving + n.giving;
         counted = λ fits. let first = m.counted (omega arith) in let second = n.counted (omega arith) in omega arith;
+        asked = asks_then m.giving n.giving (idle_reads o) a.asked b.asked c.asked m.asked n.asked;
         within = omega arith;
         all = λ is. let one = n.all is in omega arith;
         gives = λ xs is. let d = m.gives xs is in joined m.giving n.giving xs mid left d (n.gives d.rest d.others);
@@ -82,7 +84,7 @@ module _ (turn : ℕ) (a b : ℕ) (was mid : Option (List ℕ)) where
 
   -- no more turns, though there may be some
   pub reads_early : (turns : ℕ) (o : Outcome) → turn ≤ turns → o ≢ outcome.Turns → MakesReads turn o a b was mid → MakesReads turns o a b was mid
-  reads_early turns o few early m = let within = m.within in record { giving = m.giving; counted = m.counted; within = omega arith; all = λ is. absurd (early is); gives = m.gives }
+  reads_early turns o few early m = let within = m.within in record { giving = m.giving; counted = m.counted; asked = m.asked; within = omega arith; all = λ is. absurd (early is); gives = m.gives }
 
   pub reads_flushed : (turns : ℕ) → turn ≤ turns → MakesReads turn outcome.Turns a b was mid → MakesReads turns outcome.SinkFault a b was mid
-  reads_flushed turns few m = let within = m.within in record { giving = m.giving; counted = m.counted; within = omega arith; all = λ is. absurd (let e = is in cc); gives = m.gives }
+  reads_flushed turns few m = let within = m.within in record { giving = m.giving; counted = m.counted; asked = m.asked; within = omega arith; all = λ is. absurd (let e = is in cc); gives = m.gives }

@@ -6,10 +6,9 @@ use Rattle.cqlp_decode.specs.declared.running.Outcome.{Outcome}
 use Rattle.cqlp_decode.specs.declared.running.Outcome.TheVariants as outcome
 use Rattle.cqlp_decode.specs.Progress.{StreamState}
 use Rattle.cqlp_decode.specs.Streams.{After}
-use Rattle.cqlp_decode.specs.Draining.{MakesReads}
+use Rattle.cqlp_decode.specs.Draining.{Calls, MakesReads}
 use Rattle.cqlp_text.specs.declared.ending.Ending.{Ending}
 use Rattle.cqlp_text.specs.declared.ending.Ending.TheVariants as ending
-use Rattle.cqlp_text.specs.declared.exit_status.TheConstants.{FAULT}
 use Rattle.cqlp_text.specs.Endings.{ending_line, finish_status, status_of}
 use Rattle.cqlp_render.specs.declared.text_form.TextForm.{TextForm}
 use Rattle.cqlp_render.specs.declared.text_form.TextForm.TheVariants as forms
@@ -58,9 +57,12 @@ CountsReads ending.ReadFault old new = new ≡ counted true old
 CountsReads ending.WriteFault old new = Unit {0}
 CountsReads e old new = new ≡ old
 
+abbrev pub calls_of : Input → Calls
+calls_of i = record { reads = i.reads; asked = i.asked }
+
 -- the reads of a run that ends so
 abbrev pub RunReads : (turns : ℕ) → Outcome → (old new : Input) → Type 0
-RunReads turns o old new = MakesReads turns o old.reads new.reads old.left new.left
+RunReads turns o old new = MakesReads turns o (calls_of old) (calls_of new) old.left new.left
 
 -- Which reads were made, by how the command ends: those of a run, after which a write may have failed; and none where
 -- memory was wanting.
@@ -87,7 +89,7 @@ ReadsNew form limits turns xs old new before after =
 abbrev pub Concludes : Ending → (before : Output) → (status : ℕ) → (after : Output) → Type 0
 Concludes e before status after =
     ((status ≡ status_of e) × (after ≡ with_text before (ending_line e)))
-    ⊎ ((status ≡ FAULT) × StopsWithin before (ending_line e) after)
+    ⊎ ((status ≡ 3) × StopsWithin before (ending_line e) after)
 
 -- the same of a target of which it is known what it was given
 abbrev pub ConcludesIfKnown : Ending → (before : Output) → (status : ℕ) → (after : Output) → Type 0

@@ -4,15 +4,22 @@ use Rattle.cqlp_note.specs.declared.streams.Source as source
 use Rattle.cqlp_note.specs.declared.streams.Target as target
 use Rattle.cqlp_text.specs.Outputs.{Output, written}
 
--- the bytes that a reader has left, where they are known, how often it failed, and how often it was called
+-- the bytes that a reader has left, where they are known, how often it failed, how often it was called, and how many bytes
+-- of room the calls had
 pub record Input : Type 0 where
   pub left : Option (List ℕ)
   pub failures : ℕ
   pub reads : ℕ
+  pub asked : ℕ
 
 abbrev pub unread : {R : Type 0} → source.Ghosts R → R → Input
 unread members reader =
-    record { left = members.left reader; failures = members.failures reader; reads = members.reads reader }
+    record {
+      left = members.left reader;
+      failures = members.failures reader;
+      reads = members.reads reader;
+      asked = members.asked reader;
+    }
 
 -- What holds of the bytes that a reader has left, where they are known, and it is known what a target was given.
 abbrev pub IfKnown : Input → Output → (List ℕ → Type 0) → Type 0

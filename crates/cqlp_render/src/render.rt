@@ -1,7 +1,7 @@
 //! Streams as text.
 
 ghost use Rattle.std.specs.Prelude.{◌≡◌, Some, IsSome, []};
-ghost use Rattle.cqlp_decode.specs.Draining.{Counts, MakesReads, WaitsAt};
+ghost use Rattle.cqlp_decode.specs.Draining.{Counts, MakesReads, WaitsAt, calls};
 ghost use Rattle.cqlp_note.specs.declared.refusal.Refusal.{Refusal};
 ghost use Rattle.cqlp_decode.specs.Streams.{After, state};
 
@@ -94,7 +94,7 @@ pub fn render_events<R: Source, W: Target, A: Allocator>(
     ensures refused { (r : Refusal) → (state decoder.old).refusal ≡ Some r →
         (result.0 ≡ Outcome.Finished (Finish.Refused r)) × (state decoder.new ≡ state decoder.old)
         × (reader.new ≡ reader.old) × (written W.Target result.1 ≡ written W.Target w) }
-    ensures reads { MakesReads turns result.0 (R.reads reader.old) (R.reads reader.new)
+    ensures reads { MakesReads turns result.0 (calls R.Source reader.old) (calls R.Source reader.new)
         (R.left reader.old) (R.left reader.new) }
     ensures failures { Counts result.0 (R.failures reader.old) (R.failures reader.new) }
     ensures rules { (state decoder.new).rules ≡ (state decoder.old).rules }
@@ -123,7 +123,7 @@ pub fn render_rows<R: Source, W: Target, A: Allocator>(
     ensures refused { (r : Refusal) → (state decoder.old).refusal ≡ Some r →
         (result.0 ≡ Outcome.Finished (Finish.Refused r)) × (state decoder.new ≡ state decoder.old)
         × (reader.new ≡ reader.old) × (written W.Target result.1 ≡ written W.Target w) }
-    ensures reads { MakesReads turns result.0 (R.reads reader.old) (R.reads reader.new)
+    ensures reads { MakesReads turns result.0 (calls R.Source reader.old) (calls R.Source reader.new)
         (R.left reader.old) (R.left reader.new) }
     ensures failures { Counts result.0 (R.failures reader.old) (R.failures reader.new) }
     ensures rules { (state decoder.new).rules ≡ (state decoder.old).rules }
@@ -149,7 +149,7 @@ pub(crate) fn run_flushing<R: Source, W: Target, F: Form, A: Allocator, B: Alloc
         IfKnown (unread R.Source reader.old) first (λ xs. After (state decoder.old) [] [] →
         ReadsOnlyAfterText sink.old.form turns (state decoder.old) xs (R.reads reader.old) (R.reads reader.new)
         (R.left reader.new) first sink.new.written.given) }
-    ensures reads { MakesReads turns result (R.reads reader.old) (R.reads reader.new)
+    ensures reads { MakesReads turns result (calls R.Source reader.old) (calls R.Source reader.new)
         (R.left reader.old) (R.left reader.new) }
     ensures failures { Counts result (R.failures reader.old) (R.failures reader.new) }
     ensures rules { (state decoder.new).rules ≡ (state decoder.old).rules }

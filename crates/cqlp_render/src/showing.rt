@@ -28,7 +28,7 @@ use std::alloc::Allocator;
 pub const TURNS: u64 = 4_294_967_296;
 
 /// How many bytes of text go to the output at once.
-const ROOM: usize = 16_384;
+pub const ROOM: usize = 16_384;
 
 /// Writes the lines of the events of a stream to `out`, and the verdict line or fault line to `err`. Answers the exit
 /// status, and the two outputs.

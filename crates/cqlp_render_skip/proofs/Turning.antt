@@ -1,8 +1,8 @@
 -- One read after the other.
-use Rattle.std.proofs.Common.{◌≡◌, ◌≢◌, ℕ, ◌+◌, ◌<◌, ◌≤◌, true, false, List, [], ◌∷◌, ◌++◌, length, take, drop, Option, Some, None, IsSome, Result, refl, sym, ap, inl, inr, ◌∙◌, subst, append_assoc, arith}
+use Rattle.std.proofs.Common.{◌≡◌, ◌≢◌, ℕ, ◌+◌, ◌*◌, ◌<◌, ◌≤◌, true, false, List, [], ◌∷◌, ◌++◌, length, take, drop, Option, Some, None, IsSome, Result, refl, sym, ap, inl, inr, ◌∙◌, subst, append_assoc, arith}
 use Rattle.std.specs.Io.KnownBytes.{Consumes, IsAtEnd, Keeps, append_known}
 use Rattle.cqlp_note.specs.Limits.{Rules}
-use Rattle.cqlp_note.specs.Streams.{counted, CountsUp}
+use Rattle.cqlp_note.specs.Streams.{counted, counted_up, CountsUp}
 use Rattle.cqlp_note.specs.declared.refusal.Refusal.{Refusal}
 use Rattle.cqlp_grammar.specs.declared.event.Finish.{Finish}
 use Rattle.cqlp_grammar.specs.declared.event.Finish.TheVariants as finish
@@ -11,9 +11,11 @@ use Rattle.cqlp_decode.specs.declared.running.Outcome.TheVariants as outcome
 use Rattle.cqlp_decode.specs.Reading.{Event, Says, Waits, start_with}
 use Rattle.cqlp_decode.specs.Draining.{InReads, MakesReads, idle_reads}
 use Rattle.cqlp_decode.specs.Streams.{FinishesBy, IsUnrefused}
+use Rattle.cqlp_decode.proofs.Asking.{asks_one, asks_still}
 use Rattle.cqlp_decode.proofs.Gets.{at_end, gives_end, gives_kept, gives_more, gives_none, idle_at_end, keeps_some, read_some}
 use Rattle.cqlp_render.specs.declared.text_form.TextForm.{TextForm}
 use Rattle.cqlp_render.specs.Rendering.{FallsShort, rendered}
+use Rattle.cqlp_render.specs.Showing.{calls_of}
 use Rattle.cqlp_render.specs.Streams.{Input}
 use Rattle.cqlp_render.proofs.Renders.{known_nothing, known_still}
 use Rattle.cqlp_render.proofs.Buffering.{breaks_short, goes_nowhere, known_taken, goes_same, goes_then, still_rendered, writes_goes}
@@ -67,10 +69,11 @@ reports_flushed form l xs first d s now now' known r receives same err passed = 
 some_same : (xs ys : List ℕ) (o : Option (List ℕ)) → o ≡ Some xs → o ≡ Some ys → xs ≡ ys
 some_same xs ys o a b = let e : ◌≡◌ {A = Option (List ℕ)} (Some xs) (Some ys) = sym a ∙ b in cc
 
-pub makes_reads : (turns : ℕ) (o : Outcome) (xs : List ℕ) (was now : Input) (giving : ℕ) → was.left ≡ Some xs → CountsUp (giving + idle_reads o) was.reads now.reads → giving + idle_reads o ≤ turns → (o ≡ outcome.Turns → giving ≡ turns) → InReads giving xs now.left → MakesReads turns o was.reads now.reads was.left now.left
-makes_reads turns o xs was now giving here counts within all gave = record {
+pub makes_reads : (turns : ℕ) (o : Outcome) (xs : List ℕ) (was now : Input) (giving : ℕ) → was.left ≡ Some xs → CountsUp (giving + idle_reads o) was.reads now.reads → CountsUp (4096 * (giving + idle_reads o)) was.asked now.asked → giving + idle_reads o ≤ turns → (o ≡ outcome.Turns → giving ≡ turns) → InReads giving xs now.left → MakesReads turns o (calls_of was) (calls_of now) was.left now.left
+makes_reads turns o xs was now giving here counts asks within all gave = record {
   giving = giving;
   counted = counts;
+  asked = asks;
   within = within;
   all = all;
   gives = λ ys is. subst (λ (z : List ℕ). InReads giving z now.left) (some_same xs ys was.left here is) gave;
@@ -119,6 +122,7 @@ module _ (form : TextForm) (l : Rules) (xs : List ℕ) (first : Outputs) (turns 
     pub empty : report.text.written.waiting ≡ []
     pub failures : now.failures ≡ was.failures
     pub counted : CountsUp turn was.reads now.reads
+    pub asked : CountsUp (4096 * turn) was.asked now.asked
     pub gives : InReads turn xs now.left
     pub in_time : ReadsOnlyAfterText form l xs first turns was.reads now.reads now.left (outputs report)
 
@@ -150,7 +154,10 @@ module _ (form : TextForm) (l : Rules) (xs : List ℕ) (first : Outputs) (turns 
 
   -- ---- how it ends
 
-  module _ (turn : ℕ) (now now' : Input) (d : Skipping) (report : Reporting) (t : Turned turn now d report) (more : turn + 1 ≤ turns) (read : now'.reads ≡ counted true now.reads) where
+  module _ (turn : ℕ) (now now' : Input) (d : Skipping) (report : Reporting) (t : Turned turn now d report) (more : turn + 1 ≤ turns) (read : now'.reads ≡ counted true now.reads) (asks : now'.asked ≡ counted_up 4096 now.asked) where
+    asks' : (k : ℕ) → k ≡ 1 → CountsUp (4096 * (turn + k)) was.asked now'.asked
+    asks' k one = asks_one turn k was.asked now.asked now'.asked 4096 one refl t.asked asks
+
     -- nothing more was given
     nowhere : GoOn report report
     nowhere = (goes_nowhere report.text.written.given, goes_nowhere report.err.given)
@@ -159,7 +166,7 @@ module _ (form : TextForm) (l : Rules) (xs : List ℕ) (first : Outputs) (turns 
     read_fault failed keeps = record {
       shows = (shows_of turn now d report t, t.says, t.rest, t.parts, keeps_some now.left now'.left t.rest t.left keeps);
       failures = failed ∙ ap (counted true) t.failures;
-      reads = makes_reads turns outcome.ReadFault xs was now' turn t.here (counts_one turn was.reads now.reads now'.reads t.counted read) more (λ is. absurd (let e = is in cc)) (gives_kept turn xs now.left now'.left t.gives keeps);
+      reads = makes_reads turns outcome.ReadFault xs was now' turn t.here (counts_one turn was.reads now.reads now'.reads t.counted read) (asks' 1 refl) more (λ is. absurd (let e = is in cc)) (gives_kept turn xs now.left now'.left t.gives keeps);
       in_time = last_read turn now d report t now' report more read nowhere 0 (omega arith) (gives_kept 0 t.rest now.left now'.left (gives_none t.rest now.left t.left) keeps);
     }
 
@@ -180,7 +187,7 @@ module _ (form : TextForm) (l : Rules) (xs : List ℕ) (first : Outputs) (turns 
             failures = same ∙ t.failures;
             reads = makes_reads turns (outcome.Finished f) xs was now' turn t.here
                 (subst (λ (k : ℕ). CountsUp (turn + k) was.reads now'.reads) (sym idle) (counts_one turn was.reads now.reads now'.reads t.counted read))
-                (omega (arith, more, idle)) (λ is. absurd (let e = is in cc)) (gives_end turn xs now.left now'.left buffer n zero some_room t.gives came);
+                (asks' _ idle) (omega (arith, more, idle)) (λ is. absurd (let e = is in cc)) (gives_end turn xs now.left now'.left buffer n zero some_room t.gives came);
             in_time = last_read turn now d report t now' report more read nowhere 0 (omega arith) (gives_end 0 t.rest now.left now'.left buffer n zero some_room (gives_none t.rest now.left t.left) came);
           }
 
@@ -197,11 +204,14 @@ module _ (form : TextForm) (l : Rules) (xs : List ℕ) (first : Outputs) (turns 
         counts'' : (k : ℕ) → k ≡ 0 → CountsUp ((turn + 1) + k) was.reads now'.reads
         counts'' k zero = subst (λ (m : ℕ). CountsUp m was.reads now'.reads) (omega (arith, zero)) counts'
 
+        asks'' : CountsUp (4096 * ((turn + 1) + 0)) was.asked now'.asked
+        asks'' = asks_still (turn + 1) 0 was.asked now'.asked refl (asks' 1 refl)
+
         pub write_fault : Fails form l xs first report''.passed (outputs report'') → Reads form l xs first turns ending.WriteFault report''.passed was now' (outputs report'')
         write_fault fails = record {
           shows = fails;
           failures = tt;
-          reads = (outcome.SinkFault, makes_reads turns outcome.SinkFault xs was now' (turn + 1) t.here (counts'' 0 refl) (omega (arith, more)) (λ is. absurd (let e = is in cc)) read_more);
+          reads = (outcome.SinkFault, makes_reads turns outcome.SinkFault xs was now' (turn + 1) t.here (counts'' 0 refl) asks'' (omega (arith, more)) (λ is. absurd (let e = is in cc)) read_more);
           in_time = in_time';
         }
 
@@ -234,7 +244,7 @@ module _ (form : TextForm) (l : Rules) (xs : List ℕ) (first : Outputs) (turns 
           refused_for_good q h = record {
             shows = (shows_by form l xs first d' h.0 report'' (flushed h.0 h.1) empty, h.2);
             failures = same ∙ t.failures;
-            reads = makes_reads turns (outcome.Finished (finish.Refused q)) xs was now' (turn + 1) t.here (counts'' 0 refl) (omega (arith, more)) (λ is. absurd (let e = is in cc)) read_more;
+            reads = makes_reads turns (outcome.Finished (finish.Refused q)) xs was now' (turn + 1) t.here (counts'' 0 refl) asks'' (omega (arith, more)) (λ is. absurd (let e = is in cc)) read_more;
             in_time = in_time';
           }
 
@@ -255,6 +265,7 @@ module _ (form : TextForm) (l : Rules) (xs : List ℕ) (first : Outputs) (turns 
                 empty = empty;
                 failures = same ∙ t.failures;
                 counted = counts';
+                asked = asks' 1 refl;
                 gives = read_more;
                 in_time = in_time';
               }
@@ -264,7 +275,7 @@ module _ (form : TextForm) (l : Rules) (xs : List ℕ) (first : Outputs) (turns 
   turns_out now d report t = record {
     shows = (shows_of turns now d report t, t.says, t.rest, t.parts, t.left);
     failures = t.failures;
-    reads = makes_reads turns outcome.Turns xs was now turns t.here (subst (λ (k : ℕ). CountsUp k was.reads now.reads) (omega arith) t.counted) (omega arith) (λ is. refl) t.gives;
+    reads = makes_reads turns outcome.Turns xs was now turns t.here (subst (λ (k : ℕ). CountsUp k was.reads now.reads) (omega arith) t.counted) (asks_still turns 0 was.asked now.asked refl t.asked) (omega arith) (λ is. refl) t.gives;
     in_time = t.in_time;
   }
 
@@ -291,6 +302,7 @@ module _ (form : TextForm) (l : Rules) (xs : List ℕ) (first : Outputs) (turns 
     empty = ap (λ (r : Reporting). r.text.written.waiting) b.begun;
     failures = refl;
     counted = λ fits. omega arith;
+    asked = λ fits. omega arith;
     gives = gives_none xs was.left b.here;
     in_time = inl (refl, b.here);
   }

@@ -3,6 +3,7 @@
 
 mod feeding;
 mod forming;
+pub mod laws;
 mod reading;
 mod report;
 mod showing;

@@ -21,7 +21,7 @@ use cqlp_text::{Buffered, Ending};
 use std::alloc::Allocator;
 
 /// How many bytes of text go to the output at once.
-const ROOM: usize = 65_536;
+pub const ROOM: usize = 65_536;
 
 /// How reading a stream ended, whether a frame was passed over, and the two outputs.
 pub(crate) struct Shown<O: Target, E: Target> {
@@ -114,7 +114,7 @@ fn new_decoder<A: Allocator + Clone>(
     }
 }
 
-/// Reads a stream from at most `TURNS` reads of up to 4,096 bytes, none of which is tried again, and has the report write
+/// Reads a stream from at most `TURNS` reads, each with room for 4,096 bytes and none tried again, and has the report write
 /// what is to be written of it. Before each read all text of the bytes read so far is passed on.
 fn read_stream<R: Source, O: Target, E: Target, A: Allocator, B: Allocator>(
     decoder: &mut SkippingDecoder<A>,

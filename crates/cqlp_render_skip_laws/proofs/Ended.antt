@@ -18,7 +18,6 @@ use Rattle.cqlp_skip.specs.Stretches.{Stretch, GivenUp, base_after, frame_under_
 use Rattle.cqlp_skip_laws.specs.Laws.{gifts_of}
 use Rattle.cqlp_skip_laws.proofs.Once.{once}
 use Rattle.cqlp_text.specs.declared.ending.Ending.TheVariants as ending
-use Rattle.cqlp_text.specs.declared.exit_status.TheConstants.{FAULT}
 use Rattle.cqlp_text.specs.Outputs.{Output, with_text}
 use Rattle.cqlp_render_skip.specs.Reporting.{Outputs}
 use Rattle.cqlp_render_skip.specs.Showing.{FinishesIn, Shows, status_after}
@@ -237,7 +236,7 @@ one_report f passed before own own' after after' (inr a) b sound sound' = absurd
 one_report f passed before own own' after after' (inl a) (inr b) sound sound' = absurd (sound' b.0)
 
 -- a fault line has the status of a fault
-fault_status : (before after : Output) (own : ℕ) → Concludes ending.WriteFault before own after → own ≡ FAULT
+fault_status : (before after : Output) (own : ℕ) → Concludes ending.WriteFault before own after → own ≡ 3
 fault_status before after own (inl a) = a.0
 fault_status before after own (inr a) = a.0
 

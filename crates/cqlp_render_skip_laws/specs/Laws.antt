@@ -8,7 +8,6 @@ use Rattle.cqlp_render.specs.Showing.{Concludes, ConcludesCheck}
 use Rattle.cqlp_render_skip.specs.Reporting.{Outputs}
 use Rattle.cqlp_render_skip.specs.Showing.{FinishesIn, status_after}
 use Rattle.cqlp_text.specs.declared.ending.Ending.TheVariants as ending
-use Rattle.cqlp_text.specs.declared.exit_status.TheConstants.{FAULT}
 use Rattle.cqlp_text.specs.Outputs.{Output}
 
 -- where the stream is refused, a header is: it is not refused in a frame that ends too far to be passed over
@@ -32,7 +31,7 @@ abbrev pub IsOneReport : Type 0
 IsOneReport =
     (f : Finish) (passed : Bool) (before : Output) (own own' : ℕ) (after after' : Output)
     → Concludes (ending.Finished f) before own after → Concludes (ending.Finished f) before own' after'
-    → own ≢ FAULT → own' ≢ FAULT
+    → own ≢ 3 → own' ≢ 3
     → (status_after passed own' ≡ status_after passed own) × (after' ≡ after)
 
 -- the same where it goes to the output
@@ -40,5 +39,5 @@ abbrev pub IsOneCheck : Type 0
 IsOneCheck =
     (f : Finish) (passed : Bool) (out err : Output) (own own' : ℕ) (out' out'' err' err'' : Output)
     → ConcludesCheck (ending.Finished f) out err own out' err' → ConcludesCheck (ending.Finished f) out err own' out'' err''
-    → own ≢ FAULT → own' ≢ FAULT
+    → own ≢ 3 → own' ≢ 3
     → (status_after passed own' ≡ status_after passed own) × (out'' ≡ out') × (err'' ≡ err')

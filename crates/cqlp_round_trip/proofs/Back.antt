@@ -15,7 +15,7 @@ use Rattle.cqlp_decode.specs.declared.running.Outcome.TheVariants as outcome
 use Rattle.cqlp_decode.specs.Reading.{Event, Waits, Frame, End, Reads, start, step}
 use Rattle.cqlp_decode.specs.Progress.{StreamState}
 use Rattle.cqlp_decode.specs.Streams.{Decoding, state, FinishesBy, open_from, frame_from}
-use Rattle.cqlp_decode.specs.Draining.{FeedsInto, MakesReads, RunsTo}
+use Rattle.cqlp_decode.specs.Draining.{Calls, FeedsInto, MakesReads, RunsTo}
 use Rattle.cqlp_laws.specs.OneAnswer.{IsNew}
 use Rattle.cqlp_laws.proofs.OneAnswer.{no_further}
 use Rattle.cqlp_laws.proofs.OneRun.{after_reads, runs_right}
@@ -43,7 +43,7 @@ whole_end bytes es at n (finish.Refused r) long h = absurd h
 -- ---- what was read
 
 module _ {V : Type 0} (f : V → ℕ → Event → V) (faulted : V → ℕ → Event → V → Type 0) (limits : Limits) (d : Decoding) (new : StreamState) (turns : ℕ) (xs : List ℕ) (left : Option (List ℕ)) (before after : V) (fresh : IsNew limits d) (rules : new.rules ≡ (state d).rules) (given : new.given ≡ (state d).given) where
-  pub reads_all : (end : Finish) (calls calls' : ℕ) → MakesReads turns (outcome.Finished end) calls calls' (Some xs) left → RunsTo f faulted turns (outcome.Finished end) (state d) new xs left before after → ReadsAll f (rules_of limits) xs end before after
+  pub reads_all : (end : Finish) (calls calls' : Calls) → MakesReads turns (outcome.Finished end) calls calls' (Some xs) left → RunsTo f faulted turns (outcome.Finished end) (state d) new xs left before after → ReadsAll f (rules_of limits) xs end before after
   reads_all end calls calls' reads runs es v says = runs_right f faulted limits d new turns xs left before after es v end fresh says (record {
     runs = runs;
     calls = calls;

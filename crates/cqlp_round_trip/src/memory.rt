@@ -9,6 +9,7 @@ use cqlp_note::{IoFault, Source};
 pub struct InMemory<'a> {
     bytes: &'a [u8],
     reads: u64,
+    asked: u64,
 }
 
 impl<'a> InMemory<'a> {
@@ -16,7 +17,11 @@ impl<'a> InMemory<'a> {
     pub fn new(bytes: &'a [u8]) -> InMemory<'a>
         ensures { result.bytes.now ≡ bytes.now }
     {
-        InMemory { bytes, reads: 0 }
+        InMemory {
+            bytes,
+            reads: 0,
+            asked: 0,
+        }
     }
 }
 
@@ -27,8 +32,11 @@ impl Source for InMemory<'_> {
 
     ghost reads = { λ source. source.reads };
 
+    ghost asked = { λ source. source.asked };
+
     fn read(&mut self, buffer: &mut [u8]) -> Result<usize, IoFault> {
         self.reads = self.reads.saturating_add(1);
+        self.asked = self.asked.saturating_add(buffer.len() as u64);
         let count = self.bytes.len().min(buffer.len());
         buffer[..count].copy_from_slice(&self.bytes[..count]);
         self.bytes = &self.bytes[count..];

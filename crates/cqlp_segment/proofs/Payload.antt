@@ -11,7 +11,7 @@ use Rattle.cqlp_segment.specs.declared.link.IpVersion.TheVariants.{V4, V6}
 use Rattle.cqlp_segment.specs.declared.reason.NoSegment.{NoSegment}
 use Rattle.cqlp_segment.specs.Fields.{number_16, Gives, ◌>>=◌}
 use Rattle.cqlp_segment.specs.Link.{is_tag, untagged, type_version, family_version, with_version, after_family, after_type, raw_version, ip_packet}
-use Rattle.cqlp_segment.specs.Ip.{Load, is_extension, upper, past_extensions, version, header_4, total_4, is_fragment_4, is_tcp_4, load_4, size_6, load_6, carried_by_4, carried_by_6, carried_by}
+use Rattle.cqlp_segment.specs.Ip.{Load, is_extension, is_part, unit, upper, past_extensions, version, header_4, total_4, is_fragment_4, is_tcp_4, load_4, size_6, load_6, carried_by_4, carried_by_6, carried_by}
 use Rattle.cqlp_segment.specs.Tcp.{data_offset, header_length}
 use Rattle.cqlp_segment.specs.Segment.{Seen, seen, beyond, segment_with, segment_of}
 use Rattle.cqlp_segment.specs.Laws.{seen_of}
@@ -112,7 +112,7 @@ ip_end link.Ipv6 b y is = raw_end V6 b y is
 upper_same : (kind size : ℕ) (b : List ℕ) (x : ℕ × List ℕ) → upper kind size b ≡ Ok x → b ≡ x.1
 upper_same kind size b x is = elim (chosen (kind == 6) _ _ _ is) [
   | inl tcp ↦ ap (λ (z : ℕ × List ℕ). z.1) (same_ok (size, b) x tcp)
-  | inr other ↦ elim (chosen (kind == 44) _ _ _ other) [ inl fragment ↦ absurd cc | inr none ↦ absurd cc ]
+  | inr other ↦ absurd cc
 ]
 
 upper_end : (t : Bool) (why : NoSegment) (kind size : ℕ) (b : List ℕ) (x : ℕ × List ℕ) → cond t (Err why) (upper kind size b) ≡ Ok x → IsEndOf x.1 b
@@ -125,8 +125,10 @@ extensions_end zero kind size [] x is = upper_end (is_extension kind) _ kind siz
 extensions_end zero kind size (p ∷ []) x is = upper_end (is_extension kind) _ kind size (p ∷ []) x is
 extensions_end zero kind size (p ∷ q ∷ b) x is = elim (chosen (is_extension kind) _ _ _ is) [
   | inl more ↦
-      let g = guard_ok (nat_lt size (8 + 8 * q)) _ _ x more in
-      cons_end p x.1 (q ∷ b) (cons_end q x.1 b (extensions_end (6 + 8 * q) p (size - (8 + 8 * q)) b x g.1))
+      let g1 = guard_ok (nat_lt size (8 + unit kind * q)) _ _ x more in
+      let g2 = guard_ok (nat_lt (length b) (6 + unit kind * q)) _ _ x g1.1 in
+      let g3 = guard_ok (is_part kind (number_16 0 b)) _ _ x g2.1 in
+      cons_end p x.1 (q ∷ b) (cons_end q x.1 b (extensions_end (6 + unit kind * q) p (size - (8 + unit kind * q)) b x g3.1))
   | inr here ↦ all_end (p ∷ q ∷ b) x.1 (upper_same kind size (p ∷ q ∷ b) x here)
 ]
 

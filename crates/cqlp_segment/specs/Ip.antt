@@ -1,5 +1,5 @@
 -- What packets of IP carry.
-use Rattle.std.specs.Prelude.{◌+◌, ◌-◌, ◌*◌, ◌/◌, ◌%◌, ◌==◌, ◌||◌, ◌∷◌}
+use Rattle.std.specs.Prelude.{◌+◌, ◌-◌, ◌*◌, ◌/◌, ◌%◌, ◌==◌, ◌&&◌, ◌||◌, ◌∷◌}
 use Rattle.std.specs.Prelude.{ℕ, zero, suc, Bool, List, [], length, drop, Result, Ok, Err, not}
 use Rattle.std.specs.Prelude.{nat_lt, slice_index, slice_range, if◌then◌else◌}
 use Rattle.cqlp_segment.specs.declared.addresses.Address.{Address}
@@ -73,24 +73,35 @@ carried_by_4 beyond b =
 
 -- ---- IPv6 (RFC 8200, sections 3 and 4)
 
--- Extension headers that say nothing of where the bytes of TCP lie: options for each hop, routing, options for the destination.
+-- Extension headers after which TCP may come: options for each hop, routing, fragment, authentication (RFC 4302, section 2),
+-- options for the destination.
 abbrev pub is_extension : ℕ → Bool
-is_extension kind = (kind == 0) || (kind == 43) || (kind == 60)
+is_extension kind = (kind == 0) || (kind == 43) || (kind == 44) || (kind == 51) || (kind == 60)
+
+-- in how many bytes the second byte of such a header counts those after the first eight: none in the header of a fragment
+abbrev pub unit : (kind : ℕ) → ℕ
+unit kind = if kind == 44 then 0 else if kind == 51 then 4 else 8
+
+-- The header is that of a fragment (RFC 8200, section 4.5), and the packet is not whole: the fragment's offset, the first 13 of
+-- these 16 bits, is not 0, or the last bit is set, as more fragments follow.
+abbrev pub is_part : (kind number : ℕ) → Bool
+is_part kind number = (kind == 44) && not ((number / 8 == 0) && (number % 2 == 0))
 
 -- What a header of this kind, which is no such extension, says of the bytes that are left
 abbrev pub upper : (kind size : ℕ) → List ℕ → Result (ℕ × List ℕ) NoSegment
-upper kind size b = if kind == 6 then Ok (size, b) else if kind == 44 then Err Fragment else Err NotTcp
+upper kind size b = if kind == 6 then Ok (size, b) else Err NotTcp
 
--- An extension header begins with the kind of the header after it, and with its length in units of eight bytes, of which
--- the first is not counted. This many bytes are left of the one before; then come, with `size` bytes in all, a header of
--- this kind and the others after it.
+-- An extension header begins with the kind of the header after it, and with its length. This many bytes are left of the one
+-- before; then come, with `size` bytes in all, a header of this kind and the others after it.
 abbrev pub past_extensions : (left kind size : ℕ) → List ℕ → Result (ℕ × List ℕ) NoSegment
 past_extensions (suc left) kind size (b ∷ bytes) = past_extensions left kind size bytes
 past_extensions (suc left) kind size [] = Err CutInIp
 past_extensions zero kind size (next ∷ units ∷ bytes) =
     if is_extension kind
-    then if nat_lt size (8 + 8 * units) then Err BadIpLength
-    else past_extensions (6 + 8 * units) next (size - (8 + 8 * units)) bytes
+    then if nat_lt size (8 + unit kind * units) then Err BadIpLength
+    else if nat_lt (length bytes) (6 + unit kind * units) then Err CutInIp
+    else if is_part kind (number_16 0 bytes) then Err Fragment
+    else past_extensions (6 + unit kind * units) next (size - (8 + unit kind * units)) bytes
     else upper kind size (next ∷ units ∷ bytes)
 past_extensions zero kind size b = if is_extension kind then Err CutInIp else upper kind size b
 

@@ -1,10 +1,10 @@
 //! Headers of IP.
 
-ghost use Rattle.std.specs.Prelude.{◌≡◌, ◌+◌, ◌<◌, ◌^◌, length};
+ghost use Rattle.std.specs.Prelude.{◌≡◌, ◌+◌, ◌<◌, ◌≤◌, ◌^◌, length};
 ghost use Rattle.cqlp_segment.specs.declared.addresses.Address.TheVariants as address;
 ghost use Rattle.cqlp_segment.specs.Fields.{Gives};
 ghost use Rattle.cqlp_segment.specs.Ip.{carried_by, carried_by_4, carried_by_6, view};
-ghost use Rattle.cqlp_segment.specs.Ip.{is_extension, length_or_all, past_extensions, upper};
+ghost use Rattle.cqlp_segment.specs.Ip.{is_extension, is_part, length_or_all, past_extensions, unit, upper};
 
 use crate::addresses::Address;
 use crate::fields::number_16;
@@ -16,6 +16,9 @@ const TCP: u8 = 6;
 
 /// The number of IPv6's header of a fragment.
 const FRAGMENT: u8 = 44;
+
+/// The number of the header that authenticates a packet.
+const AUTHENTICATION: u8 = 51;
 
 /// What a packet of IP carries.
 #[derive(Clone, Copy)]
@@ -130,12 +133,15 @@ fn past_extensions(kind: u8, size: usize, bytes: &[u8]) -> Result<(usize, &[u8])
         if bytes.len() < 2 {
             return Err(NoSegment::CutInIp);
         }
-        let header = 8 + 8 * bytes[1] as usize;
+        let header = 8 + unit(kind) * bytes[1] as usize;
         if size < header {
             return Err(NoSegment::BadIpLength);
         }
         if bytes.len() < header {
             return Err(NoSegment::CutInIp);
+        }
+        if is_part(kind, number_16(bytes, 2)) {
+            return Err(NoSegment::Fragment);
         }
         kind = bytes[0];
         size -= header;
@@ -150,14 +156,33 @@ fn upper(kind: u8, size: usize, bytes: &[u8]) -> Result<(usize, &[u8]), NoSegmen
 {
     match kind {
         TCP => Ok((size, bytes)),
-        FRAGMENT => Err(NoSegment::Fragment),
         _ => Err(NoSegment::NotTcp),
     }
 }
 
-/// Whether an extension header may be passed over: options for each hop, routing, and options for the destination.
+/// Whether an extension header may be passed over: options for each hop, routing, that of a fragment which is the whole packet,
+/// authentication, and options for the destination.
 fn is_extension(kind: u8) -> bool
     ensures { result ≡ is_extension kind }
 {
-    matches!(kind, 0 | 43 | 60)
+    matches!(kind, 0 | 43 | FRAGMENT | AUTHENTICATION | 60)
+}
+
+/// In how many bytes an extension header's second byte counts those after the first eight.
+fn unit(kind: u8) -> usize
+    ensures value { result ≡ unit kind }
+    ensures most { result ≤ 8 }
+{
+    match kind {
+        FRAGMENT => 0,
+        AUTHENTICATION => 4,
+        _ => 8,
+    }
+}
+
+/// Whether a header with this number in its third and fourth byte says that the packet is a fragment and not whole.
+fn is_part(kind: u8, number: u16) -> bool
+    ensures { result ≡ is_part kind number }
+{
+    kind == FRAGMENT && !(number / 8 == 0 && number % 2 == 0)
 }

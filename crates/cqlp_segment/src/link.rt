@@ -46,6 +46,10 @@ pub(crate) struct IpPacket<'a> {
 
 impl LinkType {
     /// The link type of this number; of any other, `UnknownLink`.
+    ///
+    /// # Errors
+    ///
+    /// `UnknownLink`, for any other number.
     pub fn from_number(number: u16) -> Result<LinkType, NoSegment>
         ensures { result ≡ link_of number }
     {

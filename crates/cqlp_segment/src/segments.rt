@@ -41,6 +41,10 @@ pub struct Segment<'a> {
 ///
 /// Checksums are not looked at, since network cards make them after a sender's packet was captured. Where a header of IP says
 /// the length 0, as it does of what a network card is to cut into segments, IP carries all that the packet had.
+///
+/// # Errors
+///
+/// The first reason, from the outer header to the inner, why there is no segment.
 #[tactic(auto, unfolding(crate::specs::Segment::segment_of))]
 pub fn read_segment(link: LinkType, packet: &[u8], original: u32) -> Result<Segment<'_>, NoSegment>
     ensures { Gives seen result (segment_of link packet.now original) }

@@ -19,6 +19,7 @@ pub struct Body {
 impl Body {
     /// A body of this many bytes, whose header has these flags. None where the flag 01, compression, is set, or where there
     /// are more bytes than [`Header::LONGEST_BODY`].
+    #[must_use]
     pub fn new(flags: u8, length: u32) -> Option<Body>
         ensures says { IfSome result (λ body. (body.flags ≡ flags) × (body.length ≡ length)) }
         ensures lawful { IsSome result ↔ ((has flags 0x01 ≡ false) × (length ≤ LONGEST_BODY)) }
@@ -31,6 +32,7 @@ impl Body {
     }
 
     /// The header's flags.
+    #[must_use]
     pub fn flags(&self) -> u8
         ensures { result ≡ self.now.flags }
     {
@@ -38,6 +40,7 @@ impl Body {
     }
 
     /// The bytes of the body.
+    #[must_use]
     pub fn length(&self) -> u32
         ensures { result ≡ self.now.length }
     {

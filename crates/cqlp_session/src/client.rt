@@ -38,6 +38,10 @@ impl<A: Allocator> Client<A> {
 
     /// The core of a connection on which nothing was sent yet. `slots` is how many requests may be open at a time, 1 to
     /// 32,768; their stream ids are those below it (section 2.3 of `native_protocol_v4.spec`). All memory is taken here.
+    ///
+    /// # Errors
+    ///
+    /// A number of slots that is 0 or over 32,768, and memory that is refused.
     pub fn new(alloc: A, slots: u16) -> Result<Client<A>, SlotsOrMemory>
     where
         A: Clone,
@@ -72,6 +76,10 @@ impl<A: Allocator> Client<A> {
     ///
     /// The first of these refuses it, and changes nothing: `Phase`, where requests of this kind may not begin in the
     /// phase that stands; `Spent`, where 2^64 - 1 requests have begun; `Full`, where each id is taken.
+    ///
+    /// # Errors
+    ///
+    /// `Phase`, `Spent` or `Full`, as said above.
     #[tactic(auto, using(crate::proofs::Least::none_found))]
     pub fn begin(&mut self, kind: RequestKind) -> Result<Ticket, BeginError>
         ensures answer { result ≡ ticket_for self.old kind }
@@ -111,6 +119,10 @@ impl<A: Allocator> Client<A> {
     /// An EVENT response with a negative id is no reply. Of any other message, the first of these refuses it, and
     /// changes nothing: `NotResponse`, for a request; `NoSuchStream`, where no request is open under its id;
     /// `WrongOpcode`, where it does not answer requests of that kind.
+    ///
+    /// # Errors
+    ///
+    /// `NotResponse`, `NoSuchStream` or `WrongOpcode`, as said above.
     pub fn reply(&mut self, header: &Header) -> Result<Reply, Stray>
         ensures answer { result ≡ reply_to self.old (signal_of header.now) }
         ensures after { self.new ≡ replied self.old (signal_of header.now) result }

@@ -64,6 +64,10 @@ impl<T: Drop, A: Allocator> ClientOf<T, A> {
 
     /// The core of a connection on which nothing was sent yet. `slots` is how many requests may be open at a time, 1 to
     /// 32,768, as in [`Client::new`]. All memory is taken here: that of a `Client`, and a place for each value.
+    ///
+    /// # Errors
+    ///
+    /// A number of slots that is 0 or over 32,768, and memory that is refused.
     pub fn new(alloc: A, slots: u16) -> Result<ClientOf<T, A>, SlotsOrMemory>
     where
         A: Clone,
@@ -133,6 +137,10 @@ impl<T: Drop, A: Allocator> ClientOf<T, A> {
 
     /// Begins a request, as [`Client::begin`] does, and keeps a value until its reply. Where it is refused, the value
     /// comes back and nothing is changed.
+    ///
+    /// # Errors
+    ///
+    /// As [`Client::begin`], with the value.
     pub fn begin(&mut self, kind: RequestKind, carried: T) -> Result<Ticket, Refused<BeginError, T>>
         ensures answer { result ≡ or_back carried (ticket_for self.old.core kind) }
         ensures after { self.new ≡ begun_with self.old kind carried }
@@ -150,6 +158,10 @@ impl<T: Drop, A: Allocator> ClientOf<T, A> {
 
     /// Takes the header of a message that came, as [`Client::reply`] does. A reply hands out the value that its request
     /// began with, given up or not.
+    ///
+    /// # Errors
+    ///
+    /// As [`Client::reply`].
     pub fn reply(&mut self, header: &Header) -> Result<ReplyOf<T>, Stray>
         ensures answer { answer_alone result ≡ reply_to self.old.core (signal_of header.now) }
         ensures value { IfOk result (λ reply. reply_value reply ≡ under self.old.carried header.now.stream) }

@@ -22,6 +22,10 @@ use std::alloc::Allocator;
 impl<A: Allocator> Client<A> {
     /// Begins a request, as [`Client::begin`] does, and gives its header: a request with the ticket's stream id and the
     /// opcode of its kind. It is lawful, and what a server's core takes for this request.
+    ///
+    /// # Errors
+    ///
+    /// As [`Client::begin`].
     pub fn begin_with(
         &mut self,
         kind: RequestKind,
@@ -40,6 +44,10 @@ impl<A: Allocator> Client<A> {
 impl<A: Allocator> Server<A> {
     /// Answers the request that is open under this id, as [`Server::answer`] does, and gives the header of the response,
     /// with that id and that opcode. It is lawful, and what the client's core takes for the reply.
+    ///
+    /// # Errors
+    ///
+    /// As [`Server::answer`].
     pub fn answer_with(
         &mut self,
         id: i16,
@@ -58,6 +66,10 @@ impl<A: Allocator> Server<A> {
 
 impl<T: Drop, A: Allocator> ClientOf<T, A> {
     /// Begins a request and keeps a value, as [`ClientOf::begin`] does, and gives its header, as [`Client::begin_with`] does.
+    ///
+    /// # Errors
+    ///
+    /// As [`ClientOf::begin`].
     pub fn begin_with(
         &mut self,
         kind: RequestKind,
@@ -79,6 +91,10 @@ impl<T: Drop, A: Allocator> ClientOf<T, A> {
 impl<T: Drop, A: Allocator> ServerOf<T, A> {
     /// Answers a request and hands out its value, as [`ServerOf::answer`] does, and gives the header of the response, as
     /// [`Server::answer_with`] does.
+    ///
+    /// # Errors
+    ///
+    /// As [`ServerOf::answer`].
     pub fn answer_with(
         &mut self,
         id: i16,
@@ -98,6 +114,7 @@ impl<T: Drop, A: Allocator> ServerOf<T, A> {
 
 /// The header of an EVENT that a server pushes, whose stream id is -1 (section 4.2.6 of `native_protocol_v4.spec`). It is
 /// lawful, and what a client's core tells as [`Reply::ServerEvent`](crate::Reply::ServerEvent).
+#[must_use]
 pub fn event_header(body: Body) -> Header
     ensures is { result ≡ event_header body }
     ensures lawful { IsLawful result }

@@ -45,6 +45,7 @@ impl RequestKind {
     }
 
     /// The opcode of a request of this kind.
+    #[must_use]
     pub fn opcode(self) -> Opcode
         ensures { result ≡ opcode_of self }
     {

@@ -59,6 +59,10 @@ impl<A: Allocator> Server<A> {
 
     /// The core of a connection on which nothing came yet. `slots` is how many requests may be open at a time, 1 to
     /// 32,768; their stream ids are those below it (section 2.3 of `native_protocol_v4.spec`). All memory is taken here.
+    ///
+    /// # Errors
+    ///
+    /// A number of slots that is 0 or over 32,768, and memory that is refused.
     pub fn new(alloc: A, slots: u16) -> Result<Server<A>, SlotsOrMemory>
         ensures { Makes slots (new_server slots) result }
     {
@@ -91,6 +95,10 @@ impl<A: Allocator> Server<A> {
     /// The first of these refuses it, and changes nothing: `NotRequest`, for a response, and for an opcode that is no
     /// request's; `BadId`, for an id that is negative or not below the number of slots; `IdTaken`, where a request is
     /// open under it; `Phase`, where requests of this kind may not begin in the phase that stands.
+    ///
+    /// # Errors
+    ///
+    /// `NotRequest`, `BadId`, `IdTaken` or `Phase`, as said above.
     pub fn accept(&mut self, header: &Header) -> Result<RequestKind, ServerRefusal>
         ensures answer { result ≡ accept_of self.old (signal_of header.now) }
         ensures after { self.new ≡ accepted self.old (signal_of header.now) result }
@@ -128,6 +136,10 @@ impl<A: Allocator> Server<A> {
     ///
     /// The first of these refuses it, and changes nothing: `NotTaken`, where no request is open under the id;
     /// `WrongOpcode`, where the opcode does not answer requests of that kind.
+    ///
+    /// # Errors
+    ///
+    /// `NotTaken` or `WrongOpcode`, as said above.
     pub fn answer(&mut self, id: i16, opcode: Opcode) -> Result<RequestKind, AnswerError>
         ensures answer { result ≡ answer_of self.old id opcode }
         ensures after { self.new ≡ answered self.old id opcode result }

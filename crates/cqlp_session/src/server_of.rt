@@ -43,6 +43,10 @@ impl<T: Drop, A: Allocator> ServerOf<T, A> {
 
     /// The core of a connection on which nothing came yet. `slots` is how many requests may be open at a time, 1 to
     /// 32,768, as in [`Server::new`]. All memory is taken here: that of a `Server`, and a place for each value.
+    ///
+    /// # Errors
+    ///
+    /// A number of slots that is 0 or over 32,768, and memory that is refused.
     pub fn new(alloc: A, slots: u16) -> Result<ServerOf<T, A>, SlotsOrMemory>
     where
         A: Clone,
@@ -112,6 +116,10 @@ impl<T: Drop, A: Allocator> ServerOf<T, A> {
 
     /// Takes the header of a request that came, as [`Server::accept`] does, and keeps a value until it is answered.
     /// Where it is refused, the value comes back and nothing is changed.
+    ///
+    /// # Errors
+    ///
+    /// As [`Server::accept`], with the value.
     pub fn accept(
         &mut self,
         header: &Header,
@@ -133,6 +141,10 @@ impl<T: Drop, A: Allocator> ServerOf<T, A> {
 
     /// Answers the request that is open under this id, as [`Server::answer`] does, and hands out the value that it was
     /// accepted with.
+    ///
+    /// # Errors
+    ///
+    /// As [`Server::answer`].
     pub fn answer(&mut self, id: i16, opcode: Opcode) -> Result<(RequestKind, T), AnswerError>
         ensures answer { kind_alone result ≡ answer_of self.old.core id opcode }
         ensures value { IfOk result (λ answer. Some answer.1 ≡ under self.old.carried id) }

@@ -46,6 +46,10 @@ impl<A: Allocator + Clone> SkippingDecoder<A> {
 
     /// A decoder at the start of a stream, with the memory of a `Decoder` within these limits: four requests for memory,
     /// and the only ones.
+    ///
+    /// # Errors
+    ///
+    /// Limits out of their ranges, and memory that is refused.
     pub fn new(alloc: A, limits: Limits) -> Result<Self, NewError>
         ensures bad { (b : Bad) → IsErrOf result (NewError.BadLimits b) ↔ (first_bad limits ≡ Err b) }
         ensures fresh { (xs : List ℕ) → IfOk result (λ d. AfterSkips xs d [] [] [] []) }
@@ -61,6 +65,10 @@ impl<A: Allocator + Clone> SkippingDecoder<A> {
 
     /// The same, for a lenient reading, as [`Decoder::lenient`] has it: a content that its type does not have is told as a raw scalar, and
     /// the frame is read on.
+    ///
+    /// # Errors
+    ///
+    /// As `new`.
     pub fn lenient(alloc: A, limits: Limits) -> Result<Self, NewError>
         ensures bad { (b : Bad) → IsErrOf result (NewError.BadLimits b) ↔ (first_bad limits ≡ Err b) }
         ensures fresh { (xs : List ℕ) → IfOk result (λ d. AfterSkips xs d [] [] [] []) }
@@ -135,6 +143,10 @@ impl<A: Allocator> SkippingDecoder<A> {
     /// Gives types for a page without metadata of the present stretch, as `Decoder::give` does. While a frame is passed over that is
     /// the stretch after it. The table that was held before comes back; one that is not taken comes back with the reason, and
     /// nothing changes: after a refusal none is taken until the frame is passed over.
+    ///
+    /// # Errors
+    ///
+    /// The first reason against the table, which comes back with it: nothing changes.
     pub fn give(&mut self, table: TypeTable<A>) -> Result<Option<TypeTable<A>>, GiveError<A>>
         ensures refused { (w : Why) → reason_against (stream self.old) table.nodes ≡ Some w
             → (result ≡ Err (record { why = w; table = table })) × (self.new ≡ self.old) }
@@ -165,6 +177,10 @@ impl<A: Allocator> SkippingDecoder<A> {
     /// them, and go on with the header after it. Nothing is held of them. A table of types that was given and not taken back
     /// is let go of: over the next stretch nothing is given yet. Where the stream is not refused, or no header of the frame was
     /// handed out, nothing changes.
+    ///
+    /// # Errors
+    ///
+    /// A stream that is not refused, or in which no header of the frame was handed out: nothing changes.
     pub fn skip(&mut self) -> Result<Skipped, NotSkippable>
         ensures is { result ≡ skip_of self.old }
         ensures goes_on { SkipsOn result self.old self.new }

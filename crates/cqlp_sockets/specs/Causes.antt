@@ -1,5 +1,7 @@
 -- Why calls of readers and writers fail.
-use Rattle.std.specs.Prelude.{◌≡◌, ℕ, Bool, Option, Some, Result, Ok, Err, if◌then◌else◌}
+use Rattle.std.specs.Prelude.{◌≡◌, ℕ, Bool, true, Option, Some, Result, Ok, Err, if◌then◌else◌, is_err}
+use Rattle.std.specs.IoError.{error_kind}
+use Rattle.std.specs.declared.io.Error.{Error}
 use Rattle.std.specs.declared.io.ErrorKind.{ErrorKind}
 use Rattle.std.specs.declared.io.ErrorKind.TheVariants as kind
 use Rattle.cqlp_note.specs.declared.streams.IoFault.{IoFault}
@@ -11,6 +13,11 @@ abbrev pub cause_of : ErrorKind → Cause
 cause_of kind.WouldBlock = cause.WouldBlock
 cause_of kind.Interrupted = cause.Interrupted
 cause_of _ = cause.Failed
+
+-- What is kept of what a call of a reader or a writer answered: of an error what it says, and else the cause before.
+abbrev pub KeepsCause : (old : Option Cause) → Result ℕ Error → Result ℕ IoFault → (new : Option Cause) → Type 0
+KeepsCause old (Ok n) r new = (r ≡ Ok n) × (new ≡ old)
+KeepsCause old (Err e) r new = (is_err r ≡ true) × (new ≡ Some (cause_of (error_kind e)))
 
 -- Which cause is kept after a call, and which before: an error's own; that it took nothing, where it said no error but
 -- took nothing of some bytes; and after a call that did not fail the one before.

@@ -22,6 +22,7 @@ pub enum Cause {
 
 impl Cause {
     /// What an error of std's says.
+    #[must_use]
     pub fn of(error: &io::Error) -> Cause
         ensures { result ≡ cause_of (error_kind error.now) }
     {

@@ -15,7 +15,7 @@ use Rattle.cqlp_connections.specs.declared.totals.ConnectionTotals.{ConnectionTo
 use Rattle.cqlp_connections.specs.Tables.{Departing, Pulling, Table, Taking, departing, finished, left, pulled, pulling, taking}
 use Rattle.cqlp_streams.specs.Sayings.{Saying, Packet, New, Of, Left}
 use Rattle.cqlp_streams.specs.Tellings.{Departs, FinishesAll, HandsOn, Leaves, Parts, Path, Pulls, PullsAll, StillTells, TellsAgain, TellsFirst, TellsOf, TellsSeen, TellsTimed, beginning}
-use Rattle.cqlp_streams.specs.Packets.{Finishes, SplitState, TellsEvent, TellsEvents, TellsRead, segment_in, with_segment}
+use Rattle.cqlp_streams.specs.Packets.{Finishes, SplitState, TellsEvent, TellsEvents, TellsRead, is_snapped, segment_in, with_segment}
 
 -- ---- steps
 
@@ -228,7 +228,7 @@ timed_once time g t u u' ss ss' a a' =
 read_once : (r : Result Seen NoSegment) (s u u' : SplitState) (ss ss' : List Saying) → TellsRead r true s ss u → TellsRead r true s ss' u' → (ss' ≡ ss) × (u' ≡ u)
 read_once (Ok g) s u u' ss ss' a a' =
     let one = timed_once s.time g s.table u.table u'.table ss ss' a.0 a'.0 in
-    (one.0, a'.1 ∙ ap (λ (z : Table). record s { table = z; counts = with_segment s.counts }) one.1 ∙ sym a.1)
+    (one.0, a'.1 ∙ ap (λ (z : Table). record s { table = z; counts = with_segment (is_snapped s.table g) s.counts }) one.1 ∙ sym a.1)
 read_once (Err why) s u u' ss ss' a a' = (a'.0 ∙ sym a.0, a'.1 ∙ sym a.1)
 
 -- ---- what events tell

@@ -1,5 +1,5 @@
 -- Two answers are the same.
-use Rattle.std.proofs.Common.{◌≡◌, ◌≢◌, ◌∙◌, ◌&&◌, ◌≤◌, ℕ, Bool, true, false, List, [], ◌∷◌, ◌++◌, length, Option, Result, Ok, Err, refl, sym, ap, subst, inl, inr, append-nil, arith}
+use Rattle.std.proofs.Common.{◌≡◌, ◌≢◌, ◌∙◌, ◌&&◌, ◌==◌, ◌≤◌, if◌then◌else◌, ℕ, Bool, true, false, List, [], ◌∷◌, ◌++◌, length, Option, Result, Ok, Err, refl, sym, ap, subst, inl, inr, append-nil, arith}
 use Rattle.std.proofs.lemmas.Bool.{cases_lt}
 use Rattle.cqlp_text.specs.Outputs.{Output, with_text}
 use Rattle.cqlp_note.specs.Reader.{Said, More, Got, says}
@@ -22,7 +22,7 @@ use Rattle.cqlp_streams.specs.Listening.{after_all}
 use Rattle.cqlp_streams.specs.Recordings.{Recording, StopsAt, no_sums, recording, with_saying}
 use Rattle.cqlp_streams.specs.Packets.{Finishes, SplitState, TellsEvents, new_split}
 use Rattle.cqlp_streams.specs.Captures.{EndsSo, HearsAll, IsAll, ReadsMade, SplitsTo}
-use Rattle.cqlp_streams.specs.Endings.{Concludes, line_of, status_of, sums_words}
+use Rattle.cqlp_streams.specs.Endings.{Concludes, ConcludesNoted, least_status, noted_line, noted_status, status_of, sums_words}
 use Rattle.cqlp_streams.specs.Streams.{ReadsCapture, default_limits, no_connections, read_of, streams_limits}
 use Rattle.cqlp_streams.specs.Laws.{OneAnswerOfReadCapture, OneAnswerOfWriteStreams}
 use Rattle.cqlp_streams.proofs.Once.{events_once, finishes_once}
@@ -131,33 +131,43 @@ module _ {V : Type 0} (after : V → Saying → V) (faulted : V → Saying → S
       let same : ◌≡◌ {A = Result CaptureRead StreamsFault} (Ok r') (Ok r) = is' ∙ (λ i. read_of (Ok (one.0 i)) (one.1 i)) ∙ sym is in
       (ok_same r' r same, one.2)
 
--- the line was written, where nothing failed
-pub concluded : (words : List ℕ) (r : Result CaptureRead StreamsFault) (err err' : Output) (status : ℕ) → Concludes words r err status err' → status ≢ 3 → (status ≡ status_of r) × (err' ≡ with_text err (line_of words r))
-concluded words r err err' status (inl (inl a)) well = a
-concluded words r err err' status (inl (inr (is, x))) well = absurd (well is)
-concluded words r err err' status (inr (inl (is, x))) well = absurd (well is)
-concluded words r err err' status (inr (inr (is, x))) well = absurd (well is)
+-- the lines were written, where nothing failed
+pub concluded : (note words : List ℕ) (r : Result CaptureRead StreamsFault) (err err' : Output) (status : ℕ) → ConcludesNoted note words r err status err' → status ≢ 3 → (status ≡ noted_status note r) × (err' ≡ with_text err (noted_line note words r))
+concluded note words r err err' status (inl (inl a)) well = a
+concluded note words r err err' status (inl (inr (is, x))) well = absurd (well is)
+concluded note words r err err' status (inr (inl (is, x))) well = absurd (well is)
+concluded note words r err err' status (inr (inr (is, x))) well = absurd (well is)
 
-pub well_read : (r : Result CaptureRead StreamsFault) → status_of r ≢ 3 → (x : CaptureRead) × (r ≡ Ok x)
-well_read (Ok x) well = (x, refl)
-well_read (Err f) well = absurd (well refl)
+-- a fault's status is the same with a note
+fault_either : (b : Bool) (f : StreamsFault) → (if b then status_of (Err f) else least_status (Err f)) ≡ 3
+fault_either true f = refl
+fault_either false f = refl
 
--- Two runs that end with words of the view, and no fault.
-module _ {V : Type 0} (after : V → Saying → V) (faulted : V → Saying → StreamsFault → V → Type 0) (words : V → List ℕ) (limits : ConnectionLimits) (ports xs : List ℕ) (before v w : V) (made made' : ReadsMade) (left left' : Option (List ℕ)) (r r' : Result CaptureRead StreamsFault) (err err' err'' : Output) (status status' : ℕ) where
-  pub runs_once : ReadsCapture after faulted limits ports xs made r left before v → Concludes (words v) r err status err' → status ≢ 3 → ReadsCapture after faulted limits ports xs made' r' left' before w → Concludes (words w) r' err status' err'' → status' ≢ 3 → (status' ≡ status) × (w ≡ v) × (err'' ≡ err')
-  runs_once reads ends well reads' ends' well' =
-      let c = concluded (words v) r err err' status ends well in
-      let c' = concluded (words w) r' err err'' status' ends' well' in
-      let x = well_read r (λ is. well (c.0 ∙ is)) in
-      let x' = well_read r' (λ is. well' (c'.0 ∙ is)) in
+pub well_read : (note : List ℕ) (r : Result CaptureRead StreamsFault) → noted_status note r ≢ 3 → (x : CaptureRead) × (r ≡ Ok x)
+well_read note (Ok x) well = (x, refl)
+well_read note (Err f) well = absurd (well (fault_either (length note == 0) f))
+
+-- Two runs that end with a note and words of the view, and no fault.
+module _ {V : Type 0} (after : V → Saying → V) (faulted : V → Saying → StreamsFault → V → Type 0) (note words : V → Result CaptureRead StreamsFault → List ℕ) (limits : ConnectionLimits) (ports xs : List ℕ) (before v w : V) (made made' : ReadsMade) (left left' : Option (List ℕ)) (r r' : Result CaptureRead StreamsFault) (err err' err'' : Output) (status status' : ℕ) where
+  pub runs_noted : ReadsCapture after faulted limits ports xs made r left before v → ConcludesNoted (note v r) (words v r) r err status err' → status ≢ 3 → ReadsCapture after faulted limits ports xs made' r' left' before w → ConcludesNoted (note w r') (words w r') r' err status' err'' → status' ≢ 3 → (status' ≡ status) × (w ≡ v) × (err'' ≡ err')
+  runs_noted reads ends well reads' ends' well' =
+      let c = concluded (note v r) (words v r) r err err' status ends well in
+      let c' = concluded (note w r') (words w r') r' err err'' status' ends' well' in
+      let x = well_read (note v r) r (λ is. well (c.0 ∙ is)) in
+      let x' = well_read (note w r') r' (λ is. well' (c'.0 ∙ is)) in
       let a = subst (λ (z : Result CaptureRead StreamsFault). ReadsCapture after faulted limits ports xs made z left before v) x.1 reads in
       let b = subst (λ (z : Result CaptureRead StreamsFault). ReadsCapture after faulted limits ports xs made' z left' before w) x'.1 reads' in
       let one = read_once after faulted limits ports xs before v w made made' left left' x.0 x'.0 a b in
       let same : r' ≡ r = x'.1 ∙ ap (λ z. Ok z) one.0 ∙ sym x.1 in (
-        c'.0 ∙ ap status_of same ∙ sym c.0,
+        c'.0 ∙ (λ i. noted_status (note (one.1 i) (same i)) (same i)) ∙ sym c.0,
         one.1,
-        c'.1 ∙ (λ i. with_text err (line_of (words (one.1 i)) (same i))) ∙ sym c.1,
+        c'.1 ∙ (λ i. with_text err (noted_line (note (one.1 i) (same i)) (words (one.1 i) (same i)) (same i))) ∙ sym c.1,
       )
+
+-- without a note
+module _ {V : Type 0} (after : V → Saying → V) (faulted : V → Saying → StreamsFault → V → Type 0) (words : V → List ℕ) (limits : ConnectionLimits) (ports xs : List ℕ) (before v w : V) (made made' : ReadsMade) (left left' : Option (List ℕ)) (r r' : Result CaptureRead StreamsFault) (err err' err'' : Output) (status status' : ℕ) where
+  pub runs_once : ReadsCapture after faulted limits ports xs made r left before v → Concludes (words v) r err status err' → status ≢ 3 → ReadsCapture after faulted limits ports xs made' r' left' before w → Concludes (words w) r' err status' err'' → status' ≢ 3 → (status' ≡ status) × (w ≡ v) × (err'' ≡ err')
+  runs_once = runs_noted after faulted (λ v r. []) (λ v r. words v) limits ports xs before v w made made' left left' r r' err err' err'' status status'
 
 pub streams_once : OneAnswerOfWriteStreams
 streams_once ports xs calls out err left left' status status' made made' out' out'' err' err'' (n, (r, sums, reads, ends)) well (n', (r', sums', reads', ends')) well' =

@@ -1,5 +1,5 @@
 -- How the reading of a capture ends: its exit status, and its line.
-use Rattle.std.specs.Prelude.{◌≡◌, ℕ, ◌==◌, List, [], ◌++◌, Result, Ok, Err, ◌⊎◌, codes, decimal, if◌then◌else◌}
+use Rattle.std.specs.Prelude.{◌≡◌, ℕ, ◌==◌, List, [], ◌++◌, length, Result, Ok, Err, ◌⊎◌, codes, decimal, if◌then◌else◌}
 use Rattle.cqlp_text.specs.declared.exit_status.TheConstants.{FAULT}
 use Rattle.cqlp_text.specs.Outputs.{Output, with_text, StopsWithin}
 use Rattle.cqlp_capture.specs.declared.event.CaptureEnd.{CaptureEnd}
@@ -121,7 +121,26 @@ abbrev pub Reports : (line : List ℕ) → (intended : ℕ) → Output → (stat
 Reports line intended before status after =
     ((status ≡ intended) × (after ≡ with_text before line)) ⊎ ((status ≡ FAULT) × StopsWithin before line after)
 
--- So is the last line of a capture that was read so, or where there is no memory for it, that of this fault.
+-- Where a note comes before the last line, not all was seen, and the status is 1 at least.
+abbrev pub with_note : (note words : List ℕ) → Result CaptureRead StreamsFault → List ℕ
+with_note note words (Ok r) = note ++ read_line words r
+with_note note words (Err f) = fault_line f
+
+abbrev pub noted_line : (note words : List ℕ) → Result CaptureRead StreamsFault → List ℕ
+noted_line note words r = if length note == 0 then line_of words r else with_note note words r
+
+abbrev pub least_status : Result CaptureRead StreamsFault → ℕ
+least_status (Ok r) = 1
+least_status (Err f) = 3
+
+abbrev pub noted_status : (note : List ℕ) → Result CaptureRead StreamsFault → ℕ
+noted_status note r = if length note == 0 then status_of r else least_status r
+
+-- So are a note and the last line of a capture that was read so, or where there is no memory for them, that of this fault.
+abbrev pub ConcludesNoted : (note words : List ℕ) → Result CaptureRead StreamsFault → (before : Output) → (status : ℕ) → (after : Output) → Type 0
+ConcludesNoted note words r before status after =
+    Reports (noted_line note words r) (noted_status note r) before status after ⊎ Reports no_memory_line FAULT before status after
+
+-- without a note
 abbrev pub Concludes : (words : List ℕ) → Result CaptureRead StreamsFault → (before : Output) → (status : ℕ) → (after : Output) → Type 0
-Concludes words r before status after =
-    Reports (line_of words r) (status_of r) before status after ⊎ Reports no_memory_line FAULT before status after
+Concludes words r before status after = ConcludesNoted [] words r before status after

@@ -1,11 +1,12 @@
 -- What the packets of a capture tell.
-use Rattle.std.specs.Prelude.{◌≡◌, ℕ, Bool, true, List, [], ◌∷◌, ◌++◌, Option, None, Result, Ok, Err}
+use Rattle.std.specs.Prelude.{◌≡◌, ℕ, Bool, true, ◌&&◌, nat_lt, is_some, if◌then◌else◌, List, [], ◌∷◌, ◌++◌, Option, None, Result, Ok, Err}
 use Rattle.cqlp_capture.specs.Reading.{Event, Section, Interface, Packet, Bytes}
 use Rattle.cqlp_segment.specs.declared.link.LinkType.{LinkType}
 use Rattle.cqlp_segment.specs.declared.reason.NoSegment.{NoSegment}
 use Rattle.cqlp_segment.specs.declared.reason.NoSegment.TheVariants as reason
 use Rattle.cqlp_segment.specs.Link.{link_of}
 use Rattle.cqlp_segment.specs.Segment.{Seen, segment_of}
+use Rattle.cqlp_connections.specs.Ends.{first_way}
 use Rattle.cqlp_connections.specs.Totals.{counted}
 use Rattle.cqlp_connections.specs.Tables.{Table}
 use Rattle.cqlp_streams.specs.declared.packets.PacketCounts.{PacketCounts}
@@ -39,15 +40,20 @@ none_without = record {
 }
 
 abbrev pub none_counted : PacketCounts
-none_counted = record { packets = 0; segments = 0; without = none_without }
+none_counted = record { packets = 0; segments = 0; snapped = 0; without = none_without }
 
 abbrev pub new_split : Table → SplitState
 new_split t = split_state t 0 None 0 none_counted
 
 -- ---- what packets were
 
-abbrev pub with_segment : PacketCounts → PacketCounts
-with_segment c = record c { packets = counted c.packets 1; segments = counted c.segments 1 }
+-- of a connection and cut, or not
+abbrev pub with_segment : (is_snapped : Bool) → PacketCounts → PacketCounts
+with_segment is_snapped c = record c {
+  packets = counted c.packets 1;
+  segments = counted c.segments 1;
+  snapped = if is_snapped then counted c.snapped 1 else c.snapped;
+}
 
 -- one more for this reason
 abbrev pub with_reason : NoSegment → WithoutCounts → WithoutCounts
@@ -74,10 +80,14 @@ segment_on (Err why) packet original = Err why
 abbrev pub segment_in : SplitState → (packet : List ℕ) → Result Seen NoSegment
 segment_in s packet = segment_on (link_of s.link) packet s.original
 
+-- It is of a connection, and not all of its payload was captured.
+abbrev pub is_snapped : Table → Seen → Bool
+is_snapped t g = nat_lt 0 g.missing && is_some (first_way t.ports g.head)
+
 -- A packet with a segment tells what that does, and is counted; one without is counted by the reason.
 abbrev pub TellsRead : Result Seen NoSegment → (all : Bool) → SplitState → List Saying → SplitState → Type 0
 TellsRead (Ok g) all s ss u =
-    TellsTimed all s.time g s.table ss u.table × (u ≡ record s { table = u.table; counts = with_segment s.counts })
+    TellsTimed all s.time g s.table ss u.table × (u ≡ record s { table = u.table; counts = with_segment (is_snapped s.table g) s.counts })
 TellsRead (Err why) all s ss u = (ss ≡ []) × (u ≡ record s { counts = without_segment why s.counts })
 
 -- ---- events

@@ -1,9 +1,10 @@
 //! How the reading of a capture ends: its line, and its exit status.
 
-ghost use Rattle.std.specs.Prelude.{◌≡◌, IfOk, IsSome, string_bytes};
+ghost use Rattle.std.specs.Prelude.{◌≡◌, ◌++◌, IfOk, IsSome, string_bytes};
 ghost use Rattle.cqlp_text.specs.Endings.{IsStatusOfTask};
 ghost use Rattle.cqlp_text.specs.Outputs.{written};
-ghost use Rattle.cqlp_streams.specs.Endings.{Concludes, fault_line, file_line, line_of, read_line, reason_name, status_of, verdict};
+ghost use Rattle.cqlp_streams.specs.Endings.{Concludes, ConcludesNoted, fault_line, file_line, line_of, noted_line, noted_status};
+ghost use Rattle.cqlp_streams.specs.Endings.{read_line, reason_name, status_of, verdict};
 
 use crate::capturing::CaptureRead;
 use crate::fault::StreamsFault;
@@ -52,21 +53,82 @@ pub fn conclude_capture<E: Target>(
     alloc: Global,
     answer: &Result<CaptureRead, StreamsFault>,
     words: &str,
-    mut err: E,
+    err: E,
 ) -> (u8, E)
     ensures task { IsStatusOfTask result.0 }
     ensures concludes { IsSome (E.contents err) →
         Concludes words.now answer.now (written E.Target err) result.0 (written E.Target result.1) }
 {
-    let Ok(line) = capture_line(&alloc, answer, words) else {
+    conclude_noted(alloc, answer, "", words, err)
+}
+
+/// Writes the last line where the reading of a capture ends so, with a caller's own words; and before it, where the capture was read to its end, a
+/// note on what was not seen, which ends with a line break. Answers the exit status: with a note it is not that of a whole capture.
+pub fn conclude_noted<E: Target>(
+    alloc: Global,
+    answer: &Result<CaptureRead, StreamsFault>,
+    note: &str,
+    words: &str,
+    mut err: E,
+) -> (u8, E)
+    ensures task { IsStatusOfTask result.0 }
+    ensures concludes { IsSome (E.contents err) →
+        ConcludesNoted note.now words.now answer.now (written E.Target err) result.0 (written E.Target result.1) }
+{
+    let Ok(line) = noted_line(&alloc, answer, note, words) else {
         return match put_text("cqlp: no memory\n", &mut err) {
             Ok(()) | Err(SinkFault) => (FAULT, err),
         };
     };
     match put_text(&line, &mut err) {
-        Ok(()) => (capture_status(answer), err),
+        Ok(()) => (noted_status(answer, note), err),
         Err(SinkFault) => (FAULT, err),
     }
+}
+
+/// The exit status with a note, where there is one.
+fn noted_status(answer: &Result<CaptureRead, StreamsFault>, note: &str) -> u8
+    ensures value { result ≡ noted_status note.now answer.now }
+    ensures task { IsStatusOfTask result }
+{
+    if note.is_empty() {
+        return capture_status(answer);
+    }
+    match answer {
+        Ok(_) => NOT_WHOLE,
+        Err(_) => FAULT,
+    }
+}
+
+/// The last line, and a note before it, where there is one.
+fn noted_line<'a, A: Allocator>(
+    alloc: &'a A,
+    answer: &Result<CaptureRead, StreamsFault>,
+    note: &str,
+    words: &str,
+) -> Result<String<&'a A>, AllocError>
+    ensures { IfOk result (λ line. string_bytes line ≡ noted_line note.now words.now answer.now) }
+{
+    if note.is_empty() {
+        return capture_line(alloc, answer, words);
+    }
+    match answer {
+        Ok(read) => noted_read_line(alloc, read, note, words),
+        Err(fault) => fault_line(alloc, fault),
+    }
+}
+
+/// A note, and the line of a capture that was read to its end.
+fn noted_read_line<'a, A: Allocator>(
+    alloc: &'a A,
+    read: &CaptureRead,
+    note: &str,
+    words: &str,
+) -> Result<String<&'a A>, AllocError>
+    ensures { IfOk result (λ line. string_bytes line ≡ note.now ++ read_line words.now read.now) }
+{
+    let line = read_line(alloc, read, words)?;
+    format!(in alloc; "{note}{line}")
 }
 
 /// The line of a capture that was read to its end.

@@ -18,7 +18,7 @@ mod telling;
 mod writing;
 
 pub use capturing::{CaptureRead, LIMITS, read_capture};
-pub use ending::{capture_line, capture_status, conclude_capture};
+pub use ending::{capture_line, capture_status, conclude_capture, conclude_noted};
 pub use fault::StreamsFault;
 pub use files::{FileFault, StreamFile, StreamFiles};
 pub use listener::Listener;

@@ -24,6 +24,8 @@ pub struct PacketCounts {
     pub packets: u64,
     /// Packets with a segment of TCP.
     pub segments: u64,
+    /// Those of connections of which not all of the payload was captured, since the packet was cut.
+    pub snapped: u64,
     pub without: WithoutCounts,
 }
 
@@ -54,6 +56,7 @@ impl PacketCounts {
     pub(crate) const NONE: PacketCounts = PacketCounts {
         packets: 0,
         segments: 0,
+        snapped: 0,
         without: WithoutCounts {
             unknown_link: 0,
             cut_in_link: 0,
@@ -67,12 +70,15 @@ impl PacketCounts {
         },
     };
 
-    /// Counts a packet with a segment.
-    pub(crate) fn count_segment(&mut self)
-        ensures { self.new ≡ with_segment self.old }
+    /// Counts a packet with a segment, of a connection and cut or not.
+    pub(crate) fn count_segment(&mut self, is_snapped: bool)
+        ensures { self.new ≡ with_segment is_snapped self.old }
     {
         self.packets = self.packets.saturating_add(1);
         self.segments = self.segments.saturating_add(1);
+        if is_snapped {
+            self.snapped = self.snapped.saturating_add(1);
+        }
     }
 
     /// Counts a packet without one.

@@ -37,7 +37,7 @@ impl<A: Allocator> Splitter<A> {
     ghost use Rattle.cqlp_capture.specs.Progress.{event_of};
     ghost use Rattle.cqlp_streams.specs.Listening.{Gets};
     ghost use Rattle.cqlp_streams.specs.Tellings.{FinishesAll, is_done};
-    ghost use Rattle.cqlp_streams.specs.Packets.{Finishes, TellsEvent, TellsRead, new_split, segment_in};
+    ghost use Rattle.cqlp_streams.specs.Packets.{Finishes, TellsEvent, TellsRead, is_snapped, new_split, segment_in};
 
     /// At the start of a capture, whose connections have this table.
     pub fn new(connections: Connections<A>) -> Self
@@ -110,7 +110,8 @@ impl<A: Allocator> Splitter<A> {
     {
         match self.segment_in(packet) {
             Ok(segment) => {
-                self.counts.count_segment();
+                let is_snapped = self.is_snapped(&segment);
+                self.counts.count_segment(is_snapped);
                 take_timed(self.time, &mut self.connections, &segment, listener)
             }
             Err(why) => {
@@ -118,6 +119,13 @@ impl<A: Allocator> Splitter<A> {
                 Ok(())
             }
         }
+    }
+
+    /// Whether a segment is of a connection, and not all of its payload was captured.
+    fn is_snapped(&self, segment: &Segment<'_>) -> bool
+        ensures { result ≡ is_snapped self.now.table (seen segment.now) }
+    {
+        segment.missing > 0 && self.connections.asks_for(&segment.head)
     }
 
     /// The segment in the packet that began.

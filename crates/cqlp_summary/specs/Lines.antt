@@ -34,7 +34,7 @@ counts_text f =
 -- where no time is known a dash stands for each
 abbrev pub times_text : Option Times → List ℕ
 times_text None = joined (text_column 8 (codes "-") ∷ text_column 8 (codes "-") ∷ text_column 9 (codes "-") ∷ [])
-times_text (Some t) = joined (time_column 4 t.median ∷ time_column 4 t.most ∷ time_column 5 t.greatest ∷ [])
+times_text (Some t) = joined (time_column 4 t.median ∷ time_column 4 t.percentile_99 ∷ time_column 5 t.greatest ∷ [])
 
 abbrev pub figures_line : (total : ℕ) → Name → Figures → List ℕ
 figures_line total n f = joined (share_text (share_of f.time total) ∷ counts_text f ∷ times_text f.times ∷ name_text n ∷ [])

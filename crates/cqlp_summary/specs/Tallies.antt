@@ -52,7 +52,7 @@ time_at rank t = time_in (bucket_at rank 0 t.buckets) t.greatest
 -- the median, the time that 99 of 100 are not above, and the greatest: at a half of the known times and at 99 hundredths, rounded up
 abbrev pub some_times : Tally → Times
 some_times t =
-    record { median = time_at (t.timed - t.timed / 2) t; most = time_at (t.timed - t.timed / 100) t; greatest = t.greatest }
+    record { median = time_at (t.timed - t.timed / 2) t; percentile_99 = time_at (t.timed - t.timed / 100) t; greatest = t.greatest }
 
 abbrev pub times_of : Tally → Option Times
 times_of t = if t.timed == 0 then None else Some (some_times t)

@@ -169,7 +169,7 @@ fn put_known_times<P: Pen>(writer: &mut TextWriter<P>, times: Times) -> Result<(
     ensures { Writes writer.old (times_text (Some times)) result writer.new }
 {
     put_time_column(writer, 4, times.median)?;
-    put_time_column(writer, 4, times.most)?;
+    put_time_column(writer, 4, times.percentile_99)?;
     put_time_column(writer, 5, times.greatest)
 }
 

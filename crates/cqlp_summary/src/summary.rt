@@ -1,6 +1,6 @@
 //! The statements of a capture.
 
-ghost use Rattle.std.specs.Prelude.{◌≡◌, ◌+◌, ◌<◌, ◌≤◌, IfOk, IfSome, None, length, position, replicate};
+ghost use Rattle.std.specs.Prelude.{◌≡◌, ◌+◌, ◌<◌, ◌≤◌, IfOk, IfSome, None, length, position, replicate, vec_capacity};
 ghost use Rattle.cqlp_text.specs.Written.{Writes};
 ghost use Rattle.cqlp_summary.specs.Lines.{summary_text};
 ghost use Rattle.cqlp_summary.specs.Names.{is_same};
@@ -33,8 +33,8 @@ impl<A: Allocator> Model for Summary<A> {
 
     ghost view = { λ s. summary s.statements s.names.items s.tallies.items };
 
-    ghost invariant = { λ s. (length s.names.items ≤ s.statements) × (s.statements ≤ vec_capacity s.names)
-        × (length s.tallies.items ≡ s.statements + 1) };
+    ghost invariant = { λ s. (length s.names.items ≤ s.statements) × (vec_capacity s.names ≡ s.statements)
+        × (length s.tallies.items ≡ s.statements + 1) × (vec_capacity s.tallies ≡ s.statements + 1) };
 }
 
 impl<A: Allocator> Summary<A> {
@@ -107,7 +107,8 @@ fn position_of(names: &[Name], name: &Name) -> Option<usize>
 }
 
 fn make_tallies<A: Allocator>(alloc: A, statements: usize) -> Result<Vec<Tally, A>, AllocError>
-    ensures { IfOk result (λ tallies. tallies.items ≡ replicate (statements + 1) none_counted) }
+    ensures tallies { IfOk result (λ tallies. tallies.items ≡ replicate (statements + 1) none_counted) }
+    ensures capacity { IfOk result (λ tallies. vec_capacity tallies ≡ statements + 1) }
 {
     let Some(count) = statements.checked_add(1) else {
         return Err(AllocError);

@@ -52,8 +52,8 @@ pub(crate) struct Figures {
 #[derive(Clone, Copy, Debug, PartialEq, Eq)]
 pub(crate) struct Times {
     pub(crate) median: u64,
-    /// What 99 of 100 are not above.
-    pub(crate) most: u64,
+    /// The 99th percentile: the time, or at most 1/32 more, that 99 of 100 are not above.
+    pub(crate) percentile_99: u64,
     pub(crate) greatest: u64,
 }
 
@@ -134,7 +134,7 @@ impl Tally {
             0 => None,
             timed => Some(Times {
                 median: self.time_at(timed - timed / 2),
-                most: self.time_at(timed - timed / 100),
+                percentile_99: self.time_at(timed - timed / 100),
                 greatest: self.greatest,
             }),
         }

@@ -47,10 +47,10 @@ scalar_value around (scalar.Ascii text) = text_value around text
 scalar_value around (scalar.Varchar text) = text_value around text
 scalar_value around v = cell_text v
 
--- null: an empty field, but in quotes where it is alone in its record, which would be an empty line
-abbrev pub null_value : (columns : ℕ) → Option WrittenValue → List ℕ
-null_value columns None = if columns == 1 then codes "\"\"" else []
-null_value columns (Some o) = codes "null"
+-- null: an empty field, which is an empty line where it is alone in its record
+abbrev pub null_value : Option WrittenValue → List ℕ
+null_value None = []
+null_value (Some o) = codes "null"
 
 -- an empty text, or a value of another type without bytes
 abbrev pub empty_value : Option WrittenValue → List ℕ
@@ -69,8 +69,7 @@ module _ (p : TablePlace) (column : ℕ) where
   -- a value, with what stands before and after it
   abbrev pub value_part : CellEvent → List ℕ
   value_part (cell.Leaf level v) = before_value ++ (scalar_value (innermost p.page.open_values) v ++ after_value)
-  value_part (cell.Null level) =
-      before_value ++ (null_value p.page.columns (innermost p.page.open_values) ++ after_value)
+  value_part (cell.Null level) = before_value ++ (null_value (innermost p.page.open_values) ++ after_value)
   value_part (cell.Empty level) = before_value ++ (empty_value (innermost p.page.open_values) ++ after_value)
   value_part (cell.Enter level k items) = before_value ++ (field_quote (innermost p.page.open_values) ++ opening k)
   value_part (cell.Leave level items) = []

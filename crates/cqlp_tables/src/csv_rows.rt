@@ -23,6 +23,10 @@ use cqlp_text::{Pen, TextWriter};
 
 /// Appends what is written of an event of a page as CSV, which nothing is of an event of another frame, and goes to the
 /// place after it, also at a fault, which is the target's own.
+///
+/// # Errors
+///
+/// The fault of the target.
 #[inline]
 pub fn csv_part<W: Target>(
     place: &mut TablePlace,
@@ -187,18 +191,16 @@ fn shown_null(place: &TablePlace, column: u32) -> Shown<'static>
     let around = place.innermost();
     Shown {
         before: before(column, around),
-        begin: null(place.columns(), around),
+        begin: null(around),
         after: after(place.is_last(column), around),
         ..Shown::NOTHING
     }
 }
 
-/// Null, which is in quotes where it is alone in its record.
-fn null(columns: u32, around: Option<OpenValue>) -> &'static str
-    ensures { result.now ≡ null_value columns (option_map as_written around) }
+fn null(around: Option<OpenValue>) -> &'static str
+    ensures { result.now ≡ null_value (option_map as_written around) }
 {
     match around {
-        None if columns == 1 => "\"\"",
         None => "",
         Some(_) => "null",
     }

@@ -22,6 +22,10 @@ use cqlp_text::{Pen, TextWriter};
 
 /// Appends what is written of an event of a page as JSON, which nothing is of an event of another frame, and goes to the
 /// place after it, also at a fault, which is the target's own.
+///
+/// # Errors
+///
+/// The fault of the target.
 #[inline]
 pub fn json_part<W: Target>(
     place: &mut TablePlace,

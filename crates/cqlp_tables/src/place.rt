@@ -87,6 +87,7 @@ impl TablePlace {
     ghost use Rattle.cqlp_tables.specs.Places.{no_table, table_after, named_after_field};
 
     /// Before any frame.
+    #[must_use]
     pub fn new() -> Self
         ensures { result ≡ no_table }
     {
@@ -115,13 +116,6 @@ impl TablePlace {
         ensures { result ≡ self.now.is_named }
     {
         self.is_named
-    }
-
-    #[inline]
-    pub(crate) fn columns(&self) -> u32
-        ensures { result ≡ self.now.page.columns }
-    {
-        self.columns
     }
 
     /// The column of the cell that is open.

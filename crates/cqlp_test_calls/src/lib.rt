@@ -8,6 +8,14 @@ mod fields;
 #[cfg(test)]
 mod fronts;
 #[cfg(test)]
+mod lengths;
+#[cfg(test)]
 mod memory;
 #[cfg(test)]
+mod readers;
+#[cfg(test)]
 mod runs;
+#[cfg(test)]
+mod sessions;
+#[cfg(test)]
+mod texts;

@@ -39,7 +39,7 @@ fn done_in(rt: &HostRuntime, heap: &LocalHeap, task: &str, bytes: &[u8]) -> Done
 }
 
 /// Prints what a task does in memory of 0 bytes, of 16 more, and so on; where that is as before, nothing. Then, if no frame is
-/// passed over, how often `show` writes where each read gives nine bytes.
+/// passed over, how often `show` writes where each read gives nine bytes, and where one gives all.
 pub fn print_all(rt: &HostRuntime, task: &str, bytes: &[u8]) -> io::Result<()> {
     print_answers(rt, task, bytes)?;
     if task.ends_with("--skip") {
@@ -67,9 +67,12 @@ fn print_answers(rt: &HostRuntime, task: &str, bytes: &[u8]) -> io::Result<()> {
 }
 
 fn print_writes(rt: &HostRuntime, bytes: &[u8]) -> io::Result<()> {
-    let mut input = Pieces::new(bytes, [9; 3]);
-    let (_, out, _) = show(&rt.alloc(), LIMITS, &mut input, Calls::new(), Calls::new());
-    println!(rt; "{} writes", out.count())
+    for size in [9, usize::MAX] {
+        let mut input = Pieces::new(bytes, [size; 3]);
+        let (_, out, _) = show(&rt.alloc(), LIMITS, &mut input, Calls::new(), Calls::new());
+        println!(rt; "{} writes", out.count())?;
+    }
+    Ok(())
 }
 
 /// Prints how many reads of nine bytes `show` makes before the text of all bytes before them is out, and whether it

@@ -87,6 +87,8 @@ pub struct Pipe<'a> {
     wire: &'a RefCell<Wire>,
     failures: u64,
     reads: u64,
+    asked: u64,
+    writes: u64,
 }
 
 impl<'a> Pipe<'a> {
@@ -97,6 +99,8 @@ impl<'a> Pipe<'a> {
             wire: &wires.up,
             failures: 0,
             reads: 0,
+            asked: 0,
+            writes: 0,
         }
     }
 
@@ -107,6 +111,8 @@ impl<'a> Pipe<'a> {
             wire: &wires.down,
             failures: 0,
             reads: 0,
+            asked: 0,
+            writes: 0,
         }
     }
 }
@@ -116,8 +122,11 @@ impl Source for Pipe<'_> {
 
     ghost reads = { λ pipe. pipe.reads };
 
+    ghost asked = { λ pipe. pipe.asked };
+
     fn read(&mut self, buffer: &mut [u8]) -> Result<usize, IoFault> {
         self.reads = self.reads.saturating_add(1);
+        self.asked = self.asked.saturating_add(buffer.len() as u64);
         if !self.wires.fails() {
             if let Ok(mut wire) = self.wire.try_borrow_mut() {
                 return Ok(self.wires.take(&mut wire, buffer));
@@ -131,11 +140,16 @@ impl Source for Pipe<'_> {
 impl Target for Pipe<'_> {
     ghost failures = { λ pipe. pipe.failures };
 
+    ghost writes = { λ pipe. pipe.writes };
+
     fn write(&mut self, bytes: &[u8]) -> Result<usize, IoFault> {
         let count = bytes.len().min(self.wires.most);
         if !self.wires.fails() && (count > 0 || bytes.is_empty()) {
             if let Ok(mut wire) = self.wire.try_borrow_mut() {
                 if wire.bytes.extend_from_slice(&bytes[..count]).is_ok() {
+                    if count == bytes.len() {
+                        self.writes = self.writes.saturating_add(1);
+                    }
                     return Ok(count);
                 }
             }

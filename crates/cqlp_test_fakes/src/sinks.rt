@@ -86,12 +86,13 @@ impl Sink for Ends {
 #[derive(Drop)]
 pub struct Adds<'a> {
     out: &'a Cell<usize>,
+    writes: u64,
 }
 
 impl<'a> Adds<'a> {
     /// To what is out already.
     pub fn new(out: &'a Cell<usize>) -> Adds<'a> {
-        Adds { out }
+        Adds { out, writes: 0 }
     }
 
     fn add(&self, count: usize) {
@@ -117,8 +118,11 @@ impl Sink for Adds<'_> {
 impl Target for Adds<'_> {
     ghost failures = { λ _. 0 };
 
+    ghost writes = { λ target. target.writes };
+
     fn write(&mut self, bytes: &[u8]) -> Result<usize, IoFault> {
         self.add(bytes.len());
+        self.writes = self.writes.saturating_add(1);
         Ok(bytes.len())
     }
 }

@@ -9,6 +9,7 @@ pub struct Pieces<'a> {
     bytes: &'a [u8],
     sizes: [usize; 3],
     reads: u64,
+    asked: u64,
 }
 
 impl<'a> Pieces<'a> {
@@ -18,6 +19,7 @@ impl<'a> Pieces<'a> {
             bytes,
             sizes,
             reads: 0,
+            asked: 0,
         }
     }
 
@@ -32,8 +34,11 @@ impl Source for Pieces<'_> {
 
     ghost reads = { λ source. source.reads };
 
+    ghost asked = { λ source. source.asked };
+
     fn read(&mut self, buffer: &mut [u8]) -> Result<usize, IoFault> {
         self.reads = self.reads.saturating_add(1);
+        self.asked = self.asked.saturating_add(buffer.len() as u64);
         let [first, second, last] = self.sizes;
         let count = first.min(self.bytes.len()).min(buffer.len());
         buffer[..count].copy_from_slice(&self.bytes[..count]);
@@ -77,10 +82,13 @@ impl Source for FailsOnce<'_> {
 
     ghost reads = { λ source. source.pieces.reads };
 
+    ghost asked = { λ source. source.pieces.asked };
+
     fn read(&mut self, buffer: &mut [u8]) -> Result<usize, IoFault> {
         if self.before == Some(0) {
             self.before = None;
             self.pieces.reads = self.pieces.reads.saturating_add(1);
+            self.pieces.asked = self.pieces.asked.saturating_add(buffer.len() as u64);
             self.failures = self.failures.saturating_add(1);
             return Err(IoFault);
         }
@@ -121,6 +129,8 @@ impl Source for Looks<'_> {
     ghost failures = { λ _. 0 };
 
     ghost reads = { λ source. source.pieces.reads };
+
+    ghost asked = { λ source. source.pieces.asked };
 
     fn read(&mut self, buffer: &mut [u8]) -> Result<usize, IoFault> {
         match self.wanted.split_first() {

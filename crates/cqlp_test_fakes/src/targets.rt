@@ -10,6 +10,7 @@ pub struct Narrow {
     room: usize,
     size: usize,
     failures: u64,
+    writes: u64,
 }
 
 impl Narrow {
@@ -20,6 +21,7 @@ impl Narrow {
             room,
             size,
             failures: 0,
+            writes: 0,
         }
     }
 
@@ -37,6 +39,8 @@ impl Narrow {
 impl Target for Narrow {
     ghost failures = { λ target. target.failures };
 
+    ghost writes = { λ target. target.writes };
+
     fn write(&mut self, bytes: &[u8]) -> Result<usize, IoFault> {
         let count = self.room.min(self.size).min(bytes.len());
         let failed = self.text.extend_from_slice(&bytes[..count]).is_err();
@@ -45,6 +49,9 @@ impl Target for Narrow {
             return Err(IoFault);
         }
         self.room -= count;
+        if count == bytes.len() {
+            self.writes = self.writes.saturating_add(1);
+        }
         Ok(count)
     }
 }
@@ -69,6 +76,8 @@ impl Calls {
 
 impl Target for Calls {
     ghost failures = { λ _. 0 };
+
+    ghost writes = { λ target. target.calls };
 
     fn write(&mut self, bytes: &[u8]) -> Result<usize, IoFault> {
         self.calls = self.calls.saturating_add(1);

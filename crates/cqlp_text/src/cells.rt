@@ -17,6 +17,10 @@ const WIDE: usize = 16;
 
 /// Appends the text of a cell: a number in decimal digits, a text in quotes, bytes as hex text, and so on. A fault is
 /// the writer's own.
+///
+/// # Errors
+///
+/// The fault of the target.
 pub fn cell_text<W: Target>(scalar: &Scalar<'_>, w: &mut W) -> Result<(), SinkFault>
     ensures { AppendsText (written W.Target w.old) (text_of (value_of scalar.now)) result (written W.Target w.new) }
 {

@@ -34,6 +34,7 @@ impl Ending {
     ghost use Rattle.cqlp_text.specs.Endings.{IsStatusOfTask, status_of};
 
     /// The exit status.
+    #[must_use]
     pub fn status(self) -> u8
         ensures value { result ≡ status_of self }
         ensures task { IsStatusOfTask result }
@@ -53,6 +54,10 @@ impl Ending {
 }
 
 /// Appends the verdict line or the fault line of an ending. A fault is the writer's own.
+///
+/// # Errors
+///
+/// The fault of the target.
 pub fn ending_line<W: Target>(ending: Ending, w: &mut W) -> Result<(), SinkFault>
     ensures { AppendsText (written W.Target w.old) (line_of ending) result (written W.Target w.new) }
 {

@@ -15,6 +15,10 @@ use cqlp_kind::{Kind, Scalar};
 use cqlp_note::{Address, BoundValue, Field, Header, Target};
 
 /// Appends the line of an event at an offset. A fault is the writer's own.
+///
+/// # Errors
+///
+/// The fault of the target.
 #[inline]
 pub fn event_line<W: Target>(at: u64, event: &Event<'_>, w: &mut W) -> Result<(), SinkFault>
     ensures { AppendsText (written W.Target w.old) (line_of at (event_of event.now)) result (written W.Target w.new) }

@@ -7,6 +7,7 @@ use cqlp_kind::Kind;
 use cqlp_note::{Field, Opcode, Reason};
 
 /// The name of a field.
+#[must_use]
 pub fn field_name(field: Field) -> &'static str
     ensures { result.now ≡ names.field_name field }
 {
@@ -71,6 +72,7 @@ pub fn field_name(field: Field) -> &'static str
 }
 
 /// The name of an opcode, as section 2.4 of `native_protocol_v4.spec` has it.
+#[must_use]
 pub fn opcode_name(opcode: Opcode) -> &'static str
     ensures { result.now ≡ names.opcode_name opcode }
 {
@@ -95,6 +97,7 @@ pub fn opcode_name(opcode: Opcode) -> &'static str
 }
 
 /// The name of a kind of type, as CQL has it.
+#[must_use]
 pub fn kind_name(kind: Kind) -> &'static str
     ensures { result.now ≡ names.kind_name kind }
 {
@@ -129,6 +132,7 @@ pub fn kind_name(kind: Kind) -> &'static str
 }
 
 /// The name of a reason.
+#[must_use]
 pub fn reason_name(reason: Reason) -> &'static str
     ensures { result.now ≡ names.reason_name reason }
 {

@@ -23,6 +23,10 @@ const ROWS: i32 = 2;
 
 /// Appends what is written of an event of a page, which nothing is of an event of another frame, and goes to the place
 /// after it, also at a fault, which is the writer's own.
+///
+/// # Errors
+///
+/// The fault of the target.
 #[inline]
 pub fn page_part<W: Target>(
     place: &mut PagePlace,
@@ -95,6 +99,7 @@ impl PagePlace {
     ghost use Rattle.cqlp_text.specs.PageText.{with_open, without_open, place_after_field};
 
     /// Before any frame.
+    #[must_use]
     pub fn new() -> Self
         ensures { result ≡ no_page }
     {

@@ -32,6 +32,7 @@ impl TreeCheck {
 }
 
 /// What keeps a type from having an option.
+#[must_use]
 #[cycle(check_type)]
 pub fn check_type(tree: &TypeTree) -> TreeCheck
     ensures { result ≡ checks_of false (tree_of tree.now) }

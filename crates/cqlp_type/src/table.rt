@@ -37,6 +37,10 @@ impl<A: Allocator> TypeTable<A> {
     ghost use Rattle.cqlp_kind.specs.TypeStep.{with_arity, with_span};
 
     /// With room for `room` nodes, which is all that it will ever have.
+    ///
+    /// # Errors
+    ///
+    /// Memory that is refused.
     #[tactic(auto, using(crate::proofs::OpenTypes::nothing_holds))]
     pub fn new(alloc: A, room: u32) -> Result<Self, NoMemory>
         ensures { IfOk result (λ table. table ≡ record { nodes = []; room = room }) }
@@ -169,6 +173,10 @@ impl<A: Allocator> TypeTable<A> {
 
 impl<A: Allocator + Clone> TypeTable<A> {
     /// An equal table with the same room.
+    ///
+    /// # Errors
+    ///
+    /// Memory that is refused; this table stays as it is.
     pub fn clone_table(&self) -> Result<Self, NoMemory>
         ensures { IfOk result (λ table. table ≡ self.now) }
     {

@@ -34,6 +34,7 @@ pub enum TypeTree {
 /// How many bytes a type's option has. None where it has no option, since a text has more than 65,535 bytes, a
 /// user-defined type or a tuple has more fields than that, or a `Plain` is of the kind `Raw` or of one that has
 /// parameters; and where the option has more than 268,435,456 bytes. `laws::len_is_of_option` says so by the bytes.
+#[must_use]
 #[cycle(type_len)]
 pub fn type_len(tree: &TypeTree) -> Option<u32>
     ensures { result ≡ spelled_len tree.now }

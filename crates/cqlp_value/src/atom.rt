@@ -26,6 +26,7 @@ pub enum Content<'a> {
 
 impl Atom {
     /// The kind of its type.
+    #[must_use]
     #[inline(always)]
     pub fn kind(&self) -> Kind
         ensures { result ≡ kind_of (atom_of self.now) }
@@ -57,6 +58,7 @@ impl Atom {
 
     /// Its content: what follows its length where it is spelled. A true is the byte 01. What it holds is in the range of
     /// its types.
+    #[must_use]
     #[inline(always)]
     pub fn content(&self) -> Content<'_>
         ensures is { content_in result ≡ content_of (atom_of self.now) }
@@ -86,6 +88,7 @@ impl Atom {
     }
 
     /// How many bytes its content has. What it holds is in the range of its types.
+    #[must_use]
     #[inline(always)]
     pub fn content_len(&self) -> u64
         ensures size { result ≡ length (content_of (atom_of self.now)) }
@@ -119,6 +122,7 @@ impl Atom {
 
     /// How many bytes it has with the four of its length, or None where [`is_allowed`](Self::is_allowed) is false. What it
     /// holds is then in the range of its types.
+    #[must_use]
     #[inline(always)]
     pub fn allowed_size(&self) -> Option<u64>
         ensures allowed { is_some result ≡ scalar_fits (atom_of self.now) }
@@ -133,6 +137,7 @@ impl Atom {
     }
 
     /// Its content, or None where it is none of this kind, as [`fits`](crate::fits) says. What it holds is then in the range of its types.
+    #[must_use]
     #[inline(always)]
     pub fn content_as(&self, kind: Kind) -> Option<Content<'_>>
         ensures fits { is_some result ≡ (is_kind (kind_of (atom_of self.now)) kind && scalar_fits (atom_of self.now)) }
@@ -148,6 +153,7 @@ impl Atom {
 
     /// Whether its content is one of its kind: it is not empty, an ascii is ASCII, a timeuuid is of version 1, a time
     /// is within a day, and a decimal has an unscaled number.
+    #[must_use]
     #[inline(always)]
     pub fn is_allowed(&self) -> bool
         ensures { result ≡ scalar_fits (atom_of self.now) }

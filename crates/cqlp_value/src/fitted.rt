@@ -17,6 +17,7 @@ use cqlp_type::{Kind, TypeTree};
 /// more. None where it is none of the type, as [`fits`] says. What its scalars hold is then in the range of their types.
 ///
 /// It goes through the value once, where [`fits`] and [`value_size`] go through it twice.
+#[must_use]
 #[inline(always)]
 pub fn fitting_size(value: &Value, of: Option<&TypeTree>) -> Option<u64>
     ensures fits { is_some result ≡ fits_type value.now (option_map (λ t. t.now) of.entry) }

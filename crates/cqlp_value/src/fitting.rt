@@ -24,6 +24,7 @@ pub const MOST: usize = i32::MAX as usize;
 /// time within a day, and a decimal has an unscaled number. A list, a set or a map has at most
 /// 2,147,483,647 items, which fit. A tuple or a user-defined type has one field at least and no more than its type,
 /// which fit. Without a type a value is raw.
+#[must_use]
 #[inline(always)]
 pub fn fits(value: &Value, of: Option<&TypeTree>) -> bool
     ensures { result ≡ fits_type value.now (option_map (λ t. t.now) of.entry) }

@@ -17,6 +17,7 @@ const LONGEST: u64 = Header::LONGEST_BODY as u64;
 
 /// How many bytes spell a value of this type, or of a cell without a type: those of its \[bytes\], with the four of the
 /// length. None where the value does not fit the type, as [`fits`] says, and where that is more than 268,435,456.
+#[must_use]
 pub fn value_len(value: &Value, of: Option<&TypeTree>) -> Option<u32>
     ensures { result ≡ spelled_value_len value.now (option_map (λ t. t.now) of.entry) }
 {
@@ -32,6 +33,7 @@ pub fn value_len(value: &Value, of: Option<&TypeTree>) -> Option<u32>
 }
 
 /// How many bytes of a value follow its length; 2^64 - 5 where there are more.
+#[must_use]
 pub fn content_len(value: &Value) -> u64
     ensures { 4 + result ≡ min (values_size (value_of value.now)) (2 ^ 64 - 1) }
 {
@@ -40,6 +42,7 @@ pub fn content_len(value: &Value) -> u64
 
 /// How many bytes spell a value, the four of its length counted; 2^64 - 1 where there are more. What its scalars hold is
 /// in the range of their types.
+#[must_use]
 #[inline(always)]
 #[cycle(value_size)]
 pub fn value_size(value: &Value) -> u64

@@ -68,6 +68,7 @@ pub enum Value {
 impl Value {
     /// The value of a cell that is this scalar: [`Value::Empty`] where its content has no bytes, as that of an empty text, and
     /// else a [`Value::Leaf`]. Section 6 of `native_protocol_v4.spec`.
+    #[must_use]
     pub fn scalar(atom: Atom) -> Value
         ensures { result ≡ scalar_value atom }
     {

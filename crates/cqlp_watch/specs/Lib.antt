@@ -8,5 +8,7 @@ pub mod Subjects
 pub mod Waiting
 pub mod Pairings
 pub mod Speakers
+pub mod Misses
+pub mod Openings
 pub mod Watches
 pub mod Laws

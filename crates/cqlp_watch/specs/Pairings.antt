@@ -1,5 +1,6 @@
 -- The messages that wait, of which there are at most so many, and what is told of each message.
-use Rattle.std.specs.Prelude.{◌≡◌, ℕ, ◌≤◌, ℤ, List, [], ◌∷◌, ◌++◌, length, drop, find, slice_get, nat_lt, Option, Some, None, option_map, if◌then◌else◌}
+use Rattle.std.specs.Prelude.{◌≡◌, ℕ, ◌≤◌, Bool, false, not, ℤ, List, [], ◌∷◌, ◌++◌, length, drop, find, slice_get, nat_lt, Option, Some, None, option_map, if◌then◌else◌}
+use Rattle.std.specs.List.{list_any}
 use Rattle.cqlp_watch.specs.declared.message.Message.{Message}
 use Rattle.cqlp_watch.specs.declared.paired.Paired.{Paired}
 use Rattle.cqlp_watch.specs.declared.paired.Paired.TheVariants.{Exchange, Unanswered, Unasked, Event}
@@ -59,6 +60,13 @@ awaited m w =
     if nat_lt (length w.waiting) w.limit then paired None (behind m w.waiting w.limit)
     else if is_request m then crowded m w
     else paired (Some (Unasked m)) w
+
+-- So a message is given up, where none waits under its id: it or the one that waits longest.
+abbrev pub overtakes : {T : Type 0} → Message T → Waiting T → Bool
+overtakes m w =
+    if is_event m then false
+    else if nat_lt (length w.waiting) w.limit then false
+    else not (list_any (is_under (id_of m)) w.waiting)
 
 -- ---- where one waited, it meets that, or waits in its place
 

@@ -5,6 +5,7 @@ ghost use Rattle.cqlp_watch.specs.Directions.{cut};
 
 use crate::header_front::HeaderFront;
 use crate::message::Frame;
+use crate::opening::{Opening, opening_with};
 use cqlp_note::Header;
 use std::mem;
 
@@ -26,6 +27,16 @@ pub(crate) enum Stage {
         frame: Frame,
         left: u32,
     },
+}
+
+impl Stage {
+    ghost use Rattle.cqlp_watch.specs.Openings.{is_between};
+
+    fn is_between(&self) -> bool
+        ensures { result ≡ is_between self.now }
+    {
+        matches!(self, Stage::Between)
+    }
 }
 
 /// What bytes of a direction are.
@@ -65,9 +76,11 @@ pub struct Heads {
 
 impl Heads {
     ghost use Rattle.cqlp_watch.specs.Heads.{head_within};
+    ghost use Rattle.cqlp_watch.specs.Openings.{opening_in};
     ghost use Rattle.cqlp_watch.specs.Directions.{after_end, after_gap, anew, begun, closing, counted, filled, heard, hears, passed, sought, stepping};
 
     /// A direction of which nothing came: that of the responses, or that of the requests. Its first byte begins a frame, where `from_start`.
+    #[must_use]
     pub fn new(responses: bool, from_start: bool) -> Heads
         ensures { result ≡ anew responses from_start }
     {
@@ -113,6 +126,16 @@ impl Heads {
             Stage::Header { front, at, begun } => self.fill(front, at, begun, piece, time),
             Stage::Body { frame, left } => self.pass(frame, left, piece, time),
         }
+    }
+
+    /// What these bytes are that come next, if none came before.
+    pub(crate) fn opening(&self, piece: &[u8]) -> Opening
+        ensures { result ≡ opening_in piece.now self.now }
+    {
+        if self.position > 0 {
+            return Opening::Frames;
+        }
+        opening_with(self.responses, self.stage.is_between(), piece)
     }
 
     /// So many bytes did not come. The frame that ends there, or past which no frame is known to begin, is told; it is whole only if all its bytes

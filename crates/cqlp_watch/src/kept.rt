@@ -45,6 +45,7 @@ impl Front {
         }
     }
 
+    #[must_use]
     pub fn as_slice(&self) -> &[u8]
         ensures { result.now ≡ self.now }
     {

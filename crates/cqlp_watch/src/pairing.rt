@@ -2,6 +2,7 @@
 
 ghost use Rattle.std.specs.Prelude.{◌≡◌, ◌↔◌, ◌+◌, ◌==◌, ◌<◌, ◌≤◌, IfNone, IfOk, IsErrOf, OnSome};
 ghost use Rattle.std.specs.Prelude.{find, length, position, vec_capacity, vec_len};
+ghost use Rattle.std.specs.List.{list_any};
 ghost use Rattle.cqlp_watch.specs.Messages.{is_under};
 ghost use Rattle.cqlp_watch.specs.Pairings.{without};
 
@@ -35,10 +36,14 @@ impl<T, A: Allocator> Model for Pairing<T, A> {
 }
 
 impl<T: Drop, A: Allocator> Pairing<T, A> {
-    ghost use Rattle.cqlp_watch.specs.Pairings.{awaited, crowded, ended, met, new_waiting, paired, taken};
+    ghost use Rattle.cqlp_watch.specs.Pairings.{awaited, crowded, ended, met, new_waiting, overtakes, paired, taken};
 
     /// No message waits. At most `limit` messages will, 1 to 65,535. All memory is taken here, in one request: so many times the size
     /// of a [`Message`].
+    ///
+    /// # Errors
+    ///
+    /// A limit of 0, and memory that is refused.
     pub fn new(alloc: A, limit: u16) -> Result<Self, NewPairingError>
         ensures bad { IsErrOf result NewPairingError.BadLimit ↔ (limit ≡ 0) }
         ensures fresh { IfOk result (λ p. p ≡ new_waiting limit) }
@@ -81,6 +86,19 @@ impl<T: Drop, A: Allocator> Pairing<T, A> {
         match leave(&mut self.waiting, message.stream()) {
             Some(first) => Some(self.meet(first, message)),
             None => self.wait(message),
+        }
+    }
+
+    /// Whether `take` gives a message up for this one, or this one itself, since none waits under its stream id and as many wait as may.
+    pub fn overtakes(&self, message: &Message<T>) -> bool
+        ensures { result ≡ overtakes message.now self.now }
+    {
+        if message.is_event() {
+            false
+        } else if self.waiting.len() < self.limit as usize {
+            false
+        } else {
+            !has_one_under(&self.waiting, message.stream())
         }
     }
 
@@ -142,6 +160,13 @@ fn leave<T: Drop, A: Allocator>(messages: &mut Vec<Message<T>, A>, id: i16) -> O
 {
     let at = place_under(messages, id)?;
     Some(messages.remove(at))
+}
+
+/// Whether a message waits under a stream id.
+fn has_one_under<T>(messages: &[Message<T>], id: i16) -> bool
+    ensures { result ≡ list_any (is_under id) messages.now }
+{
+    messages.iter().any(|message| message.stream() == id)
 }
 
 /// The place of the first message under a stream id.

@@ -5,6 +5,7 @@ ghost use Rattle.std.specs.Prelude.{◌≡◌, ◌≤◌, [], true, length};
 use crate::heads::{Heads, Heard};
 use crate::kept::{Front, Kept};
 use crate::message::{Frame, Message};
+use crate::opening::Opening;
 use cqlp_facts::FactsReader;
 use cqlp_note::Header;
 use std::mem;
@@ -32,6 +33,7 @@ pub(crate) struct SpeakerStep {
 
 impl Speaker {
     ghost use Rattle.cqlp_facts.specs.Reading.{begun, idle};
+    ghost use Rattle.cqlp_watch.specs.Openings.{opening_in};
     ghost use Rattle.cqlp_watch.specs.Speakers.{after_end, after_gap, ending, front_more, hearing, heard, kept, read_more, silent, speaker};
 
     /// A side that said nothing yet: that of the responses, or that of the requests. Its first byte begins a frame, where `from_start`.
@@ -77,6 +79,13 @@ impl Speaker {
             is_done: false,
             message: None,
         }
+    }
+
+    /// What these bytes are that come next, if none came before.
+    pub(crate) fn opening(&self, piece: &[u8]) -> Opening
+        ensures { result ≡ opening_in piece.now self.now.heads }
+    {
+        self.heads.opening(piece)
     }
 
     /// So many bytes did not come. The frame that ends there is told.

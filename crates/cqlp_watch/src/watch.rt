@@ -4,6 +4,8 @@ ghost use Rattle.std.specs.Prelude.{◌≡◌, ◌↔◌, ◌≤◌, IfOk, IsErr
 
 use crate::kept::Kept;
 use crate::message::Message;
+use crate::missed::Missed;
+use crate::opening::Opening;
 use crate::paired::{NewPairingError, Paired};
 use crate::pairing::Pairing;
 use crate::speaker::Speaker;
@@ -20,6 +22,7 @@ pub struct Watch<A: Allocator = Global> {
     requests: Speaker,
     responses: Speaker,
     pairing: Pairing<Kept, A>,
+    missed: Missed,
 }
 
 /// What the first so many bytes of a piece tell.
@@ -37,14 +40,18 @@ impl<A: Allocator> Model for Watch<A> {
 
     ghost Value = { Watched };
 
-    ghost view = { λ w. watched w.requests w.responses w.pairing };
+    ghost view = { λ w. watched w.requests w.responses w.pairing w.missed };
 }
 
 impl<A: Allocator> Watch<A> {
-    ghost use Rattle.cqlp_watch.specs.Watches.{after_end, after_gap, begun, finished, heard, new_watched, paired_if, stepping, telling};
+    ghost use Rattle.cqlp_watch.specs.Watches.{after_end, after_gap, begun, finished, heard, new_watched, opening_of, paired_if, stepping, telling};
 
     /// A connection of which nothing was seen. At most `limit` messages wait for the other of their exchange, 1 to 65,535. All memory is taken
     /// here, in one request: so many times the size of a `Message<Kept>`.
+    ///
+    /// # Errors
+    ///
+    /// A limit of 0, and memory that is refused.
     pub fn new(alloc: A, limit: u16) -> Result<Self, NewPairingError>
         ensures bad { IsErrOf result NewPairingError.BadLimit ↔ (limit ≡ 0) }
         ensures fresh { IfOk result (λ w. w ≡ new_watched limit) }
@@ -53,6 +60,7 @@ impl<A: Allocator> Watch<A> {
             requests: Speaker::new(false, false),
             responses: Speaker::new(true, false),
             pairing: Pairing::new(alloc, limit)?,
+            missed: Missed::NONE,
         })
     }
 
@@ -80,6 +88,8 @@ impl<A: Allocator> Watch<A> {
         ensures told { stepping result self.new ≡ heard responses time begins piece.now self.old }
         ensures within { result.used ≤ length piece.now }
     {
+        let opening = self.opening(responses, piece);
+        self.missed.count_opening(opening);
         let step = if responses {
             self.responses.hear(piece, time, begins)
         } else {
@@ -96,6 +106,7 @@ impl<A: Allocator> Watch<A> {
     pub fn gap(&mut self, responses: bool, length: u64) -> Option<Paired<Kept>>
         ensures { telling result self.new ≡ after_gap responses length self.old }
     {
+        self.missed.count_gap();
         let message = if responses {
             self.responses.gap(length)
         } else {
@@ -123,10 +134,31 @@ impl<A: Allocator> Watch<A> {
         self.pairing.end()
     }
 
+    /// What was missed so far, since it was made.
+    pub fn missed(&self) -> Missed
+        ensures { result ≡ self.now.missed }
+    {
+        self.missed
+    }
+
+    /// What these bytes of a direction are that come next, if none came before.
+    fn opening(&self, responses: bool, piece: &[u8]) -> Opening
+        ensures { result ≡ opening_of responses piece.now self.now }
+    {
+        if responses {
+            self.responses.opening(piece)
+        } else {
+            self.requests.opening(piece)
+        }
+    }
+
     /// Pairs a message that has ended, if one has.
     fn pair(&mut self, message: Option<Message<Kept>>) -> Option<Paired<Kept>>
         ensures { telling result self.new ≡ paired_if message self.old }
     {
-        self.pairing.take(message?)
+        let message = message?;
+        let is_overtaken = self.pairing.overtakes(&message);
+        self.missed.count_overtaken(is_overtaken);
+        self.pairing.take(message)
     }
 }

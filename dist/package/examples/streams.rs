@@ -55,7 +55,9 @@ impl<F: FnMut(u64, Told<'_>) -> io::Result<()>> Directions<F> {
     /// Takes a segment: its acknowledgement first, which is of the other direction.
     fn take(&mut self, segment: &Segment<'_>) -> io::Result<()> {
         let head = segment.head;
-        if head.flags.ack && let Some(other) = self.known.get_mut(&(head.destination, head.source)) {
+        if head.flags.ack
+            && let Some(other) = self.known.get_mut(&(head.destination, head.source))
+        {
             other.pull(&mut self.tell, &[], |stream| stream.acknowledge(head.acknowledgement))?;
         }
         let control = Control {
@@ -136,6 +138,10 @@ impl Direction {
 }
 
 /// Tells of each direction of each connection in a capture what it sent, by its number.
+///
+/// # Errors
+///
+/// Those of the capture, of its files, and of `tell`.
 pub fn follow(mut capture: impl Read, tell: impl FnMut(u64, Told<'_>) -> io::Result<()>) -> io::Result<()> {
     let mut reader = CaptureReader::new(Global, CaptureLimits::DEFAULT).map_err(io::Error::other)?;
     let mut directions = Directions { known: HashMap::new(), order: VecDeque::new(), count: 0, tell };

@@ -43,6 +43,7 @@ impl<'a> Scalar<'a> {
     /// `BadSize` where no scalar of the kind has this many bytes, and where there are none; else `BadUtf8` for a varchar that is
     /// not UTF-8, and `BadScalar` for an ascii with a byte above 7F, a time past the end of a day or a timeuuid that is not of
     /// version 1.
+    #[must_use]
     pub fn from_bytes(kind: Kind, bytes: &'a [u8]) -> Option<Result<Scalar<'a>, Reason>> {
         if !kind.is_scalar() {
             None
@@ -67,7 +68,8 @@ impl<A: Allocator> Stream<A> {
 /// Writes a page whose rows the caller holds, and answers how many bytes its frame has: what [`encode`](crate::frame::encode) writes of the
 /// `frame` that holds their cells, which this one does not. It takes no memory. Section 4.2.5.2 of `native_protocol_v4.spec`.
 ///
-/// ```
+#[cfg_attr(feature = "std", doc = "```")]
+#[cfg_attr(not(feature = "std"), doc = "```ignore")]
 /// use cqlp::OfStd;
 /// use cqlp::frame::{Atom, Frame, Message, Metadata, Rows, Value, encode_rows};
 ///

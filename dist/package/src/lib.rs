@@ -23,7 +23,8 @@
 //!
 //! [`run`] reads a [`Source`], here any reader of std's, and hands each event with its offset to a [`Sink`]:
 //!
-//! ```
+#![cfg_attr(feature = "std", doc = "```")]
+#![cfg_attr(not(feature = "std"), doc = "```ignore")]
 //! use cqlp::{Decoder, Event, Finish, Global, Limits, OfStd, Outcome, Scalar, Sink, SinkFault, run};
 //! use std::fs::File;
 //!
@@ -104,7 +105,8 @@
 //!
 //! A [`Frame`](frame::Frame) is written whole by [`encode`](frame::encode), or cell by cell, without ever being held:
 //!
-//! ```
+#![cfg_attr(feature = "std", doc = "```")]
+#![cfg_attr(not(feature = "std"), doc = "```ignore")]
 //! use cqlp::frame::{Atom, Frame, Message, Metadata, PageWriter, Rows, Spec, TypeTree, Value, encode, value_size};
 //! use cqlp::{Kind, OfStd};
 //!
@@ -176,7 +178,7 @@
 //! The feature `std`, which is on by default, is for [`OfStd`] alone. Without it the package needs `core` and `alloc`, and reads and
 //! writes by a [`Source`] and a [`Target`] of the caller's.
 
-#![no_std]
+#![cfg_attr(not(feature = "cli"), no_std)]
 #![cfg_attr(not(feature = "std"), allow(rustdoc::broken_intra_doc_links))]
 #![doc(test(attr(forbid(unsafe_code))))]
 // Each module is a whole library of the sources, of which this package exports a part.
@@ -184,13 +186,13 @@
 // Arguments that contracts alone speak of.
 #![allow(unused_variables)]
 // The form of the code is what was proved: a `match` where `?` would do, say.
-#![allow(clippy::style, clippy::complexity)]
+#![allow(clippy::style, clippy::complexity, clippy::manual_contains)]
 
 #[cfg(not(target_pointer_width = "64"))]
 compile_error!("each proof of these sources takes a usize to have 64 bits");
 
 extern crate alloc;
-#[cfg(feature = "std")]
+#[cfg(all(feature = "std", not(feature = "cli")))]
 extern crate std;
 
 #[macro_use]
@@ -200,38 +202,70 @@ mod kit_std;
 #[doc = include_str!("../README.md")]
 struct Readme;
 
+// What dist/erase writes has the layout of its source.
 mod checked;
+#[rustfmt::skip]
 mod cqlp_build;
+#[rustfmt::skip]
 mod cqlp_build_cells;
+#[rustfmt::skip]
 mod cqlp_capture;
+#[rustfmt::skip]
 mod cqlp_cell;
+#[rustfmt::skip]
 mod cqlp_columns;
+#[rustfmt::skip]
 mod cqlp_compose;
+#[rustfmt::skip]
 mod cqlp_decode;
+#[rustfmt::skip]
 mod cqlp_encode;
+#[rustfmt::skip]
 mod cqlp_facts;
+#[rustfmt::skip]
 mod cqlp_grammar;
+#[rustfmt::skip]
 mod cqlp_json;
+#[rustfmt::skip]
 mod cqlp_kind;
+#[rustfmt::skip]
 mod cqlp_message;
+#[rustfmt::skip]
 mod cqlp_note;
+#[rustfmt::skip]
 mod cqlp_page_batches;
+#[rustfmt::skip]
 mod cqlp_page_columns;
+#[rustfmt::skip]
 mod cqlp_page_events;
+#[rustfmt::skip]
 mod cqlp_page_writing;
+#[rustfmt::skip]
 mod cqlp_read;
+#[rustfmt::skip]
 mod cqlp_reassembly;
+#[rustfmt::skip]
 mod cqlp_render;
+#[rustfmt::skip]
 mod cqlp_segment;
+#[rustfmt::skip]
 mod cqlp_session;
+#[rustfmt::skip]
 mod cqlp_skip;
 #[cfg(feature = "std")]
+#[rustfmt::skip]
 mod cqlp_sockets;
+#[rustfmt::skip]
 mod cqlp_tables;
+#[rustfmt::skip]
 mod cqlp_text;
+#[rustfmt::skip]
 mod cqlp_type;
+#[rustfmt::skip]
 mod cqlp_type_tables;
+#[rustfmt::skip]
 mod cqlp_value;
+#[rustfmt::skip]
 mod cqlp_watch;
 mod errors;
 mod hex;
@@ -239,18 +273,81 @@ mod itoa;
 mod jiff_core;
 mod uuid;
 
+#[cfg(feature = "cli")]
+mod clap;
+#[cfg(feature = "cli")]
+#[rustfmt::skip]
+mod cqlp;
+#[cfg(feature = "cli")]
+#[rustfmt::skip]
+mod cqlp_capture_events;
+#[cfg(feature = "cli")]
+#[rustfmt::skip]
+mod cqlp_capture_frames;
+#[cfg(feature = "cli")]
+#[rustfmt::skip]
+mod cqlp_capture_rows;
+#[cfg(feature = "cli")]
+#[rustfmt::skip]
+mod cqlp_connections;
+#[cfg(feature = "cli")]
+#[rustfmt::skip]
+mod cqlp_exchanges;
+#[cfg(feature = "cli")]
+#[rustfmt::skip]
+mod cqlp_loop;
+#[cfg(feature = "cli")]
+#[rustfmt::skip]
+mod cqlp_options;
+#[cfg(feature = "cli")]
+#[rustfmt::skip]
+mod cqlp_prepared;
+#[cfg(feature = "cli")]
+#[rustfmt::skip]
+mod cqlp_progress;
+#[cfg(feature = "cli")]
+#[rustfmt::skip]
+mod cqlp_render_skip;
+#[cfg(feature = "cli")]
+#[rustfmt::skip]
+mod cqlp_streams;
+#[cfg(feature = "cli")]
+#[rustfmt::skip]
+mod cqlp_summary;
+#[cfg(feature = "cli")]
+#[rustfmt::skip]
+mod cqlp_tool;
+#[cfg(feature = "cli")]
+mod kit_host;
+#[cfg(feature = "cli")]
+mod libc;
+#[cfg(feature = "cli")]
+mod os;
+#[cfg(feature = "cli")]
+mod strsim;
+
+/// The command `cqlp`, which src/bin/cqlp.rs runs.
+#[must_use]
+#[cfg(feature = "cli")]
+#[doc(hidden)]
+pub fn run_command() -> i32 {
+    use kit_host::rt::{HostRuntime, Status};
+    libc::keep_broken_pipes();
+    cqlp::main(HostRuntime).status()
+}
+
 pub use cqlp_decode::{
     Capacity, Decoder, Event, FaultAfter, Finish, GiveError, GiveReason, Held, NewError, Outcome, Sink, SinkFault, Step, run,
 };
 pub use cqlp_kind::{Kind, Node, Scalar};
+#[cfg(feature = "std")]
+pub use cqlp_note::OfStd;
 pub use cqlp_note::{
     Address, BadLimits, BoundValue, Field, Header, IoFault, LimitRange, Limits, NoMemory, Opcode, Reason, Refusal, Source, Target,
 };
-#[cfg(feature = "std")]
-pub use cqlp_note::OfStd;
+pub use cqlp_skip::{Fed, NotSkippable, Skipped, SkippingDecoder};
 #[cfg(feature = "std")]
 pub use cqlp_sockets::{Cause, OfSocket};
-pub use cqlp_skip::{Fed, NotSkippable, SkippingDecoder, Skipped};
 pub use cqlp_type::TypeTable;
 pub use cqlp_type_tables::{TableError, table_of, table_of_specs};
 pub use kit_std::alloc::Global;
@@ -313,7 +410,8 @@ pub mod cells {
 /// A [`FrameBuilder`](frame::FrameBuilder) takes the events that a decoder says, and makes the value of each frame, which may be altered and
 /// written by [`encode`](frame::encode) again. A [`Composer`](frame::Composer) makes the bytes of one frame of its events, and needs no value:
 ///
-/// ```
+#[cfg_attr(feature = "std", doc = "```")]
+#[cfg_attr(not(feature = "std"), doc = "```ignore")]
 /// use cqlp::frame::{BuildLimits, Composer, FrameBuilder, Message, encode};
 /// use cqlp::{Decoder, Event, Field, Global, Header, Limits, OfStd, Opcode, Scalar, Step};
 ///
@@ -349,11 +447,12 @@ pub mod frame {
     pub use crate::cqlp_build::{BuildError, BuildLimits, BuiltFrame, FrameBuilder};
     pub use crate::cqlp_compose::Composer;
     pub use crate::cqlp_encode::{
-        AppendError, BindError, EncodeError, PageError, PageWriter, ValueError, append, bind_value, encode, encode_from, raw_value, write_value,
+        AppendError, BindError, EncodeError, PageError, PageWriter, ValueError, append, bind_value, encode, encode_from, raw_value,
+        write_value,
     };
     pub use crate::cqlp_message::{
-        BatchEntry, ErrorExtra, Frame, Message, Metadata, OwnedBound, PartRef, Prepared, QueryParams, Rows, SchemaChange,
-        SchemaOptions, ServerEvent, Spec, TakesParts, Unfit,
+        BatchEntry, ErrorExtra, Frame, Message, Metadata, OwnedBound, PartRef, Prepared, QueryParams, Rows, SchemaChange, SchemaOptions,
+        ServerEvent, Spec, TakesParts, Unfit,
     };
     pub use crate::cqlp_page_writing::LentError;
     pub use crate::cqlp_read::{ReadError, read_value};
@@ -458,7 +557,7 @@ pub mod capture {
 pub mod watch {
     pub use crate::cqlp_facts::{Facts, FactsReader};
     pub use crate::cqlp_watch::{
-        Frame, Front, Heads, Heard, HeardStep, Kept, Message, NewPairingError, Paired, Pairing, Watch, WatchStep,
+        Frame, Front, Heads, Heard, HeardStep, Kept, Message, Missed, NewPairingError, Paired, Pairing, Watch, WatchStep,
     };
 }
 

@@ -133,9 +133,7 @@ fn other_versions_are_answered() {
     ];
     for (header, front, version) in rows {
         let bytes = written(&Frame::version_error(Global, &header).unwrap());
-        let text = format!(
-            "Invalid or unsupported protocol version ({version}); the lowest supported version is 4 and the greatest is 4"
-        );
+        let text = format!("Invalid or unsupported protocol version ({version}); the lowest supported version is 4 and the greatest is 4");
         assert_eq!(bytes, [&front, text.as_bytes()].concat(), "{header:x?}");
         assert_eq!(events(&bytes), (4, Finish::Whole { bytes: bytes.len() as u64 }), "{header:x?}");
     }

@@ -62,7 +62,7 @@ fn captures_and_their_segments() {
         }
         count += 1;
     }
-    assert_eq!(count, 176);
+    assert_eq!(count, 184);
 }
 
 #[test]

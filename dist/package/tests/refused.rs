@@ -5,8 +5,8 @@ use cqlp::capture::{CaptureEnd, CaptureLimits, CaptureReader, CaptureStep, Contr
 use cqlp::cells::{CellError, CellLimits, PageCellError, PageCells, PagePlace};
 use cqlp::columns::{BatchLimits, Columns, MakeError, TakeError};
 use cqlp::frame::{
-    AppendError, Atom, BindError, BuildError, BuildLimits, Composer, Frame, FrameBuilder, Message, Metadata, OwnedBound, ReadError, Rows, Spec, TypeTree,
-    Value, append, bind_value, raw_value, read_value,
+    AppendError, Atom, BindError, BuildError, BuildLimits, Composer, Frame, FrameBuilder, Message, Metadata, OwnedBound, ReadError, Rows,
+    Spec, TypeTree, Value, append, bind_value, raw_value, read_value,
 };
 use cqlp::memory::{AllocError, Box, String, Vec};
 use cqlp::{Event, Field, Global, Header, Kind, Limits, Opcode, Scalar, TableError, table_of, table_of_specs};
@@ -224,11 +224,7 @@ fn streams_of_captures() {
         let Ok(mut stream) = Stream::new(Global, 10) else {
             return Answer::NoMemory;
         };
-        let steps = [
-            stream.take(segment(9, true), b""),
-            stream.take(segment(13, false), b"de"),
-            stream.take(segment(10, false), b"abc"),
-        ];
+        let steps = [stream.take(segment(9, true), b""), stream.take(segment(13, false), b"de"), stream.take(segment(10, false), b"abc")];
         let mut bytes = [0; 10];
         let read = stream.read_held(&mut bytes);
         let expected = [StreamStep::Began { syn: true }, StreamStep::Done, StreamStep::Held { count: 5 }];

@@ -92,8 +92,13 @@ const TEXT: Event<'static> = Event::Text { field: Field::Query, text: "x" };
 #[test]
 fn events_of_another_place() {
     let (options, end) = (header(Opcode::Options, false, 0), Event::End { extra: 0 });
-    assert_eq!(said(ALL, &[TEXT, end, options, options, end]), [Some(BuildError::Misplaced), Some(BuildError::Misplaced), None, Some(BuildError::Misplaced), None]);
-    for (opcode, response, length) in [(Opcode::Options, true, 0), (Opcode::Options, false, 1), (Opcode::Query, false, 0), (Opcode::Ready, false, 0)] {
+    assert_eq!(
+        said(ALL, &[TEXT, end, options, options, end]),
+        [Some(BuildError::Misplaced), Some(BuildError::Misplaced), None, Some(BuildError::Misplaced), None]
+    );
+    for (opcode, response, length) in
+        [(Opcode::Options, true, 0), (Opcode::Options, false, 1), (Opcode::Query, false, 0), (Opcode::Ready, false, 0)]
+    {
         assert_eq!(said(ALL, &[header(opcode, response, length), end]), [None, Some(BuildError::NoFrame)]);
     }
     assert_eq!(said(ALL, &[options, TEXT, end]), [None, None, Some(BuildError::NoFrame)]);

@@ -11,8 +11,8 @@ mod example;
 use common::{Numbers, count};
 use cqlp::Global;
 use cqlp::capture::{
-    CaptureEnd, CaptureEvent, CaptureLimits, CaptureReader, CaptureStep, Control, Distance, Endpoint, LinkType, PacketHead, Segment, Stream,
-    StreamStep, distance_to, read_segment,
+    CaptureEnd, CaptureEvent, CaptureLimits, CaptureReader, CaptureStep, Control, Distance, Endpoint, LinkType, PacketHead, Segment,
+    Stream, StreamStep, distance_to, read_segment,
 };
 use example::{Told, follow};
 use std::collections::{BTreeMap, HashMap};
@@ -233,7 +233,9 @@ impl Report {
 
     fn segment(&mut self, segment: &Segment<'_>) {
         let head = segment.head;
-        if head.flags.ack && let Some(other) = self.directions.get_mut(&(head.destination, head.source)) {
+        if head.flags.ack
+            && let Some(other) = self.directions.get_mut(&(head.destination, head.source))
+        {
             other.pull(&[], &mut self.said, |stream| stream.acknowledge(head.acknowledgement));
         }
         let control = Control {
@@ -243,10 +245,10 @@ impl Report {
             rst: head.flags.rst,
             missing: segment.missing as u32,
         };
-        let direction = self.directions.entry((head.source, head.destination)).or_insert_with(|| Direction {
-            stream: Stream::new(Global, self.room).unwrap(),
-            reference: Reference::default(),
-        });
+        let direction = self
+            .directions
+            .entry((head.source, head.destination))
+            .or_insert_with(|| Direction { stream: Stream::new(Global, self.room).unwrap(), reference: Reference::default() });
         direction.reference.note(control, segment.payload);
         direction.pull(segment.payload, &mut self.said, |stream| stream.take(control, segment.payload));
     }

@@ -12,9 +12,9 @@ mod relay;
 use cqlp::frame::{Atom, Frame, Message, Metadata, Rows, Spec, TypeTree, Value, encode};
 use cqlp::{Decoder, Global, Kind, Limits, OfStd, Step};
 use observer::{Observer, Seen, WAITING, Way};
-use std::io::{Read, Write};
+use std::io::{ErrorKind, Read, Write};
 use std::net::{Ipv4Addr, Shutdown, TcpListener, TcpStream};
-use std::sync::{Arc, Mutex};
+use std::sync::{Arc, Mutex, mpsc};
 use std::thread;
 use std::time::{Duration, Instant};
 
@@ -307,6 +307,35 @@ fn a_client_that_goes_away_ends_the_connection() {
         relay::relay(near, far, observer, Instant::now()).unwrap();
     });
     assert_eq!(kept.without_times(), "1:1 QUERY \"SELECT 1\" 24 -> RESULT 0 251658249 cut\n");
+}
+
+#[test]
+fn a_node_that_dies_in_mid_reply_ends_the_connection() {
+    let (Some((mut client, near)), Some((far, mut node))) = (connected(), connected()) else {
+        return;
+    };
+    let kept = Kept::default();
+    let observer = Observer::new(1, kept.clone()).unwrap();
+    let (done, is_done) = mpsc::channel();
+    thread::spawn(move || {
+        relay::relay(near, far, observer, Instant::now()).unwrap();
+        done.send(()).unwrap();
+    });
+    client.write_all(&query(1, "SELECT 1").bytes).unwrap();
+    node.read_exact(&mut [0; 24]).unwrap();
+    let reply = replied(1, RESULT, VOID).bytes;
+    node.write_all(&reply[..11]).unwrap();
+    drop(node);
+    let mut heard = Vec::new();
+    client.read_to_end(&mut heard).unwrap();
+    assert_eq!(heard, reply[..11]);
+    // The client has said nothing since, and its own direction is open.
+    is_done.recv_timeout(Duration::from_secs(10)).unwrap();
+    assert_eq!(kept.without_times(), "1:1 QUERY \"SELECT 1\" 24 -> RESULT 13 cut\n");
+    let query = query(2, "SELECT 2").bytes;
+    client.write_all(&query).unwrap();
+    thread::sleep(Duration::from_millis(100));
+    assert_eq!(client.write_all(&query).unwrap_err().kind(), ErrorKind::BrokenPipe);
 }
 
 #[test]

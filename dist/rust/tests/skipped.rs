@@ -1,7 +1,7 @@
 //! A stream that is read on after a frame whose body is refused.
 #![forbid(unsafe_code)]
 
-use cqlp::{Event, Fed, Finish, Global, Limits, NotSkippable, Reason, Refusal, Sink, SinkFault, SkippingDecoder, Skipped};
+use cqlp::{Event, Fed, Finish, Global, Limits, NotSkippable, Reason, Refusal, Sink, SinkFault, Skipped, SkippingDecoder};
 
 /// The places of the headers, and how many other events there were.
 #[derive(Default)]

@@ -22,8 +22,11 @@ fn udt(name: &str, fields: Vec<(String, TypeTree)>) -> TypeTree {
 /// Types, and the kind, the inner types and the span of each node.
 #[test]
 fn types_in_preorder() {
-    let plain = [Kind::Ascii, Kind::Bigint, Kind::Blob, Kind::Boolean, Kind::Counter, Kind::Decimal, Kind::Double, Kind::Float, Kind::Timestamp];
-    let plain = [&plain[..], &[Kind::Uuid, Kind::Varchar, Kind::Varint, Kind::Timeuuid, Kind::Inet, Kind::Date, Kind::Time, Kind::Smallint]].concat();
+    let plain =
+        [Kind::Ascii, Kind::Bigint, Kind::Blob, Kind::Boolean, Kind::Counter, Kind::Decimal, Kind::Double, Kind::Float, Kind::Timestamp];
+    let plain =
+        [&plain[..], &[Kind::Uuid, Kind::Varchar, Kind::Varint, Kind::Timeuuid, Kind::Inet, Kind::Date, Kind::Time, Kind::Smallint]]
+            .concat();
     let plain = [&plain[..], &[Kind::Tinyint, Kind::Int]].concat();
     let wide = (0..65_535).map(|_| INT).collect::<Vec<_>>();
     let tables: [(Vec<TypeTree>, Vec<Told>); 9] = [
@@ -41,7 +44,10 @@ fn types_in_preorder() {
             vec![(Kind::Udt, 2, 5), (Kind::Tuple, 2, 3), (Kind::Int, 0, 1), (Kind::Int, 0, 1), (Kind::Int, 0, 1)],
         ),
         (vec![nested(200)], (0..200).map(|level| (Kind::List, 1, 201 - level)).chain([(Kind::Int, 0, 1)]).collect()),
-        (vec![TypeTree::Tuple(wide.into())], [(Kind::Tuple, 65_535, 65_536)].into_iter().chain((0..65_535).map(|_| (Kind::Int, 0, 1))).collect()),
+        (
+            vec![TypeTree::Tuple(wide.into())],
+            [(Kind::Tuple, 65_535, 65_536)].into_iter().chain((0..65_535).map(|_| (Kind::Int, 0, 1))).collect(),
+        ),
     ];
     for (types, wanted) in tables {
         let table = table_of(Global, &types).unwrap();
@@ -109,14 +115,23 @@ fn read_table(stream: &[u8]) -> TypeTable {
 /// stands before the last eight bytes, which tell of no columns.
 #[test]
 fn specs_of_a_prepared() {
-    let some = || vec![INT, TypeTree::List(boxed(TypeTree::Custom("a.B".to_string().into()))), udt("u", vec![("f".to_string(), nested(2))]), INT];
+    let some =
+        || vec![INT, TypeTree::List(boxed(TypeTree::Custom("a.B".to_string().into()))), udt("u", vec![("f".to_string(), nested(2))]), INT];
     let prepared = |bound: Vec<TypeTree>, columns: Option<Vec<TypeTree>>| {
         let (count, told) = (columns.as_ref().map_or(0, Vec::len) as u32, columns.is_some());
-        let result = Metadata { flags: if told { 0 } else { 4 }, columns: count, paging: None, table: None, specs: columns.map(|types| specs(types).into()) };
+        let result = Metadata {
+            flags: if told { 0 } else { 4 },
+            columns: count,
+            paging: None,
+            table: None,
+            specs: columns.map(|types| specs(types).into()),
+        };
         let (columns, specs) = (bound.len() as u32, specs(bound).into());
         Prepared { id: vec![7].into(), flags: 0, columns, keys: vec![].into(), table: None, specs, result }
     };
-    for (bound, columns) in [(some(), None), (vec![], None), (some(), Some(vec![INT])), (vec![INT], Some(some())), (vec![INT], Some(vec![]))] {
+    for (bound, columns) in
+        [(some(), None), (vec![], None), (some(), Some(vec![INT])), (vec![INT], Some(some())), (vec![INT], Some(vec![]))]
+    {
         let frame = Frame::plain(0, Message::Prepared(prepared(bound, columns)));
         let mut bytes = OfStd::new(Vec::new());
         encode(&frame, &mut bytes).unwrap();

@@ -11,6 +11,10 @@ pub struct Box<T, A: Allocator = Global> {
 
 impl<T, A: Allocator> Box<T, A> {
     /// A value in memory of its own; it comes back where that is refused.
+    ///
+    /// # Errors
+    ///
+    /// Memory that is refused.
     pub fn new(alloc: A, item: T) -> Result<Self, AllocFailed<T>> {
         let mut room = ::alloc::vec::Vec::new();
         if room.try_reserve_exact(1).is_err() {

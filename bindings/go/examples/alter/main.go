@@ -7,7 +7,7 @@ import (
 	"log"
 	"os"
 
-	"cqlp"
+	"cqlp.example.org/cqlp"
 )
 
 // alter gives a piece to the decoder, which lies after this many bytes that were kept, and changes what it says. The first byte of the

@@ -8,7 +8,7 @@ import (
 	"net"
 	"os"
 
-	"cqlp"
+	"cqlp.example.org/cqlp"
 )
 
 // A connection asks one thing at a time; the core would have more of them open.

@@ -6,7 +6,7 @@ import (
 	"log"
 	"os"
 
-	"cqlp"
+	"cqlp.example.org/cqlp"
 )
 
 // sum adds up the values of a column that has some.

@@ -7,7 +7,7 @@ import (
 	"log"
 	"os"
 
-	"cqlp"
+	"cqlp.example.org/cqlp"
 )
 
 // pass passes on the cells of a page as they come. They keep their lengths, so they have what is left of its body after the count of its rows.

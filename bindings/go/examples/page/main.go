@@ -6,7 +6,7 @@ import (
 	"log"
 	"os"
 
-	"cqlp"
+	"cqlp.example.org/cqlp"
 )
 
 // printPage prints the columns of a page, and then its rows.

@@ -7,7 +7,7 @@ import (
 	"log"
 	"os"
 
-	"cqlp"
+	"cqlp.example.org/cqlp"
 )
 
 // rows puts the cells of pages into lines.

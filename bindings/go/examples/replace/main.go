@@ -7,7 +7,7 @@ import (
 	"log"
 	"os"
 
-	"cqlp"
+	"cqlp.example.org/cqlp"
 )
 
 // pass passes on each frame once its end came.

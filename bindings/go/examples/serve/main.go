@@ -1,34 +1,62 @@
-// A server with one table in memory: go run ./examples/serve ADDRESS listens there; go run ./examples/serve answers the requests on standard
+// A server with one table in memory, for drivers as they come: go run ./examples/serve ADDRESS listens there; go run ./examples/serve answers the requests on standard
 // input, to standard output.
 package main
 
 import (
 	"bytes"
+	"errors"
 	"fmt"
 	"io"
 	"log"
 	"net"
 	"os"
+	"strings"
 
-	"cqlp"
+	"cqlp.example.org/cqlp"
 )
 
 var (
-	integer = cqlp.Type{Kind: cqlp.KindInt}
-	columns = []cqlp.Column{
-		{Keyspace: "shop", Table: "orders", Name: "id", Type: integer},
-		{Keyspace: "shop", Table: "orders", Name: "items", Type: cqlp.Type{Kind: cqlp.KindMap, Inner: []cqlp.Type{{Kind: cqlp.KindVarchar}, integer}}},
+	integer, text, uuid = cqlp.Type{Kind: cqlp.KindInt}, cqlp.Type{Kind: cqlp.KindVarchar}, cqlp.Type{Kind: cqlp.KindUUID}
+	items               = cqlp.Type{Kind: cqlp.KindMap, Inner: []cqlp.Type{text, integer}}
+	tables              = map[string]*cqlp.Rows{
+		"shop.orders": {
+			Metadata: cqlp.Metadata{Columns: []cqlp.Column{{Name: "id", Type: integer}, {Name: "items", Type: items}}},
+			Rows:     [][]any{{1, map[string]int{"tea": 2}}, {2, map[string]int{"salt": 1}}, {3, nil}, {4, map[string]int{"bread": 1}}, {5, nil}},
+		},
+		// what drivers ask for first
+		"system.local": {
+			Metadata: cqlp.Metadata{Columns: []cqlp.Column{{Name: "cluster_name", Type: text}, {Name: "data_center", Type: text},
+				{Name: "rack", Type: text}, {Name: "release_version", Type: text}, {Name: "partitioner", Type: text},
+				{Name: "host_id", Type: uuid}, {Name: "schema_version", Type: uuid}}},
+			Rows: [][]any{{"one", "dc1", "r1", "3.11.4", "org.apache.cassandra.dht.Murmur3Partitioner", cqlp.UUID{1}, cqlp.UUID{2}}},
+		},
 	}
-	orders = [][]any{{1, map[string]int{"tea": 2}}, {2, map[string]int{"salt": 1}}, {3, nil}, {4, map[string]int{"bread": 1}}, {5, nil}}
 )
 
-// page has the orders from the one on that the paging state says, no more than are asked for.
-func page(parameters *cqlp.Parameters) cqlp.Message {
+// find is the table that a statement names, or nil. The other tables of the system are empty.
+func find(statement string) *cqlp.Rows {
+	for name, table := range tables {
+		if strings.Contains(statement, name) {
+			return table
+		}
+	}
+	if strings.Contains(statement, "system") {
+		return &cqlp.Rows{Metadata: tables["system.local"].Metadata}
+	}
+	return nil
+}
+
+// page has the rows of a table from the one on that the paging state says, no more than are asked for.
+func page(table *cqlp.Rows, parameters *cqlp.Parameters) cqlp.Message {
+	if table == nil {
+		return &cqlp.ServerError{Code: cqlp.ErrorInvalid, Message: "no such table"}
+	}
 	first, state := 0, bytes.TrimPrefix(parameters.PagingState, []byte("from "))
-	if _, err := fmt.Sscan(string(state), &first); parameters.PagingState != nil && err != nil || first < 0 || first > len(orders) {
+	if _, err := fmt.Sscan(string(state), &first); parameters.PagingState != nil && err != nil || first < 0 || first > len(table.Rows) {
 		return &cqlp.ServerError{Code: cqlp.ErrorInvalid, Message: "no paging state of ours"}
 	}
-	found := &cqlp.Rows{Metadata: cqlp.Metadata{Columns: columns, Width: int32(len(columns))}, Rows: orders[first:]}
+	found := &cqlp.Rows{Metadata: table.Metadata, Rows: table.Rows[first:]}
+	found.Metadata.Width = int32(len(found.Metadata.Columns))
 	if size := parameters.PageSize; size != nil && *size > 0 && int(*size) < len(found.Rows) {
 		found.Rows = found.Rows[:*size]
 		found.Metadata.PagingState = []byte(fmt.Sprint("from ", first+int(*size)))
@@ -39,22 +67,21 @@ func page(parameters *cqlp.Parameters) cqlp.Message {
 	return found
 }
 
-// answer is the reply to a request.
+// answer is the reply to a request. The id of a prepared statement is its text.
 func answer(request cqlp.Message) cqlp.Message {
 	switch request := request.(type) {
 	case *cqlp.Options:
-		return &cqlp.Supported{Options: []cqlp.SupportedOption{{Key: "CQL_VERSION", Values: []string{"3.0.0"}}}}
+		return &cqlp.Supported{Options: []cqlp.SupportedOption{{Key: "COMPRESSION"}, {Key: "CQL_VERSION", Values: []string{"3.4.4"}}}}
 	case *cqlp.Startup, *cqlp.Register:
 		return &cqlp.Ready{}
 	case *cqlp.Query:
-		return page(&request.Parameters)
+		return page(find(request.Query), &request.Parameters)
 	case *cqlp.Prepare:
-		return &cqlp.Prepared{ID: []byte("orders"), Result: cqlp.Metadata{Columns: columns}}
-	case *cqlp.Execute:
-		if string(request.ID) == "orders" {
-			return page(&request.Parameters)
+		if table := find(request.Query); table != nil {
+			return &cqlp.Prepared{ID: []byte(request.Query), Result: table.Metadata}
 		}
-		return &cqlp.Unprepared{ServerError: cqlp.ServerError{Message: "prepare it first"}, ID: request.ID}
+	case *cqlp.Execute:
+		return page(find(string(request.ID)), &request.Parameters)
 	}
 	return &cqlp.ServerError{Code: cqlp.ErrorInvalid, Message: fmt.Sprintf("%v is not served", request.Opcode())}
 }
@@ -74,6 +101,10 @@ func serve(in io.Reader, out io.Writer) error {
 	defer open.Close()
 	for {
 		frame, err := frames.Next()
+		var refusal *cqlp.Refusal
+		if errors.As(err, &refusal) && refusal.Reason == cqlp.ReasonBadVersion {
+			out.Write(cqlp.VersionError(frames.Header())) // by which drivers try this version
+		}
 		if err != nil {
 			return err
 		}

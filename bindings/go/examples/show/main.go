@@ -8,7 +8,7 @@ import (
 	"log"
 	"os"
 
-	"cqlp"
+	"cqlp.example.org/cqlp"
 )
 
 // show writes the lines of what is read, and gives the verdict.

@@ -8,7 +8,7 @@ import (
 	"os"
 	"strconv"
 
-	"cqlp"
+	"cqlp.example.org/cqlp"
 )
 
 // head has the events before the first cell.

@@ -74,6 +74,11 @@ pub const CQLP_UNSUPPORTED: u32 = 62;
 pub const CQLP_NO_COLUMNS: u32 = 63;
 /// There is no column of this number.
 pub const CQLP_NO_COLUMN: u32 = 64;
+/// The caller was compiled for structs that lie otherwise than the library's.
+pub const CQLP_OTHER_LAYOUT: u32 = 65;
+
+/// The number of the layout of the structs below, which is told to the library.
+pub const CQLP_LAYOUT: u32 = 0xCF31_19DD;
 
 /// All of the input was used, and more is wanted.
 pub const CQLP_STOP_MORE: u8 = 0;
@@ -626,12 +631,6 @@ const _: () = assert!(size_of::<cqlp_page>() == 8 + size_of::<*const u8>());
 const _: () = assert!(size_of::<cqlp_put>() == 5 * size_of::<usize>());
 
 extern "C" {
-    /// Makes a decoder in a handle that has none.
-    pub fn cqlp_new(limits: *const cqlp_limits, decoder: *mut cqlp_decoder) -> u32;
-
-    /// The same, for a lenient reading.
-    pub fn cqlp_new_lenient(limits: *const cqlp_limits, decoder: *mut cqlp_decoder) -> u32;
-
     /// Takes the next bytes of the stream, and puts the events that they end into the array, at most `room`.
     pub fn cqlp_next(
         decoder: *mut cqlp_decoder,
@@ -640,14 +639,6 @@ extern "C" {
         events: *mut cqlp_event,
         room: usize,
         batch: *mut cqlp_batch,
-    ) -> u32;
-
-    /// Makes columns without rows in a handle that has none, one for each of `count` kinds.
-    pub fn cqlp_columns_new(
-        limits: *const cqlp_batch_limits,
-        kinds: *const u8,
-        count: usize,
-        columns: *mut cqlp_columns,
     ) -> u32;
 
     /// Reads on, as [`cqlp_next`] does, with cells of a page put into the columns, up to the event that they do not take, which it puts.
@@ -678,42 +669,6 @@ extern "C" {
     /// Frees the decoder, and leaves a handle that has none.
     pub fn cqlp_free(decoder: *mut cqlp_decoder) -> u32;
 
-    /// How a stream ends that is there whole.
-    pub fn cqlp_check(limits: *const cqlp_limits, stream: *const u8, length: usize, end: *mut cqlp_end) -> u32;
-
-    /// Writes the frame that has these events, whose contents come one after the other; no pointer in an event is followed.
-    pub fn cqlp_encode(
-        events: *const cqlp_event,
-        count: usize,
-        contents: *const u8,
-        length: usize,
-        bytes: *mut u8,
-        room: usize,
-        encoded: *mut cqlp_encoded,
-    ) -> u32;
-
-    /// Adds up how many bytes of a page these events of cells tell of.
-    pub fn cqlp_page_measure(
-        events: *const cqlp_event,
-        count: usize,
-        contents: *const u8,
-        length: usize,
-        measured: *mut cqlp_measured,
-    ) -> u32;
-
-    /// Begins a page in a handle that has none, whose cells will have `size` bytes, and puts all of its bytes before the first cell.
-    pub fn cqlp_page_begin(
-        events: *const cqlp_event,
-        count: usize,
-        contents: *const u8,
-        length: usize,
-        size: u64,
-        bytes: *mut u8,
-        room: usize,
-        page: *mut cqlp_page,
-        begun: *mut cqlp_encoded,
-    ) -> u32;
-
     /// Puts the next cells of a page, each whole, and says how many events they have and how many bytes.
     pub fn cqlp_page_put(
         page: *mut cqlp_page,
@@ -731,4 +686,188 @@ extern "C" {
 
     /// Frees the page, whole or not, and leaves a handle that has none.
     pub fn cqlp_page_free(page: *mut cqlp_page) -> u32;
+}
+
+/// Calls that tell the library how the structs of their caller lie, of which it answers [`CQLP_OTHER_LAYOUT`] where its own lie otherwise.
+macro_rules! calls_by_layout {
+    ($($(#[$doc:meta])* fn $name:ident = $by_layout:ident($($given:ident: $of:ty),*);)*) => {
+        extern "C" {
+            $(fn $by_layout(layout: u32, $($given: $of),*) -> u32;)*
+        }
+        $(
+            $(#[$doc])*
+            ///
+            /// # Safety
+            ///
+            /// What `include/cqlp.h` says that the caller owes.
+            #[allow(clippy::too_many_arguments)]
+            #[inline]
+            pub unsafe extern "C" fn $name($($given: $of),*) -> u32 {
+                unsafe { $by_layout(CQLP_LAYOUT, $($given),*) }
+            }
+        )*
+    };
+}
+
+calls_by_layout! {
+    /// Makes a decoder in a handle that has none.
+    fn cqlp_new = cqlp_new_by_layout(limits: *const cqlp_limits, decoder: *mut cqlp_decoder);
+
+    /// The same, for a lenient reading.
+    fn cqlp_new_lenient = cqlp_new_lenient_by_layout(limits: *const cqlp_limits, decoder: *mut cqlp_decoder);
+
+    /// Makes columns without rows in a handle that has none, one for each of `count` kinds.
+    fn cqlp_columns_new = cqlp_columns_new_by_layout(
+        limits: *const cqlp_batch_limits,
+        kinds: *const u8,
+        count: usize,
+        columns: *mut cqlp_columns
+    );
+
+    /// How a stream ends that is there whole.
+    fn cqlp_check = cqlp_check_by_layout(
+        limits: *const cqlp_limits,
+        stream: *const u8,
+        length: usize,
+        end: *mut cqlp_end
+    );
+
+    /// Writes the frame that has these events, whose contents come one after the other; no pointer in an event is followed.
+    fn cqlp_encode = cqlp_encode_by_layout(
+        events: *const cqlp_event,
+        count: usize,
+        contents: *const u8,
+        length: usize,
+        bytes: *mut u8,
+        room: usize,
+        encoded: *mut cqlp_encoded
+    );
+
+    /// Adds up how many bytes of a page these events of cells tell of.
+    fn cqlp_page_measure = cqlp_page_measure_by_layout(
+        events: *const cqlp_event,
+        count: usize,
+        contents: *const u8,
+        length: usize,
+        measured: *mut cqlp_measured
+    );
+
+    /// Begins a page in a handle that has none, whose cells will have `size` bytes, and puts all of its bytes before the first cell.
+    fn cqlp_page_begin = cqlp_page_begin_by_layout(
+        events: *const cqlp_event,
+        count: usize,
+        contents: *const u8,
+        length: usize,
+        size: u64,
+        bytes: *mut u8,
+        room: usize,
+        page: *mut cqlp_page,
+        begun: *mut cqlp_encoded
+    );
+}
+
+#[cfg(test)]
+mod tests {
+    use super::*;
+
+    fn size_of_member<S, M>(_: fn(&S) -> &M) -> usize {
+        size_of::<M>()
+    }
+
+    macro_rules! layouts {
+        ($($of:ident { $($member:ident),* },)*) => {{
+            let mut lines = Vec::new();
+            $(
+                lines.push(format!("SIZE({}, {})", stringify!($of), size_of::<$of>()));
+                $(lines.push(format!(
+                    "MEMBER({}, {}, {}, {})",
+                    stringify!($of),
+                    stringify!($member),
+                    offset_of!($of, $member),
+                    size_of_member(|s: &$of| &s.$member)
+                ));)*
+            )*
+            lines
+        }};
+    }
+
+    /// The lines of bindings/c/layouts.h are written from the sources of the library.
+    #[test]
+    fn each_member_lies_where_the_library_has_it() {
+        let text = include_str!("../../../c/layouts.h");
+        let lines = layouts!(
+            cqlp_limits {
+                text,
+                cell,
+                entries,
+                depth,
+                types,
+                parts
+            },
+            cqlp_decoder { live, place, course },
+            cqlp_event {
+                at,
+                content,
+                length,
+                number,
+                row,
+                column,
+                level,
+                extra,
+                bytes,
+                tag,
+                field,
+                kind,
+                opcode,
+                flags,
+                mark,
+                octets
+            },
+            cqlp_batch {
+                used,
+                events,
+                at,
+                stop,
+                reason
+            },
+            cqlp_end {
+                at,
+                bytes,
+                verdict,
+                reason
+            },
+            cqlp_holding { bytes, entries, levels },
+            cqlp_columns { live, place },
+            cqlp_batch_limits {
+                columns,
+                rows,
+                bytes,
+                content
+            },
+            cqlp_column {
+                values,
+                offsets,
+                validity,
+                empties,
+                size,
+                bounds,
+                cells,
+                kind
+            },
+            cqlp_encoded { length, event },
+            cqlp_measured { size, event },
+            cqlp_page { live, place },
+            cqlp_put {
+                events,
+                used,
+                length,
+                event,
+                wanted
+            },
+        );
+        for line in &lines {
+            assert!(text.lines().any(|one| one == line), "{line}");
+        }
+        assert!(text.ends_with(&format!("NUMBER(0x{CQLP_LAYOUT:08X})\n")));
+    }
 }

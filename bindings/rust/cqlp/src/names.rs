@@ -377,5 +377,7 @@ numbers! {
         NoColumns = cqlp_sys::CQLP_NO_COLUMNS, "NoColumns";
         /// There is no column of this number.
         NoColumn = cqlp_sys::CQLP_NO_COLUMN, "NoColumn";
+        /// This crate was compiled for other layouts of structs than the library has.
+        OtherLayout = cqlp_sys::CQLP_OTHER_LAYOUT, "OtherLayout";
     }
 }

@@ -58,28 +58,13 @@ pub fn execute(id: &[u8], params: QueryParams) -> Request {
 /// A batch of one statement.
 pub fn batch(text: &str) -> Request {
     let entry = BatchEntry::Text(text.to_string().into(), vec![].into());
-    let message = Message::Batch {
-        kind: 0,
-        entries: vec![entry].into(),
-        consistency: ONE,
-        flags: 0,
-        serial: None,
-        timestamp: None,
-    };
+    let message = Message::Batch { kind: 0, entries: vec![entry].into(), consistency: ONE, flags: 0, serial: None, timestamp: None };
     Request { kind: RequestKind::Batch, message }
 }
 
 /// Parameters with nothing beside the consistency: all rows are in one page.
 pub fn plain() -> QueryParams {
-    QueryParams {
-        consistency: ONE,
-        flags: 0,
-        values: None,
-        page_size: None,
-        paging: None,
-        serial: None,
-        timestamp: None,
-    }
+    QueryParams { consistency: ONE, flags: 0, values: None, page_size: None, paging: None, serial: None, timestamp: None }
 }
 
 /// Parameters that ask for a page of this size, from where a paging state says; from the first row where it is empty.

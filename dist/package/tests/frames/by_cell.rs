@@ -53,8 +53,7 @@ impl FromWords for Cell {
 /// and how many stops a socket makes that takes one byte at a time. The words are how many bytes the first socket takes before it fails,
 /// how many the cells are said to have, a page, and its cells.
 pub fn said_of_cells(line: &str) -> String {
-    let (room, plan) =
-        all_of(line, |words| (words.read(), Plan { cells_len: words.read(), frame: words.read(), cells: words.list() }));
+    let (room, plan) = all_of(line, |words| (words.read(), Plan { cells_len: words.read(), frame: words.read(), cells: words.list() }));
     let mut socket = Stops::socket(room, 0);
     let answers = answers(&plan, &mut socket);
     let came = digits_line(&socket.inner.text);

@@ -10,8 +10,9 @@ use std::time::Instant;
 /// How many bytes of a direction are held at a time.
 pub const PIECE: usize = 16_384;
 
-/// Passes on what a client and a node say to each other until neither says more, and has the observer see it. Where one of them ends its
-/// direction, so does the proxy, and the other goes on. Times are counted from `start`, in nanoseconds.
+/// Passes on what a client and a node say to each other, and has the observer see it. Where the client ends its direction, so does the proxy,
+/// and the node goes on. Where the node ends its own, also in the middle of a reply, the connection is over at once: nobody would answer
+/// what the client sends then. Times are counted from `start`, in nanoseconds.
 pub fn relay<W: Write + Send>(client: TcpStream, node: TcpStream, observer: Observer<W>, start: Instant) -> io::Result<()> {
     client.set_nodelay(true)?;
     node.set_nodelay(true)?;
@@ -36,7 +37,7 @@ enum Ending {
     Unheard,
 }
 
-/// Passes one direction on. At its end the sockets are closed as far as they are of no more use, so that the other direction ends too.
+/// Passes one direction on. At its end the sockets are closed as far as they are of no more use.
 fn pass_on<W: Write>(from: &TcpStream, to: &TcpStream, way: Way, observer: &Mutex<Observer<W>>, start: Instant) {
     let ending = copy(from, to, |piece| {
         // A fault of the observer stops nothing but the lines.
@@ -45,10 +46,10 @@ fn pass_on<W: Write>(from: &TcpStream, to: &TcpStream, way: Way, observer: &Mute
         }
     });
     // A socket that is closed already may say so here: there is nothing left to do then.
-    let _ = match ending {
-        Ending::Over => to.shutdown(Shutdown::Write),
-        Ending::Gone => from.shutdown(Shutdown::Both).and(to.shutdown(Shutdown::Both)),
-        Ending::Unheard => from.shutdown(Shutdown::Read),
+    let _ = match (ending, way) {
+        (Ending::Over, Way::Requests) => to.shutdown(Shutdown::Write),
+        (Ending::Over, Way::Responses) | (Ending::Gone, _) => to.shutdown(Shutdown::Both).and(from.shutdown(Shutdown::Both)),
+        (Ending::Unheard, _) => from.shutdown(Shutdown::Read),
     };
     if let Ok(mut observer) = observer.lock() {
         observer.end(way);

@@ -64,8 +64,8 @@ pub struct FrameBuilder {
 
 impl FrameBuilder {
     /// A builder between frames, which asks for no memory yet.
-    pub fn new(alloc: Global, limits: BuildLimits) -> FrameBuilder
-    {
+    #[must_use]
+    pub fn new(alloc: Global, limits: BuildLimits) -> FrameBuilder {
         FrameBuilder {
             held: Held {
                 alloc,
@@ -91,8 +91,7 @@ impl FrameBuilder {
     /// [`BuildError::NoFrame`] at the end of a frame, where the events are those of no frame that is built, after which the builder is
     /// between frames. [`BuildError::NoMemory`] where memory was refused, after which it is as it was, or between frames where the
     /// event is an end.
-    pub fn take(&mut self, event: &Event<'_>) -> Result<Option<BuiltFrame>, BuildError>
-    {
+    pub fn take(&mut self, event: &Event<'_>) -> Result<Option<BuiltFrame>, BuildError> {
         match event {
             Event::Frame(header) => self.begin(*header),
             Event::End { extra } => self.end(*extra),
@@ -101,8 +100,7 @@ impl FrameBuilder {
     }
 
     /// Forgets what it holds of a frame, and is between frames. The room that it has asked for is kept.
-    pub fn clear(&mut self)
-    {
+    pub fn clear(&mut self) {
         self.held.items.clear();
         self.header = None;
         self.nesting.left.clear();
@@ -116,8 +114,7 @@ impl FrameBuilder {
     ///
     /// [`BuildError::Misplaced`] between frames. [`BuildError::NoFrame`] where the events are those of no frame that is built, whatever length
     /// the header had. [`BuildError::NoMemory`] where memory was refused.
-    pub fn close(&mut self) -> Result<Frame, BuildError>
-    {
+    pub fn close(&mut self) -> Result<Frame, BuildError> {
         let Some(header) = self.header else {
             return Err(BuildError::Misplaced);
         };
@@ -128,14 +125,12 @@ impl FrameBuilder {
 
     /// Whether it is between frames. Where a stream ends and it is not, the last frame was cut.
     #[must_use]
-    pub fn is_between(&self) -> bool
-    {
+    pub fn is_between(&self) -> bool {
         self.header.is_none()
     }
 
     /// A frame begins.
-    fn begin(&mut self, header: Header) -> Result<Option<BuiltFrame>, BuildError>
-    {
+    fn begin(&mut self, header: Header) -> Result<Option<BuiltFrame>, BuildError> {
         if self.header.is_some() {
             return Err(BuildError::Misplaced);
         }
@@ -145,8 +140,7 @@ impl FrameBuilder {
     }
 
     /// A frame ends, with this many bytes after its last field.
-    fn end(&mut self, extra: u32) -> Result<Option<BuiltFrame>, BuildError>
-    {
+    fn end(&mut self, extra: u32) -> Result<Option<BuiltFrame>, BuildError> {
         let Some(header) = self.header else {
             return Err(BuildError::Misplaced);
         };
@@ -159,8 +153,7 @@ impl FrameBuilder {
     }
 
     /// What comes between a header and an end.
-    fn hold(&mut self, event: &Event<'_>) -> Result<Option<BuiltFrame>, BuildError>
-    {
+    fn hold(&mut self, event: &Event<'_>) -> Result<Option<BuiltFrame>, BuildError> {
         if self.is_between() {
             return Err(BuildError::Misplaced);
         }
@@ -190,40 +183,34 @@ impl FrameBuilder {
     }
 
     /// Asks for room for one more event.
-    fn make_room(&mut self) -> Result<(), AllocError>
-    {
+    fn make_room(&mut self) -> Result<(), AllocError> {
         self.held.items.reserve(1)?;
         self.nesting.make_room()
     }
 
     /// Whether it holds as many fields as it may.
-    fn is_full(&self) -> bool
-    {
+    fn is_full(&self) -> bool {
         self.held.items.len() >= self.limits.fields as usize
     }
 
     /// Whether an event begins a type option that is nested too deep.
-    fn is_too_deep(&self, event: &Event<'_>) -> bool
-    {
+    fn is_too_deep(&self, event: &Event<'_>) -> bool {
         self.nesting.depth_at(event) > self.limits.depth as usize
     }
 
     /// Whether this many bytes are more than may still come.
-    fn lacks_room(&self, size: usize) -> bool
-    {
+    fn lacks_room(&self, size: usize) -> bool {
         size > self.room
     }
 }
 
 /// Whether it is a part of a scalar of a cell.
-fn is_unbuilt(event: &Event<'_>) -> bool
-{
+fn is_unbuilt(event: &Event<'_>) -> bool {
     matches!(event, Event::Part { .. })
 }
 
 /// How many bytes of a field the limit counts.
-fn content_size(event: &Event<'_>) -> usize
-{
+fn content_size(event: &Event<'_>) -> usize {
     match event {
         Event::Text { text, .. } => text.len(),
         Event::Bytes {
@@ -241,8 +228,7 @@ fn content_size(event: &Event<'_>) -> usize
 
 impl Held {
     /// The frame of this header whose events after it are those that are held, and then this end.
-    fn finish(&mut self, header: &Header, extra: u32) -> Result<BuiltFrame, BuildError>
-    {
+    fn finish(&mut self, header: &Header, extra: u32) -> Result<BuiltFrame, BuildError> {
         self.fault = None;
         let frame = self.frame(header);
         match self.verdict(&frame, header, extra) {
@@ -252,8 +238,7 @@ impl Held {
     }
 
     /// Why a frame is not the one whose events were held, if it is not: after all of its parts were taken.
-    fn verdict(&self, frame: &Frame, header: &Header, extra: u32) -> Option<BuildError>
-    {
+    fn verdict(&self, frame: &Frame, header: &Header, extra: u32) -> Option<BuildError> {
         match self.fault {
             Some(Fault::NoMemory) => return Some(BuildError::NoMemory),
             Some(Fault::NoFrame) => return Some(BuildError::NoFrame),
@@ -271,8 +256,7 @@ impl Held {
 
 impl Held {
     /// The frame of this header, but for its length, whose events after it are those that are held, and then its end.
-    fn close(&mut self, header: &Header) -> Result<Frame, BuildError>
-    {
+    fn close(&mut self, header: &Header) -> Result<Frame, BuildError> {
         self.fault = None;
         let frame = self.frame(header);
         match self.refusal(&frame, header) {
@@ -282,8 +266,7 @@ impl Held {
     }
 
     /// Why a frame is not one whose events were held, whatever its length, if it is not: after all of its parts were taken.
-    fn refusal(&self, frame: &Frame, header: &Header) -> Option<BuildError>
-    {
+    fn refusal(&self, frame: &Frame, header: &Header) -> Option<BuildError> {
         match self.fault {
             Some(Fault::NoMemory) => return Some(BuildError::NoMemory),
             Some(Fault::NoFrame) => return Some(BuildError::NoFrame),
@@ -300,8 +283,7 @@ impl Held {
 }
 
 /// Whether some bytes spell a frame that begins with this header, but for its length.
-fn can_begin(frame: &Frame, header: &Header) -> bool
-{
+fn can_begin(frame: &Frame, header: &Header) -> bool {
     match frame.measure() {
         Ok(_) => is_directed(header),
         Err(_) => false,
@@ -310,8 +292,7 @@ fn can_begin(frame: &Frame, header: &Header) -> bool
 
 /// Whether some bytes spell a frame that begins with this header, and the header's length is the frame's where this many bytes come after
 /// its last field.
-fn is_of(frame: &Frame, header: &Header, extra: u32) -> bool
-{
+fn is_of(frame: &Frame, header: &Header, extra: u32) -> bool {
     let Ok(len) = frame.measure() else {
         return false;
     };
@@ -319,14 +300,12 @@ fn is_of(frame: &Frame, header: &Header, extra: u32) -> bool
 }
 
 /// Whether a header tells this length of a frame of so many bytes, 9 of them its header, with some more after its last field.
-fn is_length(told: u32, len: u32, extra: u32) -> bool
-{
+fn is_length(told: u32, len: u32, extra: u32) -> bool {
     u64::from(len) + u64::from(extra) == u64::from(told) + 9
 }
 
 /// Whether a header is a response's where its opcode is one of a response.
-fn is_directed(header: &Header) -> bool
-{
+fn is_directed(header: &Header) -> bool {
     let answers = header.opcode.is_response();
     if header.response { answers } else { !answers }
 }

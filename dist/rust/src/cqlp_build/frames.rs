@@ -9,8 +9,7 @@ use crate::cqlp_note::{Field, Header};
 
 impl Held {
     /// Takes the frame of this header.
-    pub fn frame(&mut self, header: &Header) -> Frame
-    {
+    pub fn frame(&mut self, header: &Header) -> Frame {
         self.check(!has_flag(header.flags, 0x01));
         let tracing = self.tracing_if(announces(header, 0x02));
         let warnings = self.warnings_if(announces(header, 0x08));
@@ -27,8 +26,7 @@ impl Held {
     }
 
     /// Takes the id of a trace, if it is to be there.
-    fn tracing_if(&mut self, there: bool) -> Option<[u8; 16]>
-    {
+    fn tracing_if(&mut self, there: bool) -> Option<[u8; 16]> {
         if there {
             Some(self.uuid(Field::TraceId))
         } else {
@@ -37,8 +35,7 @@ impl Held {
     }
 
     /// Takes the warnings, if they are to be there.
-    fn warnings_if(&mut self, there: bool) -> Option<Vec<String>>
-    {
+    fn warnings_if(&mut self, there: bool) -> Option<Vec<String>> {
         if there {
             Some(self.texts(Field::Warnings, Field::Warning))
         } else {
@@ -47,8 +44,7 @@ impl Held {
     }
 
     /// Takes the custom payload, if it is to be there.
-    fn payload_if(&mut self, there: bool) -> Option<Vec<(String, Option<Vec<u8>>)>>
-    {
+    fn payload_if(&mut self, there: bool) -> Option<Vec<(String, Option<Vec<u8>>)>> {
         if there {
             Some(self.counted(Field::PayloadItems, Wanted::PLAIN))
         } else {
@@ -58,7 +54,6 @@ impl Held {
 }
 
 /// Whether it is a response's, and has some of these flags.
-fn announces(header: &Header, bits: u8) -> bool
-{
+fn announces(header: &Header, bits: u8) -> bool {
     header.opcode.is_response() && has_flag(header.flags, bits)
 }

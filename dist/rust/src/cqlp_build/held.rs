@@ -12,8 +12,7 @@ use crate::kit_std::alloc::Global;
 use crate::kit_std::collections::VecDeque;
 
 /// Whether some of these bits is set.
-pub(crate) fn has_flag(flags: u8, bits: u8) -> bool
-{
+pub(crate) fn has_flag(flags: u8, bits: u8) -> bool {
     flags & bits > 0
 }
 
@@ -38,8 +37,7 @@ pub(crate) struct Held {
 
 impl Held {
     /// Takes the next event, if nothing was refused, and gives what it holds if it is this field.
-    fn next(&mut self, field: Field) -> Option<Content>
-    {
+    fn next(&mut self, field: Field) -> Option<Content> {
         if self.fault.is_some() {
             return None;
         }
@@ -53,8 +51,7 @@ impl Held {
     }
 
     /// Takes the next event, if nothing was refused, and gives the kind if it is that of a type option.
-    pub fn next_kind(&mut self) -> Option<Kind>
-    {
+    pub fn next_kind(&mut self) -> Option<Kind> {
         if self.fault.is_some() {
             return None;
         }
@@ -65,8 +62,7 @@ impl Held {
     }
 
     /// Takes the next event, if nothing was refused, and gives it with its level if it is told of the cell of this row and column.
-    pub fn next_step(&mut self, row: u32, column: u32) -> Option<(u32, Step)>
-    {
+    pub fn next_step(&mut self, row: u32, column: u32) -> Option<(u32, Step)> {
         if self.fault.is_some() {
             return None;
         }
@@ -90,8 +86,7 @@ impl Held {
     }
 
     /// Takes the next event, and gives the value that it holds, if it is this field with such a value.
-    fn found<T: FromContent>(&mut self, field: Field) -> Option<T>
-    {
+    fn found<T: FromContent>(&mut self, field: Field) -> Option<T> {
         match self.next(field) {
             Some(content) => T::of(content),
             None => None,
@@ -99,8 +94,7 @@ impl Held {
     }
 
     /// Takes a field that holds such a value.
-    fn take<T: FromContent>(&mut self, field: Field) -> T
-    {
+    fn take<T: FromContent>(&mut self, field: Field) -> T {
         match self.found(field) {
             Some(value) => value,
             None => {
@@ -111,16 +105,14 @@ impl Held {
     }
 
     /// Takes nothing more, for this reason if there was none.
-    pub fn refuse(&mut self, why: Fault)
-    {
+    pub fn refuse(&mut self, why: Fault) {
         if self.fault.is_none() {
             self.fault = Some(why);
         }
     }
 
     /// Refuses what is left, unless this is so.
-    pub fn check(&mut self, holds: bool)
-    {
+    pub fn check(&mut self, holds: bool) {
         if holds {
             return;
         }
@@ -128,68 +120,57 @@ impl Held {
     }
 
     /// Takes a \[byte\].
-    pub fn byte(&mut self, field: Field) -> u8
-    {
+    pub fn byte(&mut self, field: Field) -> u8 {
         self.take(field)
     }
 
     /// Takes a \[short\].
-    pub fn short(&mut self, field: Field) -> u16
-    {
+    pub fn short(&mut self, field: Field) -> u16 {
         self.take(field)
     }
 
     /// Takes an \[int\].
-    pub fn int(&mut self, field: Field) -> i32
-    {
+    pub fn int(&mut self, field: Field) -> i32 {
         self.take(field)
     }
 
     /// Takes a \[long\].
-    pub fn long(&mut self, field: Field) -> i64
-    {
+    pub fn long(&mut self, field: Field) -> i64 {
         self.take(field)
     }
 
     /// Takes a \[uuid\].
-    pub fn uuid(&mut self, field: Field) -> [u8; 16]
-    {
+    pub fn uuid(&mut self, field: Field) -> [u8; 16] {
         self.take(field)
     }
 
     /// Takes a count.
-    pub fn count(&mut self, field: Field) -> u32
-    {
+    pub fn count(&mut self, field: Field) -> u32 {
         self.take(field)
     }
 
     /// Takes a text.
-    pub fn text(&mut self, field: Field) -> String
-    {
+    pub fn text(&mut self, field: Field) -> String {
         self.take(field)
     }
 
     /// Takes \[bytes\], which may be null.
-    pub fn bytes(&mut self, field: Field) -> Option<Vec<u8>>
-    {
+    pub fn bytes(&mut self, field: Field) -> Option<Vec<u8>> {
         self.take(field)
     }
 
     /// Takes the id of a statement, which is not null.
-    pub fn statement(&mut self) -> Vec<u8>
-    {
+    pub fn statement(&mut self) -> Vec<u8> {
         self.take(Field::StatementId)
     }
 
     /// Takes a \[value\].
-    pub fn bound(&mut self) -> OwnedBound
-    {
+    pub fn bound(&mut self) -> OwnedBound {
         self.take(Field::Value)
     }
 
     /// Takes an \[inet\].
-    pub fn inet(&mut self) -> (Address, i32)
-    {
+    pub fn inet(&mut self) -> (Address, i32) {
         self.take(Field::Address)
     }
 }

@@ -39,8 +39,7 @@ pub(crate) enum Content {
 }
 
 /// The same, with bytes of its own.
-pub(crate) fn own(alloc: Global, event: &Event<'_>) -> Result<Item, AllocError>
-{
+pub(crate) fn own(alloc: Global, event: &Event<'_>) -> Result<Item, AllocError> {
     let (field, content) = match *event {
         Event::Byte { field, value } => (field, Content::Byte(value)),
         Event::Short { field, value } => (field, Content::Short(value)),
@@ -68,8 +67,7 @@ pub(crate) fn own(alloc: Global, event: &Event<'_>) -> Result<Item, AllocError>
 }
 
 /// The same of the cell of this row and column, with bytes of its own.
-fn own_cell(alloc: Global, row: u32, column: u32, event: &Event<'_>) -> Result<Item, AllocError>
-{
+fn own_cell(alloc: Global, row: u32, column: u32, event: &Event<'_>) -> Result<Item, AllocError> {
     let (level, step) = own_step(alloc, event)?;
     Ok(Item::Cell {
         row,
@@ -80,8 +78,7 @@ fn own_cell(alloc: Global, row: u32, column: u32, event: &Event<'_>) -> Result<I
 }
 
 /// The same \[bytes\], with memory of their own.
-fn own_bytes(alloc: Global, bytes: Option<&[u8]>) -> Result<Option<Vec<u8>>, AllocError>
-{
+fn own_bytes(alloc: Global, bytes: Option<&[u8]>) -> Result<Option<Vec<u8>>, AllocError> {
     match bytes {
         Some(bytes) => Ok(Some(Vec::from_slice(alloc, bytes)?)),
         None => Ok(None),
@@ -89,8 +86,7 @@ fn own_bytes(alloc: Global, bytes: Option<&[u8]>) -> Result<Option<Vec<u8>>, All
 }
 
 /// The same \[value\], with bytes of its own.
-fn own_bound(alloc: Global, value: BoundValue<'_>) -> Result<OwnedBound, AllocError>
-{
+fn own_bound(alloc: Global, value: BoundValue<'_>) -> Result<OwnedBound, AllocError> {
     Ok(match value {
         BoundValue::Null => OwnedBound::Null,
         BoundValue::Unset => OwnedBound::Unset,

@@ -96,8 +96,7 @@ impl FromEvents for BatchEntry {
 
 impl Held {
     /// Takes this many items.
-    pub fn many<T: FromEvents>(&mut self, count: u32, wanted: Wanted) -> Vec<T>
-    {
+    pub fn many<T: FromEvents>(&mut self, count: u32, wanted: Wanted) -> Vec<T> {
         let mut items = Vec::new(self.alloc);
         for _ in 0..count {
             let item = T::build(self, wanted);
@@ -113,15 +112,13 @@ impl Held {
     }
 
     /// Takes a number of items, and the items.
-    pub fn counted<T: FromEvents>(&mut self, field: Field, wanted: Wanted) -> Vec<T>
-    {
+    pub fn counted<T: FromEvents>(&mut self, field: Field, wanted: Wanted) -> Vec<T> {
         let count = self.count(field);
         self.many(count, wanted)
     }
 
     /// Takes a \[string list\].
-    pub fn texts(&mut self, list: Field, item: Field) -> Vec<String>
-    {
+    pub fn texts(&mut self, list: Field, item: Field) -> Vec<String> {
         self.counted(
             list,
             Wanted {

@@ -9,8 +9,7 @@ use crate::cqlp_note::{Field, Opcode};
 
 impl Held {
     /// Takes the message of a frame of this opcode.
-    pub fn message(&mut self, opcode: Opcode) -> Message
-    {
+    pub fn message(&mut self, opcode: Opcode) -> Message {
         match opcode {
             Opcode::Startup => self.startup(),
             Opcode::Options => Message::Options,
@@ -32,36 +31,31 @@ impl Held {
     }
 
     /// Takes the options of a connection.
-    fn startup(&mut self) -> Message
-    {
+    fn startup(&mut self) -> Message {
         Message::Startup(self.counted(Field::Options, Wanted::PLAIN))
     }
 
     /// Takes a query by its text.
-    fn query(&mut self) -> Message
-    {
+    fn query(&mut self) -> Message {
         let text = self.text(Field::Query);
         let params = self.params();
         Message::Query { text, params }
     }
 
     /// Takes the text of a query to be prepared.
-    fn prepare(&mut self) -> Message
-    {
+    fn prepare(&mut self) -> Message {
         Message::Prepare(self.text(Field::Query))
     }
 
     /// Takes a query by the id of its prepared statement.
-    fn execute(&mut self) -> Message
-    {
+    fn execute(&mut self) -> Message {
         let id = self.statement();
         let params = self.params();
         Message::Execute { id, params }
     }
 
     /// Takes statements that are done together.
-    fn batch(&mut self) -> Message
-    {
+    fn batch(&mut self) -> Message {
         let kind = self.byte(Field::BatchType);
         let entries = self.counted(Field::Entries, Wanted::PLAIN);
         let consistency = self.short(Field::Consistency);
@@ -80,20 +74,17 @@ impl Held {
     }
 
     /// Takes the types of the events that are asked for.
-    fn register(&mut self) -> Message
-    {
+    fn register(&mut self) -> Message {
         Message::Register(self.texts(Field::EventTypes, Field::EventType))
     }
 
     /// Takes an answer to a challenge.
-    fn auth_response(&mut self) -> Message
-    {
+    fn auth_response(&mut self) -> Message {
         Message::AuthResponse(self.bytes(Field::Token))
     }
 
     /// Takes an error.
-    fn error(&mut self) -> Message
-    {
+    fn error(&mut self) -> Message {
         let code = self.int(Field::ErrorCode);
         let message = self.text(Field::Message);
         let extra = self.extra(code.cast_unsigned());
@@ -105,20 +96,17 @@ impl Held {
     }
 
     /// Takes the class of an authenticator.
-    fn authenticate(&mut self) -> Message
-    {
+    fn authenticate(&mut self) -> Message {
         Message::Authenticate(self.text(Field::Class))
     }
 
     /// Takes the supported options.
-    fn supported(&mut self) -> Message
-    {
+    fn supported(&mut self) -> Message {
         Message::Supported(self.counted(Field::Options, Wanted::PLAIN))
     }
 
     /// Takes a result.
-    fn result(&mut self) -> Message
-    {
+    fn result(&mut self) -> Message {
         let kind = self.int(Field::ResultKind);
         match kind.cast_unsigned() {
             result_kind::VOID => Message::Void,
@@ -131,22 +119,19 @@ impl Held {
     }
 
     /// Takes an event.
-    fn event(&mut self) -> Message
-    {
+    fn event(&mut self) -> Message {
         let event = self.text(Field::EventType);
         let detail = self.detail(&event);
         Message::Event { event, detail }
     }
 
     /// Takes a challenge.
-    fn auth_challenge(&mut self) -> Message
-    {
+    fn auth_challenge(&mut self) -> Message {
         Message::AuthChallenge(self.bytes(Field::Token))
     }
 
     /// Takes the end of an authentication.
-    fn auth_success(&mut self) -> Message
-    {
+    fn auth_success(&mut self) -> Message {
         Message::AuthSuccess(self.bytes(Field::Token))
     }
 }

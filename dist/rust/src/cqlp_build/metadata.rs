@@ -31,8 +31,7 @@ impl FromEvents for Spec {
 
 impl Held {
     /// Takes a keyspace and a table, if they are to be there.
-    fn table_if(&mut self, there: bool) -> Option<(String, String)>
-    {
+    fn table_if(&mut self, there: bool) -> Option<(String, String)> {
         if there {
             let keyspace = self.text(Field::Keyspace);
             let table = self.text(Field::Table);
@@ -43,8 +42,7 @@ impl Held {
     }
 
     /// Takes this many columns, after their table where the flags say that it is that of all.
-    fn columns(&mut self, flags: u32, count: u32) -> Columns
-    {
+    fn columns(&mut self, flags: u32, count: u32) -> Columns {
         let global = has(flags, 0x01);
         let table = self.table_if(global);
         let wanted = Wanted {
@@ -56,8 +54,7 @@ impl Held {
     }
 
     /// Takes this many columns, if the flags say that they are told.
-    fn columns_if(&mut self, flags: u32, count: u32) -> ColumnsIf
-    {
+    fn columns_if(&mut self, flags: u32, count: u32) -> ColumnsIf {
         if has(flags, 0x04) {
             return (None, None);
         }
@@ -66,8 +63,7 @@ impl Held {
     }
 
     /// Takes what is told of a page's columns.
-    pub fn metadata(&mut self) -> Metadata
-    {
+    pub fn metadata(&mut self) -> Metadata {
         let flags = self.int(Field::MetaFlags);
         let columns = self.count(Field::Columns);
         let bits = flags.cast_unsigned();
@@ -83,8 +79,7 @@ impl Held {
     }
 
     /// Takes the number of the values of a partition key, and each.
-    fn keys(&mut self) -> Vec<u16>
-    {
+    fn keys(&mut self) -> Vec<u16> {
         let wanted = Wanted {
             field: Field::KeyIndex,
             named: false,
@@ -93,8 +88,7 @@ impl Held {
     }
 
     /// Takes a prepared statement.
-    pub fn prepared(&mut self) -> Prepared
-    {
+    pub fn prepared(&mut self) -> Prepared {
         let id = self.statement();
         let flags = self.int(Field::MetaFlags);
         let columns = self.count(Field::Columns);

@@ -15,16 +15,14 @@ pub(crate) struct Nesting {
 
 impl Nesting {
     /// None.
-    pub fn new(alloc: Global) -> Nesting
-    {
+    pub fn new(alloc: Global) -> Nesting {
         Nesting {
             left: VecDeque::new(alloc),
         }
     }
 
     /// At what depth this event begins a type option, that of a column being at 1; 0 where it begins none.
-    pub fn depth_at(&self, event: &Event<'_>) -> usize
-    {
+    pub fn depth_at(&self, event: &Event<'_>) -> usize {
         match event {
             Event::TypeNode(_) => self.left.len() + 1,
             _ => 0,
@@ -32,14 +30,12 @@ impl Nesting {
     }
 
     /// Asks for room for one more.
-    pub fn make_room(&mut self) -> Result<(), AllocError>
-    {
+    pub fn make_room(&mut self) -> Result<(), AllocError> {
         self.left.reserve(1)
     }
 
     /// Goes on after an event, for which there is room.
-    pub(crate) fn pass_event(&mut self, event: &Event<'_>)
-    {
+    pub(crate) fn pass_event(&mut self, event: &Event<'_>) {
         match *event {
             Event::TypeNode(kind) => self.begin(kind),
             Event::Count {
@@ -51,8 +47,7 @@ impl Nesting {
     }
 
     /// A type option of this kind begins.
-    fn begin(&mut self, kind: Kind)
-    {
+    fn begin(&mut self, kind: Kind) {
         if let Some(left) = self.left.front_mut() {
             *left = left.saturating_sub(1);
         }
@@ -61,8 +56,7 @@ impl Nesting {
     }
 
     /// The inner options of the innermost are this many.
-    fn count(&mut self, count: u32)
-    {
+    fn count(&mut self, count: u32) {
         if let Some(left) = self.left.front_mut() {
             *left = count;
             self.close();
@@ -70,8 +64,7 @@ impl Nesting {
     }
 
     /// Lets go of the innermost that have none.
-    fn close(&mut self)
-    {
+    fn close(&mut self) {
         while let Some(0) = self.left.front() {
             self.left.pop_front();
         }
@@ -79,8 +72,7 @@ impl Nesting {
 }
 
 /// How many inner options of a type option of this kind are to begin; where they are counted, one before their count is told.
-fn due(kind: Kind) -> u32
-{
+fn due(kind: Kind) -> u32 {
     match kind {
         Kind::Udt | Kind::Tuple => 1,
         _ => u32::from(kind.arity()),

@@ -12,8 +12,7 @@ use crate::cqlp_value::Value;
 
 impl Held {
     /// Takes a page.
-    pub fn page(&mut self) -> Rows
-    {
+    pub fn page(&mut self) -> Rows {
         let meta = self.metadata();
         let rows = self.count(Field::Rows);
         let cells = self.cells(rows, &meta);
@@ -21,8 +20,7 @@ impl Held {
     }
 
     /// Takes the cells of this many rows.
-    fn cells(&mut self, rows: u32, meta: &Metadata) -> Vec<Value>
-    {
+    fn cells(&mut self, rows: u32, meta: &Metadata) -> Vec<Value> {
         let mut cells = Vec::new(self.alloc);
         if self.fault.is_some() {
             return cells;
@@ -40,8 +38,7 @@ impl Held {
     }
 
     /// Takes the cells of a row, and puts them behind those that there are. Nothing was refused yet.
-    fn row(&mut self, row: u32, meta: &Metadata, cells: &mut Vec<Value>)
-    {
+    fn row(&mut self, row: u32, meta: &Metadata, cells: &mut Vec<Value>) {
         for column in 0..meta.columns {
             let cell = self.cell_of(row, column, meta);
             if self.fault.is_some() {
@@ -55,8 +52,7 @@ impl Held {
     }
 
     /// Takes the cell of a row and a column, which is as it is where no columns are told.
-    fn cell_of(&mut self, row: u32, column: u32, meta: &Metadata) -> Value
-    {
+    fn cell_of(&mut self, row: u32, column: u32, meta: &Metadata) -> Value {
         let Some(specs) = &meta.specs else {
             return self.cell(row, column, &TypeTree::Plain(Kind::Raw));
         };
@@ -70,8 +66,7 @@ impl Held {
     }
 
     /// Takes the cell of a row and a column, which is of this type.
-    fn cell(&mut self, row: u32, column: u32, tree: &TypeTree) -> Value
-    {
+    fn cell(&mut self, row: u32, column: u32, tree: &TypeTree) -> Value {
         if !self.gather(row, column) {
             self.refuse(Fault::NoFrame);
             return Value::Null;
@@ -86,8 +81,7 @@ impl Held {
     }
 
     /// Takes what is told of the cell of a row and a column, up to that after which nothing comes of it, and says whether that came.
-    fn gather(&mut self, row: u32, column: u32) -> bool
-    {
+    fn gather(&mut self, row: u32, column: u32) -> bool {
         self.cell.clear();
         while let Some((level, step)) = self.next_step(row, column) {
             let ended = ends(level, &step);
@@ -104,8 +98,7 @@ impl Held {
 }
 
 /// Why nothing more is taken, where there is no value.
-fn fault(why: CellError) -> Fault
-{
+fn fault(why: CellError) -> Fault {
     match why {
         CellError::NoMemory => Fault::NoMemory,
         _ => Fault::NoFrame,

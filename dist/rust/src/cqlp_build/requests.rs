@@ -9,8 +9,7 @@ use crate::cqlp_note::Field;
 
 impl Held {
     /// Takes the name of a value, if it is to have one.
-    pub fn name_if(&mut self, there: bool) -> Option<String>
-    {
+    pub fn name_if(&mut self, there: bool) -> Option<String> {
         if there {
             Some(self.text(Field::ValueName))
         } else {
@@ -19,8 +18,7 @@ impl Held {
     }
 
     /// Takes the values of a query, if they are to be there, with names or without.
-    fn values_if(&mut self, there: bool, named: bool) -> Option<Vec<(Option<String>, OwnedBound)>>
-    {
+    fn values_if(&mut self, there: bool, named: bool) -> Option<Vec<(Option<String>, OwnedBound)>> {
         if there {
             let wanted = Wanted {
                 field: Field::Value,
@@ -33,8 +31,7 @@ impl Held {
     }
 
     /// Takes the rows of a page, if they are to be there.
-    fn page_size_if(&mut self, there: bool) -> Option<i32>
-    {
+    fn page_size_if(&mut self, there: bool) -> Option<i32> {
         if there {
             Some(self.int(Field::PageSize))
         } else {
@@ -43,8 +40,7 @@ impl Held {
     }
 
     /// Takes a paging state, if it is to be there.
-    pub fn paging_if(&mut self, there: bool) -> Option<Option<Vec<u8>>>
-    {
+    pub fn paging_if(&mut self, there: bool) -> Option<Option<Vec<u8>>> {
         if there {
             Some(self.bytes(Field::PagingState))
         } else {
@@ -53,8 +49,7 @@ impl Held {
     }
 
     /// Takes a serial consistency, if it is to be there.
-    pub fn serial_if(&mut self, there: bool) -> Option<u16>
-    {
+    pub fn serial_if(&mut self, there: bool) -> Option<u16> {
         if there {
             Some(self.short(Field::SerialConsistency))
         } else {
@@ -63,8 +58,7 @@ impl Held {
     }
 
     /// Takes a default timestamp, if it is to be there.
-    pub fn timestamp_if(&mut self, there: bool) -> Option<i64>
-    {
+    pub fn timestamp_if(&mut self, there: bool) -> Option<i64> {
         if there {
             Some(self.long(Field::Timestamp))
         } else {
@@ -73,8 +67,7 @@ impl Held {
     }
 
     /// Takes the parameters of a query.
-    pub fn params(&mut self) -> QueryParams
-    {
+    pub fn params(&mut self) -> QueryParams {
         let consistency = self.short(Field::Consistency);
         let flags = self.byte(Field::QueryFlags);
         let values = self.values_if(has_flag(flags, 0x01), has_flag(flags, 0x40));
@@ -94,8 +87,7 @@ impl Held {
     }
 
     /// Takes the values of a statement of a batch.
-    pub fn batch_values(&mut self) -> Vec<OwnedBound>
-    {
+    pub fn batch_values(&mut self) -> Vec<OwnedBound> {
         self.counted(Field::Values, Wanted::PLAIN)
     }
 }

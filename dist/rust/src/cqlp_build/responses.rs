@@ -8,8 +8,7 @@ use crate::cqlp_note::Field;
 
 impl Held {
     /// Takes what stands after the message of an error of this code.
-    pub fn extra(&mut self, code: u32) -> ErrorExtra
-    {
+    pub fn extra(&mut self, code: u32) -> ErrorExtra {
         match code {
             error_code::UNAVAILABLE => self.unavailable(),
             error_code::WRITE_TIMEOUT => self.write_timeout(),
@@ -24,8 +23,7 @@ impl Held {
     }
 
     /// Takes what an Unavailable_exception has.
-    fn unavailable(&mut self) -> ErrorExtra
-    {
+    fn unavailable(&mut self) -> ErrorExtra {
         let consistency = self.short(Field::Consistency);
         let required = self.int(Field::Required);
         let alive = self.int(Field::Alive);
@@ -37,8 +35,7 @@ impl Held {
     }
 
     /// Takes what a Write_timeout has.
-    fn write_timeout(&mut self) -> ErrorExtra
-    {
+    fn write_timeout(&mut self) -> ErrorExtra {
         let consistency = self.short(Field::Consistency);
         let received = self.int(Field::Received);
         let block_for = self.int(Field::BlockFor);
@@ -52,8 +49,7 @@ impl Held {
     }
 
     /// Takes what a Read_timeout has.
-    fn read_timeout(&mut self) -> ErrorExtra
-    {
+    fn read_timeout(&mut self) -> ErrorExtra {
         let consistency = self.short(Field::Consistency);
         let received = self.int(Field::Received);
         let block_for = self.int(Field::BlockFor);
@@ -67,8 +63,7 @@ impl Held {
     }
 
     /// Takes what a Read_failure has.
-    fn read_failure(&mut self) -> ErrorExtra
-    {
+    fn read_failure(&mut self) -> ErrorExtra {
         let consistency = self.short(Field::Consistency);
         let received = self.int(Field::Received);
         let block_for = self.int(Field::BlockFor);
@@ -84,8 +79,7 @@ impl Held {
     }
 
     /// Takes what a Function_failure has.
-    fn function_failure(&mut self) -> ErrorExtra
-    {
+    fn function_failure(&mut self) -> ErrorExtra {
         let keyspace = self.text(Field::Keyspace);
         let name = self.text(Field::Name);
         let arguments = self.texts(Field::Arguments, Field::Argument);
@@ -97,8 +91,7 @@ impl Held {
     }
 
     /// Takes what a Write_failure has.
-    fn write_failure(&mut self) -> ErrorExtra
-    {
+    fn write_failure(&mut self) -> ErrorExtra {
         let consistency = self.short(Field::Consistency);
         let received = self.int(Field::Received);
         let block_for = self.int(Field::BlockFor);
@@ -114,23 +107,20 @@ impl Held {
     }
 
     /// Takes what an Already_exists has.
-    fn already_exists(&mut self) -> ErrorExtra
-    {
+    fn already_exists(&mut self) -> ErrorExtra {
         let keyspace = self.text(Field::Keyspace);
         let table = self.text(Field::Table);
         ErrorExtra::AlreadyExists { keyspace, table }
     }
 
     /// Takes what an Unprepared has.
-    fn unprepared(&mut self) -> ErrorExtra
-    {
+    fn unprepared(&mut self) -> ErrorExtra {
         let id = self.statement();
         ErrorExtra::Unprepared { id }
     }
 
     /// Takes a change of the schema.
-    pub fn change(&mut self) -> SchemaChange
-    {
+    pub fn change(&mut self) -> SchemaChange {
         let change = self.text(Field::Change);
         let target = self.text(Field::Target);
         let options = self.options(&target);
@@ -142,8 +132,7 @@ impl Held {
     }
 
     /// Takes what was changed, of a target of this kind.
-    fn options(&mut self, target: &str) -> SchemaOptions
-    {
+    fn options(&mut self, target: &str) -> SchemaOptions {
         if target == "KEYSPACE" {
             SchemaOptions::Keyspace(self.text(Field::Keyspace))
         } else if target == "TABLE" || target == "TYPE" {
@@ -156,16 +145,14 @@ impl Held {
     }
 
     /// Takes a keyspace, and the name of what is in it.
-    fn named(&mut self) -> SchemaOptions
-    {
+    fn named(&mut self) -> SchemaOptions {
         let keyspace = self.text(Field::Keyspace);
         let name = self.text(Field::Name);
         SchemaOptions::Named(keyspace, name)
     }
 
     /// Takes a keyspace, the name of what can be called in it, and the types of its arguments.
-    fn callable(&mut self) -> SchemaOptions
-    {
+    fn callable(&mut self) -> SchemaOptions {
         let keyspace = self.text(Field::Keyspace);
         let name = self.text(Field::Name);
         let arguments = self.texts(Field::Arguments, Field::Argument);
@@ -173,8 +160,7 @@ impl Held {
     }
 
     /// Takes what an event of this type tells.
-    pub fn detail(&mut self, event: &str) -> ServerEvent
-    {
+    pub fn detail(&mut self, event: &str) -> ServerEvent {
         if event == "TOPOLOGY_CHANGE" || event == "STATUS_CHANGE" {
             self.node()
         } else if event == "SCHEMA_CHANGE" {
@@ -185,8 +171,7 @@ impl Held {
     }
 
     /// Takes a change of a node.
-    fn node(&mut self) -> ServerEvent
-    {
+    fn node(&mut self) -> ServerEvent {
         let change = self.text(Field::Change);
         let (address, port) = self.inet();
         ServerEvent::Node {

@@ -9,8 +9,7 @@ use crate::cqlp_type::TypeTree;
 
 impl Held {
     /// Takes a type option, with all in it. It calls itself as deep as types are nested.
-    pub fn tree(&mut self) -> TypeTree
-    {
+    pub fn tree(&mut self) -> TypeTree {
         match self.next_kind() {
             Some(kind) => self.tree_of(kind),
             None => {
@@ -21,8 +20,7 @@ impl Held {
     }
 
     /// Takes what comes after the kind of a type option.
-    fn tree_of(&mut self, kind: Kind) -> TypeTree
-    {
+    fn tree_of(&mut self, kind: Kind) -> TypeTree {
         match kind {
             Kind::Custom => TypeTree::Custom(self.text(Field::Class)),
             Kind::List => {
@@ -61,8 +59,7 @@ impl Held {
     }
 
     /// Takes this many type options.
-    fn types(&mut self, count: u32) -> Vec<TypeTree>
-    {
+    fn types(&mut self, count: u32) -> Vec<TypeTree> {
         let mut types = Vec::new(self.alloc);
         for _ in 0..count {
             let tree = self.tree();
@@ -78,8 +75,7 @@ impl Held {
     }
 
     /// Takes this many names, each with a type option.
-    fn fields(&mut self, count: u32) -> Vec<(String, TypeTree)>
-    {
+    fn fields(&mut self, count: u32) -> Vec<(String, TypeTree)> {
         let mut fields = Vec::new(self.alloc);
         for _ in 0..count {
             let name = self.text(Field::FieldName);
@@ -96,8 +92,7 @@ impl Held {
     }
 
     /// A list of this type.
-    fn list(&mut self, inner: TypeTree) -> TypeTree
-    {
+    fn list(&mut self, inner: TypeTree) -> TypeTree {
         match self.boxed(inner) {
             Some(inner) => TypeTree::List(inner),
             None => TypeTree::Plain(Kind::Raw),
@@ -105,8 +100,7 @@ impl Held {
     }
 
     /// A set of this type.
-    fn set(&mut self, inner: TypeTree) -> TypeTree
-    {
+    fn set(&mut self, inner: TypeTree) -> TypeTree {
         match self.boxed(inner) {
             Some(inner) => TypeTree::Set(inner),
             None => TypeTree::Plain(Kind::Raw),
@@ -114,8 +108,7 @@ impl Held {
     }
 
     /// A map of keys and values of these types.
-    fn map(&mut self, key: TypeTree, value: TypeTree) -> TypeTree
-    {
+    fn map(&mut self, key: TypeTree, value: TypeTree) -> TypeTree {
         let Some(key) = self.boxed(key) else {
             return TypeTree::Plain(Kind::Raw);
         };
@@ -126,8 +119,7 @@ impl Held {
     }
 
     /// The same type, with a place of its own in memory.
-    fn boxed(&mut self, tree: TypeTree) -> Option<Box<TypeTree>>
-    {
+    fn boxed(&mut self, tree: TypeTree) -> Option<Box<TypeTree>> {
         match Box::new(self.alloc, tree) {
             Ok(boxed) => Some(boxed),
             Err(_) => {

@@ -45,8 +45,8 @@ pub struct CellBuilder {
 
 impl CellBuilder {
     /// A builder between cells, which asks for no memory yet.
-    pub fn new(alloc: Global, limits: CellLimits) -> CellBuilder
-    {
+    #[must_use]
+    pub fn new(alloc: Global, limits: CellLimits) -> CellBuilder {
         CellBuilder {
             held: Held::new(alloc),
             place: None,
@@ -63,8 +63,7 @@ impl CellBuilder {
     /// cells at the end of a value. [`CellError::InParts`] at a part of a scalar. [`CellError::TooManyEvents`] where as many events as
     /// the limits allow are held; else [`CellError::TooManyBytes`] where the scalar has more bytes than are left of the limit.
     /// [`CellError::NoMemory`] where memory was refused. After each of these the builder is as it was.
-    pub fn take(&mut self, event: &Event<'_>) -> Result<(), CellError>
-    {
+    pub fn take(&mut self, event: &Event<'_>) -> Result<(), CellError> {
         if !self.is_of(event) {
             return Err(CellError::Misplaced);
         }
@@ -81,24 +80,21 @@ impl CellBuilder {
     /// [`CellError::Unformed`] where [`check_type`] says that the type is not formed, whatever the events are. Else
     /// [`CellError::NoValue`] where the events are those of no value of the type, so where the cell has not ended, and
     /// [`CellError::NoMemory`] where memory was refused.
-    pub fn finish(&mut self, of: Option<&TypeTree>) -> Result<Value, CellError>
-    {
+    pub fn finish(&mut self, of: Option<&TypeTree>) -> Result<Value, CellError> {
         let value = self.build(of);
         self.clear();
         value
     }
 
     /// Forgets what it holds of a cell, and is between cells. The room that it has asked for is kept.
-    pub fn clear(&mut self)
-    {
+    pub fn clear(&mut self) {
         self.held.items.clear();
         self.place = None;
         self.room = self.limits.bytes as usize;
     }
 
     /// Whether an event is of the cell under way, or the first of a cell.
-    fn is_of(&self, event: &Event<'_>) -> bool
-    {
+    fn is_of(&self, event: &Event<'_>) -> bool {
         match (self.place, event) {
             (Some(_), Event::Leave { .. }) => true,
             (None, _) => place_of(event).is_some(),
@@ -110,8 +106,7 @@ impl CellBuilder {
     }
 
     /// An event comes that is of the cell.
-    fn hold(&mut self, event: &Event<'_>) -> Result<(), CellError>
-    {
+    fn hold(&mut self, event: &Event<'_>) -> Result<(), CellError> {
         if self.place.is_none() {
             self.held.items.clear();
         }
@@ -136,8 +131,7 @@ impl CellBuilder {
     }
 
     /// The value of this type whose events were taken.
-    fn build(&mut self, of: Option<&TypeTree>) -> Result<Value, CellError>
-    {
+    fn build(&mut self, of: Option<&TypeTree>) -> Result<Value, CellError> {
         if self.place.is_none() {
             self.held.items.clear();
         }
@@ -160,8 +154,7 @@ impl Held {
     /// # Errors
     ///
     /// [`CellError::NoValue`] where the events are those of no value of the type, and [`CellError::NoMemory`] where memory was refused.
-    pub(crate) fn whole(&mut self, tree: &TypeTree) -> Result<Value, CellError>
-    {
+    pub(crate) fn whole(&mut self, tree: &TypeTree) -> Result<Value, CellError> {
         self.fault = None;
         let value = self.value(0, tree);
         let over = self.is_over();
@@ -174,8 +167,7 @@ impl Held {
 }
 
 /// Why there is no value.
-fn refusal(why: Fault) -> CellError
-{
+fn refusal(why: Fault) -> CellError {
     match why {
         Fault::NoValue => CellError::NoValue,
         Fault::NoMemory => CellError::NoMemory,
@@ -184,8 +176,7 @@ fn refusal(why: Fault) -> CellError
 
 /// Whether nothing of its cell comes after an event: a value at level 0, or the end of one; not the beginning of one with items.
 #[must_use]
-pub fn ends_cell(event: &Event<'_>) -> bool
-{
+pub fn ends_cell(event: &Event<'_>) -> bool {
     match *event {
         Event::Leaf { level, .. }
         | Event::Null { level, .. }
@@ -197,8 +188,7 @@ pub fn ends_cell(event: &Event<'_>) -> bool
 }
 
 /// The row and the column that an event names.
-fn place_of(event: &Event<'_>) -> Option<(u32, u32)>
-{
+fn place_of(event: &Event<'_>) -> Option<(u32, u32)> {
     match *event {
         Event::Leaf { row, column, .. }
         | Event::Null { row, column, .. }
@@ -210,14 +200,12 @@ fn place_of(event: &Event<'_>) -> Option<(u32, u32)>
 }
 
 /// Whether it is a part of a scalar.
-fn is_part(event: &Event<'_>) -> bool
-{
+fn is_part(event: &Event<'_>) -> bool {
     matches!(event, Event::Part { .. })
 }
 
 /// How many bytes of an event the limit counts.
-fn content_size(event: &Event<'_>) -> usize
-{
+fn content_size(event: &Event<'_>) -> usize {
     match event {
         Event::Leaf { scalar, .. } => scalar_size(scalar),
         _ => 0,

@@ -25,8 +25,7 @@ pub struct Held {
 
 impl Held {
     /// No events, for which it asks for no memory.
-    pub fn new(alloc: Global) -> Held
-    {
+    pub fn new(alloc: Global) -> Held {
         Held {
             alloc,
             items: VecDeque::new(alloc),
@@ -35,8 +34,7 @@ impl Held {
     }
 
     /// Forgets all events. The room that it has asked for is kept.
-    pub fn clear(&mut self)
-    {
+    pub fn clear(&mut self) {
         self.items.clear();
     }
 
@@ -45,16 +43,14 @@ impl Held {
     /// # Errors
     ///
     /// [`AllocError`] where memory was refused, after which it is as it was.
-    pub fn push(&mut self, level: u32, step: Step) -> Result<(), AllocError>
-    {
+    pub fn push(&mut self, level: u32, step: Step) -> Result<(), AllocError> {
         self.items.reserve(1)?;
         self.items.push_back_reserved((level, step));
         Ok(())
     }
 
     /// Takes the next event, if nothing was refused, and gives it if it is at this level.
-    pub fn next(&mut self, level: usize) -> Option<Step>
-    {
+    pub fn next(&mut self, level: usize) -> Option<Step> {
         if self.fault.is_some() {
             return None;
         }
@@ -69,20 +65,17 @@ impl Held {
     }
 
     /// Whether the end of a value comes next.
-    pub fn is_at_leave(&self) -> bool
-    {
+    pub fn is_at_leave(&self) -> bool {
         matches!(self.items.front(), Some((_, Step::Leave(_))))
     }
 
     /// Whether nothing is left.
-    pub fn is_over(&self) -> bool
-    {
+    pub fn is_over(&self) -> bool {
         self.items.is_empty()
     }
 
     /// Takes the end of a value at this level, after this many items.
-    pub fn leave(&mut self, level: usize, count: usize)
-    {
+    pub fn leave(&mut self, level: usize, count: usize) {
         let next = self.next(level);
         if leaves(&next, count) {
             return;
@@ -91,16 +84,14 @@ impl Held {
     }
 
     /// Takes nothing more, for this reason if there was none.
-    pub fn refuse(&mut self, why: Fault)
-    {
+    pub fn refuse(&mut self, why: Fault) {
         if self.fault.is_none() {
             self.fault = Some(why);
         }
     }
 
     /// Refuses what is left, unless this is so.
-    pub fn check(&mut self, holds: bool)
-    {
+    pub fn check(&mut self, holds: bool) {
         if holds {
             return;
         }
@@ -109,8 +100,7 @@ impl Held {
 }
 
 /// Whether it is the end of a value after this many items.
-fn leaves(next: &Option<Step>, count: usize) -> bool
-{
+fn leaves(next: &Option<Step>, count: usize) -> bool {
     match next {
         Some(Step::Leave(found)) => *found as usize == count,
         _ => false,

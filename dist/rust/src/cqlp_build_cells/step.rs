@@ -19,8 +19,7 @@ pub enum Step {
 }
 
 /// The same, with bytes of its own, at its level.
-pub(crate) fn own(alloc: Global, event: &Event<'_>) -> Result<(u32, Step), AllocError>
-{
+pub(crate) fn own(alloc: Global, event: &Event<'_>) -> Result<(u32, Step), AllocError> {
     Ok(match *event {
         Event::Leaf { level, scalar, .. } => (level, Step::Leaf(own_scalar(alloc, scalar)?)),
         Event::Null { level, .. } => (level, Step::Null),
@@ -37,8 +36,7 @@ pub(crate) fn own(alloc: Global, event: &Event<'_>) -> Result<(u32, Step), Alloc
 }
 
 /// The same scalar, with bytes of its own.
-fn own_scalar(alloc: Global, scalar: Scalar<'_>) -> Result<Atom, AllocError>
-{
+fn own_scalar(alloc: Global, scalar: Scalar<'_>) -> Result<Atom, AllocError> {
     let atom = match scalar {
         Scalar::Custom(bytes) => Atom::Custom(Vec::from_slice(alloc, bytes)?),
         Scalar::Ascii(text) => Atom::Ascii(String::from_str(alloc, text)?),
@@ -69,8 +67,7 @@ fn own_scalar(alloc: Global, scalar: Scalar<'_>) -> Result<Atom, AllocError>
 }
 
 /// How many bytes a scalar has that has no length of its own.
-pub fn scalar_size(scalar: &Scalar<'_>) -> usize
-{
+pub fn scalar_size(scalar: &Scalar<'_>) -> usize {
     match scalar {
         Scalar::Custom(bytes) | Scalar::Blob(bytes) | Scalar::Varint(bytes) | Scalar::Raw(bytes) =>
             { bytes.len() }
@@ -83,8 +80,7 @@ pub fn scalar_size(scalar: &Scalar<'_>) -> usize
 /// Whether nothing of its cell comes after what is told at this level: a value at level 0, or the end of one; not the beginning of one
 /// with items.
 #[must_use]
-pub fn ends(level: u32, step: &Step) -> bool
-{
+pub fn ends(level: u32, step: &Step) -> bool {
     match step {
         Step::Enter(_, _) => false,
         _ => level == 0,

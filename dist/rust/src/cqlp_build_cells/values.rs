@@ -13,8 +13,7 @@ const MOST: u32 = i32::MAX as u32;
 
 impl Held {
     /// Takes a value of this type, with this many values around it. It calls itself as deep as the type is nested.
-    pub(crate) fn value(&mut self, level: usize, tree: &TypeTree) -> Value
-    {
+    pub(crate) fn value(&mut self, level: usize, tree: &TypeTree) -> Value {
         match self.next(level) {
             Some(Step::Null) => Value::Null,
             Some(Step::Empty) => Value::Empty,
@@ -26,15 +25,13 @@ impl Held {
     }
 
     /// No value.
-    fn none(&mut self) -> Value
-    {
+    fn none(&mut self) -> Value {
         self.refuse(Fault::NoValue);
         Value::Null
     }
 
     /// Takes what comes after the first event of a value with items, where that says this kind and this many.
-    fn inside(&mut self, level: usize, tree: &TypeTree, kind: Kind, count: u32) -> Value
-    {
+    fn inside(&mut self, level: usize, tree: &TypeTree, kind: Kind, count: u32) -> Value {
         match tree {
             TypeTree::List(inner) => {
                 self.check(is_counted(kind, Kind::List, count));
@@ -66,16 +63,14 @@ impl Held {
     }
 
     /// A scalar, if it is one of this type.
-    fn scalar(&mut self, atom: Atom, tree: &TypeTree) -> Value
-    {
+    fn scalar(&mut self, atom: Atom, tree: &TypeTree) -> Value {
         let value = Value::Leaf(atom);
         self.check(fits(&value, Some(tree)));
         value
     }
 
     /// Takes this many values of this type, and then the end of the value around them.
-    fn items(&mut self, level: usize, inner: &TypeTree, count: u32) -> Vec<Value>
-    {
+    fn items(&mut self, level: usize, inner: &TypeTree, count: u32) -> Vec<Value> {
         let mut items = Vec::new(self.alloc);
         for _ in 0..count {
             let item = self.value(level + 1, inner);
@@ -98,8 +93,7 @@ impl Held {
         keys: &TypeTree,
         values: &TypeTree,
         count: u32,
-    ) -> Vec<(Value, Value)>
-    {
+    ) -> Vec<(Value, Value)> {
         let mut pairs = Vec::new(self.alloc);
         for _ in 0..count {
             let key = self.value(level + 1, keys);
@@ -117,8 +111,7 @@ impl Held {
     }
 
     /// Takes the first fields of a tuple of these types, and then its end.
-    fn types(&mut self, level: usize, types: &[TypeTree]) -> Vec<Value>
-    {
+    fn types(&mut self, level: usize, types: &[TypeTree]) -> Vec<Value> {
         let mut items = Vec::new(self.alloc);
         for tree in types {
             if self.is_at_leave() {
@@ -139,8 +132,7 @@ impl Held {
     }
 
     /// Takes the first fields of a user-defined type of these types, and then its end.
-    fn fields(&mut self, level: usize, fields: &[(String, TypeTree)]) -> Vec<Value>
-    {
+    fn fields(&mut self, level: usize, fields: &[(String, TypeTree)]) -> Vec<Value> {
         let mut items = Vec::new(self.alloc);
         for (_, tree) in fields {
             if self.is_at_leave() {
@@ -162,19 +154,16 @@ impl Held {
 }
 
 /// Whether it is this kind, and a count says so many items.
-fn is_counted(kind: Kind, of: Kind, count: u32) -> bool
-{
+fn is_counted(kind: Kind, of: Kind, count: u32) -> bool {
     kind == of && count <= MOST
 }
 
 /// Whether it is this kind, with this many types of items.
-fn has_types(kind: Kind, of: Kind, count: u32, len: usize) -> bool
-{
+fn has_types(kind: Kind, of: Kind, count: u32, len: usize) -> bool {
     kind == of && count as usize == len
 }
 
 /// Whether there is a field.
-fn has_some(items: &[Value]) -> bool
-{
+fn has_some(items: &[Value]) -> bool {
     !items.is_empty()
 }

@@ -37,8 +37,7 @@ pub(crate) struct EitherLength {
 
 impl BlockKind {
     /// The kind of the blocks of this type. Section 10.1.
-    pub fn of_type(number: u32) -> BlockKind
-    {
+    pub fn of_type(number: u32) -> BlockKind {
         match number {
             0x0A0D_0D0A => BlockKind::Section,
             1 => BlockKind::Interface,
@@ -49,8 +48,7 @@ impl BlockKind {
     }
 
     /// How many bytes a block of this kind has at least.
-    pub fn least_length(self) -> u32
-    {
+    pub fn least_length(self) -> u32 {
         match self {
             BlockKind::Section => 28,
             BlockKind::Interface => 20,
@@ -63,8 +61,7 @@ impl BlockKind {
 
 impl EitherLength {
     /// The length in this order.
-    pub fn in_order(self, order: ByteOrder) -> u32
-    {
+    pub fn in_order(self, order: ByteOrder) -> u32 {
         match order {
             ByteOrder::BigEndian => self.big_endian,
             ByteOrder::LittleEndian => self.little_endian,
@@ -74,14 +71,12 @@ impl EitherLength {
 
 impl Block {
     /// The offset of its second length.
-    pub(crate) fn end(self) -> u64
-    {
+    pub(crate) fn end(self) -> u64 {
         self.start + self.length as u64 - 4
     }
 
     /// What is read at this offset in the block of an interface: an option, if there is room for one.
-    pub(crate) fn at_option(self, offset: u64) -> Stage
-    {
+    pub(crate) fn at_option(self, offset: u64) -> Stage {
         let end = self.end();
         if offset + 4 <= end {
             Stage::OptionHead(self)
@@ -93,8 +88,7 @@ impl Block {
     }
 
     /// What is read at this offset, where the bytes up to another one are passed over.
-    pub(crate) fn passing(self, offset: u64, until: u64) -> Stage
-    {
+    pub(crate) fn passing(self, offset: u64, until: u64) -> Stage {
         if offset == until {
             self.at_option(until)
         } else {
@@ -104,7 +98,6 @@ impl Block {
 }
 
 /// Whether a block that has at least so many bytes may have this length.
-pub(crate) fn may_have_length(least: u32, length: u32) -> bool
-{
+pub(crate) fn may_have_length(least: u32, length: u32) -> bool {
     length % 4 == 0 && least <= length
 }

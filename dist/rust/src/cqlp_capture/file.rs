@@ -34,8 +34,7 @@ pub enum SectionForm {
 
 impl FileForm {
     /// The form that a magic number says, read with its highest byte first.
-    pub(crate) fn of_magic(magic: u32) -> Option<FileForm>
-    {
+    pub(crate) fn of_magic(magic: u32) -> Option<FileForm> {
         let (order, fraction) = match magic {
             0xA1B2_C3D4 => (ByteOrder::BigEndian, Fraction::Microseconds),
             0xD4C3_B2A1 => (ByteOrder::LittleEndian, Fraction::Microseconds),
@@ -50,8 +49,7 @@ impl FileForm {
 impl ByteOrder {
     /// The order that the byte-order magic of a section says, read with its highest byte first. Section 4.1 of
     /// draft-ietf-opsawg-pcapng.
-    pub(crate) fn of_magic(magic: u32) -> Option<ByteOrder>
-    {
+    pub(crate) fn of_magic(magic: u32) -> Option<ByteOrder> {
         match magic {
             0x1A2B_3C4D => Some(ByteOrder::BigEndian),
             0x4D3C_2B1A => Some(ByteOrder::LittleEndian),
@@ -60,8 +58,7 @@ impl ByteOrder {
     }
 
     /// The number in two bytes, from this index on.
-    pub(crate) fn read_u16(self, bytes: &[u8], index: usize) -> u16
-    {
+    pub(crate) fn read_u16(self, bytes: &[u8], index: usize) -> u16 {
         let bytes = [bytes[index], bytes[index + 1]];
         match self {
             ByteOrder::BigEndian => u16::from_be_bytes(bytes),
@@ -70,8 +67,7 @@ impl ByteOrder {
     }
 
     /// The number in four bytes, from this index on.
-    pub(crate) fn read_u32(self, bytes: &[u8], index: usize) -> u32
-    {
+    pub(crate) fn read_u32(self, bytes: &[u8], index: usize) -> u32 {
         let bytes = [
             bytes[index],
             bytes[index + 1],
@@ -85,8 +81,7 @@ impl ByteOrder {
     }
 
     /// The number in eight bytes, from this index on.
-    pub(crate) fn read_u64(self, bytes: &[u8], index: usize) -> u64
-    {
+    pub(crate) fn read_u64(self, bytes: &[u8], index: usize) -> u64 {
         let bytes = [
             bytes[index],
             bytes[index + 1],

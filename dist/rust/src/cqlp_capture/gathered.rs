@@ -32,8 +32,7 @@ pub(crate) struct GatheredBytes<A: Allocator> {
 
 impl<A: Allocator> GatheredBytes<A> {
     /// With room for this many bytes. This is the one call that takes memory.
-    pub fn new(alloc: A, room: usize) -> Result<Self, AllocError>
-    {
+    pub fn new(alloc: A, room: usize) -> Result<Self, AllocError> {
         Ok(GatheredBytes {
             bytes: Vec::with_capacity(alloc, room)?,
             len: 0,
@@ -43,28 +42,24 @@ impl<A: Allocator> GatheredBytes<A> {
     }
 
     /// How many of the bytes that are wanted have come.
-    pub fn pending(&self) -> usize
-    {
+    pub fn pending(&self) -> usize {
         if self.found { 0 } else { self.len }
     }
 
     /// How many bytes its memory has places for.
-    pub fn capacity(&self) -> usize
-    {
+    pub fn capacity(&self) -> usize {
         self.bytes.capacity()
     }
 
     /// Removes all bytes, and keeps the memory.
-    pub fn clear(&mut self)
-    {
+    pub fn clear(&mut self) {
         self.found = false;
         self.len = 0;
     }
 
     /// The bytes that are wanted, of which those that are held have come, if the input has the others. They are lent from
     /// the input where none had come. Else the input is held too.
-    pub(crate) fn gather(&mut self, wanted: usize, input: &[u8]) -> Option<FoundBytes>
-    {
+    pub(crate) fn gather(&mut self, wanted: usize, input: &[u8]) -> Option<FoundBytes> {
         self.begin();
         let missing = wanted - self.len;
         if input.len() < missing {
@@ -86,8 +81,7 @@ impl<A: Allocator> GatheredBytes<A> {
     }
 
     /// The bytes that lie there.
-    pub(crate) fn lend<'a>(&'a self, input: &'a [u8], lies: BytesPlace) -> &'a [u8]
-    {
+    pub(crate) fn lend<'a>(&'a self, input: &'a [u8], lies: BytesPlace) -> &'a [u8] {
         match lies {
             BytesPlace::InInput { len } => &input[..len],
             BytesPlace::Held => &self.bytes[..self.len],
@@ -95,16 +89,14 @@ impl<A: Allocator> GatheredBytes<A> {
     }
 
     /// Holds only bytes of those that are wanted.
-    fn begin(&mut self)
-    {
+    fn begin(&mut self) {
         if self.found {
             self.clear();
         }
     }
 
     /// Adds a piece at the end.
-    fn append(&mut self, piece: &[u8])
-    {
+    fn append(&mut self, piece: &[u8]) {
         let start = self.len;
         let end = start + piece.len();
         let written = self.bytes.len();
@@ -118,8 +110,7 @@ impl<A: Allocator> GatheredBytes<A> {
 }
 
 /// Adds this many zeros.
-fn add_zeros<A: Allocator>(bytes: &mut Vec<u8, A>, count: usize)
-{
+fn add_zeros<A: Allocator>(bytes: &mut Vec<u8, A>, count: usize) {
     for _ in 0..count {
         bytes.push_reserved(0);
     }

@@ -34,27 +34,23 @@ pub(crate) struct InterfaceTable<A: Allocator> {
 
 impl<A: Allocator> InterfaceTable<A> {
     /// With room for this many interfaces. This is the one call that takes memory.
-    pub fn new(alloc: A, room: usize) -> Result<Self, AllocError>
-    {
+    pub fn new(alloc: A, room: usize) -> Result<Self, AllocError> {
         let entries = Vec::with_capacity(alloc, room)?;
         Ok(InterfaceTable { entries, room })
     }
 
     /// The interfaces, of which the first has the number 0.
-    pub fn known(&self) -> &[KnownInterface]
-    {
+    pub fn known(&self) -> &[KnownInterface] {
         self.entries.as_slice()
     }
 
     /// How many interfaces its memory has places for.
-    pub fn capacity(&self) -> usize
-    {
+    pub fn capacity(&self) -> usize {
         self.entries.capacity()
     }
 
     /// Makes this change.
-    pub(crate) fn apply(&mut self, change: TableChange)
-    {
+    pub(crate) fn apply(&mut self, change: TableChange) {
         match change {
             TableChange::Keep => {}
             TableChange::Forget => self.entries.clear(),

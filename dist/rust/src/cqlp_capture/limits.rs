@@ -27,8 +27,8 @@ impl CaptureLimits {
     };
 
     /// Whether the limits are in their ranges.
-    pub fn is_in_range(&self) -> bool
-    {
+    #[must_use]
+    pub fn is_in_range(&self) -> bool {
         CaptureLimits::LEAST_PACKET <= self.packet
             && self.packet <= CaptureLimits::GREATEST_PACKET
             && 1 <= self.interfaces

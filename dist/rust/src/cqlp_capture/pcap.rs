@@ -10,8 +10,7 @@ use crate::cqlp_capture::telling::{read_next, refuse};
 
 /// What the first four bytes of a file say. Section 4 of draft-ietf-opsawg-pcap, and section 4.1 of
 /// draft-ietf-opsawg-pcapng.
-pub(crate) fn tell_magic(bytes: &[u8]) -> Result<Told, CaptureRefusal>
-{
+pub(crate) fn tell_magic(bytes: &[u8]) -> Result<Told, CaptureRefusal> {
     let magic = ByteOrder::BigEndian.read_u32(bytes, 0);
     if magic == 0x0A0D_0D0A {
         return read_next(4, Stage::SectionLength);
@@ -31,8 +30,7 @@ pub(crate) fn tell_magic(bytes: &[u8]) -> Result<Told, CaptureRefusal>
 }
 
 /// What the rest of the file's header says. Section 4 of draft-ietf-opsawg-pcap.
-pub(crate) fn tell_file_head(form: FileForm, bytes: &[u8]) -> Result<Told, CaptureRefusal>
-{
+pub(crate) fn tell_file_head(form: FileForm, bytes: &[u8]) -> Result<Told, CaptureRefusal> {
     let order = form.order;
     if order.read_u16(bytes, 0) != 2 || order.read_u16(bytes, 2) != 4 {
         return refuse(4, CaptureReason::UnknownVersion);
@@ -65,8 +63,7 @@ pub(crate) fn tell_record_head(
     offset: u64,
     record_form: RecordForm,
     bytes: &[u8],
-) -> Result<Told, CaptureRefusal>
-{
+) -> Result<Told, CaptureRefusal> {
     if offset > FARTHEST {
         return refuse(offset, CaptureReason::FileTooLong);
     }
@@ -95,14 +92,12 @@ pub(crate) fn tell_record_head(
 }
 
 /// So many seconds and fractions of one, in nanoseconds.
-fn time_of(form: FileForm, seconds: u32, fraction: u32) -> u64
-{
+fn time_of(form: FileForm, seconds: u32, fraction: u32) -> u64 {
     seconds as u64 * 1_000_000_000 + fraction as u64 * unit_of(form.fraction) as u64
 }
 
 /// How many nanoseconds a fraction counts.
-fn unit_of(fraction: Fraction) -> u32
-{
+fn unit_of(fraction: Fraction) -> u32 {
     match fraction {
         Fraction::Microseconds => 1_000,
         Fraction::Nanoseconds => 1,

@@ -10,8 +10,7 @@ use crate::cqlp_capture::refusal::{CaptureReason, CaptureRefusal};
 use crate::cqlp_capture::telling::{read_next, refuse};
 
 /// That these bytes, up to this offset, are all of a packet.
-pub(crate) fn tell_data(end: u64, offset: u64, stage: Stage) -> Result<Told, CaptureRefusal>
-{
+pub(crate) fn tell_data(end: u64, offset: u64, stage: Stage) -> Result<Told, CaptureRefusal> {
     Ok(Told {
         at: offset,
         what: Some(EventOutline::Data),
@@ -21,14 +20,12 @@ pub(crate) fn tell_data(end: u64, offset: u64, stage: Stage) -> Result<Told, Cap
 }
 
 /// What the length of the first block says. Section 4.1 of draft-ietf-opsawg-pcapng.
-pub(crate) fn tell_section_length(bytes: &[u8]) -> Result<Told, CaptureRefusal>
-{
+pub(crate) fn tell_section_length(bytes: &[u8]) -> Result<Told, CaptureRefusal> {
     read_next(8, Stage::SectionBody(read_either_length(bytes, 0)))
 }
 
 /// The length at this index.
-fn read_either_length(bytes: &[u8], index: usize) -> EitherLength
-{
+fn read_either_length(bytes: &[u8], index: usize) -> EitherLength {
     EitherLength {
         big_endian: ByteOrder::BigEndian.read_u32(bytes, index),
         little_endian: ByteOrder::LittleEndian.read_u32(bytes, index),
@@ -40,8 +37,7 @@ pub(crate) fn tell_section_body(
     offset: u64,
     lengths: EitherLength,
     bytes: &[u8],
-) -> Result<Told, CaptureRefusal>
-{
+) -> Result<Told, CaptureRefusal> {
     let Some(order) = ByteOrder::of_magic(ByteOrder::BigEndian.read_u32(bytes, 0)) else {
         return refuse(offset, CaptureReason::UnknownByteOrder);
     };
@@ -62,8 +58,7 @@ pub(crate) fn tell_section_body(
 }
 
 /// That a section begins with this block.
-fn tell_section(block: Block) -> Result<Told, CaptureRefusal>
-{
+fn tell_section(block: Block) -> Result<Told, CaptureRefusal> {
     let offset = block.start + 24;
     Ok(Told {
         at: block.start,
@@ -81,8 +76,7 @@ pub(crate) fn tell_block_head(
     offset: u64,
     order: ByteOrder,
     bytes: &[u8],
-) -> Result<Told, CaptureRefusal>
-{
+) -> Result<Told, CaptureRefusal> {
     if offset > FARTHEST {
         return refuse(offset, CaptureReason::FileTooLong);
     }
@@ -104,8 +98,7 @@ pub(crate) fn tell_block_head(
 }
 
 /// What is read in a block of this kind.
-fn tell_block(kind: BlockKind, block: Block) -> Result<Told, CaptureRefusal>
-{
+fn tell_block(kind: BlockKind, block: Block) -> Result<Told, CaptureRefusal> {
     let offset = block.start + 8;
     let stage = match kind {
         BlockKind::Interface => Stage::InterfaceBody(block),
@@ -121,8 +114,7 @@ pub(crate) fn tell_interface_body(
     offset: u64,
     block: Block,
     bytes: &[u8],
-) -> Result<Told, CaptureRefusal>
-{
+) -> Result<Told, CaptureRefusal> {
     let order = block.order;
     let interface = KnownInterface {
         link: order.read_u16(bytes, 0),
@@ -138,8 +130,7 @@ fn tell_description(
     offset: u64,
     block: Block,
     interface: KnownInterface,
-) -> Result<Told, CaptureRefusal>
-{
+) -> Result<Told, CaptureRefusal> {
     let block = Block {
         order: block.order,
         start: block.start,
@@ -154,8 +145,7 @@ pub(crate) fn tell_option_head(
     offset: u64,
     block: Block,
     bytes: &[u8],
-) -> Result<Told, CaptureRefusal>
-{
+) -> Result<Told, CaptureRefusal> {
     let code = block.order.read_u16(bytes, 0);
     let size = block.order.read_u16(bytes, 2);
     let end = block.end();
@@ -169,8 +159,7 @@ pub(crate) fn tell_option_head(
 }
 
 /// What an option of this code and this length says, which lies in its block.
-fn tell_option(offset: u64, block: Block, code: u16, size: u16) -> Result<Told, CaptureRefusal>
-{
+fn tell_option(offset: u64, block: Block, code: u16, size: u16) -> Result<Told, CaptureRefusal> {
     match (code, size) {
         (9, 1) => read_next(offset + 4, Stage::TimeUnit(block)),
         (14, 8) => read_next(offset + 4, Stage::TimeOffset(block)),
@@ -183,8 +172,7 @@ fn tell_option(offset: u64, block: Block, code: u16, size: u16) -> Result<Told, 
 }
 
 /// How many bytes are taken by a number of them that are filled up to 32 bits.
-fn filled_up(size: u16) -> u64
-{
+fn filled_up(size: u16) -> u64 {
     (size as u64 + 3) / 4 * 4
 }
 
@@ -193,8 +181,7 @@ pub(crate) fn tell_time_unit(
     offset: u64,
     block: Block,
     bytes: &[u8],
-) -> Result<Told, CaptureRefusal>
-{
+) -> Result<Told, CaptureRefusal> {
     let Some(unit) = read_unit(bytes[0]) else {
         return refuse(offset, CaptureReason::UnknownTimeUnit);
     };
@@ -214,8 +201,7 @@ pub(crate) fn tell_time_unit(
 }
 
 /// How many nanoseconds a unit of time is, by this byte of if_tsresol.
-fn read_unit(exponent: u8) -> Option<u32>
-{
+fn read_unit(exponent: u8) -> Option<u32> {
     match exponent {
         0 => Some(1_000_000_000),
         1 => Some(100_000_000),
@@ -236,8 +222,7 @@ pub(crate) fn tell_time_offset(
     offset: u64,
     block: Block,
     bytes: &[u8],
-) -> Result<Told, CaptureRefusal>
-{
+) -> Result<Told, CaptureRefusal> {
     let seconds = block.order.read_u64(bytes, 0);
     if seconds >= 0x8000_0000_0000_0000 {
         return refuse(offset, CaptureReason::NegativeTimeOffset);
@@ -264,8 +249,7 @@ pub(crate) fn tell_enhanced_body(
     offset: u64,
     block: Block,
     bytes: &[u8],
-) -> Result<Told, CaptureRefusal>
-{
+) -> Result<Told, CaptureRefusal> {
     let order = block.order;
     let number = order.read_u32(bytes, 0);
     let Some(interface) = known.get(number as usize).copied() else {
@@ -293,22 +277,19 @@ pub(crate) fn tell_enhanced_body(
 }
 
 /// How many bytes a block has from this offset on to its second length.
-fn room_after(block: Block, offset: u64) -> u64
-{
+fn room_after(block: Block, offset: u64) -> u64 {
     block.end() - offset
 }
 
 /// When a packet of this interface was captured, in nanoseconds, if that is less than 2^64.
-fn captured_time(interface: KnownInterface, units: u64) -> Option<u64>
-{
+fn captured_time(interface: KnownInterface, units: u64) -> Option<u64> {
     let since = units.checked_mul(interface.unit as u64)?;
     let begin = interface.offset.checked_mul(1_000_000_000)?;
     since.checked_add(begin)
 }
 
 /// That a packet begins, whose bytes are at this offset.
-fn tell_packet(offset: u64, block: Block, packet: PacketHead) -> Result<Told, CaptureRefusal>
-{
+fn tell_packet(offset: u64, block: Block, packet: PacketHead) -> Result<Told, CaptureRefusal> {
     Ok(Told {
         at: block.start,
         what: Some(EventOutline::Packet(packet)),
@@ -327,8 +308,7 @@ pub(crate) fn tell_simple_body(
     offset: u64,
     block: Block,
     bytes: &[u8],
-) -> Result<Told, CaptureRefusal>
-{
+) -> Result<Told, CaptureRefusal> {
     let Some(interface) = known.get(0).copied() else {
         return refuse(block.start, CaptureReason::UnknownInterface);
     };
@@ -348,8 +328,7 @@ pub(crate) fn tell_simple_body(
 }
 
 /// How many bytes of a simple packet were captured that had so many, where its block has room for so many.
-fn captured_size(interface: KnownInterface, original: u32, room: u64) -> u32
-{
+fn captured_size(interface: KnownInterface, original: u32, room: u64) -> u32 {
     let snapped = if interface.snap_length == 0 {
         original
     } else {
@@ -369,8 +348,7 @@ pub(crate) fn tell_block_end(
     offset: u64,
     block: Block,
     bytes: &[u8],
-) -> Result<Told, CaptureRefusal>
-{
+) -> Result<Told, CaptureRefusal> {
     if block.order.read_u32(bytes, 0) != block.length {
         return refuse(offset, CaptureReason::UnequalBlockLengths);
     }

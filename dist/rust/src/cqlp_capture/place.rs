@@ -67,8 +67,7 @@ pub(crate) struct Place {
 
 impl Stage {
     /// How many bytes are read next. Of those that are passed over it is one, and any number of them may be taken at once.
-    pub fn wanted(self) -> usize
-    {
+    pub fn wanted(self) -> usize {
         match self {
             Stage::Magic
             | Stage::SectionLength
@@ -92,8 +91,7 @@ impl Place {
         limits: &CaptureLimits,
         known: &[KnownInterface],
         bytes: &[u8],
-    ) -> Result<Told, CaptureRefusal>
-    {
+    ) -> Result<Told, CaptureRefusal> {
         let offset = self.offset;
         match self.stage {
             Stage::Magic => pcap::tell_magic(bytes),
@@ -127,14 +125,12 @@ impl Place {
     }
 
     /// Whether the file may end here.
-    pub fn is_between(self) -> bool
-    {
+    pub fn is_between(self) -> bool {
         matches!(self.stage, Stage::RecordHead(_) | Stage::BlockHead(_))
     }
 
     /// The offset at which the header of the file, the record or the block under way began.
-    pub(crate) fn began(self) -> u64
-    {
+    pub(crate) fn began(self) -> u64 {
         match self.stage {
             Stage::Magic | Stage::FileHead(_) | Stage::SectionLength => 0,
             Stage::RecordHead(_) | Stage::BlockHead(_) => self.offset,

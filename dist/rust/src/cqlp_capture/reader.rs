@@ -63,8 +63,11 @@ pub struct CaptureReader<A: Allocator = Global> {
 impl<A: Allocator + Clone> CaptureReader<A> {
     /// A reader at the start of a file, with room for a packet of the greatest length that the limits allow and for as many
     /// interfaces as they allow: two requests for memory, and the only ones.
-    pub fn new(alloc: A, limits: CaptureLimits) -> Result<Self, NewReaderError>
-    {
+    ///
+    /// # Errors
+    ///
+    /// Limits out of their ranges, and memory that is refused.
+    pub fn new(alloc: A, limits: CaptureLimits) -> Result<Self, NewReaderError> {
         if !limits.is_in_range() {
             return Err(NewReaderError::BadLimits);
         }
@@ -93,8 +96,7 @@ impl<A: Allocator + Clone> CaptureReader<A> {
 impl<A: Allocator> CaptureReader<A> {
     /// The next event that the input leads to. The caller hands in the bytes after those that were used, and goes on
     /// until more are wanted. A refusal is final: each later call says it again.
-    pub fn next<'a>(&'a mut self, input: &'a [u8]) -> CaptureStep<'a>
-    {
+    pub fn next<'a>(&'a mut self, input: &'a [u8]) -> CaptureStep<'a> {
         match self.advance(input) {
             CaptureAdvance::More { used } => CaptureStep::More { used },
             CaptureAdvance::Refused(refusal) => CaptureStep::Refused(refusal),
@@ -113,8 +115,7 @@ impl<A: Allocator> CaptureReader<A> {
     }
 
     /// How the file ends, if it ends after the bytes that were used.
-    pub fn finish(&self) -> CaptureEnd
-    {
+    pub fn finish(&self) -> CaptureEnd {
         if let Some(refusal) = self.refusal {
             return CaptureEnd::Refused(refusal);
         }
@@ -129,20 +130,17 @@ impl<A: Allocator> CaptureReader<A> {
     }
 
     /// The bytes of a packet that the reader has memory for: the limit on a packet, for as long as it lives.
-    pub fn capacity(&self) -> usize
-    {
+    pub fn capacity(&self) -> usize {
         self.gathered.capacity()
     }
 
     /// The interfaces that the reader has memory for: the limit on interfaces, for as long as it lives.
-    pub fn interface_capacity(&self) -> usize
-    {
+    pub fn interface_capacity(&self) -> usize {
         self.interfaces.capacity()
     }
 
     /// The work of a call, with nothing borrowed in its result.
-    fn advance(&mut self, input: &[u8]) -> CaptureAdvance
-    {
+    fn advance(&mut self, input: &[u8]) -> CaptureAdvance {
         if let Some(refusal) = self.refusal {
             return CaptureAdvance::Refused(refusal);
         }
@@ -150,8 +148,7 @@ impl<A: Allocator> CaptureReader<A> {
     }
 
     /// The steps of a call, of a file that was not refused.
-    fn go_ahead(&mut self, input: &[u8]) -> CaptureAdvance
-    {
+    fn go_ahead(&mut self, input: &[u8]) -> CaptureAdvance {
         let mut from = 0;
         loop {
             match self.take_step(&input[from..]) {
@@ -177,8 +174,7 @@ impl<A: Allocator> CaptureReader<A> {
     }
 
     /// One step, or as many as the input has bytes of those that are passed over.
-    fn take_step(&mut self, input: &[u8]) -> StepTaken
-    {
+    fn take_step(&mut self, input: &[u8]) -> StepTaken {
         if let Stage::Pass(block, until) = self.place.stage {
             return self.pass(block, until, input);
         }
@@ -212,8 +208,7 @@ impl<A: Allocator> CaptureReader<A> {
     }
 
     /// Passes over bytes of a block up to an offset, as many as the input has.
-    fn pass(&mut self, block: Block, until: u64, input: &[u8]) -> StepTaken
-    {
+    fn pass(&mut self, block: Block, until: u64, input: &[u8]) -> StepTaken {
         self.gathered.clear();
         if input.is_empty() {
             return StepTaken::More;
@@ -229,8 +224,7 @@ impl<A: Allocator> CaptureReader<A> {
     }
 
     /// The event that `advance` made of this input.
-    fn lend<'a>(&'a self, input: &'a [u8], what: EventOutline, lies: BytesPlace) -> CaptureEvent<'a>
-    {
+    fn lend<'a>(&'a self, input: &'a [u8], what: EventOutline, lies: BytesPlace) -> CaptureEvent<'a> {
         match what {
             EventOutline::Section(form) => CaptureEvent::Section(form),
             EventOutline::Interface(interface) => CaptureEvent::Interface(interface),

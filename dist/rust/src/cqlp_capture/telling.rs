@@ -7,8 +7,7 @@ use crate::cqlp_capture::place::{Place, Stage};
 use crate::cqlp_capture::refusal::{CaptureReason, CaptureRefusal};
 
 /// No event, and this is read next, from this offset on.
-pub(crate) fn read_next(offset: u64, stage: Stage) -> Result<Told, CaptureRefusal>
-{
+pub(crate) fn read_next(offset: u64, stage: Stage) -> Result<Told, CaptureRefusal> {
     Ok(Told {
         at: offset,
         what: None,
@@ -18,7 +17,6 @@ pub(crate) fn read_next(offset: u64, stage: Stage) -> Result<Told, CaptureRefusa
 }
 
 /// The refusal at this offset.
-pub(crate) fn refuse(at: u64, why: CaptureReason) -> Result<Told, CaptureRefusal>
-{
+pub(crate) fn refuse(at: u64, why: CaptureReason) -> Result<Told, CaptureRefusal> {
     Err(CaptureRefusal { at, why })
 }

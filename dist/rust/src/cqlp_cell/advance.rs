@@ -67,8 +67,7 @@ pub enum CellAdvance {
 impl CellAdvance {
     /// Whether it is an item without a content, or a refusal.
     #[inline]
-    pub(crate) fn is_bare(&self) -> bool
-    {
+    pub(crate) fn is_bare(&self) -> bool {
         match self {
             CellAdvance::More { .. } | CellAdvance::Done => false,
             CellAdvance::Refused(_) => true,
@@ -82,8 +81,7 @@ impl CellAdvance {
 impl CellOutline {
     /// The part, with its content lent from where it lies.
     #[inline]
-    pub(crate) fn lend<'a, A: Allocator>(self, partial: &'a Partial<A>, input: &'a [u8]) -> CellItem<'a>
-    {
+    pub(crate) fn lend<'a, A: Allocator>(self, partial: &'a Partial<A>, input: &'a [u8]) -> CellItem<'a> {
         match self {
             CellOutline::Leaf {
                 level,

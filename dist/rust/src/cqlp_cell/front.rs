@@ -21,8 +21,7 @@ pub fn front_scalar<'a>(
     kind: Kind,
     room: u64,
     input: &'a [u8],
-) -> Option<FrontScalar<'a>>
-{
+) -> Option<FrontScalar<'a>> {
     if input.len() < 4 {
         return None;
     }

@@ -21,8 +21,7 @@ pub(crate) fn gather<A: Allocator>(
     at: u64,
     start: usize,
     input: &[u8],
-) -> Option<Found>
-{
+) -> Option<Found> {
     if begun {
         resume(partial, len, input)
     } else if input.len() - start < len as usize {
@@ -44,8 +43,7 @@ pub(crate) fn gather<A: Allocator>(
 }
 
 /// Takes the next bytes of a content that was begun before.
-fn resume<A: Allocator>(partial: &mut Partial<A>, len: u32, input: &[u8]) -> Option<Found>
-{
+fn resume<A: Allocator>(partial: &mut Partial<A>, len: u32, input: &[u8]) -> Option<Found> {
     match partial.advance(input) {
         FieldAdvance::More { .. } => None,
         FieldAdvance::Got { used, item } => Some(Found {
@@ -57,8 +55,7 @@ fn resume<A: Allocator>(partial: &mut Partial<A>, len: u32, input: &[u8]) -> Opt
 }
 
 /// Begins a content that goes on after the input.
-fn begin<A: Allocator>(partial: &mut Partial<A>, len: u32, at: u64, input: &[u8])
-{
+fn begin<A: Allocator>(partial: &mut Partial<A>, len: u32, at: u64, input: &[u8]) {
     partial.begin(Notation::Content(len), len, at, at + u64::from(len));
     match partial.advance(input) {
         FieldAdvance::More { .. } => {}
@@ -69,16 +66,14 @@ fn begin<A: Allocator>(partial: &mut Partial<A>, len: u32, at: u64, input: &[u8]
 
 /// Empties the buffer.
 #[inline]
-pub(crate) fn empty<A: Allocator>(partial: &mut Partial<A>)
-{
+pub(crate) fn empty<A: Allocator>(partial: &mut Partial<A>) {
     if partial.held() > 0 {
         clear(partial);
     }
 }
 
 /// Empties the buffer by a content without bytes.
-fn clear<A: Allocator>(partial: &mut Partial<A>)
-{
+fn clear<A: Allocator>(partial: &mut Partial<A>) {
     partial.begin(Notation::Content(0), 0, 0, 0);
     match partial.advance(&[]) {
         FieldAdvance::More { .. } => unreachable!(),
@@ -93,8 +88,7 @@ pub(crate) fn lend_bytes<'a, A: Allocator>(
     partial: &'a Partial<A>,
     input: &'a [u8],
     content: FieldOutline,
-) -> &'a [u8]
-{
+) -> &'a [u8] {
     match partial.lend(input, content) {
         Prim::Bytes(Some(bytes)) => bytes,
         _ => unreachable!(),

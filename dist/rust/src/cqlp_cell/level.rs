@@ -28,8 +28,7 @@ pub struct PairKinds {
 impl Level {
     /// The next item, if there is one.
     #[inline(always)]
-    pub(crate) fn due_item<A: Allocator>(&self, table: &TypeTable<A>) -> Option<DueItem>
-    {
+    pub(crate) fn due_item<A: Allocator>(&self, table: &TypeTable<A>) -> Option<DueItem> {
         let value = self.value;
         if value.is_over(self.offset) {
             return None;
@@ -45,8 +44,7 @@ impl Level {
 
     /// The end of the value that this is, where that is a cell and at its end.
     #[inline(always)]
-    pub fn ending(&self) -> Option<BareItem>
-    {
+    pub fn ending(&self) -> Option<BareItem> {
         let at = self.offset;
         if self.level > 1 || !self.value.is_over(at) || at < self.value.stop {
             return None;
@@ -60,15 +58,13 @@ impl Level {
 
     /// Whether this is a list or a set, whose items are all of one type.
     #[inline(always)]
-    pub fn is_list(&self) -> bool
-    {
+    pub fn is_list(&self) -> bool {
         matches!(self.value.order, Order::Elements)
     }
 
     /// The next item of a list or a set, whose items are of this kind, if there is one.
     #[inline(always)]
-    pub(crate) fn due_element(&self, kind: Kind) -> Option<DueItem>
-    {
+    pub(crate) fn due_element(&self, kind: Kind) -> Option<DueItem> {
         if self.value.left == 0 {
             return None;
         }
@@ -82,24 +78,21 @@ impl Level {
 
     /// Goes on after the next item of a list or a set, which takes this many bytes.
     #[inline(always)]
-    pub(crate) fn pass_element(&mut self, used: usize)
-    {
+    pub(crate) fn pass_element(&mut self, used: usize) {
         self.value.left -= 1;
         self.offset += used as u64;
     }
 
     /// Goes on after the next item, which takes this many bytes.
     #[inline(always)]
-    pub(crate) fn pass<A: Allocator>(&mut self, used: usize, table: &TypeTable<A>)
-    {
+    pub(crate) fn pass<A: Allocator>(&mut self, used: usize, table: &TypeTable<A>) {
         self.value.pass_item(table);
         self.offset += used as u64;
     }
 
     /// The kinds of the keys and of the values of a map whose key is next; `None` of another value.
     #[inline(always)]
-    pub fn pair_kinds<A: Allocator>(&self, table: &TypeTable<A>) -> Option<PairKinds>
-    {
+    pub fn pair_kinds<A: Allocator>(&self, table: &TypeTable<A>) -> Option<PairKinds> {
         let Order::Keys = self.value.order else {
             return None;
         };
@@ -117,8 +110,7 @@ impl Level {
 
     /// The next item of a map, which is of this kind.
     #[inline(always)]
-    pub(crate) fn due_in_pair(&self, kind: Kind) -> DueItem
-    {
+    pub(crate) fn due_in_pair(&self, kind: Kind) -> DueItem {
         DueItem {
             at: self.offset,
             kind,
@@ -129,15 +121,13 @@ impl Level {
 
     /// Whether a pair of a map is left whose key is next.
     #[inline(always)]
-    pub fn has_key(&self) -> bool
-    {
+    pub fn has_key(&self) -> bool {
         matches!(self.value.order, Order::Keys) && self.value.left > 0
     }
 
     /// Goes on after a key of a map, which takes this many bytes.
     #[inline(always)]
-    pub(crate) fn pass_key(&mut self, used: usize)
-    {
+    pub(crate) fn pass_key(&mut self, used: usize) {
         self.value.switch_type(Order::Values);
         self.value.left -= 1;
         self.offset += used as u64;
@@ -145,8 +135,7 @@ impl Level {
 
     /// Goes on after a value of a map, which takes this many bytes.
     #[inline(always)]
-    pub(crate) fn pass_value(&mut self, used: usize)
-    {
+    pub(crate) fn pass_value(&mut self, used: usize) {
         self.value.switch_type(Order::Keys);
         self.offset += used as u64;
     }

@@ -25,8 +25,7 @@ pub(crate) fn take_number<A: Allocator>(
     end: u64,
     start: usize,
     input: &[u8],
-) -> Number
-{
+) -> Number {
     if begun {
         resume(partial, input)
     } else if end - at < 4 {
@@ -43,8 +42,7 @@ pub(crate) fn take_number<A: Allocator>(
 }
 
 /// Takes the next bytes of an \[int\] that was begun before.
-fn resume<A: Allocator>(partial: &mut Partial<A>, input: &[u8]) -> Number
-{
+fn resume<A: Allocator>(partial: &mut Partial<A>, input: &[u8]) -> Number {
     match partial.advance(input) {
         FieldAdvance::More { .. } => Number::More,
         FieldAdvance::Got { used, item } => Number::Got {
@@ -56,8 +54,7 @@ fn resume<A: Allocator>(partial: &mut Partial<A>, input: &[u8]) -> Number
 }
 
 /// Begins an \[int\] that goes on after the input.
-fn begin<A: Allocator>(partial: &mut Partial<A>, at: u64, end: u64, input: &[u8])
-{
+fn begin<A: Allocator>(partial: &mut Partial<A>, at: u64, end: u64, input: &[u8]) {
     partial.begin(Notation::Int, 0, at, end);
     match partial.advance(input) {
         FieldAdvance::More { .. } => {}
@@ -67,8 +64,7 @@ fn begin<A: Allocator>(partial: &mut Partial<A>, at: u64, end: u64, input: &[u8]
 }
 
 /// The unsigned number that the bytes of an \[int\] are.
-fn number_in<A: Allocator>(partial: &Partial<A>, input: &[u8], item: FieldOutline) -> u32
-{
+fn number_in<A: Allocator>(partial: &Partial<A>, input: &[u8], item: FieldOutline) -> u32 {
     match partial.lend(input, item) {
         Prim::Int(number) => number.cast_unsigned(),
         _ => unreachable!(),

@@ -43,8 +43,7 @@ pub(crate) struct OpenValues<A: Allocator> {
 
 impl<A: Allocator> OpenValues<A> {
     /// With room for this many.
-    pub(crate) fn new(alloc: A, room: u32) -> Result<Self, NoMemory>
-    {
+    pub(crate) fn new(alloc: A, room: u32) -> Result<Self, NoMemory> {
         Ok(OpenValues {
             values: Vec::with_capacity(alloc, room as usize)?,
             room,
@@ -52,47 +51,40 @@ impl<A: Allocator> OpenValues<A> {
     }
 
     #[inline]
-    pub(crate) fn len(&self) -> u32
-    {
+    pub(crate) fn len(&self) -> u32 {
         self.values.len() as u32
     }
 
     /// How many values its memory has places for: the room, for as long as it lives.
-    pub(crate) fn capacity(&self) -> usize
-    {
+    pub(crate) fn capacity(&self) -> usize {
         self.values.capacity()
     }
 
     #[inline]
-    pub(crate) fn clear(&mut self)
-    {
+    pub(crate) fn clear(&mut self) {
         self.values.clear();
     }
 
     /// The innermost value.
     #[inline]
-    pub(crate) fn last(&self) -> Option<OpenValue>
-    {
+    pub(crate) fn last(&self) -> Option<OpenValue> {
         self.values.last().copied()
     }
 
     #[inline]
-    pub(crate) fn push(&mut self, value: OpenValue)
-    {
+    pub(crate) fn push(&mut self, value: OpenValue) {
         self.values.push_reserved(value);
     }
 
     /// Closes the innermost value.
     #[inline]
-    pub(crate) fn pop(&mut self)
-    {
+    pub(crate) fn pop(&mut self) {
         self.values.pop();
     }
 
     /// Puts this in the place of the innermost value, if there is one.
     #[inline(always)]
-    pub(crate) fn set_last(&mut self, value: OpenValue)
-    {
+    pub(crate) fn set_last(&mut self, value: OpenValue) {
         let len = self.values.len();
         if len > 0 {
             self.values[len - 1] = value;
@@ -101,8 +93,7 @@ impl<A: Allocator> OpenValues<A> {
 
     /// Goes on after the next item of the innermost value.
     #[inline(always)]
-    pub(crate) fn pass_item(&mut self, table: &TypeTable<A>)
-    {
+    pub(crate) fn pass_item(&mut self, table: &TypeTable<A>) {
         let len = self.values.len();
         if len > 0 {
             self.values[len - 1].pass_item(table);

@@ -72,8 +72,7 @@ pub(crate) struct CellProgress<A: Allocator> {
 impl<A: Allocator> CellProgress<A> {
     /// What comes next, where nothing of it has come.
     #[inline]
-    pub(crate) fn due(&self) -> CellDue
-    {
+    pub(crate) fn due(&self) -> CellDue {
         match self.next {
             NextInCell::Nothing => CellDue::Nothing,
             NextInCell::Cell(_) => CellDue::Value,
@@ -93,8 +92,7 @@ impl<A: Allocator> CellProgress<A> {
 
     /// The value that is read next.
     #[inline]
-    pub(crate) fn value(&self, table: &TypeTable<A>) -> DueValue
-    {
+    pub(crate) fn value(&self, table: &TypeTable<A>) -> DueValue {
         match self.next {
             NextInCell::Cell(node) => cell_value(table, node, self.stop),
             NextInCell::Items => {
@@ -108,8 +106,7 @@ impl<A: Allocator> CellProgress<A> {
 
     /// Goes on after this many bytes of the value that was read, or of what is known of it.
     #[inline(always)]
-    pub(crate) fn pass(&mut self, size: u64, table: &TypeTable<A>)
-    {
+    pub(crate) fn pass(&mut self, size: u64, table: &TypeTable<A>) {
         if let NextInCell::Items = self.next {
             self.open_values.pass_item(table);
         }
@@ -120,8 +117,7 @@ impl<A: Allocator> CellProgress<A> {
 
     /// Ends the cell.
     #[inline(always)]
-    pub(crate) fn end(&mut self)
-    {
+    pub(crate) fn end(&mut self) {
         self.next = NextInCell::Nothing;
         self.arrived = Arrived::Nothing;
         self.open_values.clear();
@@ -130,8 +126,7 @@ impl<A: Allocator> CellProgress<A> {
 
 /// The value that the cell is.
 #[inline]
-fn cell_value<A: Allocator>(table: &TypeTable<A>, node: Option<u32>, stop: u64) -> DueValue
-{
+fn cell_value<A: Allocator>(table: &TypeTable<A>, node: Option<u32>, stop: u64) -> DueValue {
     match node {
         Some(node) => value_at(table, node, stop),
         None => DueValue {
@@ -145,8 +140,7 @@ fn cell_value<A: Allocator>(table: &TypeTable<A>, node: Option<u32>, stop: u64) 
 
 /// A value of the type at this node, in a value that ends there.
 #[inline]
-pub(crate) fn value_at<A: Allocator>(table: &TypeTable<A>, node: u32, stop: u64) -> DueValue
-{
+pub(crate) fn value_at<A: Allocator>(table: &TypeTable<A>, node: u32, stop: u64) -> DueValue {
     let head = table.node(node).unwrap();
     DueValue {
         kind: head.kind,
@@ -158,16 +152,14 @@ pub(crate) fn value_at<A: Allocator>(table: &TypeTable<A>, node: u32, stop: u64)
 
 /// Whether so many bytes behind the last field of a value are read on, since the caller is lenient.
 #[inline]
-fn reads_further(limits: &Asked, left: u64) -> bool
-{
+fn reads_further(limits: &Asked, left: u64) -> bool {
     limits.lenient && 0 < limits.cell && 0 < left && left < 1 << 32
 }
 
 impl OpenValue {
     /// Whether no further item begins at this offset.
     #[inline]
-    pub(crate) fn is_over(self, offset: u64) -> bool
-    {
+    pub(crate) fn is_over(self, offset: u64) -> bool {
         match self.order {
             Order::Elements | Order::Keys => self.left == 0,
             Order::Values => false,
@@ -177,8 +169,7 @@ impl OpenValue {
 
     /// Whether bytes behind its last field are read on from this offset, since the caller is lenient.
     #[inline]
-    pub(crate) fn has_further(self, limits: &Asked, offset: u64) -> bool
-    {
+    pub(crate) fn has_further(self, limits: &Asked, offset: u64) -> bool {
         match self.order {
             Order::Fields => reads_further(limits, self.stop - offset),
             Order::Elements | Order::Keys | Order::Values => false,
@@ -187,8 +178,7 @@ impl OpenValue {
 
     /// Goes on after its next item.
     #[inline(always)]
-    pub(crate) fn pass_item<A: Allocator>(&mut self, table: &TypeTable<A>)
-    {
+    pub(crate) fn pass_item<A: Allocator>(&mut self, table: &TypeTable<A>) {
         match self.order {
             Order::Elements => self.left -= 1,
             Order::Keys => {
@@ -206,8 +196,7 @@ impl OpenValue {
 
     /// Goes on with the other of a map's types.
     #[inline(always)]
-    pub(crate) fn switch_type(&mut self, order: Order)
-    {
+    pub(crate) fn switch_type(&mut self, order: Order) {
         let node = self.node;
         self.order = order;
         self.node = self.other;

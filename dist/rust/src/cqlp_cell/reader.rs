@@ -19,14 +19,12 @@ pub struct CellReader<A: Allocator = Global> {
 
 impl<A: Allocator> CellReader<A> {
     /// With room for the nesting that the limits allow. Parts have at least one byte.
-    pub(crate) fn new(alloc: A, limits: &Limits) -> Result<Self, NoMemory>
-    {
+    pub(crate) fn new(alloc: A, limits: &Limits) -> Result<Self, NoMemory> {
         Self::asked(alloc, &Asked::new(limits, false))
     }
 
     /// The same, where the caller may ask for a lenient reading.
-    pub(crate) fn asked(alloc: A, limits: &Asked) -> Result<Self, NoMemory>
-    {
+    pub(crate) fn asked(alloc: A, limits: &Asked) -> Result<Self, NoMemory> {
         Ok(CellReader {
             progress: CellProgress {
                 limits: *limits,
@@ -41,8 +39,7 @@ impl<A: Allocator> CellReader<A> {
 
     /// Begins a cell of the type at this node, or of none, at an offset in a container that ends at another.
     #[inline(always)]
-    pub(crate) fn begin(&mut self, node: Option<u32>, at: u64, end: u64)
-    {
+    pub(crate) fn begin(&mut self, node: Option<u32>, at: u64, end: u64) {
         self.progress.offset = at;
         self.progress.stop = end;
         self.progress.next = NextInCell::Cell(node);
@@ -51,41 +48,35 @@ impl<A: Allocator> CellReader<A> {
     }
 
     /// Whether a cell is under way and whole, so that the next push says so.
-    pub fn done(&self) -> bool
-    {
+    pub fn done(&self) -> bool {
         matches!(self.progress.next, NextInCell::Items) && self.progress.open_values.len() == 0
     }
 
     /// How many values are open.
-    pub fn levels(&self) -> u32
-    {
+    pub fn levels(&self) -> u32 {
         self.progress.open_values.len()
     }
 
     /// How many open values its memory has places for: as many as the limits allow, for as long as it lives.
-    pub fn capacity(&self) -> usize
-    {
+    pub fn capacity(&self) -> usize {
         self.progress.open_values.capacity()
     }
 
     /// The offset of what is read next.
     #[inline(always)]
-    pub fn offset(&self) -> u64
-    {
+    pub fn offset(&self) -> u64 {
         let progress = &self.progress;
         progress.offset
     }
 
     /// Ends the cell that is under way, whole or not, if there is one.
     #[inline(always)]
-    pub fn stop(&mut self)
-    {
+    pub fn stop(&mut self) {
         self.progress.end();
     }
 
     /// How many bytes of the stream were used: those before what is read next, and those of it that have come.
-    pub(crate) fn bytes_used(&self, partial: &Partial<A>) -> u64
-    {
+    pub(crate) fn bytes_used(&self, partial: &Partial<A>) -> u64 {
         match self.progress.arrived {
             Arrived::Nothing => self.progress.offset,
             Arrived::Length | Arrived::Later => self.progress.offset + partial.came(),
@@ -101,38 +92,33 @@ impl<A: Allocator> CellReader<A> {
         partial: &mut Partial<A>,
         table: &TypeTable<A>,
         input: &[u8],
-    ) -> CellAdvance
-    {
+    ) -> CellAdvance {
         self.progress.advance(partial, table, input)
     }
 
     /// A copy of the innermost value that is open, where what is read next stands in it and nothing of that has come.
     #[inline(always)]
-    pub fn level(&self) -> Option<Level>
-    {
+    pub fn level(&self) -> Option<Level> {
         self.progress.level()
     }
 
     /// Goes on where a level stands: it is the innermost value from now on, if one is open.
     #[inline(always)]
-    pub fn set_level(&mut self, level: Level)
-    {
+    pub fn set_level(&mut self, level: Level) {
         self.progress.set_level(level);
     }
 
     /// Takes what is next of the cell that is under way, where it has no content, `advance` would hand it out of the
     /// input alone, and all its bytes lie in it; else it does nothing.
     #[inline(always)]
-    pub(crate) fn take_bare(&mut self, table: &TypeTable<A>, input: &[u8]) -> Option<BareItem>
-    {
+    pub(crate) fn take_bare(&mut self, table: &TypeTable<A>, input: &[u8]) -> Option<BareItem> {
         self.progress.take_bare(table, input)
     }
 
     /// Goes on inside the list, the set or the map that is next of the cell under way, where `advance` would do so out of
     /// the input alone, and its length and its count lie in it; else it does nothing.
     #[inline(always)]
-    pub(crate) fn enter(&mut self, table: &TypeTable<A>, input: &[u8]) -> Option<Entered>
-    {
+    pub(crate) fn enter(&mut self, table: &TypeTable<A>, input: &[u8]) -> Option<Entered> {
         self.progress.enter_value(table, input)
     }
 
@@ -146,8 +132,7 @@ impl<A: Allocator> CellReader<A> {
         node: u32,
         table: &TypeTable<A>,
         input: &[u8],
-    ) -> Option<Entered>
-    {
+    ) -> Option<Entered> {
         self.progress.enter_next(level, node, table, input)
     }
 
@@ -160,8 +145,7 @@ impl<A: Allocator> CellReader<A> {
         reader: &mut Self,
         table: &TypeTable<A>,
         input: &'a [u8],
-    ) -> CellPush<'a>
-    {
+    ) -> CellPush<'a> {
         match reader.advance(partial, table, input) {
             CellAdvance::More { used } => CellPush::More { used },
             CellAdvance::Item { at, used, item } => CellPush::Item {

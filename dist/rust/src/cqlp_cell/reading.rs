@@ -23,8 +23,7 @@ impl<A: Allocator> CellProgress<A> {
         partial: &mut Partial<A>,
         table: &TypeTable<A>,
         input: &[u8],
-    ) -> CellAdvance
-    {
+    ) -> CellAdvance {
         let answer = self.step(partial, table, input);
         if answer.is_bare() {
             empty(partial);
@@ -33,8 +32,7 @@ impl<A: Allocator> CellProgress<A> {
     }
 
     /// Takes the next bytes of the cell.
-    fn step(&mut self, partial: &mut Partial<A>, table: &TypeTable<A>, input: &[u8]) -> CellAdvance
-    {
+    fn step(&mut self, partial: &mut Partial<A>, table: &TypeTable<A>, input: &[u8]) -> CellAdvance {
         match self.arrived {
             Arrived::Nothing => match self.due() {
                 CellDue::Nothing => {
@@ -81,8 +79,7 @@ impl<A: Allocator> CellProgress<A> {
         partial: &mut Partial<A>,
         table: &TypeTable<A>,
         input: &[u8],
-    ) -> CellAdvance
-    {
+    ) -> CellAdvance {
         let Some(found) = gather(partial, begun, len, self.offset + 4, start, input) else {
             self.arrived = Arrived::Scalar(len);
             return CellAdvance::More { used: input.len() };
@@ -115,8 +112,7 @@ impl<A: Allocator> CellProgress<A> {
         partial: &mut Partial<A>,
         table: &TypeTable<A>,
         input: &[u8],
-    ) -> CellAdvance
-    {
+    ) -> CellAdvance {
         let at = self.offset + 4;
         match take_number(partial, begun, at, at + u64::from(len), start, input) {
             Number::More => {
@@ -142,8 +138,7 @@ impl<A: Allocator> CellProgress<A> {
         len: u32,
         count: u32,
         table: &TypeTable<A>,
-    ) -> CellOutline
-    {
+    ) -> CellOutline {
         let level = self.open_values.len();
         self.open_counted(value, len, count, table);
         CellOutline::Enter {
@@ -161,8 +156,7 @@ impl<A: Allocator> CellProgress<A> {
         len: u32,
         count: u32,
         table: &TypeTable<A>,
-    ) -> Level
-    {
+    ) -> Level {
         let stop = self.offset + 4 + u64::from(len);
         let (order, other) = inner_order(value, table);
         self.pass(8, table);
@@ -190,8 +184,7 @@ impl<A: Allocator> CellProgress<A> {
         value: DueValue,
         len: u32,
         table: &TypeTable<A>,
-    ) -> CellOutline
-    {
+    ) -> CellOutline {
         let level = self.open_values.len();
         let stop = self.offset + 4 + u64::from(len);
         let arity = u32::from(value.arity);
@@ -220,8 +213,7 @@ impl<A: Allocator> CellProgress<A> {
         partial: &mut Partial<A>,
         table: &TypeTable<A>,
         input: &[u8],
-    ) -> CellAdvance
-    {
+    ) -> CellAdvance {
         let at = self.offset + 4;
         let size = self.limits.cell;
         let Some(found) = gather(partial, begun, size, at, start, input) else {
@@ -255,8 +247,7 @@ impl<A: Allocator> CellProgress<A> {
         partial: &mut Partial<A>,
         table: &TypeTable<A>,
         input: &[u8],
-    ) -> CellAdvance
-    {
+    ) -> CellAdvance {
         let left = total - offset;
         let size = self.limits.cell.min(left);
         let Some(found) = gather(partial, begun, size, self.offset, 0, input) else {
@@ -289,8 +280,7 @@ impl<A: Allocator> CellProgress<A> {
         partial: &mut Partial<A>,
         table: &TypeTable<A>,
         input: &[u8],
-    ) -> CellAdvance
-    {
+    ) -> CellAdvance {
         let at = self.offset;
         let level = self.open_values.len();
         match size_up(&self.limits, value.kind, value.stop - at, len) {
@@ -317,8 +307,7 @@ impl<A: Allocator> CellProgress<A> {
 
     /// Goes on after a value that has a length alone.
     #[inline]
-    fn pass_length(&mut self, item: CellOutline, used: usize, table: &TypeTable<A>) -> CellAdvance
-    {
+    fn pass_length(&mut self, item: CellOutline, used: usize, table: &TypeTable<A>) -> CellAdvance {
         let at = self.offset;
         self.pass(4, table);
         CellAdvance::Item { at, used, item }
@@ -331,8 +320,7 @@ impl<A: Allocator> CellProgress<A> {
         partial: &mut Partial<A>,
         table: &TypeTable<A>,
         input: &[u8],
-    ) -> CellAdvance
-    {
+    ) -> CellAdvance {
         let value = self.value(table);
         match take_number(partial, begun, self.offset, value.stop, 0, input) {
             Number::More => {
@@ -353,8 +341,7 @@ impl<A: Allocator> CellProgress<A> {
         partial: &mut Partial<A>,
         table: &TypeTable<A>,
         input: &[u8],
-    ) -> CellAdvance
-    {
+    ) -> CellAdvance {
         if value.has_further(&self.limits, self.offset) {
             self.advance_further(false, value, partial, table, input)
         } else {
@@ -370,8 +357,7 @@ impl<A: Allocator> CellProgress<A> {
         partial: &mut Partial<A>,
         table: &TypeTable<A>,
         input: &[u8],
-    ) -> CellAdvance
-    {
+    ) -> CellAdvance {
         let total = (value.stop - self.offset) as u32;
         self.next = NextInCell::Part { offset: 0, total };
         let answer = self.advance_part(begun, 0, total, partial, table, input);
@@ -382,8 +368,7 @@ impl<A: Allocator> CellProgress<A> {
     }
 
     /// Ends the innermost value.
-    fn close(&mut self, value: OpenValue) -> CellAdvance
-    {
+    fn close(&mut self, value: OpenValue) -> CellAdvance {
         let at = self.offset;
         if at < value.stop {
             return self.refuse(at, Reason::ExtraInValue);
@@ -400,16 +385,14 @@ impl<A: Allocator> CellProgress<A> {
     }
 
     /// Ends the cell by a refusal of what begins at this offset.
-    fn refuse(&mut self, at: u64, why: Reason) -> CellAdvance
-    {
+    fn refuse(&mut self, at: u64, why: Reason) -> CellAdvance {
         self.end();
         CellAdvance::Refused(Refusal { at, why })
     }
 }
 
 /// What is read after a part.
-fn next_part(last: bool, offset: u32, total: u32) -> NextInCell
-{
+fn next_part(last: bool, offset: u32, total: u32) -> NextInCell {
     if last {
         NextInCell::Items
     } else {
@@ -419,8 +402,7 @@ fn next_part(last: bool, offset: u32, total: u32) -> NextInCell
 
 /// How the items of a list, a set or a map follow one another, and the node of a map's second type.
 #[inline(always)]
-pub(crate) fn inner_order<A: Allocator>(value: DueValue, table: &TypeTable<A>) -> (Order, u32)
-{
+pub(crate) fn inner_order<A: Allocator>(value: DueValue, table: &TypeTable<A>) -> (Order, u32) {
     match value.kind {
         Kind::Map => (
             Order::Keys,

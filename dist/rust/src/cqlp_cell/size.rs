@@ -24,8 +24,7 @@ pub(crate) enum Sized {
 /// What a value of this kind is by the four bytes of its length, in a container with room for this many bytes from
 /// there on.
 #[inline]
-pub(crate) fn size_up(limits: &Asked, kind: Kind, room: u64, len: u32) -> Sized
-{
+pub(crate) fn size_up(limits: &Asked, kind: Kind, room: u64, len: u32) -> Sized {
     if len > i32::MAX as u32 {
         Sized::Null
     } else if len == 0 {
@@ -39,8 +38,7 @@ pub(crate) fn size_up(limits: &Asked, kind: Kind, room: u64, len: u32) -> Sized
 
 /// The same of a value that has bytes, and room for them.
 #[inline]
-fn size_content(limits: &Asked, kind: Kind, len: u32) -> Sized
-{
+fn size_content(limits: &Asked, kind: Kind, len: u32) -> Sized {
     match kind {
         Kind::List | Kind::Set | Kind::Map => Sized::Counted(len),
         Kind::Udt | Kind::Tuple => Sized::Fields(len),
@@ -50,8 +48,7 @@ fn size_content(limits: &Asked, kind: Kind, len: u32) -> Sized
 
 /// The same of a scalar.
 #[inline]
-fn size_scalar(limits: &Asked, kind: Kind, len: u32) -> Sized
-{
+fn size_scalar(limits: &Asked, kind: Kind, len: u32) -> Sized {
     if !takes(limits.lenient, kind, len) {
         Sized::Refused(Reason::BadSize)
     } else if len <= limits.cell {
@@ -65,14 +62,12 @@ fn size_scalar(limits: &Asked, kind: Kind, len: u32) -> Sized
 
 /// Whether a content of this many bytes, which are not none, is read on: the type allows so many, or the caller is lenient.
 #[inline]
-fn takes(lenient: bool, kind: Kind, len: u32) -> bool
-{
+fn takes(lenient: bool, kind: Kind, len: u32) -> bool {
     lenient || allows(kind, len as usize)
 }
 
 /// Whether a scalar of this kind comes in parts where it is long.
 #[inline]
-fn is_opaque(kind: Kind) -> bool
-{
+fn is_opaque(kind: Kind) -> bool {
     matches!(kind, Kind::Blob | Kind::Custom | Kind::Raw)
 }

@@ -53,8 +53,7 @@ pub struct Entered {
 impl<A: Allocator> CellProgress<A> {
     /// The innermost value that is open, where what is read next stands in it and nothing of that has come.
     #[inline(always)]
-    pub(crate) fn level(&self) -> Option<Level>
-    {
+    pub(crate) fn level(&self) -> Option<Level> {
         let Arrived::Nothing = self.arrived else {
             return None;
         };
@@ -73,16 +72,14 @@ impl<A: Allocator> CellProgress<A> {
 
     /// Goes on where a level stands, which is the innermost value from now on.
     #[inline(always)]
-    pub(crate) fn set_level(&mut self, level: Level)
-    {
+    pub(crate) fn set_level(&mut self, level: Level) {
         self.offset = level.offset;
         self.open_values.set_last(level.value);
     }
 
     /// Takes what is next, where it has no content and all its bytes lie in the input.
     #[inline(always)]
-    pub(crate) fn take_bare(&mut self, table: &TypeTable<A>, input: &[u8]) -> Option<BareItem>
-    {
+    pub(crate) fn take_bare(&mut self, table: &TypeTable<A>, input: &[u8]) -> Option<BareItem> {
         let Arrived::Nothing = self.arrived else {
             return None;
         };
@@ -109,8 +106,7 @@ impl<A: Allocator> CellProgress<A> {
 
     /// Takes the value that is next, where it has no content, or goes on inside it.
     #[inline(always)]
-    fn take_front(&mut self, table: &TypeTable<A>, input: &[u8]) -> Option<BareItem>
-    {
+    fn take_front(&mut self, table: &TypeTable<A>, input: &[u8]) -> Option<BareItem> {
         let value = self.value(table);
         let at = self.offset;
         let level = self.open_values.len();
@@ -160,8 +156,7 @@ impl<A: Allocator> CellProgress<A> {
         len: u32,
         table: &TypeTable<A>,
         input: &[u8],
-    ) -> Option<BareItem>
-    {
+    ) -> Option<BareItem> {
         let at = self.offset;
         let level = self.open_values.len();
         if len < 4 || input.len() < 8 {
@@ -186,8 +181,7 @@ impl<A: Allocator> CellProgress<A> {
     /// Goes on inside the list, the set or the map that is next, where its length and its count are lawful and lie in the
     /// input.
     #[inline(always)]
-    pub(crate) fn enter_value(&mut self, table: &TypeTable<A>, input: &[u8]) -> Option<Entered>
-    {
+    pub(crate) fn enter_value(&mut self, table: &TypeTable<A>, input: &[u8]) -> Option<Entered> {
         let Arrived::Nothing = self.arrived else {
             return None;
         };
@@ -214,8 +208,7 @@ impl<A: Allocator> CellProgress<A> {
         len: u32,
         table: &TypeTable<A>,
         input: &[u8],
-    ) -> Option<Entered>
-    {
+    ) -> Option<Entered> {
         let at = self.offset;
         let around = self.open_values.len();
         let count = u32::from_be_bytes(read_array(&input[4..]));
@@ -243,8 +236,7 @@ impl<A: Allocator> CellProgress<A> {
         node: u32,
         table: &TypeTable<A>,
         input: &[u8],
-    ) -> Option<Entered>
-    {
+    ) -> Option<Entered> {
         let value = value_at(table, node, self.stop);
         let room = value.stop - level.offset;
         if room < 4 || input.len() < 8 {
@@ -267,8 +259,7 @@ impl<A: Allocator> CellProgress<A> {
         len: u32,
         table: &TypeTable<A>,
         input: &[u8],
-    ) -> Option<Entered>
-    {
+    ) -> Option<Entered> {
         let at = level.offset;
         let count = u32::from_be_bytes(read_array(&input[4..]));
         if len < 4 || count > i32::MAX as u32 {

@@ -14,8 +14,7 @@ pub(crate) struct Bits<A: Allocator> {
 
 impl<A: Allocator> Bits<A> {
     /// With room for at least so many bits. This is the one call that takes memory.
-    pub fn new(alloc: A, room: u32) -> Result<Self, AllocError>
-    {
+    pub fn new(alloc: A, room: u32) -> Result<Self, AllocError> {
         let count = room.div_ceil(8) as usize;
         Ok(Bits {
             bytes: zeros(alloc, count)?,
@@ -25,51 +24,44 @@ impl<A: Allocator> Bits<A> {
 
     /// How many there are.
     #[inline(always)]
-    pub fn len(&self) -> usize
-    {
+    pub fn len(&self) -> usize {
         self.len
     }
 
     /// Where the bytes begin that have them. They stay there for as long as they live.
-    pub fn address(&self) -> *const u8
-    {
+    pub fn address(&self) -> *const u8 {
         self.bytes.as_ptr()
     }
 
     /// Adds a bit at the end.
     #[inline(always)]
-    pub(crate) fn push(&mut self, bit: bool)
-    {
+    pub(crate) fn push(&mut self, bit: bool) {
         add_bit(self.bytes.as_mut_slice(), self.len, bit);
         self.len += 1;
     }
 
     /// Removes all bits, and keeps the memory.
-    pub fn clear(&mut self)
-    {
+    pub fn clear(&mut self) {
         fill_zeros(self.bytes.as_mut_slice());
         self.len = 0;
     }
 
     /// The bytes that have the bits, and zeros after the last.
-    pub fn as_slice(&self) -> &[u8]
-    {
+    pub fn as_slice(&self) -> &[u8] {
         &self.bytes[..self.len.div_ceil(8)]
     }
 }
 
 /// Adds the bit after so many, where the bytes have only zeros.
 #[inline(always)]
-fn add_bit(bytes: &mut [u8], at: usize, bit: bool)
-{
+fn add_bit(bytes: &mut [u8], at: usize, bit: bool) {
     if bit {
         bytes[at / 8] += 1 << (at % 8);
     }
 }
 
 /// Makes each byte a zero.
-pub(crate) fn fill_zeros(bytes: &mut [u8])
-{
+pub(crate) fn fill_zeros(bytes: &mut [u8]) {
     for byte in bytes.iter_mut() {
         *byte = 0;
     }

@@ -14,8 +14,7 @@ pub(crate) struct Bytes<A: Allocator> {
 
 impl<A: Allocator> Bytes<A> {
     /// With room for so many. This is the one call that takes memory.
-    pub fn new(alloc: A, room: usize) -> Result<Self, AllocError>
-    {
+    pub fn new(alloc: A, room: usize) -> Result<Self, AllocError> {
         Ok(Bytes {
             memory: zeros(alloc, room)?,
             len: 0,
@@ -24,50 +23,43 @@ impl<A: Allocator> Bytes<A> {
 
     /// How many there are.
     #[inline(always)]
-    pub fn len(&self) -> usize
-    {
+    pub fn len(&self) -> usize {
         self.len
     }
 
     /// The bytes.
-    pub fn as_slice(&self) -> &[u8]
-    {
+    pub fn as_slice(&self) -> &[u8] {
         &self.memory[..self.len]
     }
 
     /// Where they begin. They stay there for as long as they live.
-    pub fn address(&self) -> *const u8
-    {
+    pub fn address(&self) -> *const u8 {
         self.memory.as_ptr()
     }
 
     /// Adds bytes at the end.
     #[inline(always)]
-    pub(crate) fn push(&mut self, more: &[u8])
-    {
+    pub(crate) fn push(&mut self, more: &[u8]) {
         let end = self.len + more.len();
         self.memory.slice_mut(self.len..end).copy_from_slice(more);
         self.len = end;
     }
 
     /// Adds this many zeros at the end.
-    pub(crate) fn push_zeros(&mut self, count: usize)
-    {
+    pub(crate) fn push_zeros(&mut self, count: usize) {
         let end = self.len + count;
         fill_zeros(self.memory.slice_mut(self.len..end));
         self.len = end;
     }
 
     /// Removes all bytes, and keeps the memory.
-    pub fn clear(&mut self)
-    {
+    pub fn clear(&mut self) {
         self.len = 0;
     }
 }
 
 /// This many zeros, in memory for just as many.
-pub(crate) fn zeros<A: Allocator>(alloc: A, count: usize) -> Result<Vec<u8, A>, AllocError>
-{
+pub(crate) fn zeros<A: Allocator>(alloc: A, count: usize) -> Result<Vec<u8, A>, AllocError> {
     let mut memory = Vec::with_capacity(alloc, count)?;
     memory.resize(count, 0)?;
     // There was room, so `resize` took no more; but its contract does not say so.

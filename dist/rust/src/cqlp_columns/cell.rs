@@ -19,8 +19,7 @@ pub enum Cell<'a> {
 
 /// Whether a cell has a value in this layout: a value of no bytes is one only where as many bytes stand for a value as it has.
 #[inline(always)]
-pub(crate) fn is_valid(layout: Layout, cell: &Cell<'_>) -> bool
-{
+pub(crate) fn is_valid(layout: Layout, cell: &Cell<'_>) -> bool {
     match *cell {
         Cell::Null => false,
         Cell::Empty => matches!(layout, Layout::Variable),
@@ -30,22 +29,19 @@ pub(crate) fn is_valid(layout: Layout, cell: &Cell<'_>) -> bool
 
 /// Whether a cell has a value of no bytes.
 #[inline(always)]
-pub(crate) fn is_empty(cell: &Cell<'_>) -> bool
-{
+pub(crate) fn is_empty(cell: &Cell<'_>) -> bool {
     matches!(*cell, Cell::Empty)
 }
 
 /// Whether a cell is true.
 #[inline(always)]
-pub(crate) fn is_true(cell: &Cell<'_>) -> bool
-{
+pub(crate) fn is_true(cell: &Cell<'_>) -> bool {
     matches!(*cell, Cell::Holds(Scalar::Boolean(true)))
 }
 
 /// The kind of a scalar.
 #[inline(always)]
-pub(crate) fn kind_of(scalar: &Scalar<'_>) -> Kind
-{
+pub(crate) fn kind_of(scalar: &Scalar<'_>) -> Kind {
     match *scalar {
         Scalar::Custom(_) => Kind::Custom,
         Scalar::Ascii(_) => Kind::Ascii,
@@ -73,8 +69,7 @@ pub(crate) fn kind_of(scalar: &Scalar<'_>) -> Kind
 
 /// How many bytes stand for a scalar.
 #[inline(always)]
-pub(crate) fn stored_len(scalar: &Scalar<'_>) -> usize
-{
+pub(crate) fn stored_len(scalar: &Scalar<'_>) -> usize {
     match *scalar {
         Scalar::Boolean(_) => 0,
         Scalar::Tinyint(_) => 1,
@@ -96,22 +91,19 @@ pub(crate) fn stored_len(scalar: &Scalar<'_>) -> usize
 
 /// How many bytes an array has.
 #[inline(always)]
-fn array_len<const N: usize>(bytes: [u8; N]) -> usize
-{
+fn array_len<const N: usize>(bytes: [u8; N]) -> usize {
     bytes.len()
 }
 
 /// How many bytes a decimal has, with its scale.
 #[inline(always)]
-fn decimal_len(unscaled: &[u8]) -> usize
-{
+fn decimal_len(unscaled: &[u8]) -> usize {
     4 + unscaled.len()
 }
 
 /// Adds the bytes that stand for a scalar, for which there is room.
 #[inline(always)]
-pub(crate) fn put_scalar<A: Allocator>(values: &mut Bytes<A>, scalar: &Scalar<'_>)
-{
+pub(crate) fn put_scalar<A: Allocator>(values: &mut Bytes<A>, scalar: &Scalar<'_>) {
     match *scalar {
         Scalar::Boolean(_) => {}
         Scalar::Tinyint(n) => put(values, &n.to_le_bytes()),
@@ -143,22 +135,19 @@ pub(crate) fn put_scalar<A: Allocator>(values: &mut Bytes<A>, scalar: &Scalar<'_
 
 /// Adds bytes, for which there is room.
 #[inline(always)]
-pub(crate) fn put<A: Allocator>(values: &mut Bytes<A>, bytes: &[u8])
-{
+pub(crate) fn put<A: Allocator>(values: &mut Bytes<A>, bytes: &[u8]) {
     values.push(bytes);
 }
 
 /// Adds bytes.
 #[inline(always)]
-fn put_array<const N: usize, A: Allocator>(values: &mut Bytes<A>, bytes: [u8; N])
-{
+fn put_array<const N: usize, A: Allocator>(values: &mut Bytes<A>, bytes: [u8; N]) {
     put(values, &bytes);
 }
 
 /// Adds bytes, the last of them first.
 #[inline(always)]
-fn put_reversed<const N: usize, A: Allocator>(values: &mut Bytes<A>, bytes: [u8; N])
-{
+fn put_reversed<const N: usize, A: Allocator>(values: &mut Bytes<A>, bytes: [u8; N]) {
     let mut turned = bytes;
     turned.reverse();
     put(values, &turned);

@@ -98,20 +98,17 @@ impl<A: Allocator> Column<A> {
     }
 
     /// The kind of its values.
-    pub fn kind(&self) -> Kind
-    {
+    pub fn kind(&self) -> Kind {
         self.kind
     }
 
     /// How its values lie in memory.
-    pub fn layout(&self) -> Layout
-    {
+    pub fn layout(&self) -> Layout {
         self.layout
     }
 
     /// The values, one after the other, also zeros for cells without one; where they are bits, the bytes that have them.
-    pub fn values(&self) -> &[u8]
-    {
+    pub fn values(&self) -> &[u8] {
         match self.layout {
             Layout::Bits => self.truths.as_slice(),
             Layout::Fixed(_) | Layout::Variable => self.values.as_slice(),
@@ -119,27 +116,23 @@ impl<A: Allocator> Column<A> {
     }
 
     /// Where each value begins in the bytes, and where the last one ends; none where the layout is not of values of any length. Below 2^63.
-    pub fn offsets(&self) -> &[u64]
-    {
+    pub fn offsets(&self) -> &[u64] {
         &self.offsets
     }
 
     /// A bit for each cell: whether it has a value.
-    pub fn validity(&self) -> &[u8]
-    {
+    pub fn validity(&self) -> &[u8] {
         self.valid.as_slice()
     }
 
     /// A bit for each cell: whether it has a value of no bytes. Among numbers and other values of a fixed length these have no other place, and
     /// count as having no value.
-    pub fn empties(&self) -> &[u8]
-    {
+    pub fn empties(&self) -> &[u8] {
         self.empty.as_slice()
     }
 
     /// Where its values begin in memory. Each array stays where it is for as long as the column lives.
-    pub fn values_address(&self) -> *const u8
-    {
+    pub fn values_address(&self) -> *const u8 {
         match self.layout {
             Layout::Bits => self.truths.address(),
             Layout::Fixed(_) | Layout::Variable => self.values.address(),
@@ -147,53 +140,45 @@ impl<A: Allocator> Column<A> {
     }
 
     /// Where its offsets begin.
-    pub fn offsets_address(&self) -> *const u64
-    {
+    pub fn offsets_address(&self) -> *const u64 {
         self.offsets.as_ptr()
     }
 
     /// Where the bits begin that say which cells have a value.
-    pub fn validity_address(&self) -> *const u8
-    {
+    pub fn validity_address(&self) -> *const u8 {
         self.valid.address()
     }
 
     /// Where the bits begin that say which cells have a value of no bytes.
-    pub fn empties_address(&self) -> *const u8
-    {
+    pub fn empties_address(&self) -> *const u8 {
         self.empty.address()
     }
 
     /// How many cells it has.
-    pub fn len(&self) -> usize
-    {
+    pub fn len(&self) -> usize {
         self.valid.len()
     }
 
     /// Whether it has none.
-    pub fn is_empty(&self) -> bool
-    {
+    pub fn is_empty(&self) -> bool {
         self.valid.len() == 0
     }
 
     /// Whether it has at most so many bytes of values.
     #[inline(always)]
-    pub(crate) fn is_light(&self, bytes: u32) -> bool
-    {
+    pub(crate) fn is_light(&self, bytes: u32) -> bool {
         self.values.len() <= bytes as usize
     }
 
     /// Whether more bytes than so many stand for a cell.
     #[inline(always)]
-    pub(crate) fn is_long(&self, cell: &Cell<'_>, content: u32) -> bool
-    {
+    pub(crate) fn is_long(&self, cell: &Cell<'_>, content: u32) -> bool {
         cell_len(self.layout, cell) > content as usize
     }
 
     /// Whether a cell can be one of it.
     #[inline(always)]
-    pub(crate) fn is_of(&self, cell: &Cell<'_>) -> bool
-    {
+    pub(crate) fn is_of(&self, cell: &Cell<'_>) -> bool {
         is_of(self.kind, cell)
     }
 
@@ -203,8 +188,7 @@ impl<A: Allocator> Column<A> {
     ///
     /// `NotOfKind` for a scalar of another kind than the column's; else `Full` where there is no room for it. Nothing changes then.
     #[inline(always)]
-    pub fn take(&mut self, cell: &Cell<'_>) -> Result<(), Refusal>
-    {
+    pub fn take(&mut self, cell: &Cell<'_>) -> Result<(), Refusal> {
         match self.refusal(cell) {
             Some(why) => Err(why),
             None => {
@@ -216,8 +200,7 @@ impl<A: Allocator> Column<A> {
 
     /// Why it does not take a cell.
     #[inline(always)]
-    pub fn refusal(&self, cell: &Cell<'_>) -> Option<Refusal>
-    {
+    pub fn refusal(&self, cell: &Cell<'_>) -> Option<Refusal> {
         if !is_of(self.kind, cell) {
             return Some(Refusal::NotOfKind);
         }
@@ -230,8 +213,7 @@ impl<A: Allocator> Column<A> {
 
     /// Whether there is room for a cell.
     #[inline(always)]
-    fn fits(&self, cell: &Cell<'_>) -> bool
-    {
+    fn fits(&self, cell: &Cell<'_>) -> bool {
         self.valid.len() < self.rows as usize
             && self.values.len() <= self.size
             && cell_len(self.layout, cell) <= self.size - self.values.len()
@@ -239,8 +221,7 @@ impl<A: Allocator> Column<A> {
 
     /// How its values lie in memory, asked of its kind: where the kind is known, nothing is left to ask.
     #[inline(always)]
-    fn layout_of_kind(&self) -> Layout
-    {
+    fn layout_of_kind(&self) -> Layout {
         match layout_of(self.kind) {
             Some(layout) => layout,
             None => self.layout,
@@ -249,8 +230,7 @@ impl<A: Allocator> Column<A> {
 
     /// Adds a cell.
     #[inline(always)]
-    pub(crate) fn push(&mut self, cell: &Cell<'_>)
-    {
+    pub(crate) fn push(&mut self, cell: &Cell<'_>) {
         let layout = self.layout_of_kind();
         put_cell(&mut self.values, layout, cell);
         let end = self.values.len() as u64;
@@ -260,8 +240,7 @@ impl<A: Allocator> Column<A> {
     }
 
     /// Removes all cells, and keeps the memory.
-    pub fn clear(&mut self)
-    {
+    pub fn clear(&mut self) {
         self.values.clear();
         self.truths.clear();
         remove_all(&mut self.offsets);
@@ -273,8 +252,7 @@ impl<A: Allocator> Column<A> {
 
 /// Whether a cell can be one of a column of this kind.
 #[inline(always)]
-fn is_of(kind: Kind, cell: &Cell<'_>) -> bool
-{
+fn is_of(kind: Kind, cell: &Cell<'_>) -> bool {
     match *cell {
         Cell::Null | Cell::Empty => true,
         Cell::Holds(ref scalar) => is(kind_of(scalar), kind),
@@ -283,15 +261,13 @@ fn is_of(kind: Kind, cell: &Cell<'_>) -> bool
 
 /// Whether two kinds are the same.
 #[inline(always)]
-fn is(one: Kind, other: Kind) -> bool
-{
+fn is(one: Kind, other: Kind) -> bool {
     one == other
 }
 
 /// How many bytes stand in a cell's place.
 #[inline(always)]
-fn cell_len(layout: Layout, cell: &Cell<'_>) -> usize
-{
+fn cell_len(layout: Layout, cell: &Cell<'_>) -> usize {
     match *cell {
         Cell::Null | Cell::Empty => blank_len(layout),
         Cell::Holds(ref scalar) => stored_len(scalar),
@@ -300,8 +276,7 @@ fn cell_len(layout: Layout, cell: &Cell<'_>) -> usize
 
 /// How many bytes stand in the place of a cell without a value.
 #[inline(always)]
-fn blank_len(layout: Layout) -> usize
-{
+fn blank_len(layout: Layout) -> usize {
     match layout {
         Layout::Bits | Layout::Variable => 0,
         Layout::Fixed(width) => width as usize,
@@ -310,8 +285,7 @@ fn blank_len(layout: Layout) -> usize
 
 /// Adds the bytes in a cell's place, for which there is room.
 #[inline(always)]
-fn put_cell<A: Allocator>(values: &mut Bytes<A>, layout: Layout, cell: &Cell<'_>)
-{
+fn put_cell<A: Allocator>(values: &mut Bytes<A>, layout: Layout, cell: &Cell<'_>) {
     match *cell {
         Cell::Null | Cell::Empty => values.push_zeros(blank_len(layout)),
         Cell::Holds(ref scalar) => put_scalar(values, scalar),
@@ -337,8 +311,7 @@ fn put_beside<A: Allocator>(
 
 /// Adds an offset, where the layout has offsets.
 #[inline(always)]
-fn put_offset<A: Allocator>(offsets: &mut Vec<u64, A>, layout: Layout, offset: u64)
-{
+fn put_offset<A: Allocator>(offsets: &mut Vec<u64, A>, layout: Layout, offset: u64) {
     match layout {
         Layout::Variable => offsets.push_reserved(offset),
         Layout::Bits | Layout::Fixed(_) => {}
@@ -346,8 +319,7 @@ fn put_offset<A: Allocator>(offsets: &mut Vec<u64, A>, layout: Layout, offset: u
 }
 
 /// Removes all offsets, and leaves the memory in its place.
-fn remove_all<A: Allocator>(offsets: &mut Vec<u64, A>)
-{
+fn remove_all<A: Allocator>(offsets: &mut Vec<u64, A>) {
     while !offsets.is_empty() {
         let _last = offsets.take_last();
     }

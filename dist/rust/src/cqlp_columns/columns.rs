@@ -91,14 +91,12 @@ impl<A: Allocator> Columns<A> {
     }
 
     /// The columns. Where a row is under way, the first of them have a cell more than [`Columns::rows`] says.
-    pub fn columns(&self) -> &[Column<A>]
-    {
+    pub fn columns(&self) -> &[Column<A>] {
         &self.columns
     }
 
     /// How many whole rows there are.
-    pub fn rows(&self) -> usize
-    {
+    pub fn rows(&self) -> usize {
         match self.columns.last() {
             None => 0,
             Some(column) => column.len(),
@@ -107,8 +105,7 @@ impl<A: Allocator> Columns<A> {
 
     /// Whether a row begins next for which there is no room, so that no cell is taken before the batch is cleared.
     #[inline]
-    pub fn is_full(&self) -> bool
-    {
+    pub fn is_full(&self) -> bool {
         self.turn == NO_TURN
     }
 
@@ -119,8 +116,7 @@ impl<A: Allocator> Columns<A> {
     /// `Part`, `OutOfOrder`; where a row begins for which there is no room, `Full`; else `NotOfKind` or `TooLong`. Nothing changes then. In mid-row there is
     /// always room.
     #[inline(always)]
-    pub fn take(&mut self, event: &Event<'_>) -> Result<(), TakeError>
-    {
+    pub fn take(&mut self, event: &Event<'_>) -> Result<(), TakeError> {
         match found_in(event) {
             Found::Nothing => Ok(()),
             Found::Part => Err(TakeError::Part),
@@ -130,8 +126,7 @@ impl<A: Allocator> Columns<A> {
 
     /// Takes the next cell.
     #[inline(always)]
-    fn put(&mut self, column: usize, cell: &Cell<'_>) -> Result<(), TakeError>
-    {
+    fn put(&mut self, column: usize, cell: &Cell<'_>) -> Result<(), TakeError> {
         match self.fault(column, cell) {
             Some(why) => Err(why),
             None => {
@@ -145,8 +140,7 @@ impl<A: Allocator> Columns<A> {
 
     /// Why a cell of a column is not taken.
     #[inline(always)]
-    fn fault(&self, column: usize, cell: &Cell<'_>) -> Option<TakeError>
-    {
+    fn fault(&self, column: usize, cell: &Cell<'_>) -> Option<TakeError> {
         if column != self.turn {
             return Some(fault_out_of_turn(self.turn, column));
         }
@@ -154,8 +148,7 @@ impl<A: Allocator> Columns<A> {
     }
 
     /// Removes all rows, also one that is under way, and keeps the memory.
-    pub fn clear(&mut self)
-    {
+    pub fn clear(&mut self) {
         clear_all(self.columns.as_mut_slice());
         self.light = true;
         self.turn = first_turn(&self.columns, self.limits, true);
@@ -163,14 +156,12 @@ impl<A: Allocator> Columns<A> {
 }
 
 /// Whether values of each kind are scalars.
-fn have_layouts(kinds: &[Kind]) -> bool
-{
+fn have_layouts(kinds: &[Kind]) -> bool {
     kinds.iter().all(|kind| has_layout(*kind))
 }
 
 /// Whether values of a kind are scalars.
-fn has_layout(kind: Kind) -> bool
-{
+fn has_layout(kind: Kind) -> bool {
     layout_of(kind).is_some()
 }
 
@@ -179,8 +170,7 @@ fn make_columns<A: Allocator + Clone>(
     alloc: A,
     limits: BatchLimits,
     kinds: &[Kind],
-) -> Result<Vec<Column<A>, A>, AllocError>
-{
+) -> Result<Vec<Column<A>, A>, AllocError> {
     let mut columns = Vec::with_capacity(alloc.clone()?, kinds.len())?;
     for kind in kinds {
         columns.push_reserved(make_column(alloc.clone()?, limits, *kind)?);
@@ -193,8 +183,7 @@ fn make_column<A: Allocator + Clone>(
     alloc: A,
     limits: BatchLimits,
     kind: Kind,
-) -> Result<Column<A>, AllocError>
-{
+) -> Result<Column<A>, AllocError> {
     let size = limits.bytes as usize + limits.content as usize;
     match Column::new(alloc, kind, limits.rows, size) {
         Ok(column) => Ok(column),
@@ -204,8 +193,7 @@ fn make_column<A: Allocator + Clone>(
 
 /// Why a cell of a column is not taken where it is not its turn.
 #[cold]
-fn fault_out_of_turn(turn: usize, column: usize) -> TakeError
-{
+fn fault_out_of_turn(turn: usize, column: usize) -> TakeError {
     if turn == NO_TURN && column == 0 {
         TakeError::Full
     } else {
@@ -220,8 +208,7 @@ fn fault_among<A: Allocator>(
     limits: BatchLimits,
     column: usize,
     cell: &Cell<'_>,
-) -> Option<TakeError>
-{
+) -> Option<TakeError> {
     if column < columns.len() {
         fault_in(&columns[column], limits, cell)
     } else {
@@ -235,8 +222,7 @@ fn fault_in<A: Allocator>(
     column: &Column<A>,
     limits: BatchLimits,
     cell: &Cell<'_>,
-) -> Option<TakeError>
-{
+) -> Option<TakeError> {
     if !column.is_of(cell) {
         Some(TakeError::NotOfKind)
     } else if column.is_long(cell, limits.content) {
@@ -253,8 +239,7 @@ fn put_in<A: Allocator>(
     limits: BatchLimits,
     column: usize,
     cell: &Cell<'_>,
-) -> bool
-{
+) -> bool {
     let column = &mut columns[column];
     column.push(cell);
     column.is_light(limits.bytes)
@@ -262,16 +247,14 @@ fn put_in<A: Allocator>(
 
 /// Keeps whether all columns are light, where one of them changed.
 #[inline(always)]
-fn keep(light: &mut bool, more: bool)
-{
+fn keep(light: &mut bool, more: bool) {
     if !more {
         *light = false;
     }
 }
 
 /// Removes the cells of each column.
-fn clear_all<A: Allocator>(columns: &mut [Column<A>])
-{
+fn clear_all<A: Allocator>(columns: &mut [Column<A>]) {
     for column in columns.iter_mut() {
         column.clear();
     }
@@ -284,8 +267,7 @@ fn turn_after<A: Allocator>(
     limits: BatchLimits,
     light: bool,
     column: usize,
-) -> usize
-{
+) -> usize {
     if column + 1 == columns.len() {
         first_turn(columns, limits, light)
     } else {
@@ -295,8 +277,7 @@ fn turn_after<A: Allocator>(
 
 /// Whose turn it is where a row begins.
 #[inline(never)]
-fn first_turn<A: Allocator>(columns: &[Column<A>], limits: BatchLimits, light: bool) -> usize
-{
+fn first_turn<A: Allocator>(columns: &[Column<A>], limits: BatchLimits, light: bool) -> usize {
     match columns.last() {
         None => 0,
         Some(column) => {

@@ -16,8 +16,7 @@ pub(crate) enum Found<'a> {
 
 /// What an event has of a page's cells.
 #[inline(always)]
-pub(crate) fn found_in<'a>(event: &Event<'a>) -> Found<'a>
-{
+pub(crate) fn found_in<'a>(event: &Event<'a>) -> Found<'a> {
     match *event {
         Event::Leaf {
             column,
@@ -46,8 +45,7 @@ pub(crate) fn found_in<'a>(event: &Event<'a>) -> Found<'a>
 
 /// A value at a level, which is a cell where no value is around it.
 #[inline(always)]
-fn at_level<'a>(column: u32, level: u32, cell: Cell<'a>) -> Found<'a>
-{
+fn at_level<'a>(column: u32, level: u32, cell: Cell<'a>) -> Found<'a> {
     if level == 0 {
         Found::Cell { column, cell }
     } else {

@@ -15,9 +15,9 @@ pub enum Layout {
 }
 
 /// How the values of a column of this kind lie in memory, if they are scalars.
+#[must_use]
 #[inline(always)]
-pub fn layout_of(kind: Kind) -> Option<Layout>
-{
+pub fn layout_of(kind: Kind) -> Option<Layout> {
     match kind {
         Kind::Boolean => Some(Layout::Bits),
         Kind::Tinyint => Some(Layout::Fixed(1)),

@@ -29,8 +29,8 @@ pub struct Composer {
 
 impl Composer {
     /// A composer that no event came to, which asks for no memory yet.
-    pub fn new(alloc: Global, limits: BuildLimits) -> Composer
-    {
+    #[must_use]
+    pub fn new(alloc: Global, limits: BuildLimits) -> Composer {
         Composer {
             builder: FrameBuilder::new(alloc, limits),
             ended: false,
@@ -44,8 +44,7 @@ impl Composer {
     ///
     /// Those of [`FrameBuilder::take`], after which it is as it was: [`BuildError::Misplaced`] also after the end, and never
     /// [`BuildError::NoFrame`].
-    pub fn take(&mut self, event: &Event<'_>) -> Result<(), BuildError>
-    {
+    pub fn take(&mut self, event: &Event<'_>) -> Result<(), BuildError> {
         if self.ended {
             return Err(BuildError::Misplaced);
         }
@@ -56,8 +55,7 @@ impl Composer {
     }
 
     /// A header or a field comes, or what is neither.
-    fn pass(&mut self, event: &Event<'_>) -> Result<(), BuildError>
-    {
+    fn pass(&mut self, event: &Event<'_>) -> Result<(), BuildError> {
         match self.builder.take(event) {
             // It is none, since no frame is built before its end.
             Ok(built) => {
@@ -69,8 +67,7 @@ impl Composer {
     }
 
     /// The end comes.
-    fn end(&mut self, extra: u32) -> Result<(), BuildError>
-    {
+    fn end(&mut self, extra: u32) -> Result<(), BuildError> {
         let _ = extra;
         if self.builder.is_between() {
             return Err(BuildError::Misplaced);
@@ -84,8 +81,7 @@ impl Composer {
     /// # Errors
     ///
     /// Those of [`FrameBuilder::close`].
-    pub fn close(self) -> Result<Frame, BuildError>
-    {
+    pub fn close(self) -> Result<Frame, BuildError> {
         let Composer {
             mut builder,
             ended: _,
@@ -98,8 +94,7 @@ impl Composer {
     /// # Errors
     ///
     /// Those of [`FrameBuilder::close`]; [`BuildError::NoMemory`] also where memory was refused for the bytes.
-    pub fn write(self, alloc: Global) -> Result<Vec<u8>, BuildError>
-    {
+    pub fn write(self, alloc: Global) -> Result<Vec<u8>, BuildError> {
         match self.close() {
             Ok(frame) => written(alloc, &frame),
             Err(why) => Err(why),
@@ -108,8 +103,7 @@ impl Composer {
 }
 
 /// The bytes of a frame.
-fn written(alloc: Global, frame: &Frame) -> Result<Vec<u8>, BuildError>
-{
+fn written(alloc: Global, frame: &Frame) -> Result<Vec<u8>, BuildError> {
     let Ok(len) = frame.measure() else {
         unreachable!()
     };

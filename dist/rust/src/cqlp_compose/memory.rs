@@ -9,19 +9,27 @@ pub struct InMemory {
     bytes: Vec<u8>,
     /// How many calls found no memory, up to 2^64 - 1.
     failures: u64,
+    /// How many calls took all of their bytes, up to 2^64 - 1.
+    writes: u64,
 }
 
 impl InMemory {
     /// With these bytes, and no call made.
-    pub fn new(bytes: Vec<u8>) -> InMemory
-    {
-        InMemory { bytes, failures: 0 }
+    pub fn new(bytes: Vec<u8>) -> InMemory {
+        InMemory {
+            bytes,
+            failures: 0,
+            writes: 0,
+        }
     }
 
     /// The bytes.
-    pub fn into_bytes(self) -> Vec<u8>
-    {
-        let InMemory { bytes, failures: _ } = self;
+    pub fn into_bytes(self) -> Vec<u8> {
+        let InMemory {
+            bytes,
+            failures: _,
+            writes: _,
+        } = self;
         bytes
     }
 }
@@ -29,7 +37,10 @@ impl InMemory {
 impl Target for InMemory {
     fn write(&mut self, bytes: &[u8]) -> Result<usize, IoFault> {
         match self.bytes.extend_from_slice(bytes) {
-            Ok(()) => Ok(bytes.len()),
+            Ok(()) => {
+                self.writes = self.writes.saturating_add(1);
+                Ok(bytes.len())
+            }
             Err(_) => {
                 self.failures = self.failures.saturating_add(1);
                 Err(IoFault)

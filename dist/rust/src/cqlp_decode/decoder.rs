@@ -40,8 +40,11 @@ impl<A: Allocator + Clone> Decoder<A> {
     /// A decoder at the start of a stream, with room for one content of the greatest length that the limits allow, for
     /// the types of one metadata, for their nesting, and for that of a cell's values: four requests for memory, and the
     /// only ones.
-    pub fn new(alloc: A, limits: Limits) -> Result<Self, NewError>
-    {
+    ///
+    /// # Errors
+    ///
+    /// Limits out of their ranges, and memory that is refused.
+    pub fn new(alloc: A, limits: Limits) -> Result<Self, NewError> {
         Self::asked(alloc, limits, false)
     }
 
@@ -54,13 +57,15 @@ impl<A: Allocator + Clone> Decoder<A> {
     /// - A type option of an id that no kind has is told as [`Kind::Raw`](crate::cqlp_kind::Kind::Raw), and has no parameters.
     ///
     /// All else is read as by a decoder that `new` makes.
-    pub fn lenient(alloc: A, limits: Limits) -> Result<Self, NewError>
-    {
+    ///
+    /// # Errors
+    ///
+    /// As [`Decoder::new`].
+    pub fn lenient(alloc: A, limits: Limits) -> Result<Self, NewError> {
         Self::asked(alloc, limits, true)
     }
 
-    fn asked(alloc: A, limits: Limits, lenient: bool) -> Result<Self, NewError>
-    {
+    fn asked(alloc: A, limits: Limits, lenient: bool) -> Result<Self, NewError> {
         if let Err(bad) = limits.check() {
             return Err(NewError::BadLimits(bad));
         }
@@ -70,8 +75,7 @@ impl<A: Allocator + Clone> Decoder<A> {
         }
     }
 
-    fn with_room(alloc: A, limits: Asked) -> Result<Self, NoMemory>
-    {
+    fn with_room(alloc: A, limits: Asked) -> Result<Self, NoMemory> {
         let partial = Partial::new(alloc.clone()?, limits.text.max(limits.cell))?;
         let table = TypeTable::new(alloc.clone()?, limits.entries)?;
         let types = TypeReader::asked(alloc.clone()?, &limits)?;
@@ -91,8 +95,24 @@ impl<A: Allocator + Clone> Decoder<A> {
 impl<A: Allocator> Decoder<A> {
     /// The next event that the input leads to. The caller hands in the bytes after those that were used, and goes on
     /// until more are wanted. A refusal is final: each later call says it again.
-    pub fn next<'a>(&'a mut self, input: &'a [u8]) -> Step<'a>
-    {
+    ///
+    /// **Call until [`Step::More`], not while bytes are left: the end of a frame, and of an open value, takes one more call
+    /// with no bytes.** A loop `while used < n` misses that event, or never ends. This one is right:
+    ///
+    /// ```text
+    /// let mut used = 0;
+    /// loop {
+    ///     match decoder.next(&input[used..]) {
+    ///         Step::Event { at, used: taken, event } => {
+    ///             used += taken; // may be 0
+    ///             // the event is here
+    ///         }
+    ///         Step::More { .. } => break, // all bytes are used: read more
+    ///         Step::Refused(refusal) => return Err(refusal),
+    ///     }
+    /// }
+    /// ```
+    pub fn next<'a>(&'a mut self, input: &'a [u8]) -> Step<'a> {
         if let Some(taken) = self.take_scalar(input) {
             return Step::Event {
                 at: taken.at,
@@ -121,8 +141,11 @@ impl<A: Allocator> Decoder<A> {
     /// cells, and type no other page unless they are given again. Given once a frame's header came, and taken back at its
     /// end, they type that frame's page or none. The table that was held before comes back. A table that is not taken
     /// comes back with the first reason against it, and nothing changes.
-    pub fn give(&mut self, table: TypeTable<A>) -> Result<Option<TypeTable<A>>, GiveError<A>>
-    {
+    ///
+    /// # Errors
+    ///
+    /// The first reason against the table, which comes back with it: nothing changes.
+    pub fn give(&mut self, table: TypeTable<A>) -> Result<Option<TypeTable<A>>, GiveError<A>> {
         if let Some(why) = self.reason(&table) {
             return Err(GiveError { why, table });
         }
@@ -131,8 +154,7 @@ impl<A: Allocator> Decoder<A> {
     }
 
     /// Takes back the table that was given, if one is held and not in use. After a refusal none is in use.
-    pub fn take_given(&mut self) -> Option<TypeTable<A>>
-    {
+    pub fn take_given(&mut self) -> Option<TypeTable<A>> {
         if self.is_in_use() {
             return None;
         }
@@ -141,8 +163,7 @@ impl<A: Allocator> Decoder<A> {
 
     /// Begins another stream with the memory and the limits that it has, whatever became of the one before: it is what
     /// `new` makes of these limits. The table that is held comes back.
-    pub fn restart(&mut self) -> Option<TypeTable<A>>
-    {
+    pub fn restart(&mut self) -> Option<TypeTable<A>> {
         self.progress = StreamProgress::new(self.progress.limits);
         self.parts.partial.stop();
         self.parts.types.stop();
@@ -152,15 +173,13 @@ impl<A: Allocator> Decoder<A> {
     }
 
     /// How the stream ends, if it ends after the bytes that were used.
-    pub fn finish(&self) -> Finish
-    {
+    pub fn finish(&self) -> Finish {
         self.progress.finish(&self.parts)
     }
 
     /// What is held of the stream: at most as many bytes as the greater of the limits on a text and on a cell, twice as
     /// many type options as their limit, since two tables are held, and as many levels as the limit on nesting.
-    pub fn held(&self) -> Held
-    {
+    pub fn held(&self) -> Held {
         Held {
             bytes: self.parts.partial.held(),
             entries: self.parts.table.len() + self.given_len(),
@@ -170,8 +189,7 @@ impl<A: Allocator> Decoder<A> {
 
     /// The places that the decoder has memory for. The limits alone say how many, at every moment: no length, count or
     /// type of the stream does.
-    pub fn capacity(&self) -> Capacity
-    {
+    pub fn capacity(&self) -> Capacity {
         Capacity {
             bytes: self.parts.partial.capacity(),
             entries: self.parts.table.capacity(),
@@ -182,14 +200,12 @@ impl<A: Allocator> Decoder<A> {
 
     /// Where the content that is held, whose bytes `held` counts, lies from the index `start` on: it stays there until the
     /// next call that reads on.
-    pub fn held_address(&self, start: usize) -> *const u8
-    {
+    pub fn held_address(&self, start: usize) -> *const u8 {
         self.parts.partial.address(start)
     }
 
     /// Whether a content of a field or of a cell is gathered, of which more bytes are missing than one read of a run gives.
-    pub(crate) fn gathers(&self) -> bool
-    {
+    pub(crate) fn gathers(&self) -> bool {
         self.progress.refusal.is_none()
             && matches!(
                 self.progress.stage,
@@ -200,21 +216,18 @@ impl<A: Allocator> Decoder<A> {
 
     /// Reads the next bytes of the content that is gathered straight into the memory that holds it, by one call of the
     /// reader for up to 4,096 bytes. It does what `next` does of these bytes, which is to want more.
-    pub(crate) fn read_content<R: Source>(&mut self, reader: &mut R) -> Result<usize, IoFault>
-    {
+    pub(crate) fn read_content<R: Source>(&mut self, reader: &mut R) -> Result<usize, IoFault> {
         self.parts.partial.read_from(reader, 4096)
     }
 
     /// The types of the metadata begun last: those handed out since the field MetaFlags was. The table has room for as many as the limit
     /// `entries` allows.
-    pub fn table(&self) -> &TypeTable<A>
-    {
+    pub fn table(&self) -> &TypeTable<A> {
         &self.parts.table
     }
 
     /// How many type options the table has that the caller gave.
-    fn given_len(&self) -> u32
-    {
+    fn given_len(&self) -> u32 {
         match &self.parts.given {
             Some(table) => table.len(),
             None => 0,
@@ -222,8 +235,7 @@ impl<A: Allocator> Decoder<A> {
     }
 
     /// Why a table is not taken now, if so.
-    fn reason(&self, table: &TypeTable<A>) -> Option<GiveReason>
-    {
+    fn reason(&self, table: &TypeTable<A>) -> Option<GiveReason> {
         if self.progress.refusal.is_some() {
             Some(GiveReason::Ended)
         } else if !self.progress.limits.types {
@@ -242,15 +254,13 @@ impl<A: Allocator> Decoder<A> {
     }
 
     /// Whether a given table types the frame under way.
-    fn is_in_use(&self) -> bool
-    {
+    fn is_in_use(&self) -> bool {
         self.parts.given.is_some() && matches!(self.progress.given_use, GivenUse::InUse)
     }
 
     /// Takes the cell that is due, where it is a scalar and all its bytes lie in the input.
     #[inline]
-    fn take_scalar<'a>(&mut self, input: &'a [u8]) -> Option<ScalarCell<'a>>
-    {
+    fn take_scalar<'a>(&mut self, input: &'a [u8]) -> Option<ScalarCell<'a>> {
         self.progress.take_scalar(&self.parts, input)
     }
 
@@ -258,9 +268,12 @@ impl<A: Allocator> Decoder<A> {
     /// and over their items take them, and answers how many bytes of the input they take. It may stop before any of them:
     /// the next call is `next`, which decides what is left. At a sink's fault the event at which it failed was taken too.
     /// After a refusal nothing is handed out.
+    ///
+    /// # Errors
+    ///
+    /// The fault of the sink, with how many bytes the events before it and its own take.
     #[inline]
-    pub fn hand_whole<S: Sink>(&mut self, input: &[u8], sink: &mut S) -> Result<usize, FaultAfter>
-    {
+    pub fn hand_whole<S: Sink>(&mut self, input: &[u8], sink: &mut S) -> Result<usize, FaultAfter> {
         let used = match self.take_fields(input, sink) {
             Ok(used) => used,
             Err(fault) => return Err(fault),
@@ -278,8 +291,7 @@ impl<A: Allocator> Decoder<A> {
     /// Hands headers, fields and ends of frames to the sink, as far as the loop over them takes them, and answers how
     /// many bytes of the input they take.
     #[inline]
-    fn take_fields<S: Sink>(&mut self, input: &[u8], sink: &mut S) -> Result<usize, FaultAfter>
-    {
+    fn take_fields<S: Sink>(&mut self, input: &[u8], sink: &mut S) -> Result<usize, FaultAfter> {
         if self.progress.is_in_page() {
             return Ok(0);
         }
@@ -289,8 +301,7 @@ impl<A: Allocator> Decoder<A> {
     /// Hands cells to the sink, as far as the loops over a page and over the items of its cells take them, and answers how
     /// many bytes of the input they take.
     #[inline]
-    fn take_cells<S: Sink>(&mut self, input: &[u8], sink: &mut S) -> Result<usize, FaultAfter>
-    {
+    fn take_cells<S: Sink>(&mut self, input: &[u8], sink: &mut S) -> Result<usize, FaultAfter> {
         if !self.progress.is_in_page() {
             return Ok(0);
         }
@@ -315,15 +326,13 @@ impl<A: Allocator> Decoder<A> {
 
     /// Hands cells to the sink that are scalars, null or empty.
     #[inline]
-    fn take_scalars<S: Sink>(&mut self, input: &[u8], sink: &mut S) -> Result<usize, FaultAfter>
-    {
+    fn take_scalars<S: Sink>(&mut self, input: &[u8], sink: &mut S) -> Result<usize, FaultAfter> {
         take_cells(&mut self.progress, &self.parts, input, sink)
     }
 
     /// Hands cells to the sink that have items, and the items of the cell under way.
     #[inline]
-    fn take_nested<S: Sink>(&mut self, input: &[u8], sink: &mut S) -> Result<usize, FaultAfter>
-    {
+    fn take_nested<S: Sink>(&mut self, input: &[u8], sink: &mut S) -> Result<usize, FaultAfter> {
         let due = self.progress.due_cell();
         let used = match take_lists(&mut self.progress, &mut self.parts, input, sink) {
             Ok(used) => used,
@@ -344,8 +353,7 @@ impl<A: Allocator> Decoder<A> {
 
     /// The same, and then cells that are scalars.
     #[inline]
-    fn take_turn<S: Sink>(&mut self, input: &[u8], sink: &mut S) -> Result<usize, FaultAfter>
-    {
+    fn take_turn<S: Sink>(&mut self, input: &[u8], sink: &mut S) -> Result<usize, FaultAfter> {
         let used = match self.take_nested(input, sink) {
             Ok(used) => used,
             Err(fault) => return Err(fault),
@@ -364,14 +372,12 @@ impl<A: Allocator> Decoder<A> {
     }
 
     /// The work of a call, with nothing borrowed in its result.
-    fn advance(&mut self, input: &[u8]) -> EventAdvance
-    {
+    fn advance(&mut self, input: &[u8]) -> EventAdvance {
         self.progress.advance(&mut self.parts, input)
     }
 
     /// The event that `advance` made of this input.
-    fn lend<'a>(&'a self, input: &'a [u8], what: EventOutline) -> Event<'a>
-    {
+    fn lend<'a>(&'a self, input: &'a [u8], what: EventOutline) -> Event<'a> {
         match what {
             EventOutline::Frame(header) => Event::Frame(header),
             EventOutline::Holds(field, item) => event_with(
@@ -397,8 +403,7 @@ impl<A: Allocator> Decoder<A> {
 }
 
 /// The event that a cell of this row and this column holds this.
-fn event_in(row: u32, column: u32, part: CellItem<'_>) -> Event<'_>
-{
+fn event_in(row: u32, column: u32, part: CellItem<'_>) -> Event<'_> {
     match part {
         CellItem::Leaf { level, scalar } => Event::Leaf {
             row,
@@ -434,8 +439,7 @@ fn event_in(row: u32, column: u32, part: CellItem<'_>) -> Event<'_>
 
 /// The event that a field holds a value.
 #[inline(always)]
-pub(crate) fn event_with(field: Field, value: Prim<'_>) -> Event<'_>
-{
+pub(crate) fn event_with(field: Field, value: Prim<'_>) -> Event<'_> {
     match value {
         Prim::Byte(value) => Event::Byte { field, value },
         Prim::Short(value) => Event::Short { field, value },

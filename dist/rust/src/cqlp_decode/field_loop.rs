@@ -23,8 +23,7 @@ pub(crate) fn take_fields<S: Sink, A: Allocator>(
     parts: &mut Parts<A>,
     input: &[u8],
     sink: &mut S,
-) -> Result<usize, FaultAfter>
-{
+) -> Result<usize, FaultAfter> {
     if progress.refusal.is_some() {
         return Ok(0);
     }
@@ -52,8 +51,7 @@ fn hand_plain<S: Sink>(
     at: u64,
     input: &[u8],
     sink: &mut S,
-) -> Handed
-{
+) -> Handed {
     // An arm for each notation, so that each has code of its own.
     match notation {
         Notation::Bound => hand_front(limits, Notation::Bound, field, room, at, input, sink),
@@ -82,8 +80,7 @@ fn hand_front<S: Sink>(
     at: u64,
     input: &[u8],
     sink: &mut S,
-) -> Handed
-{
+) -> Handed {
     let Some(whole) = front_field(notation, limit_on(limits, notation), room, input) else {
         return Handed::Left;
     };
@@ -101,8 +98,7 @@ impl StreamProgress {
         parts: &mut Parts<A>,
         input: &[u8],
         sink: &mut S,
-    ) -> Handed
-    {
+    ) -> Handed {
         match self.stage {
             StreamStage::Field(want) => match want.role {
                 Role::Alone => self.hand_alone(parts, want, input, sink),
@@ -119,8 +115,7 @@ impl StreamProgress {
 
     /// Hands the header at the front of the input to the sink, if it lies whole there and is lawful.
     #[inline(always)]
-    fn hand_header<S: Sink>(&mut self, input: &[u8], sink: &mut S) -> Handed
-    {
+    fn hand_header<S: Sink>(&mut self, input: &[u8], sink: &mut S) -> Handed {
         if self.came > 0 || self.offset > 1 << 63 || input.len() < 9 {
             return Handed::Left;
         }
@@ -137,8 +132,7 @@ impl StreamProgress {
 
     /// Hands the end of the frame to the sink, if the bytes before it are there.
     #[inline(always)]
-    fn hand_end<S: Sink>(&mut self, input: &[u8], sink: &mut S) -> Handed
-    {
+    fn hand_end<S: Sink>(&mut self, input: &[u8], sink: &mut S) -> Handed {
         let extra = self.stop - self.offset;
         let missing = extra - self.came;
         if (input.len() as u64) < missing {
@@ -167,8 +161,7 @@ impl StreamProgress {
         want: Want,
         input: &[u8],
         sink: &mut S,
-    ) -> Handed
-    {
+    ) -> Handed {
         if parts.partial.is_under_way() || parts.partial.held() > 0 {
             return Handed::Left;
         }
@@ -202,8 +195,7 @@ impl StreamProgress {
         want: Want,
         input: &[u8],
         sink: &mut S,
-    ) -> Handed
-    {
+    ) -> Handed {
         if parts.partial.is_under_way() || parts.partial.held() > 0 {
             return Handed::Left;
         }

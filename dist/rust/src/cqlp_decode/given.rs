@@ -51,14 +51,12 @@ pub struct GiveError<A: Allocator = Global> {
 
 impl GivenUse {
     /// What the table is for where a page begins, which it types or not.
-    pub fn with_page(self, served: bool) -> Self
-    {
+    pub fn with_page(self, served: bool) -> Self {
         if served { GivenUse::InUse } else { self }
     }
 
     /// What the table is for after the end of a frame.
-    pub fn ended(self) -> Self
-    {
+    pub fn ended(self) -> Self {
         match self {
             GivenUse::InUse => GivenUse::Used,
             GivenUse::Waiting | GivenUse::Used => self,

@@ -41,8 +41,7 @@ pub(crate) fn stop_at(
     rest: &[u8],
     within: &[u8],
     failed: bool,
-) -> ItemsHanded
-{
+) -> ItemsHanded {
     *level = here;
     let used = within.len() - rest.len();
     ItemsHanded { used, failed }
@@ -51,8 +50,7 @@ pub(crate) fn stop_at(
 /// The item that is due, where no more than these bytes are left of the input and of the value around it: then one
 /// comparison sees to both.
 #[inline(always)]
-pub(crate) fn due_in(rest: &[u8], due: DueItem) -> DueItem
-{
+pub(crate) fn due_in(rest: &[u8], due: DueItem) -> DueItem {
     DueItem {
         room: rest.len() as u64,
         ..due
@@ -67,8 +65,7 @@ pub(crate) fn take_items<S: Sink, A: Allocator>(
     counted: bool,
     input: &[u8],
     sink: &mut S,
-) -> Result<usize, FaultAfter>
-{
+) -> Result<usize, FaultAfter> {
     if parts.partial.held() > 0 || progress.refusal.is_some() {
         return Ok(0);
     }
@@ -108,8 +105,7 @@ pub(crate) fn hand_part<S: Sink>(
     page: CellCursor,
     item: BareItem,
     sink: &mut S,
-) -> Result<(), SinkFault>
-{
+) -> Result<(), SinkFault> {
     let CellCursor { row, column, .. } = page;
     let at = item.at;
     match item.part {
@@ -137,8 +133,7 @@ impl StreamProgress {
         &mut self,
         parts: &mut Parts<A>,
         counted: bool,
-    ) -> Option<CellCursor>
-    {
+    ) -> Option<CellCursor> {
         match self.stage {
             StreamStage::InCell(page) => Some(page),
             StreamStage::BeforeCell(page) => {
@@ -166,8 +161,7 @@ impl StreamProgress {
         page: CellCursor,
         input: &[u8],
         sink: &mut S,
-    ) -> ItemsHanded
-    {
+    ) -> ItemsHanded {
         let Some(first) = parts.cells.level() else {
             return ItemsHanded {
                 used: 0,
@@ -189,8 +183,7 @@ impl StreamProgress {
         page: CellCursor,
         input: &[u8],
         sink: &mut S,
-    ) -> ItemsHanded
-    {
+    ) -> ItemsHanded {
         let table = page_table(page.columns, &parts.table, &parts.given);
         if !level.is_list() {
             return self.hand_scalars(parts, level, page, input, sink);
@@ -213,8 +206,7 @@ impl StreamProgress {
         page: CellCursor,
         input: &[u8],
         sink: &mut S,
-    ) -> ItemsHanded
-    {
+    ) -> ItemsHanded {
         let table = page_table(page.columns, &parts.table, &parts.given);
         let limits = self.limits;
         let mut here = *level;
@@ -252,8 +244,7 @@ impl StreamProgress {
         page: CellCursor,
         input: &[u8],
         sink: &mut S,
-    ) -> ItemsHanded
-    {
+    ) -> ItemsHanded {
         // An arm for each kind, so that each has a loop of its own.
         match kind {
             Kind::Int => self.hand_elements(parts, Kind::Int, level, page, input, sink),
@@ -294,8 +285,7 @@ impl StreamProgress {
         page: CellCursor,
         input: &[u8],
         sink: &mut S,
-    ) -> ItemsHanded
-    {
+    ) -> ItemsHanded {
         let limits = self.limits;
         let mut here = *level;
         let Some(first) = here.due_element(kind) else {
@@ -329,8 +319,7 @@ impl StreamProgress {
         parts: &mut Parts<A>,
         page: CellCursor,
         input: &[u8],
-    ) -> Option<PartTaken>
-    {
+    ) -> Option<PartTaken> {
         let table = page_table(page.columns, &parts.table, &parts.given);
         let Some(item) = parts.cells.take_bare(table, input) else {
             return None;

@@ -20,8 +20,7 @@ pub fn hand_leaf<S: Sink>(
     page: CellCursor,
     input: &[u8],
     sink: &mut S,
-) -> Handed
-{
+) -> Handed {
     match due.kind {
         Kind::Int => hand_kind(limits, Kind::Int, due, page, input, sink),
         Kind::Bigint => hand_kind(limits, Kind::Bigint, due, page, input, sink),
@@ -57,8 +56,7 @@ pub fn hand_kind<S: Sink>(
     page: CellCursor,
     input: &[u8],
     sink: &mut S,
-) -> Handed
-{
+) -> Handed {
     if !may_begin(kind, due.room, input) {
         return Handed::Left;
     }
@@ -96,8 +94,7 @@ fn may_begin(kind: Kind, room: u64, input: &[u8]) -> bool {
 
 /// How many bytes a content of this kind has, where each has as many.
 #[inline(always)]
-fn width_of(kind: Kind) -> Option<u32>
-{
+fn width_of(kind: Kind) -> Option<u32> {
     match kind {
         Kind::Bigint | Kind::Counter | Kind::Double | Kind::Time | Kind::Timestamp => Some(8),
         Kind::Date | Kind::Float | Kind::Int => Some(4),

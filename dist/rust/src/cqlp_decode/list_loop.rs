@@ -26,8 +26,7 @@ pub(crate) fn take_lists<S: Sink, A: Allocator>(
     parts: &mut Parts<A>,
     input: &[u8],
     sink: &mut S,
-) -> Result<usize, FaultAfter>
-{
+) -> Result<usize, FaultAfter> {
     if parts.partial.held() > 0 || progress.refusal.is_some() {
         return Ok(0);
     }
@@ -60,8 +59,7 @@ struct NextList {
 
 /// Whether a value of this kind has a count before its items.
 #[inline(always)]
-pub(crate) fn is_counted(kind: Kind) -> bool
-{
+pub(crate) fn is_counted(kind: Kind) -> bool {
     matches!(kind, Kind::List | Kind::Set | Kind::Map)
 }
 
@@ -75,8 +73,7 @@ fn hand_key<S: Sink>(
     page: CellCursor,
     rest: &[u8],
     sink: &mut S,
-) -> Handed
-{
+) -> Handed {
     let due = due_in(rest, here.due_in_pair(kind));
     match hand_leaf(limits, due, page, rest, sink) {
         Handed::Left => Handed::Left,
@@ -100,8 +97,7 @@ fn hand_value<S: Sink>(
     page: CellCursor,
     rest: &[u8],
     sink: &mut S,
-) -> Handed
-{
+) -> Handed {
     let due = due_in(rest, here.due_in_pair(kind));
     match hand_leaf(limits, due, page, rest, sink) {
         Handed::Left => Handed::Left,
@@ -119,8 +115,7 @@ fn hand_value<S: Sink>(
 impl StreamProgress {
     /// Begins the cell that is due, if it is a list, a set or a map.
     #[inline(always)]
-    fn begin_list<A: Allocator>(&mut self, parts: &mut Parts<A>) -> Option<CellCursor>
-    {
+    fn begin_list<A: Allocator>(&mut self, parts: &mut Parts<A>) -> Option<CellCursor> {
         let StreamStage::BeforeCell(page) = self.stage else {
             return None;
         };
@@ -140,8 +135,7 @@ impl StreamProgress {
         parts: &mut Parts<A>,
         page: CellCursor,
         input: &[u8],
-    ) -> Option<Entered>
-    {
+    ) -> Option<Entered> {
         let table = page_table(page.columns, &parts.table, &parts.given);
         let Some(entered) = parts.cells.enter(table, input) else {
             return None;
@@ -159,8 +153,7 @@ impl StreamProgress {
         page: CellCursor,
         input: &[u8],
         sink: &mut S,
-    ) -> ItemsHanded
-    {
+    ) -> ItemsHanded {
         let table = page_table(page.columns, &parts.table, &parts.given);
         let Some(kinds) = level.pair_kinds(table) else {
             return self.hand_inside(parts, level, page, input, sink);
@@ -187,8 +180,7 @@ impl StreamProgress {
         page: CellCursor,
         input: &[u8],
         sink: &mut S,
-    ) -> ItemsHanded
-    {
+    ) -> ItemsHanded {
         let limits = self.limits;
         let mut here = *level;
         if !here.has_key() {
@@ -224,8 +216,7 @@ impl StreamProgress {
         start: Level,
         input: &[u8],
         sink: &mut S,
-    ) -> Result<usize, FaultAfter>
-    {
+    ) -> Result<usize, FaultAfter> {
         let mut page = first;
         let mut level = start;
         let mut used = 0;
@@ -291,8 +282,7 @@ impl StreamProgress {
         level: Level,
         end: BareItem,
         input: &[u8],
-    ) -> Option<NextList>
-    {
+    ) -> Option<NextList> {
         let table = page_table(page.columns, &parts.table, &parts.given);
         let Some(following) = page.next(table) else {
             return None;

@@ -38,8 +38,7 @@ pub struct ColumnHead {
 }
 
 impl Columns {
-    fn are_none<A: Allocator>(self, table: &TypeTable<A>) -> bool
-    {
+    fn are_none<A: Allocator>(self, table: &TypeTable<A>) -> bool {
         match self {
             Columns::Typed | Columns::Given => table.is_empty(),
             Columns::Raw(columns) => columns == 0,
@@ -49,8 +48,7 @@ impl Columns {
 
 impl CellCursor {
     /// The first cell of this many rows, if there is one.
-    pub fn first<A: Allocator>(columns: Columns, rows: u32, table: &TypeTable<A>) -> Option<Self>
-    {
+    pub fn first<A: Allocator>(columns: Columns, rows: u32, table: &TypeTable<A>) -> Option<Self> {
         if rows == 0 || columns.are_none(table) {
             return None;
         }
@@ -64,8 +62,7 @@ impl CellCursor {
     }
 
     /// The node of the column's type, if that is known.
-    pub fn node(&self) -> Option<u32>
-    {
+    pub fn node(&self) -> Option<u32> {
         match self.columns {
             Columns::Typed | Columns::Given => Some(self.index),
             Columns::Raw(_) => None,
@@ -73,15 +70,13 @@ impl CellCursor {
     }
 
     /// The kind of the column's type.
-    pub(crate) fn kind<A: Allocator>(&self, table: &TypeTable<A>) -> Kind
-    {
+    pub(crate) fn kind<A: Allocator>(&self, table: &TypeTable<A>) -> Kind {
         self.head(table).kind
     }
 
     /// The head of the column's type.
     #[inline(always)]
-    pub(crate) fn head<A: Allocator>(&self, table: &TypeTable<A>) -> ColumnHead
-    {
+    pub(crate) fn head<A: Allocator>(&self, table: &TypeTable<A>) -> ColumnHead {
         match self.columns {
             Columns::Typed | Columns::Given => {
                 let node = table.node(self.index).unwrap();
@@ -98,8 +93,7 @@ impl CellCursor {
     }
 
     /// The cell after this one, if there is one.
-    pub(crate) fn next<A: Allocator>(self, table: &TypeTable<A>) -> Option<Self>
-    {
+    pub(crate) fn next<A: Allocator>(self, table: &TypeTable<A>) -> Option<Self> {
         let head = self.head(table);
         let mut following = self;
         if following.advance(head.span, table) {
@@ -110,8 +104,7 @@ impl CellCursor {
 
     /// Goes on to the cell after this one, whose column's type takes this many nodes, if there is one.
     #[inline(always)]
-    pub(crate) fn advance<A: Allocator>(&mut self, span: u32, table: &TypeTable<A>) -> bool
-    {
+    pub(crate) fn advance<A: Allocator>(&mut self, span: u32, table: &TypeTable<A>) -> bool {
         if let Some(index) = self.next_column(span, table) {
             self.column += 1;
             self.index = index;
@@ -128,8 +121,7 @@ impl CellCursor {
     }
 
     /// Where the type of the next column stands, if this row has one; that of this one takes so many nodes.
-    fn next_column<A: Allocator>(&self, span: u32, table: &TypeTable<A>) -> Option<u32>
-    {
+    fn next_column<A: Allocator>(&self, span: u32, table: &TypeTable<A>) -> Option<u32> {
         match self.columns {
             Columns::Typed | Columns::Given => {
                 let end = table.len();
@@ -146,8 +138,7 @@ pub fn page_table<'a, A: Allocator>(
     columns: Columns,
     table: &'a TypeTable<A>,
     given: &'a Option<TypeTable<A>>,
-) -> &'a TypeTable<A>
-{
+) -> &'a TypeTable<A> {
     match (columns, given) {
         (Columns::Given, Some(given)) => given,
         _ => table,
@@ -156,8 +147,7 @@ pub fn page_table<'a, A: Allocator>(
 
 /// Whether a given table types the page that begins after a field of this role: it waits, the metadata has no types,
 /// and as many types stand in it as the page has columns.
-pub fn serves<A: Allocator>(role: Role, given: &Option<TypeTable<A>>, given_use: GivenUse) -> bool
-{
+pub fn serves<A: Allocator>(role: Role, given: &Option<TypeTable<A>>, given_use: GivenUse) -> bool {
     match (role, given, given_use) {
         (Role::PageRows { flags, columns }, Some(table), GivenUse::Waiting) => {
             has(flags, 0x04) && has_types(table, columns)
@@ -167,8 +157,7 @@ pub fn serves<A: Allocator>(role: Role, given: &Option<TypeTable<A>>, given_use:
 }
 
 /// Whether this many types stand side by side in a table.
-fn has_types<A: Allocator>(table: &TypeTable<A>, count: u32) -> bool
-{
+fn has_types<A: Allocator>(table: &TypeTable<A>, count: u32) -> bool {
     table.roots() == count
 }
 
@@ -181,8 +170,7 @@ pub fn find_page<A: Allocator>(
     table: &TypeTable<A>,
     given: &Option<TypeTable<A>>,
     served: bool,
-) -> Option<CellCursor>
-{
+) -> Option<CellCursor> {
     let Role::PageRows { flags, columns } = role else {
         return None;
     };
@@ -191,8 +179,7 @@ pub fn find_page<A: Allocator>(
 }
 
 /// The types of this many columns, whose metadata has these flags.
-fn columns_of(limits: &Asked, flags: u32, columns: u32, served: bool) -> Columns
-{
+fn columns_of(limits: &Asked, flags: u32, columns: u32, served: bool) -> Columns {
     match (limits.types, served, has(flags, 0x04)) {
         (true, true, _) => Columns::Given,
         (true, false, false) => Columns::Typed,

@@ -47,8 +47,7 @@ pub(crate) fn take_cells<S: Sink, A: Allocator>(
     parts: &Parts<A>,
     input: &[u8],
     sink: &mut S,
-) -> Result<usize, FaultAfter>
-{
+) -> Result<usize, FaultAfter> {
     let StreamStage::BeforeCell(due) = progress.stage else {
         return Ok(0);
     };
@@ -77,8 +76,7 @@ fn take_due<S: Sink, A: Allocator>(
     due: CellCursor,
     input: &[u8],
     sink: &mut S,
-) -> Result<usize, FaultAfter>
-{
+) -> Result<usize, FaultAfter> {
     let limits = progress.limits;
     let start = progress.offset;
     let within = front_of(input, progress.stop - start);
@@ -113,8 +111,7 @@ fn take_due<S: Sink, A: Allocator>(
 
 /// The bytes of the input that lie within a room of this many.
 #[inline(always)]
-pub(crate) fn front_of(input: &[u8], room: u64) -> &[u8]
-{
+pub(crate) fn front_of(input: &[u8], room: u64) -> &[u8] {
     if input.len() as u64 <= room {
         return input;
     }
@@ -131,8 +128,7 @@ fn hand_cell<S: Sink>(
     at: u64,
     input: &[u8],
     sink: &mut S,
-) -> Handed
-{
+) -> Handed {
     let level = 0;
     // The input ends with its frame or before: no cell in it is beyond the frame, and one comparison sees to both.
     let room = input.len() as u64;
@@ -151,8 +147,7 @@ fn hand_cell<S: Sink>(
 
 /// The same of a cell that is null or empty.
 #[inline(always)]
-fn hand_bare<S: Sink>(room: u64, page: CellCursor, at: u64, input: &[u8], sink: &mut S) -> Handed
-{
+fn hand_bare<S: Sink>(room: u64, page: CellCursor, at: u64, input: &[u8], sink: &mut S) -> Handed {
     let CellCursor { row, column, .. } = page;
     let level = 0;
     match front_bare(room, input) {
@@ -164,8 +159,7 @@ fn hand_bare<S: Sink>(room: u64, page: CellCursor, at: u64, input: &[u8], sink: 
 
 /// Hands an event that takes this many bytes to the sink.
 #[inline(always)]
-fn hand<S: Sink>(at: u64, event: &Event<'_>, used: usize, sink: &mut S) -> Handed
-{
+fn hand<S: Sink>(at: u64, event: &Event<'_>, used: usize, sink: &mut S) -> Handed {
     match sink.take(at, event) {
         Ok(()) => Handed::Taken(used),
         Err(SinkFault) => Handed::Fault(used),
@@ -174,8 +168,7 @@ fn hand<S: Sink>(at: u64, event: &Event<'_>, used: usize, sink: &mut S) -> Hande
 
 /// The value without a content at the front of the input, if there is one.
 #[inline(always)]
-fn front_bare(room: u64, input: &[u8]) -> Option<Bare>
-{
+fn front_bare(room: u64, input: &[u8]) -> Option<Bare> {
     if room < 4 || input.len() < 4 {
         return None;
     }

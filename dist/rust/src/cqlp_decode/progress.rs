@@ -50,8 +50,7 @@ pub struct StreamProgress {
 
 impl StreamProgress {
     /// At the start of a stream.
-    pub fn new(limits: Asked) -> Self
-    {
+    pub fn new(limits: Asked) -> Self {
         StreamProgress {
             limits,
             frame: 0,
@@ -67,8 +66,7 @@ impl StreamProgress {
     }
 
     /// Takes the next step, as far as the input goes.
-    pub(crate) fn advance<A: Allocator>(&mut self, parts: &mut Parts<A>, input: &[u8]) -> EventAdvance
-    {
+    pub(crate) fn advance<A: Allocator>(&mut self, parts: &mut Parts<A>, input: &[u8]) -> EventAdvance {
         if let Some(refusal) = self.refusal {
             return EventAdvance::Refused(refusal);
         }
@@ -81,8 +79,7 @@ impl StreamProgress {
     }
 
     /// How the stream ends, if it ends here.
-    pub(crate) fn finish<A: Allocator>(&self, parts: &Parts<A>) -> Finish
-    {
+    pub(crate) fn finish<A: Allocator>(&self, parts: &Parts<A>) -> Finish {
         if let Some(refusal) = self.refusal {
             return Finish::Refused(refusal);
         }
@@ -96,8 +93,7 @@ impl StreamProgress {
     }
 
     /// How many bytes of the stream have come.
-    fn bytes_used<A: Allocator>(&self, parts: &Parts<A>) -> u64
-    {
+    fn bytes_used<A: Allocator>(&self, parts: &Parts<A>) -> u64 {
         match self.stage {
             StreamStage::Header | StreamStage::Extra => self.offset + self.came,
             StreamStage::BeforeType | StreamStage::BeforeCell(_) => self.offset,
@@ -108,15 +104,13 @@ impl StreamProgress {
     }
 
     /// Whether the last frame has ended, and nothing of the next has come.
-    fn is_between(&self) -> bool
-    {
+    fn is_between(&self) -> bool {
         matches!(self.stage, StreamStage::Header) && self.came == 0
     }
 
     /// Whether a cell is due or under way.
     #[inline]
-    pub fn is_in_page(&self) -> bool
-    {
+    pub fn is_in_page(&self) -> bool {
         matches!(
             self.stage,
             StreamStage::BeforeCell(_) | StreamStage::InCell(_)
@@ -125,15 +119,13 @@ impl StreamProgress {
 
     /// Whether a cell is due that is not begun.
     #[inline(always)]
-    pub fn is_cell_due(&self) -> bool
-    {
+    pub fn is_cell_due(&self) -> bool {
         matches!(self.stage, StreamStage::BeforeCell(_))
     }
 
     /// The cell that is due and not begun, if there is one.
     #[inline(always)]
-    pub fn due_cell(&self) -> Option<CellCursor>
-    {
+    pub fn due_cell(&self) -> Option<CellCursor> {
         match self.stage {
             StreamStage::BeforeCell(page) => Some(page),
             _ => None,
@@ -152,8 +144,7 @@ impl StreamProgress {
     }
 
     /// The next step, where there was no refusal.
-    fn step<A: Allocator>(&mut self, parts: &mut Parts<A>, input: &[u8]) -> EventAdvance
-    {
+    fn step<A: Allocator>(&mut self, parts: &mut Parts<A>, input: &[u8]) -> EventAdvance {
         match self.stage {
             StreamStage::Header => self.advance_header(input),
             StreamStage::Field(want) => self.advance_field(parts, want, input),
@@ -171,8 +162,7 @@ impl StreamProgress {
         }
     }
 
-    fn advance_header(&mut self, input: &[u8]) -> EventAdvance
-    {
+    fn advance_header(&mut self, input: &[u8]) -> EventAdvance {
         if self.offset > 1 << 63 {
             return EventAdvance::Refused(Refusal {
                 at: self.offset,
@@ -199,16 +189,14 @@ impl StreamProgress {
     }
 
     /// Keeps bytes of a header of which more is to come.
-    fn keep_header(&mut self, input: &[u8])
-    {
+    fn keep_header(&mut self, input: &[u8]) {
         let came = self.came as usize;
         self.header[came..came + input.len()].copy_from_slice(input);
         self.came += input.len() as u64;
     }
 
     /// The nine bytes of a header, of which the input has the last.
-    fn complete_header(&self, input: &[u8]) -> [u8; 9]
-    {
+    fn complete_header(&self, input: &[u8]) -> [u8; 9] {
         let came = self.came as usize;
         let mut header = self.header;
         header[came..].copy_from_slice(&input[..9 - came]);
@@ -216,8 +204,7 @@ impl StreamProgress {
     }
 
     /// Goes on after a header.
-    pub(crate) fn enter(&mut self, header: &Header)
-    {
+    pub(crate) fn enter(&mut self, header: &Header) {
         self.offset += 9;
         self.stop = self.offset + u64::from(header.length);
         self.came = 0;
@@ -227,8 +214,7 @@ impl StreamProgress {
 
     /// Goes on to what is due next in the message.
     #[inline(always)]
-    pub fn expect_next(&mut self)
-    {
+    pub fn expect_next(&mut self) {
         match self.upcoming.due() {
             Some(Expected::Field(want)) => self.stage = StreamStage::Field(*want),
             Some(Expected::Option) => self.stage = StreamStage::BeforeType,
@@ -242,8 +228,7 @@ impl StreamProgress {
         parts: &mut Parts<A>,
         want: Want,
         input: &[u8],
-    ) -> EventAdvance
-    {
+    ) -> EventAdvance {
         self.ask(&mut parts.partial, want);
         let came = parts.partial.came();
         match parts.partial.advance(input) {
@@ -271,8 +256,7 @@ impl StreamProgress {
     }
 
     /// Sees that the field has begun.
-    pub(crate) fn ask<A: Allocator>(&self, partial: &mut Partial<A>, want: Want)
-    {
+    pub(crate) fn ask<A: Allocator>(&self, partial: &mut Partial<A>, want: Want) {
         if !partial.is_under_way() {
             let limit = limit_on(&self.limits, want.notation);
             partial.begin(want.notation, limit, self.offset, self.stop);
@@ -306,8 +290,7 @@ impl StreamProgress {
         &mut self,
         parts: &Parts<A>,
         input: &'a [u8],
-    ) -> Option<ScalarCell<'a>>
-    {
+    ) -> Option<ScalarCell<'a>> {
         let StreamStage::BeforeCell(page) = self.stage else {
             return None;
         };
@@ -337,8 +320,7 @@ impl StreamProgress {
 
     /// Goes on after a cell: with the next cell of its page, or with what is due next in the message.
     #[inline(always)]
-    pub(crate) fn after_cell<A: Allocator>(&mut self, page: CellCursor, table: &TypeTable<A>)
-    {
+    pub(crate) fn after_cell<A: Allocator>(&mut self, page: CellCursor, table: &TypeTable<A>) {
         match page.next(table) {
             Some(page) => self.stage = StreamStage::BeforeCell(page),
             None => self.expect_next(),
@@ -347,21 +329,18 @@ impl StreamProgress {
 
     /// Begins the cell of a page that is due.
     #[inline(always)]
-    pub(crate) fn begin_cell<A: Allocator>(&mut self, page: CellCursor, cells: &mut CellReader<A>)
-    {
+    pub(crate) fn begin_cell<A: Allocator>(&mut self, page: CellCursor, cells: &mut CellReader<A>) {
         cells.begin(page.node(), self.offset, self.stop);
         self.stage = StreamStage::InCell(page);
     }
 
     /// Begins the type option that is due.
-    fn begin_option<A: Allocator>(&mut self, types: &mut TypeReader<A>)
-    {
+    fn begin_option<A: Allocator>(&mut self, types: &mut TypeReader<A>) {
         types.begin(self.offset, self.stop);
         self.stage = StreamStage::InType;
     }
 
-    fn advance_option<A: Allocator>(&mut self, parts: &mut Parts<A>, input: &[u8]) -> EventAdvance
-    {
+    fn advance_option<A: Allocator>(&mut self, parts: &mut Parts<A>, input: &[u8]) -> EventAdvance {
         match parts
             .types
             .advance(&mut parts.partial, &mut parts.table, input)
@@ -391,8 +370,7 @@ impl StreamProgress {
     }
 
     /// Goes on after a type option that ends at an offset.
-    fn end_option(&mut self, offset: u64)
-    {
+    fn end_option(&mut self, offset: u64) {
         self.offset = offset;
         self.expect_next();
     }
@@ -402,8 +380,7 @@ impl StreamProgress {
         parts: &mut Parts<A>,
         page: CellCursor,
         input: &[u8],
-    ) -> EventAdvance
-    {
+    ) -> EventAdvance {
         let table = page_table(page.columns, &parts.table, &parts.given);
         match parts.cells.advance(&mut parts.partial, table, input) {
             CellAdvance::More { used } => EventAdvance::More { used },
@@ -441,8 +418,7 @@ impl StreamProgress {
         self.after_cell(page, table);
     }
 
-    fn advance_extra(&mut self, input: &[u8]) -> EventAdvance
-    {
+    fn advance_extra(&mut self, input: &[u8]) -> EventAdvance {
         let extra = self.stop - self.offset;
         let used = (extra - self.came).min(input.len() as u64);
         if self.came + used < extra {
@@ -462,8 +438,7 @@ impl StreamProgress {
 
     /// Ends the frame under way. A header is read next.
     #[inline(always)]
-    pub(crate) fn end_frame(&mut self)
-    {
+    pub(crate) fn end_frame(&mut self) {
         self.frame = self.stop;
         self.offset = self.stop;
         self.came = 0;
@@ -473,8 +448,7 @@ impl StreamProgress {
 }
 
 /// How many bytes of the field under way have come.
-fn count_field_bytes<A: Allocator>(partial: &Partial<A>) -> u64
-{
+fn count_field_bytes<A: Allocator>(partial: &Partial<A>) -> u64 {
     if partial.is_under_way() {
         partial.came()
     } else {
@@ -484,8 +458,7 @@ fn count_field_bytes<A: Allocator>(partial: &Partial<A>) -> u64
 
 /// The most bytes of a content in this notation.
 #[inline(always)]
-pub fn limit_on(limits: &Asked, notation: Notation) -> u32
-{
+pub fn limit_on(limits: &Asked, notation: Notation) -> u32 {
     match notation {
         Notation::Text16 | Notation::Text32 => limits.text,
         Notation::Bytes16 | Notation::Bytes32 | Notation::Bound | Notation::Content(_) => {

@@ -28,7 +28,7 @@ enum Drained {
     Fault,
 }
 
-/// Hands all events of a reader's bytes to the sink, from at most `turns` reads of up to 4,096 bytes, none of which is
+/// Hands all events of a reader's bytes to the sink, from at most `turns` reads, each with room for 4,096 bytes and none
 /// tried again. The events of bytes that the decoder was given before come first. No read is made before the sink has got
 /// all events of the bytes read so far.
 pub fn run<R: Source, S: Sink, A: Allocator>(
@@ -36,15 +36,14 @@ pub fn run<R: Source, S: Sink, A: Allocator>(
     reader: &mut R,
     sink: &mut S,
     turns: u64,
-) -> Outcome
-{
+) -> Outcome {
     let mut buffer = [0; 4096];
     match drain(decoder, &[], sink) {
         Drained::More => {}
         Drained::Refused => return Outcome::Finished(decoder.finish()),
         Drained::Fault => return Outcome::SinkFault,
     }
-    for after_cell in 0..turns {
+    for turn in 0..turns {
         if decoder.gathers() {
             let Ok(gathered) = decoder.read_content(reader) else {
                 return Outcome::ReadFault;
@@ -71,8 +70,7 @@ pub fn run<R: Source, S: Sink, A: Allocator>(
 }
 
 /// Hands all events of the input to the sink.
-fn drain<S: Sink, A: Allocator>(decoder: &mut Decoder<A>, input: &[u8], sink: &mut S) -> Drained
-{
+fn drain<S: Sink, A: Allocator>(decoder: &mut Decoder<A>, input: &[u8], sink: &mut S) -> Drained {
     let mut used = 0;
     loop {
         match decoder.hand_whole(&input[used..], sink) {

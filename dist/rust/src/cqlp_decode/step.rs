@@ -8,13 +8,13 @@ use crate::cqlp_note::Refusal;
 #[derive(Clone, Copy, Debug, PartialEq, Eq)]
 pub enum Step<'a> {
     /// An event, whose field begins at this offset of the stream; an end's offset is the frame's end. This many bytes of
-    /// the input were used.
+    /// the input were used, **which may be none**: the end of a frame or of an open value comes from a call of its own.
     Event {
         at: u64,
         used: usize,
         event: Event<'a>,
     },
-    /// All of the input was used, and more is wanted.
+    /// All of the input was used, and more is wanted. **Only this says that no event is left in the bytes so far.**
     More {
         used: usize,
     },

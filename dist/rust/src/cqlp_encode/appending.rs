@@ -34,8 +34,7 @@ pub enum AppendError {
 ///
 /// [`AppendError::Unfit`] where [`Frame::unfit`] says why no bytes spell the frame, and else [`AppendError::NoMemory`] where the bytes have
 /// no room for it and memory was refused. The bytes are then as they were; what memory they got they keep.
-pub fn append(frame: &Frame, bytes: &mut Vec<u8>) -> Result<u32, AppendError>
-{
+pub fn append(frame: &Frame, bytes: &mut Vec<u8>) -> Result<u32, AppendError> {
     let start = bytes.len();
     if let Some(len) = extend(frame, bytes) {
         let header = frame.header(len - 9);
@@ -51,8 +50,7 @@ pub fn append(frame: &Frame, bytes: &mut Vec<u8>) -> Result<u32, AppendError>
 
 /// Puts nine bytes and the parts of a frame behind the bytes, and answers how many these are, if the frame fits and there was memory
 /// for all; if not, some bytes stand there.
-fn extend(frame: &Frame, bytes: &mut Vec<u8>) -> Option<u32>
-{
+fn extend(frame: &Frame, bytes: &mut Vec<u8>) -> Option<u32> {
     if !frame.is_directed() || !frame.agrees() || !frame.message.has_its_cells() {
         return None;
     }
@@ -65,8 +63,7 @@ fn extend(frame: &Frame, bytes: &mut Vec<u8>) -> Option<u32>
 
 /// Writes nine bytes and the parts of a frame, each once it is measured, and answers how many bytes these are, if all parts fit and the
 /// target took them all.
-fn write_checked<W: Target>(frame: &Frame, target: &mut W) -> Option<u32>
-{
+fn write_checked<W: Target>(frame: &Frame, target: &mut W) -> Option<u32> {
     let mut walk = Checked {
         out: Staged::new(target, 0),
         tally: Tally::new(),
@@ -103,8 +100,7 @@ impl<'a, W: Target> TakesParts for Checked<'a, W> {
 }
 
 /// Whether everything fits, and a body has as many bytes.
-fn is_whole(tally: &Tally) -> bool
-{
+fn is_whole(tally: &Tally) -> bool {
     tally.counts && tally.texts && tally.cells && tally.size <= LONGEST
 }
 
@@ -117,36 +113,37 @@ pub struct Growing {
     refused: bool,
     /// How many calls found no memory, up to 2^64 - 1.
     failures: u64,
+    /// How many calls took all of their bytes, up to 2^64 - 1.
+    writes: u64,
 }
 
 impl Growing {
     /// Behind these bytes, and no call made.
-    fn behind(bytes: Vec<u8>) -> Growing
-    {
+    fn behind(bytes: Vec<u8>) -> Growing {
         Growing {
             room: bytes.capacity(),
             bytes,
             refused: false,
             failures: 0,
+            writes: 0,
         }
     }
 
     /// The bytes. Where a call found no memory they fill the room that there was at first.
-    fn into_bytes(self) -> Vec<u8>
-    {
+    fn into_bytes(self) -> Vec<u8> {
         let Growing {
             bytes,
             room: _,
             refused: _,
             failures: _,
+            writes: _,
         } = self;
         bytes
     }
 
     /// Takes as many bytes as there is room for, where no memory was found for all of them.
     #[cold]
-    fn fill(&mut self, bytes: &[u8]) -> Result<usize, IoFault>
-    {
+    fn fill(&mut self, bytes: &[u8]) -> Result<usize, IoFault> {
         self.refused = true;
         let room = self.bytes.capacity().saturating_sub(self.bytes.len());
         if room == 0 {
@@ -155,6 +152,9 @@ impl Growing {
         }
         let count = room.min(bytes.len());
         let _ = self.bytes.extend_from_slice(&bytes[..count]);
+        if count == bytes.len() {
+            self.writes = self.writes.saturating_add(1);
+        }
         Ok(count)
     }
 }
@@ -165,7 +165,10 @@ impl Target for Growing {
             return self.fill(bytes);
         }
         match self.bytes.extend_from_slice(bytes) {
-            Ok(()) => Ok(bytes.len()),
+            Ok(()) => {
+                self.writes = self.writes.saturating_add(1);
+                Ok(bytes.len())
+            }
             Err(_) => self.fill(bytes),
         }
     }

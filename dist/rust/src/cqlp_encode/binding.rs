@@ -45,8 +45,7 @@ pub fn bind_value(
     alloc: Global,
     value: &Value,
     of: Option<&TypeTree>,
-) -> Result<OwnedBound, BindError>
-{
+) -> Result<OwnedBound, BindError> {
     let content = content(alloc, value, of)?;
     Ok(match value {
         Value::Null => OwnedBound::Null,
@@ -65,8 +64,7 @@ pub fn bind_value(
 /// # Errors
 ///
 /// Those of [`bind_value`].
-pub fn raw_value(alloc: Global, value: &Value, of: Option<&TypeTree>) -> Result<Value, BindError>
-{
+pub fn raw_value(alloc: Global, value: &Value, of: Option<&TypeTree>) -> Result<Value, BindError> {
     let content = content(alloc, value, of)?;
     Ok(match value {
         Value::Null => Value::Null,
@@ -76,8 +74,7 @@ pub fn raw_value(alloc: Global, value: &Value, of: Option<&TypeTree>) -> Result<
 }
 
 /// What follows the length of a value of this type.
-fn content(alloc: Global, value: &Value, of: Option<&TypeTree>) -> Result<Vec<u8>, BindError>
-{
+fn content(alloc: Global, value: &Value, of: Option<&TypeTree>) -> Result<Vec<u8>, BindError> {
     let size = match fitting_size(value, of) {
         Some(size) => size,
         None => return Err(BindError::Unfit),
@@ -98,22 +95,27 @@ struct Gathered {
     bytes: Vec<u8>,
     /// How many calls found no memory, up to 2^64 - 1.
     failures: u64,
+    /// How many calls took all of their bytes, up to 2^64 - 1.
+    writes: u64,
 }
 
 impl Gathered {
     /// With room for this many bytes, which are asked for at once.
-    fn new(alloc: Global, len: usize) -> Result<Gathered, AllocError>
-    {
+    fn new(alloc: Global, len: usize) -> Result<Gathered, AllocError> {
         Ok(Gathered {
             bytes: Vec::with_capacity(alloc, len)?,
             failures: 0,
+            writes: 0,
         })
     }
 
     /// The bytes.
-    fn into_bytes(self) -> Vec<u8>
-    {
-        let Gathered { bytes, failures: _ } = self;
+    fn into_bytes(self) -> Vec<u8> {
+        let Gathered {
+            bytes,
+            failures: _,
+            writes: _,
+        } = self;
         bytes
     }
 }
@@ -121,7 +123,10 @@ impl Gathered {
 impl Target for Gathered {
     fn write(&mut self, bytes: &[u8]) -> Result<usize, IoFault> {
         match self.bytes.extend_from_slice(bytes) {
-            Ok(()) => Ok(bytes.len()),
+            Ok(()) => {
+                self.writes = self.writes.saturating_add(1);
+                Ok(bytes.len())
+            }
             Err(_) => {
                 self.failures = self.failures.saturating_add(1);
                 Err(IoFault)

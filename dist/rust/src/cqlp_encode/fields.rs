@@ -7,62 +7,53 @@ use crate::cqlp_note::{Address, Target};
 
 impl<'a, W: Target> Staged<'a, W> {
     /// Takes a \[byte\].
-    pub fn put_byte(&mut self, value: u8)
-    {
+    pub fn put_byte(&mut self, value: u8) {
         self.put(&[value]);
     }
 
     /// Takes a \[short\].
-    pub fn put_short(&mut self, value: u16)
-    {
+    pub fn put_short(&mut self, value: u16) {
         self.put(&value.to_be_bytes());
     }
 
     /// Takes an \[int\].
     #[inline]
-    pub fn put_int(&mut self, value: i32)
-    {
+    pub fn put_int(&mut self, value: i32) {
         self.put(&value.to_be_bytes());
     }
 
     /// Takes a \[long\].
-    pub fn put_long(&mut self, value: i64)
-    {
+    pub fn put_long(&mut self, value: i64) {
         self.put(&value.to_be_bytes());
     }
 
     /// Takes a \[uuid\].
-    pub fn put_uuid(&mut self, id: [u8; 16])
-    {
+    pub fn put_uuid(&mut self, id: [u8; 16]) {
         self.put(&id);
     }
 
     /// Takes a number of two bytes, the lowest two of this.
-    pub fn put_count16(&mut self, count: usize)
-    {
+    pub fn put_count16(&mut self, count: usize) {
         let bytes = count.to_be_bytes();
         self.put(&bytes[6..]);
     }
 
     /// Takes a number of four bytes, the lowest four of this.
     #[inline(always)]
-    pub fn put_count32(&mut self, count: usize)
-    {
+    pub fn put_count32(&mut self, count: usize) {
         let bytes = count.to_be_bytes();
         self.put_few(&bytes[4..]);
     }
 
     /// Takes a content after its length of two bytes.
-    pub fn put_short_content(&mut self, content: &[u8])
-    {
+    pub fn put_short_content(&mut self, content: &[u8]) {
         self.put_count16(content.len());
         self.put(content);
     }
 
     /// Takes the bytes of a number, at most eight, after their length, in one step.
     #[inline(always)]
-    pub(crate) fn put_number(&mut self, content: &[u8])
-    {
+    pub(crate) fn put_number(&mut self, content: &[u8]) {
         let mut bytes = [0; 12];
         let end = content.len() + 4;
         bytes[..4].copy_from_slice(&content.len().to_be_bytes()[4..]);
@@ -72,8 +63,7 @@ impl<'a, W: Target> Staged<'a, W> {
 
     /// Keeps the bytes of a number, at most eight, after their length, where there is room for them, and answers whether there is.
     #[inline(always)]
-    pub(crate) fn keep_number(&mut self, content: &[u8]) -> bool
-    {
+    pub(crate) fn keep_number(&mut self, content: &[u8]) -> bool {
         let mut bytes = [0; 12];
         let end = content.len() + 4;
         bytes[..4].copy_from_slice(&content.len().to_be_bytes()[4..]);
@@ -83,16 +73,14 @@ impl<'a, W: Target> Staged<'a, W> {
 
     /// The same of a number of four bytes, the lowest four of this.
     #[inline(always)]
-    pub fn keep_count32(&mut self, count: usize) -> bool
-    {
+    pub fn keep_count32(&mut self, count: usize) -> bool {
         let bytes = count.to_be_bytes();
         self.keep_few(&bytes[4..])
     }
 
     /// The same of a content after its length of four bytes, of which the length may be kept alone where there is no room for both.
     #[inline(always)]
-    pub fn keep_content(&mut self, content: &[u8]) -> bool
-    {
+    pub fn keep_content(&mut self, content: &[u8]) -> bool {
         if !self.keep_count32(content.len()) {
             return false;
         }
@@ -100,8 +88,7 @@ impl<'a, W: Target> Staged<'a, W> {
     }
 
     /// Takes \[bytes\], a null as the length -1.
-    pub fn put_bytes(&mut self, bytes: Option<&[u8]>)
-    {
+    pub fn put_bytes(&mut self, bytes: Option<&[u8]>) {
         match bytes {
             Some(content) => self.put_content(content),
             None => self.put_int(-1),
@@ -109,8 +96,7 @@ impl<'a, W: Target> Staged<'a, W> {
     }
 
     /// Takes a \[value\], a null as the length -1 and one that is not set as -2.
-    pub fn put_bound(&mut self, value: &OwnedBound)
-    {
+    pub fn put_bound(&mut self, value: &OwnedBound) {
         match value {
             OwnedBound::Null => self.put_int(-1),
             OwnedBound::Unset => self.put_int(-2),
@@ -119,18 +105,21 @@ impl<'a, W: Target> Staged<'a, W> {
     }
 
     /// Takes an \[inet\].
-    pub fn put_inet(&mut self, address: &Address, port: i32)
-    {
+    pub fn put_inet(&mut self, address: &Address, port: i32) {
         match address {
-            Address::V4(bytes) => self.put_address(bytes),
-            Address::V6(bytes) => self.put_address(bytes),
+            Address::V4(bytes) => {
+                self.put_address(bytes);
+                self.put_int(port);
+            }
+            Address::V6(bytes) => {
+                self.put_address(bytes);
+                self.put_int(port);
+            }
         }
-        self.put_int(port);
     }
 
     /// Takes an address after the number of its bytes, of which there are fewer than 256.
-    fn put_address(&mut self, bytes: &[u8])
-    {
+    fn put_address(&mut self, bytes: &[u8]) {
         self.put(&bytes.len().to_be_bytes()[7..]);
         self.put(bytes);
     }

@@ -7,8 +7,7 @@ use crate::cqlp_value::{Atom, Content, Value};
 
 /// Keeps a value with its length among the bytes that wait, where there is room for all of it, and answers whether there is.
 #[inline(always)]
-pub fn keep_whole<W: Target>(out: &mut Staged<'_, W>, value: &Value) -> bool
-{
+pub fn keep_whole<W: Target>(out: &mut Staged<'_, W>, value: &Value) -> bool {
     if !is_short(value) {
         return false;
     }
@@ -47,8 +46,7 @@ fn are_short(items: &[Value]) -> bool {
 
 /// A guess how many bytes an item has with its length, at most 256.
 #[inline(always)]
-fn guess(item: &Value) -> usize
-{
+fn guess(item: &Value) -> usize {
     let Value::Leaf(atom) = item else {
         return 8;
     };
@@ -63,8 +61,7 @@ fn guess(item: &Value) -> usize
 /// Keeps a value with its length, where there is room for all of it, and answers whether there is. Where there is not, some bytes of it
 /// may be kept.
 #[inline(always)]
-fn keep_value<W: Target>(out: &mut Staged<'_, W>, value: &Value) -> bool
-{
+fn keep_value<W: Target>(out: &mut Staged<'_, W>, value: &Value) -> bool {
     match value {
         Value::Leaf(atom) => keep_atom(out, atom),
         _ => keep_nested(out, value),
@@ -72,8 +69,7 @@ fn keep_value<W: Target>(out: &mut Staged<'_, W>, value: &Value) -> bool
 }
 
 /// The same, in a function of its own, of a value that mostly is no scalar.
-fn keep_nested<W: Target>(out: &mut Staged<'_, W>, value: &Value) -> bool
-{
+fn keep_nested<W: Target>(out: &mut Staged<'_, W>, value: &Value) -> bool {
     match value {
         Value::Null => out.keep_few(&[255; 4]),
         Value::Empty => out.keep_few(&[0; 4]),
@@ -88,8 +84,7 @@ fn keep_nested<W: Target>(out: &mut Staged<'_, W>, value: &Value) -> bool
 
 /// The same of the items of a list or a set, after the length of them all and their count.
 #[inline(always)]
-fn keep_items<W: Target>(out: &mut Staged<'_, W>, items: &[Value]) -> bool
-{
+fn keep_items<W: Target>(out: &mut Staged<'_, W>, items: &[Value]) -> bool {
     let start = out.waiting();
     if !out.keep_few(&items.len().to_be_bytes()) {
         return false;
@@ -103,8 +98,7 @@ fn keep_items<W: Target>(out: &mut Staged<'_, W>, items: &[Value]) -> bool
 
 /// The same of the pairs of a map.
 #[inline(always)]
-fn keep_entries<W: Target>(out: &mut Staged<'_, W>, pairs: &[(Value, Value)]) -> bool
-{
+fn keep_entries<W: Target>(out: &mut Staged<'_, W>, pairs: &[(Value, Value)]) -> bool {
     let start = out.waiting();
     if !out.keep_few(&pairs.len().to_be_bytes()) {
         return false;
@@ -118,8 +112,7 @@ fn keep_entries<W: Target>(out: &mut Staged<'_, W>, pairs: &[(Value, Value)]) ->
 
 /// The same of the fields of a tuple or a user-defined type, after the length of them all.
 #[inline(always)]
-fn keep_fields<W: Target>(out: &mut Staged<'_, W>, fields: &[Value]) -> bool
-{
+fn keep_fields<W: Target>(out: &mut Staged<'_, W>, fields: &[Value]) -> bool {
     let start = out.waiting();
     if !out.keep_few(&[0; 4]) {
         return false;
@@ -132,8 +125,7 @@ fn keep_fields<W: Target>(out: &mut Staged<'_, W>, fields: &[Value]) -> bool
 }
 
 /// The same of values, each with its length.
-fn keep_values<W: Target>(out: &mut Staged<'_, W>, values: &[Value]) -> bool
-{
+fn keep_values<W: Target>(out: &mut Staged<'_, W>, values: &[Value]) -> bool {
     for value in values {
         if !keep_value(out, value) {
             return false;
@@ -143,8 +135,7 @@ fn keep_values<W: Target>(out: &mut Staged<'_, W>, values: &[Value]) -> bool
 }
 
 /// The same of pairs, of each the key and the value with their lengths.
-fn keep_pairs<W: Target>(out: &mut Staged<'_, W>, pairs: &[(Value, Value)]) -> bool
-{
+fn keep_pairs<W: Target>(out: &mut Staged<'_, W>, pairs: &[(Value, Value)]) -> bool {
     for (key, value) in pairs {
         if !keep_value(out, key) {
             return false;
@@ -158,8 +149,7 @@ fn keep_pairs<W: Target>(out: &mut Staged<'_, W>, pairs: &[(Value, Value)]) -> b
 
 /// The same of a scalar with its length.
 #[inline(always)]
-fn keep_atom<W: Target>(out: &mut Staged<'_, W>, atom: &Atom) -> bool
-{
+fn keep_atom<W: Target>(out: &mut Staged<'_, W>, atom: &Atom) -> bool {
     match atom.content() {
         Content::One(number) => out.keep_number(&[number]),
         Content::Two(number) => out.keep_number(&number.to_be_bytes()),
@@ -171,8 +161,7 @@ fn keep_atom<W: Target>(out: &mut Staged<'_, W>, atom: &Atom) -> bool
 }
 
 /// The same of a decimal.
-fn keep_decimal<W: Target>(out: &mut Staged<'_, W>, scale: [u8; 4], unscaled: &[u8]) -> bool
-{
+fn keep_decimal<W: Target>(out: &mut Staged<'_, W>, scale: [u8; 4], unscaled: &[u8]) -> bool {
     if !out.keep_count32(unscaled.len().saturating_add(scale.len())) {
         return false;
     }

@@ -66,14 +66,12 @@ impl<'a> PageWriter<'a> {
     /// # Errors
     ///
     /// [`PageError::Unfit`] where [`Frame::page_unfit`] says why the frame is no page without cells, or its body would be too
-    /// long, or no cells of its rows and columns have `cells_len` bytes, before anything is written, and [`PageError::Write`] at the
-    /// first call of the target that fails or takes nothing.
+    /// long, before anything is written, and [`PageError::Write`] at the first call of the target that fails or takes nothing.
     pub fn begin<W: Target>(
         frame: &'a Frame,
         cells_len: u32,
         target: &mut W,
-    ) -> Result<PageWriter<'a>, PageError>
-    {
+    ) -> Result<PageWriter<'a>, PageError> {
         Self::begin_from(frame, cells_len, 0, target)
     }
 
@@ -88,8 +86,7 @@ impl<'a> PageWriter<'a> {
         cells_len: u32,
         before: u32,
         target: &mut W,
-    ) -> Result<PageWriter<'a>, PageError>
-    {
+    ) -> Result<PageWriter<'a>, PageError> {
         let page_len = match frame.page_measure(cells_len) {
             Ok(len) => len,
             Err(why) => return Err(PageError::Unfit(why)),
@@ -120,8 +117,7 @@ impl<'a> PageWriter<'a> {
     /// where all cells are written; [`PageError::Unfit`] where the value is none of its column's type;
     /// [`PageError::PastLength`] where the cells would have more bytes than were said. Nothing is written then, and the writer
     /// is as it was. Then [`PageError::Write`] at the first call of the target that fails or takes nothing.
-    pub fn cell<W: Target>(&mut self, value: &Value, target: &mut W) -> Result<(), PageError>
-    {
+    pub fn cell<W: Target>(&mut self, value: &Value, target: &mut W) -> Result<(), PageError> {
         match self.specs.get(self.column) {
             Some(spec) => self.put_as(value, &spec.tree, target),
             None => {
@@ -143,8 +139,7 @@ impl<'a> PageWriter<'a> {
         value: &Value,
         of: &TypeTree,
         target: &mut W,
-    ) -> Result<(), PageError>
-    {
+    ) -> Result<(), PageError> {
         let size = untold_size(&self.frame.message, value, of);
         self.put(value, size, target)
     }
@@ -158,8 +153,7 @@ impl<'a> PageWriter<'a> {
     /// In this order, with nothing changed: [`PageError::OutOfTurn`] where no call stopped within a cell; [`PageError::Unfit`] and
     /// [`PageError::PastLength`] as [`cell`](Self::cell) says them; [`PageError::OutOfTurn`] where the value has no more bytes than targets
     /// took. Then [`PageError::Write`] at the first call of the target that fails or takes nothing; this may be called again.
-    pub fn resume<W: Target>(&mut self, value: &Value, target: &mut W) -> Result<(), PageError>
-    {
+    pub fn resume<W: Target>(&mut self, value: &Value, target: &mut W) -> Result<(), PageError> {
         let size = self.frame.column_size(self.column, value);
         self.put_rest(value, size, target)
     }
@@ -174,8 +168,7 @@ impl<'a> PageWriter<'a> {
         value: &Value,
         of: &TypeTree,
         target: &mut W,
-    ) -> Result<(), PageError>
-    {
+    ) -> Result<(), PageError> {
         let size = untold_size(&self.frame.message, value, of);
         self.put_rest(value, size, target)
     }
@@ -187,8 +180,7 @@ impl<'a> PageWriter<'a> {
     ///
     /// [`PageError::Write`] where an earlier call answered it, and [`PageError::NotDone`] where cells, or bytes of them, are
     /// still to come.
-    pub fn finish(&self) -> Result<u32, PageError>
-    {
+    pub fn finish(&self) -> Result<u32, PageError> {
         if self.failed {
             return Err(PageError::Write {
                 written: self.written,
@@ -207,8 +199,7 @@ impl<'a> PageWriter<'a> {
         value: &Value,
         of: &TypeTree,
         target: &mut W,
-    ) -> Result<(), PageError>
-    {
+    ) -> Result<(), PageError> {
         match value {
             Value::Leaf(atom) => match of {
                 TypeTree::Plain(kind) => match atom.content_as(*kind) {
@@ -227,8 +218,7 @@ impl<'a> PageWriter<'a> {
         value: &Value,
         of: &TypeTree,
         target: &mut W,
-    ) -> Result<(), PageError>
-    {
+    ) -> Result<(), PageError> {
         let size = fitting_size(value, Some(of));
         self.put(value, size, target)
     }
@@ -240,8 +230,7 @@ impl<'a> PageWriter<'a> {
         atom: &Atom,
         content: Content<'_>,
         target: &mut W,
-    ) -> Result<(), PageError>
-    {
+    ) -> Result<(), PageError> {
         match content {
             Content::One(number) => self.put_number(&[number], target),
             Content::Two(number) => self.put_number(&number.to_be_bytes(), target),
@@ -254,8 +243,7 @@ impl<'a> PageWriter<'a> {
 
     /// The same of the bytes of a number, which are at most eight.
     #[inline(always)]
-    fn put_number<W: Target>(&mut self, content: &[u8], target: &mut W) -> Result<(), PageError>
-    {
+    fn put_number<W: Target>(&mut self, content: &[u8], target: &mut W) -> Result<(), PageError> {
         let size = self.check(Some(content.len() as u64 + 4))?;
         let taken = offer_number(content, target);
         self.took(size, taken)
@@ -263,8 +251,7 @@ impl<'a> PageWriter<'a> {
 
     /// The same of a content that is lent.
     #[inline(always)]
-    fn put_lent<W: Target>(&mut self, content: &[u8], target: &mut W) -> Result<(), PageError>
-    {
+    fn put_lent<W: Target>(&mut self, content: &[u8], target: &mut W) -> Result<(), PageError> {
         let size = self.check(Some(content.len() as u64 + 4))?;
         let taken = offer_lent(content, target);
         self.took(size, taken)
@@ -276,8 +263,7 @@ impl<'a> PageWriter<'a> {
         atom: &Atom,
         unscaled: u64,
         target: &mut W,
-    ) -> Result<(), PageError>
-    {
+    ) -> Result<(), PageError> {
         let size = self.check(Some(unscaled + 8))?;
         let taken = offer_decimal(atom, target);
         self.took(size, taken)
@@ -285,8 +271,7 @@ impl<'a> PageWriter<'a> {
 
     /// Counts a cell of this many bytes, of which a target took this many.
     #[inline(always)]
-    fn took(&mut self, size: u32, taken: u32) -> Result<(), PageError>
-    {
+    fn took(&mut self, size: u32, taken: u32) -> Result<(), PageError> {
         if taken < size {
             self.fail(taken);
             return Err(PageError::Write {
@@ -303,8 +288,7 @@ impl<'a> PageWriter<'a> {
         value: &Value,
         size: Option<u64>,
         target: &mut W,
-    ) -> Result<(), PageError>
-    {
+    ) -> Result<(), PageError> {
         let size = self.check(size)?;
         let taken = offer_value(value, size, 0, target);
         self.took(size, taken)
@@ -316,8 +300,7 @@ impl<'a> PageWriter<'a> {
         value: &Value,
         size: Option<u64>,
         target: &mut W,
-    ) -> Result<(), PageError>
-    {
+    ) -> Result<(), PageError> {
         if !self.failed {
             return Err(PageError::OutOfTurn);
         }
@@ -340,8 +323,7 @@ impl<'a> PageWriter<'a> {
     }
 
     /// The writer as it was before the cell in which a target failed.
-    fn before_cut(&self) -> PageWriter<'a>
-    {
+    fn before_cut(&self) -> PageWriter<'a> {
         PageWriter {
             frame: self.frame,
             specs: self.specs,
@@ -357,8 +339,7 @@ impl<'a> PageWriter<'a> {
 
     /// How many bytes the next cell has, or why a value of this size is not it.
     #[inline(always)]
-    fn check(&self, size: Option<u64>) -> Result<u32, PageError>
-    {
+    fn check(&self, size: Option<u64>) -> Result<u32, PageError> {
         if self.failed {
             return Err(PageError::Write {
                 written: self.written,
@@ -378,8 +359,7 @@ impl<'a> PageWriter<'a> {
     }
 
     /// Counts a cell of this many bytes that was written.
-    fn count(&mut self, size: u32)
-    {
+    fn count(&mut self, size: u32) {
         let next = self.column + 1;
         self.column = if next < self.columns as usize {
             next
@@ -392,8 +372,7 @@ impl<'a> PageWriter<'a> {
     }
 
     /// Notes that a target failed after this many bytes of a cell.
-    fn fail(&mut self, taken: u32)
-    {
+    fn fail(&mut self, taken: u32) {
         self.written += taken;
         self.failed = true;
         self.cut = taken;
@@ -401,8 +380,7 @@ impl<'a> PageWriter<'a> {
 }
 
 /// How many bytes spell a value of this type, if it is one and a cell of a page whose columns are not told.
-fn untold_size(message: &Message, value: &Value, of: &TypeTree) -> Option<u64>
-{
+fn untold_size(message: &Message, value: &Value, of: &TypeTree) -> Option<u64> {
     match message {
         Message::Rows(page) => match &page.meta.specs {
             None => fitting_size(value, Some(of)),

@@ -17,8 +17,7 @@ impl<'a, W: Target> TakesParts for Staged<'a, W> {
 impl<'a, W: Target> Staged<'a, W> {
     /// Takes a part.
     #[inline(always)]
-    fn put_part(&mut self, part: PartRef<'_>)
-    {
+    fn put_part(&mut self, part: PartRef<'_>) {
         match part {
             PartRef::Cell { value, .. } => put_value(self, value),
             _ => self.put_any_part(part),
@@ -26,8 +25,7 @@ impl<'a, W: Target> Staged<'a, W> {
     }
 
     /// The same of a part that is mostly no cell.
-    fn put_any_part(&mut self, part: PartRef<'_>)
-    {
+    fn put_any_part(&mut self, part: PartRef<'_>) {
         match part {
             PartRef::Byte(_, value) => self.put_byte(value),
             PartRef::Short(_, value) => self.put_short(value),

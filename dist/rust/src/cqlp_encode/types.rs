@@ -7,8 +7,7 @@ use crate::cqlp_note::Target;
 use crate::cqlp_type::{Kind, TypeTree};
 
 /// Takes a type's option.
-pub fn put_tree<W: Target>(out: &mut Staged<'_, W>, tree: &TypeTree)
-{
+pub fn put_tree<W: Target>(out: &mut Staged<'_, W>, tree: &TypeTree) {
     match tree {
         TypeTree::Plain(kind) => out.put_kind(*kind),
         TypeTree::Custom(class) => {
@@ -48,16 +47,14 @@ pub fn put_tree<W: Target>(out: &mut Staged<'_, W>, tree: &TypeTree)
 }
 
 /// Takes the options of inner types without names.
-fn put_types<W: Target>(out: &mut Staged<'_, W>, types: &[TypeTree])
-{
+fn put_types<W: Target>(out: &mut Staged<'_, W>, types: &[TypeTree]) {
     for tree in types {
         put_tree(out, tree);
     }
 }
 
 /// Takes the options of inner types, each after its name.
-fn put_fields<W: Target>(out: &mut Staged<'_, W>, fields: &[(String, TypeTree)])
-{
+fn put_fields<W: Target>(out: &mut Staged<'_, W>, fields: &[(String, TypeTree)]) {
     for (name, tree) in fields {
         out.put_text(name);
         put_tree(out, tree);
@@ -66,8 +63,7 @@ fn put_fields<W: Target>(out: &mut Staged<'_, W>, fields: &[(String, TypeTree)])
 
 impl<'a, W: Target> Staged<'a, W> {
     /// Takes an option's id; 0 of the kind that has none.
-    fn put_kind(&mut self, kind: Kind)
-    {
+    fn put_kind(&mut self, kind: Kind) {
         let id = match kind {
             Kind::Raw => 0,
             _ => kind.id(),
@@ -76,8 +72,7 @@ impl<'a, W: Target> Staged<'a, W> {
     }
 
     /// Takes a \[string\].
-    pub fn put_text(&mut self, text: &str)
-    {
+    pub fn put_text(&mut self, text: &str) {
         self.put_short_content(text.as_bytes());
     }
 }

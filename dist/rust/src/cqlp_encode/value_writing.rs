@@ -38,8 +38,7 @@ pub fn write_value<W: Target>(
     value: &Value,
     of: Option<&TypeTree>,
     target: &mut W,
-) -> Result<u32, ValueError>
-{
+) -> Result<u32, ValueError> {
     let size = match fitting_size(value, of) {
         Some(size) => size,
         None => return Err(ValueError::Unfit),
@@ -59,8 +58,7 @@ pub fn write_value<W: Target>(
 /// Writes a value with its length, of `size` bytes in all, but for its first bytes, `before` many, and answers how many of its bytes
 /// the target took or had from before.
 #[inline(always)]
-pub(crate) fn offer_value<W: Target>(value: &Value, size: u32, before: u32, target: &mut W) -> u32
-{
+pub(crate) fn offer_value<W: Target>(value: &Value, size: u32, before: u32, target: &mut W) -> u32 {
     match value {
         Value::Leaf(atom) => {
             if before == 0 {
@@ -75,8 +73,7 @@ pub(crate) fn offer_value<W: Target>(value: &Value, size: u32, before: u32, targ
 
 /// The same of a scalar.
 #[inline(always)]
-fn offer_atom<W: Target>(atom: &Atom, target: &mut W) -> u32
-{
+fn offer_atom<W: Target>(atom: &Atom, target: &mut W) -> u32 {
     match atom.content() {
         Content::One(number) => offer_number(&[number], target),
         Content::Two(number) => offer_number(&number.to_be_bytes(), target),
@@ -89,8 +86,7 @@ fn offer_atom<W: Target>(atom: &Atom, target: &mut W) -> u32
 
 /// The same of the bytes of a number, which are at most eight.
 #[inline(always)]
-pub(crate) fn offer_number<W: Target>(content: &[u8], target: &mut W) -> u32
-{
+pub(crate) fn offer_number<W: Target>(content: &[u8], target: &mut W) -> u32 {
     let mut bytes = [0; 12];
     let end = content.len() + 4;
     bytes[..4].copy_from_slice(&content.len().to_be_bytes()[4..]);
@@ -100,8 +96,7 @@ pub(crate) fn offer_number<W: Target>(content: &[u8], target: &mut W) -> u32
 
 /// The same of a content that is lent, which is not copied on its way: its length is offered first, by a call of its own.
 #[inline(always)]
-pub(crate) fn offer_lent<W: Target>(content: &[u8], target: &mut W) -> u32
-{
+pub(crate) fn offer_lent<W: Target>(content: &[u8], target: &mut W) -> u32 {
     let len = (content.len() as u32).to_be_bytes();
     let taken = offer_after(target, 0, &len);
     if taken < 4 {
@@ -112,8 +107,7 @@ pub(crate) fn offer_lent<W: Target>(content: &[u8], target: &mut W) -> u32
 
 /// The same of a decimal.
 #[inline(never)]
-pub(crate) fn offer_decimal<W: Target>(atom: &Atom, target: &mut W) -> u32
-{
+pub(crate) fn offer_decimal<W: Target>(atom: &Atom, target: &mut W) -> u32 {
     let mut out = Staged::new(target, 0);
     put_atom(&mut out, atom);
     out.flush();
@@ -124,8 +118,7 @@ pub(crate) fn offer_decimal<W: Target>(atom: &Atom, target: &mut W) -> u32
 
 /// The same of any value, of which the target may have the first bytes.
 #[inline(never)]
-fn offer_any<W: Target>(value: &Value, size: u32, before: u32, target: &mut W) -> u32
-{
+fn offer_any<W: Target>(value: &Value, size: u32, before: u32, target: &mut W) -> u32 {
     let mut out = Staged::new(target, u64::from(before));
     put_measured(&mut out, value, u64::from(size) - 4);
     out.flush();
@@ -135,8 +128,7 @@ fn offer_any<W: Target>(value: &Value, size: u32, before: u32, target: &mut W) -
 }
 
 /// Writes what follows a value's length, and answers how many bytes of it the target took.
-pub(crate) fn offer_content<W: Target>(value: &Value, target: &mut W) -> u32
-{
+pub(crate) fn offer_content<W: Target>(value: &Value, target: &mut W) -> u32 {
     let mut out = Staged::new(target, 0);
     put_inside(&mut out, value);
     out.flush();

@@ -8,8 +8,7 @@ use crate::cqlp_value::{Atom, Content, Value, content_len};
 
 /// Takes a value with its length.
 #[inline(always)]
-pub fn put_value<W: Target>(out: &mut Staged<'_, W>, value: &Value)
-{
+pub fn put_value<W: Target>(out: &mut Staged<'_, W>, value: &Value) {
     match value {
         Value::Leaf(atom) => put_atom(out, atom),
         _ => put_nested(out, value),
@@ -17,11 +16,13 @@ pub fn put_value<W: Target>(out: &mut Staged<'_, W>, value: &Value)
 }
 
 /// The same of a value that is no scalar. It goes as a whole where it has room among the bytes that wait, and is measured only where it
-/// has more than 256 bytes.
-fn put_nested<W: Target>(out: &mut Staged<'_, W>, value: &Value)
-{
+/// has more than 256 bytes. Where no more than that wait they are not passed on for it.
+fn put_nested<W: Target>(out: &mut Staged<'_, W>, value: &Value) {
     if keep_whole(out, value) {
         return;
+    }
+    if out.waiting() <= 256 {
+        return put_measured(out, value, content_len(value));
     }
     out.flush();
     if !keep_whole(out, value) {
@@ -30,8 +31,7 @@ fn put_nested<W: Target>(out: &mut Staged<'_, W>, value: &Value)
 }
 
 /// The same of a value whose content has this many bytes, of which a null has none.
-pub(crate) fn put_measured<W: Target>(out: &mut Staged<'_, W>, value: &Value, content: u64)
-{
+pub(crate) fn put_measured<W: Target>(out: &mut Staged<'_, W>, value: &Value, content: u64) {
     match value {
         Value::Null => out.put_int(-1),
         Value::Leaf(atom) => put_atom(out, atom),
@@ -43,8 +43,7 @@ pub(crate) fn put_measured<W: Target>(out: &mut Staged<'_, W>, value: &Value, co
 }
 
 /// Takes what follows a value's length.
-pub fn put_inside<W: Target>(out: &mut Staged<'_, W>, value: &Value)
-{
+pub fn put_inside<W: Target>(out: &mut Staged<'_, W>, value: &Value) {
     match value {
         Value::Null => {}
         Value::Empty => {}
@@ -67,16 +66,14 @@ pub fn put_inside<W: Target>(out: &mut Staged<'_, W>, value: &Value)
 }
 
 /// Takes values, each with its length.
-fn put_values<W: Target>(out: &mut Staged<'_, W>, values: &[Value])
-{
+fn put_values<W: Target>(out: &mut Staged<'_, W>, values: &[Value]) {
     for value in values {
         put_value(out, value);
     }
 }
 
 /// Takes pairs, of each the key and the value with their lengths.
-fn put_pairs<W: Target>(out: &mut Staged<'_, W>, pairs: &[(Value, Value)])
-{
+fn put_pairs<W: Target>(out: &mut Staged<'_, W>, pairs: &[(Value, Value)]) {
     for (key, value) in pairs {
         put_value(out, key);
         put_value(out, value);
@@ -85,25 +82,26 @@ fn put_pairs<W: Target>(out: &mut Staged<'_, W>, pairs: &[(Value, Value)])
 
 /// Takes a scalar with its length.
 #[inline(always)]
-pub fn put_atom<W: Target>(out: &mut Staged<'_, W>, atom: &Atom)
-{
+pub fn put_atom<W: Target>(out: &mut Staged<'_, W>, atom: &Atom) {
     match atom.content() {
         Content::One(number) => out.put_number(&[number]),
         Content::Two(number) => out.put_number(&number.to_be_bytes()),
         Content::Four(number) => out.put_number(&number.to_be_bytes()),
         Content::Eight(number) => out.put_number(&number.to_be_bytes()),
         Content::Lent(bytes) => out.put_content(bytes),
-        Content::Decimal(scale, unscaled) => {
-            out.put_count32(unscaled.len().saturating_add(scale.len()));
-            out.put(&scale);
-            out.put(unscaled);
-        }
+        Content::Decimal(scale, unscaled) => put_decimal(out, scale, unscaled),
     }
 }
 
+/// Takes the content of a decimal after its length.
+fn put_decimal<W: Target>(out: &mut Staged<'_, W>, scale: [u8; 4], unscaled: &[u8]) {
+    out.put_count32(unscaled.len().saturating_add(scale.len()));
+    out.put(&scale);
+    out.put(unscaled);
+}
+
 /// Takes the content of a scalar.
-fn put_scalar<W: Target>(out: &mut Staged<'_, W>, atom: &Atom)
-{
+fn put_scalar<W: Target>(out: &mut Staged<'_, W>, atom: &Atom) {
     match atom.content() {
         Content::One(number) => out.put(&[number]),
         Content::Two(number) => out.put(&number.to_be_bytes()),

@@ -22,8 +22,7 @@ pub(crate) enum Announced {
 }
 
 impl Announced {
-    pub(crate) fn width(&self) -> usize
-    {
+    pub(crate) fn width(&self) -> usize {
         match self {
             Announced::TraceId => 16,
             Announced::PayloadValue { .. } => 4,
@@ -35,8 +34,7 @@ impl Announced {
     }
 
     /// What follows the field that these bytes are.
-    pub(crate) fn following(self, flags: u8, opcode: Opcode, bytes: &[u8]) -> Next
-    {
+    pub(crate) fn following(self, flags: u8, opcode: Opcode, bytes: &[u8]) -> Next {
         match self {
             Announced::TraceId => {
                 Next::says(Fact::TraceId(array(bytes)), after_trace_id(flags, opcode))
@@ -59,8 +57,7 @@ impl Announced {
 }
 
 /// The first field of a body with this header.
-pub(crate) fn first_due(header: &Header) -> Due
-{
+pub(crate) fn first_due(header: &Header) -> Due {
     let flags: u32 = header.flags.into();
     if has(flags, 0x01) {
         Due::Unread
@@ -74,8 +71,7 @@ pub(crate) fn first_due(header: &Header) -> Due
 }
 
 /// What follows a tracing id: warnings, if there are any.
-fn after_trace_id(flags: u8, opcode: Opcode) -> Due
-{
+fn after_trace_id(flags: u8, opcode: Opcode) -> Due {
     if has(flags.into(), 0x08) {
         Due::Announced(Announced::WarningCount)
     } else {
@@ -84,8 +80,7 @@ fn after_trace_id(flags: u8, opcode: Opcode) -> Due
 }
 
 /// What follows the warnings: a custom payload, if there is one, and then the message.
-fn after_warnings(flags: u8, opcode: Opcode) -> Due
-{
+fn after_warnings(flags: u8, opcode: Opcode) -> Due {
     if has(flags.into(), 0x04) {
         Due::Announced(Announced::PayloadCount)
     } else {
@@ -94,8 +89,7 @@ fn after_warnings(flags: u8, opcode: Opcode) -> Due
 }
 
 /// So many warnings.
-fn warnings_due(flags: u8, opcode: Opcode, count: u16) -> Due
-{
+fn warnings_due(flags: u8, opcode: Opcode, count: u16) -> Due {
     if count == 0 {
         after_warnings(flags, opcode)
     } else {
@@ -104,8 +98,7 @@ fn warnings_due(flags: u8, opcode: Opcode, count: u16) -> Due
 }
 
 /// So many keys, each with its value.
-fn keys_due(opcode: Opcode, count: u16) -> Due
-{
+fn keys_due(opcode: Opcode, count: u16) -> Due {
     if count == 0 {
         Due::opening_of(opcode)
     } else {
@@ -114,8 +107,7 @@ fn keys_due(opcode: Opcode, count: u16) -> Due
 }
 
 /// \[bytes\] of this length and then this field. A negative one is null.
-pub(crate) fn past_bytes(length: u32, due: Due) -> Next
-{
+pub(crate) fn past_bytes(length: u32, due: Due) -> Next {
     if is_negative(length) {
         Next::at(due)
     } else {

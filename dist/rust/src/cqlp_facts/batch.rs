@@ -24,8 +24,7 @@ pub(crate) enum BatchField {
 }
 
 impl BatchField {
-    pub(crate) fn width(&self) -> usize
-    {
+    pub(crate) fn width(&self) -> usize {
         match self {
             BatchField::Type | BatchField::Kind { .. } => 1,
             BatchField::Count
@@ -37,8 +36,7 @@ impl BatchField {
     }
 
     /// What follows the field that these bytes are.
-    pub(crate) fn following(self, bytes: &[u8]) -> Next
-    {
+    pub(crate) fn following(self, bytes: &[u8]) -> Next {
         match self {
             BatchField::Type => Next::at(Due::Batch(BatchField::Count)),
             BatchField::Count => Next::at(entries_due(short(bytes))),
@@ -60,8 +58,7 @@ impl BatchField {
 }
 
 /// So many statements, and what follows them.
-fn entries_due(count: u16) -> Due
-{
+fn entries_due(count: u16) -> Due {
     if count == 0 {
         Due::Batch(BatchField::Consistency)
     } else {
@@ -70,8 +67,7 @@ fn entries_due(count: u16) -> Due
 }
 
 /// What follows the kind of a statement: 0 is a text, and 1 an id.
-fn kind_following(kind: u8, more: u16) -> Due
-{
+fn kind_following(kind: u8, more: u16) -> Due {
     if kind == 0 {
         Due::Batch(BatchField::Text { more })
     } else if kind == 1 {
@@ -82,8 +78,7 @@ fn kind_following(kind: u8, more: u16) -> Due
 }
 
 /// So many values of a statement, and what follows them.
-fn entry_values_due(count: u16, more: u16) -> Due
-{
+fn entry_values_due(count: u16, more: u16) -> Due {
     if count == 0 {
         entries_due(more)
     } else {

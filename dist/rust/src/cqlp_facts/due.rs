@@ -47,8 +47,7 @@ pub(crate) struct Next {
 
 impl Next {
     /// This field is next.
-    pub(crate) fn at(due: Due) -> Next
-    {
+    pub(crate) fn at(due: Due) -> Next {
         Next {
             passing: 0,
             due,
@@ -57,8 +56,7 @@ impl Next {
     }
 
     /// This field is next, after so many bytes.
-    pub(crate) fn past(passing: u32, due: Due) -> Next
-    {
+    pub(crate) fn past(passing: u32, due: Due) -> Next {
         Next {
             passing,
             due,
@@ -67,8 +65,7 @@ impl Next {
     }
 
     /// A fact, and the next field.
-    pub(crate) fn says(fact: Fact, due: Due) -> Next
-    {
+    pub(crate) fn says(fact: Fact, due: Due) -> Next {
         Next {
             passing: 0,
             due,
@@ -79,8 +76,7 @@ impl Next {
 
 impl Due {
     /// The first field of a message.
-    pub(crate) fn opening_of(opcode: Opcode) -> Due
-    {
+    pub(crate) fn opening_of(opcode: Opcode) -> Due {
         match opcode {
             Opcode::Query => Due::QueryText,
             Opcode::Execute => Due::StatementId,
@@ -92,8 +88,7 @@ impl Due {
     }
 
     /// Whether a message begins with it.
-    pub(crate) fn is_opening(&self) -> bool
-    {
+    pub(crate) fn is_opening(&self) -> bool {
         matches!(
             self,
             Due::QueryText
@@ -106,14 +101,12 @@ impl Due {
     }
 
     /// Whether no field is due.
-    pub(crate) fn is_idle(&self) -> bool
-    {
+    pub(crate) fn is_idle(&self) -> bool {
         matches!(self, Due::Unread | Due::Over)
     }
 
     /// How many bytes it has, without its content.
-    pub(crate) fn width(&self) -> usize
-    {
+    pub(crate) fn width(&self) -> usize {
         match self {
             Due::Announced(field) => field.width(),
             Due::StatementId => 2,
@@ -125,8 +118,7 @@ impl Due {
     }
 
     /// What follows the field that these bytes are.
-    pub(crate) fn following(self, flags: u8, opcode: Opcode, bytes: &[u8]) -> Next
-    {
+    pub(crate) fn following(self, flags: u8, opcode: Opcode, bytes: &[u8]) -> Next {
         match self {
             Due::Announced(field) => field.following(flags, opcode, bytes),
             Due::QueryText => past_text(bytes, consistency_due()),
@@ -142,8 +134,7 @@ impl Due {
 }
 
 /// A \[long string\] and then this field.
-pub(crate) fn past_text(bytes: &[u8], due: Due) -> Next
-{
+pub(crate) fn past_text(bytes: &[u8], due: Due) -> Next {
     let length = int(bytes);
     if is_negative(length) {
         Next::at(Due::Over)
@@ -153,8 +144,7 @@ pub(crate) fn past_text(bytes: &[u8], due: Due) -> Next
 }
 
 /// What follows the kind of a RESULT.
-fn result_kind(kind: u32) -> Next
-{
+fn result_kind(kind: u32) -> Next {
     let due = if kind == 2 {
         Due::Rows(RowsField::Flags)
     } else {

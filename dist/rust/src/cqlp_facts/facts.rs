@@ -37,8 +37,8 @@ pub(crate) enum Fact {
 
 impl Facts {
     /// Nothing is known.
-    pub fn new() -> Facts
-    {
+    #[must_use]
+    pub fn new() -> Facts {
         Facts {
             consistency: None,
             page_size: None,
@@ -52,8 +52,7 @@ impl Facts {
     }
 
     /// These, and one more. One that is known stays.
-    pub(crate) fn with(self, fact: Fact) -> Facts
-    {
+    pub(crate) fn with(self, fact: Fact) -> Facts {
         match fact {
             Fact::Consistency(level) => Facts {
                 consistency: known_or(self.consistency, level),
@@ -92,8 +91,7 @@ impl Facts {
 }
 
 /// What is known, or else what is said.
-fn known_or<T: Copy>(known: Option<T>, said: T) -> Option<T>
-{
+fn known_or<T: Copy>(known: Option<T>, said: T) -> Option<T> {
     match known {
         Some(value) => Some(value),
         None => Some(said),

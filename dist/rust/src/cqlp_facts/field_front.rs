@@ -8,8 +8,7 @@ pub(crate) struct FieldFront {
 }
 
 impl FieldFront {
-    pub(crate) fn new() -> Self
-    {
+    pub(crate) fn new() -> Self {
         FieldFront {
             bytes: [0; 16],
             len: 0,
@@ -17,14 +16,12 @@ impl FieldFront {
     }
 
     /// The first so many of these bytes.
-    pub(crate) fn of(bytes: [u8; 16], len: usize) -> Self
-    {
+    pub(crate) fn of(bytes: [u8; 16], len: usize) -> Self {
         FieldFront { bytes, len }
     }
 
     /// These bytes and one more, and how many they are then.
-    pub(crate) fn with(&self, byte: u8) -> ([u8; 16], usize)
-    {
+    pub(crate) fn with(&self, byte: u8) -> ([u8; 16], usize) {
         let mut bytes = self.bytes;
         bytes[self.len] = byte;
         (bytes, self.len + 1)

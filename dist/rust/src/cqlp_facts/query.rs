@@ -30,8 +30,7 @@ pub(crate) struct ValueForm {
 }
 
 impl QueryField {
-    pub(crate) fn width(&self) -> usize
-    {
+    pub(crate) fn width(&self) -> usize {
         match self {
             QueryField::Flags => 1,
             QueryField::Consistency | QueryField::ValueCount(_) | QueryField::ValueName { .. } => 2,
@@ -40,8 +39,7 @@ impl QueryField {
     }
 
     /// What follows the field that these bytes are.
-    pub(crate) fn following(self, bytes: &[u8]) -> Next
-    {
+    pub(crate) fn following(self, bytes: &[u8]) -> Next {
         match self {
             QueryField::Consistency => Next::says(
                 Fact::Consistency(short(bytes)),
@@ -63,14 +61,12 @@ impl QueryField {
 }
 
 /// The first of the parameters.
-pub(crate) fn consistency_due() -> Due
-{
+pub(crate) fn consistency_due() -> Due {
     Due::Query(QueryField::Consistency)
 }
 
 /// What follows the flags: 01 says that there are values, 04 a page size, and 40 that values have names.
-fn flags_following(flags: u32) -> Due
-{
+fn flags_following(flags: u32) -> Due {
     let paged = has(flags, 0x04);
     if has(flags, 0x01) {
         let named = has(flags, 0x40);
@@ -80,8 +76,7 @@ fn flags_following(flags: u32) -> Due
     }
 }
 
-fn page_size_due(paged: bool) -> Due
-{
+fn page_size_due(paged: bool) -> Due {
     if paged {
         Due::Query(QueryField::PageSize)
     } else {
@@ -90,8 +85,7 @@ fn page_size_due(paged: bool) -> Due
 }
 
 /// So many values, and what follows them.
-fn values_due(count: u16, form: ValueForm) -> Due
-{
+fn values_due(count: u16, form: ValueForm) -> Due {
     if count == 0 {
         page_size_due(form.paged)
     } else if form.named {
@@ -108,8 +102,7 @@ fn values_due(count: u16, form: ValueForm) -> Due
 }
 
 /// A \[value\] of this length and then this field: null is -1, and not set is -2.
-pub(crate) fn past_value(length: u32, due: Due) -> Next
-{
+pub(crate) fn past_value(length: u32, due: Due) -> Next {
     if length == u32::MAX || length == u32::MAX - 1 {
         Next::at(due)
     } else if is_negative(length) {

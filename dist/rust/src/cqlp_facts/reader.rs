@@ -34,8 +34,8 @@ struct Stretch {
 
 impl FactsReader {
     /// Nothing is read.
-    pub fn idle() -> FactsReader
-    {
+    #[must_use]
+    pub fn idle() -> FactsReader {
         FactsReader {
             flags: 0,
             opcode: Opcode::Options,
@@ -47,8 +47,8 @@ impl FactsReader {
     }
 
     /// Nothing came of a body with this header.
-    pub fn new(header: &Header) -> FactsReader
-    {
+    #[must_use]
+    pub fn new(header: &Header) -> FactsReader {
         FactsReader {
             flags: header.flags,
             opcode: header.opcode,
@@ -60,15 +60,14 @@ impl FactsReader {
     }
 
     /// What the bytes say that came so far.
-    pub fn facts(&self) -> Facts
-    {
+    #[must_use]
+    pub fn facts(&self) -> Facts {
         self.facts
     }
 
     /// Takes the next bytes of the body, and says how many of them lie before the message proper: what the header's flags announce there, a
     /// tracing id, warnings and a custom payload. Section 2.2 of `native_protocol_v4.spec`.
-    pub fn read(&mut self, piece: &[u8]) -> usize
-    {
+    pub fn read(&mut self, piece: &[u8]) -> usize {
         let mut rest = piece;
         let mut before = 0;
         while !rest.is_empty() {
@@ -80,8 +79,7 @@ impl FactsReader {
     }
 
     /// Whether the next byte lies before the message proper.
-    fn is_before(&self) -> bool
-    {
+    fn is_before(&self) -> bool {
         match self.due {
             Due::Announced(_) => true,
             due => self.passing > 0 && due.is_opening(),
@@ -89,8 +87,7 @@ impl FactsReader {
     }
 
     /// Takes some of these bytes.
-    fn take_stretch(&mut self, rest: &[u8]) -> Stretch
-    {
+    fn take_stretch(&mut self, rest: &[u8]) -> Stretch {
         let is_before = self.is_before();
         let used = self.step(rest);
         Stretch {
@@ -100,8 +97,7 @@ impl FactsReader {
     }
 
     /// Takes some of these bytes, which lie all before the message proper or none of them.
-    fn step(&mut self, rest: &[u8]) -> usize
-    {
+    fn step(&mut self, rest: &[u8]) -> usize {
         if self.passing > 0 {
             let used = rest.len().min(self.passing as usize);
             self.pass(used as u32);
@@ -115,14 +111,12 @@ impl FactsReader {
     }
 
     /// Passes over so many bytes.
-    fn pass(&mut self, count: u32)
-    {
+    fn pass(&mut self, count: u32) {
         self.passing -= count;
     }
 
     /// Takes a byte of a field.
-    fn take(&mut self, byte: u8)
-    {
+    fn take(&mut self, byte: u8) {
         let (bytes, len) = self.front.with(byte);
         if len < self.due.width() {
             self.front = FieldFront::of(bytes, len);
@@ -132,8 +126,7 @@ impl FactsReader {
     }
 
     /// Goes on after a field.
-    fn pass_field(&mut self, bytes: &[u8])
-    {
+    fn pass_field(&mut self, bytes: &[u8]) {
         let next = self.due.following(self.flags, self.opcode, bytes);
         self.due = next.due;
         self.passing = next.passing;

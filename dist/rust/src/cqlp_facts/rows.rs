@@ -27,8 +27,7 @@ pub(crate) enum RowsField {
 }
 
 impl RowsField {
-    pub(crate) fn width(&self) -> usize
-    {
+    pub(crate) fn width(&self) -> usize {
         match self {
             RowsField::Flags
             | RowsField::ColumnCount { .. }
@@ -43,8 +42,7 @@ impl RowsField {
     }
 
     /// What follows the field that these bytes are.
-    pub(crate) fn following(self, bytes: &[u8]) -> Next
-    {
+    pub(crate) fn following(self, bytes: &[u8]) -> Next {
         match self {
             RowsField::Flags => Next::at(Due::Rows(RowsField::ColumnCount { flags: int(bytes) })),
             RowsField::ColumnCount { flags } => columns_following(flags, bytes),
@@ -68,8 +66,7 @@ impl RowsField {
 }
 
 /// What follows the number of columns.
-fn columns_following(flags: u32, bytes: &[u8]) -> Next
-{
+fn columns_following(flags: u32, bytes: &[u8]) -> Next {
     let count = int(bytes);
     if is_negative(count) {
         Next::at(Due::Over)
@@ -82,8 +79,7 @@ fn columns_following(flags: u32, bytes: &[u8]) -> Next
 }
 
 /// The paging state, if the flag 02 says that there is one, and the columns.
-fn paged_columns_due(flags: u32, columns: u32) -> Due
-{
+fn paged_columns_due(flags: u32, columns: u32) -> Due {
     if has(flags, 0x02) {
         Due::Rows(RowsField::PagingState { flags, columns })
     } else {
@@ -92,8 +88,7 @@ fn paged_columns_due(flags: u32, columns: u32) -> Due
 }
 
 /// The columns: none by the flag 04, and after one keyspace and table for all by the flag 01.
-fn columns_due(flags: u32, columns: u32) -> Due
-{
+fn columns_due(flags: u32, columns: u32) -> Due {
     if has(flags, 0x04) {
         Due::Rows(RowsField::RowCount)
     } else if has(flags, 0x01) {
@@ -107,8 +102,7 @@ fn columns_due(flags: u32, columns: u32) -> Due
 }
 
 /// So many names, and what follows them.
-fn names_due(count: u16, types: Types) -> Due
-{
+fn names_due(count: u16, types: Types) -> Due {
     if count == 0 {
         types_due(types)
     } else {
@@ -120,8 +114,7 @@ fn names_due(count: u16, types: Types) -> Due
 }
 
 /// Types and fields, and then the number of rows.
-fn types_due(types: Types) -> Due
-{
+fn types_due(types: Types) -> Due {
     match types.next() {
         TypesNext::Type(types) => Due::Rows(RowsField::Type { types }),
         TypesNext::Names { more, types } => Due::Rows(RowsField::Name { more, types }),
@@ -131,8 +124,7 @@ fn types_due(types: Types) -> Due
 
 /// What follows the id of a type: of a custom one its name, of a list or a set one type and of a map two, of a UDT its names and fields, of
 /// a tuple its types.
-fn after_option(id: u16, types: Types) -> Due
-{
+fn after_option(id: u16, types: Types) -> Due {
     match id {
         0x0000 => names_due(1, types),
         0x0020 => types_due(types.with_types(1)),
@@ -154,14 +146,12 @@ fn after_option(id: u16, types: Types) -> Due
 }
 
 /// Whether nothing follows the id of such a type.
-fn is_plain(id: u16) -> bool
-{
+fn is_plain(id: u16) -> bool {
     id <= 0x0014 && id != 0x000A
 }
 
 /// What follows a name of a UDT.
-fn udt_due(is_own: bool, types: Types) -> Due
-{
+fn udt_due(is_own: bool, types: Types) -> Due {
     if is_own {
         Due::Rows(RowsField::FieldCount { types })
     } else {
@@ -173,8 +163,7 @@ fn udt_due(is_own: bool, types: Types) -> Due
 }
 
 /// The fields of a UDT, and these types after them; none if they lie too deep.
-fn fields_due(count: u16, types: Types) -> Due
-{
+fn fields_due(count: u16, types: Types) -> Due {
     match types.with_fields(count.into()) {
         Some(types) => types_due(types),
         None => Due::Over,
@@ -182,8 +171,7 @@ fn fields_due(count: u16, types: Types) -> Due
 }
 
 /// The number of rows.
-fn row_count(bytes: &[u8]) -> Next
-{
+fn row_count(bytes: &[u8]) -> Next {
     if is_negative(int(bytes)) {
         Next::at(Due::Over)
     } else {

@@ -31,8 +31,7 @@ pub(crate) enum TypesNext {
 }
 
 impl Level {
-    fn over() -> Level
-    {
+    fn over() -> Level {
         Level {
             types: 0,
             fields: 0,
@@ -40,16 +39,14 @@ impl Level {
         }
     }
 
-    fn is_over(&self) -> bool
-    {
+    fn is_over(&self) -> bool {
         self.types == 0 && self.fields == 0
     }
 }
 
 impl Types {
     /// So many columns.
-    pub(crate) fn of_columns(count: u32, qualified: bool) -> Types
-    {
+    pub(crate) fn of_columns(count: u32, qualified: bool) -> Types {
         Types {
             first: Level {
                 types: 0,
@@ -63,8 +60,7 @@ impl Types {
     }
 
     /// So many more types at the innermost level.
-    pub(crate) fn with_types(self, count: u32) -> Types
-    {
+    pub(crate) fn with_types(self, count: u32) -> Types {
         Types {
             first: Level {
                 types: self.first.types.saturating_add(count),
@@ -75,8 +71,7 @@ impl Types {
     }
 
     /// So many fields come before all that, if there is room for one more level.
-    pub(crate) fn with_fields(self, count: u32) -> Option<Types>
-    {
+    pub(crate) fn with_fields(self, count: u32) -> Option<Types> {
         let first = Level {
             types: 0,
             fields: count,
@@ -97,8 +92,7 @@ impl Types {
     }
 
     /// What comes next.
-    pub(crate) fn next(self) -> TypesNext
-    {
+    pub(crate) fn next(self) -> TypesNext {
         let types = self.innermost();
         let level = types.first;
         if level.types > 0 {
@@ -114,8 +108,7 @@ impl Types {
     }
 
     /// Without the innermost level, if nothing of it is left.
-    fn innermost(self) -> Types
-    {
+    fn innermost(self) -> Types {
         if self.first.is_over() {
             Types {
                 first: self.second,
@@ -128,8 +121,7 @@ impl Types {
         }
     }
 
-    fn with_first(self, types: u32, fields: u32) -> Types
-    {
+    fn with_first(self, types: u32, fields: u32) -> Types {
         Types {
             first: Level {
                 types,

@@ -11,8 +11,7 @@ use crate::cqlp_note::{Field, Header, Notation, Prim, Reason};
 
 impl Upcoming {
     /// Begins a message: the parts that its header announces, and its fields.
-    pub fn begin(&mut self, header: &Header)
-    {
+    pub fn begin(&mut self, header: &Header) {
         self.clear();
         self.push_fields(body_fields(header.opcode));
         self.push_if(
@@ -31,8 +30,7 @@ impl Upcoming {
 
     /// Puts what follows a field of this role, that has this value, before all else, but for the cells of a page.
     #[inline(always)]
-    pub(crate) fn follow(&mut self, role: Role, value: Prim<'_>)
-    {
+    pub(crate) fn follow(&mut self, role: Role, value: Prim<'_>) {
         // Nothing follows most fields.
         if let Role::Alone = role {
             return;
@@ -71,8 +69,7 @@ impl Upcoming {
     }
 
     /// A count that is an \[int\].
-    fn push_count(&mut self, field: Field, role: Role)
-    {
+    fn push_count(&mut self, field: Field, role: Role) {
         let notation = Notation::Count32;
         self.push(Expected::Field(Want {
             field,
@@ -82,8 +79,7 @@ impl Upcoming {
     }
 
     /// The rest of metadata after the number of its columns, and the number of rows where they follow.
-    fn push_metadata(&mut self, rows: bool, flags: u32, columns: u32)
-    {
+    fn push_metadata(&mut self, rows: bool, flags: u32, columns: u32) {
         let rows_due = Expected::Field(Want {
             field: Field::Rows,
             notation: Notation::Count32,
@@ -97,8 +93,7 @@ impl Upcoming {
     }
 
     /// The rest of the metadata of a prepared statement's values, and the metadata of its result.
-    fn push_prepared(&mut self, flags: u32, columns: u32, keys: u32)
-    {
+    fn push_prepared(&mut self, flags: u32, columns: u32, keys: u32) {
         let result_flags = Expected::Field(Want {
             field: Field::MetaFlags,
             notation: Notation::Int,
@@ -110,8 +105,7 @@ impl Upcoming {
     }
 
     /// The columns of a table, or of several.
-    fn push_specs(&mut self, flags: u32, columns: u32)
-    {
+    fn push_specs(&mut self, flags: u32, columns: u32) {
         let one_table = has(flags, 0x01);
         self.push_many(Group::Columns { one_table }, columns);
         self.push_if(one_table, plain!(Table, Text16));
@@ -119,8 +113,7 @@ impl Upcoming {
     }
 
     /// The parameters of a query that these flags announce.
-    fn push_query_parts(&mut self, flags: u32)
-    {
+    fn push_query_parts(&mut self, flags: u32) {
         self.push_if(has(flags, 0x20), plain!(Timestamp, Long));
         self.push_if(has(flags, 0x10), plain!(SerialConsistency, Short));
         self.push_if(has(flags, 0x08), plain!(PagingState, Bytes32));
@@ -133,15 +126,13 @@ impl Upcoming {
     }
 
     /// The parts at a batch's end that these flags announce.
-    fn push_batch_parts(&mut self, flags: u32)
-    {
+    fn push_batch_parts(&mut self, flags: u32) {
         self.push_if(has(flags, 0x20), plain!(Timestamp, Long));
         self.push_if(has(flags, 0x10), plain!(SerialConsistency, Short));
     }
 
     /// The statement of a batch's entry, and its values.
-    fn push_entry_parts(&mut self, kind: u32)
-    {
+    fn push_entry_parts(&mut self, kind: u32) {
         self.push(counted!(Values, Group::BatchValues));
         if kind == 0 {
             self.push(plain!(Query, Text32));
@@ -152,8 +143,7 @@ impl Upcoming {
 }
 
 /// Why a field of this role may not have this value.
-pub fn fault_in(role: Role, value: Prim<'_>) -> Option<Reason>
-{
+pub fn fault_in(role: Role, value: Prim<'_>) -> Option<Reason> {
     match role {
         Role::EntryKind if number(value) > 1 => Some(Reason::BadBatchKind),
         Role::BatchFlags if has(number(value), 0x4F) => Some(Reason::BadBatchFlags),
@@ -162,8 +152,7 @@ pub fn fault_in(role: Role, value: Prim<'_>) -> Option<Reason>
 }
 
 /// A value's number, unsigned.
-pub fn number(value: Prim<'_>) -> u32
-{
+pub fn number(value: Prim<'_>) -> u32 {
     match value {
         Prim::Byte(number) => number.into(),
         Prim::Short(number) => number.into(),
@@ -174,8 +163,7 @@ pub fn number(value: Prim<'_>) -> u32
 }
 
 /// A value's text.
-fn text(value: Prim<'_>) -> &str
-{
+fn text(value: Prim<'_>) -> &str {
     match value {
         Prim::Text(text) => text,
         _ => "",
@@ -183,7 +171,6 @@ fn text(value: Prim<'_>) -> &str
 }
 
 /// Whether some bit of these is set.
-pub fn has(flags: u32, bits: u32) -> bool
-{
+pub fn has(flags: u32, bits: u32) -> bool {
     flags & bits > 0
 }

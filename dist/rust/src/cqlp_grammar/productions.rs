@@ -55,8 +55,7 @@ macro_rules! counted {
 }
 
 /// The fields of a message. Section 4 of `native_protocol_v4.spec`.
-pub fn body_fields(opcode: Opcode) -> &'static [Expected]
-{
+pub fn body_fields(opcode: Opcode) -> &'static [Expected] {
     match opcode {
         Opcode::Ready | Opcode::Options => &[],
         Opcode::Startup => &[counted!(Options, Group::StringPairs)],
@@ -90,8 +89,7 @@ pub fn body_fields(opcode: Opcode) -> &'static [Expected]
 }
 
 /// The fields of one group.
-pub fn group_fields(group: Group) -> &'static [Expected]
-{
+pub fn group_fields(group: Group) -> &'static [Expected] {
     match group {
         Group::Warnings => &[plain!(Warning, Text16)],
         Group::PayloadItems => &[plain!(PayloadKey, Text16), plain!(PayloadValue, Bytes32)],
@@ -119,8 +117,7 @@ pub fn group_fields(group: Group) -> &'static [Expected]
 }
 
 /// The fields after an error's message. Section 9.
-pub fn error_fields(code: u32) -> &'static [Expected]
-{
+pub fn error_fields(code: u32) -> &'static [Expected] {
     match code {
         error_code::UNAVAILABLE => &[
             plain!(Consistency, Short),
@@ -165,8 +162,7 @@ pub fn error_fields(code: u32) -> &'static [Expected]
 }
 
 /// The fields of a result of this kind. Section 4.2.5.
-pub fn result_fields(kind: u32) -> &'static [Expected]
-{
+pub fn result_fields(kind: u32) -> &'static [Expected] {
     match kind {
         result_kind::ROWS => &[Expected::Field(Want {
             field: Field::MetaFlags,
@@ -187,8 +183,7 @@ pub fn result_fields(kind: u32) -> &'static [Expected]
 }
 
 /// The names of a changed target. Section 4.2.5.5.
-pub fn target_fields(target: &str) -> &'static [Expected]
-{
+pub fn target_fields(target: &str) -> &'static [Expected] {
     if target == "KEYSPACE" {
         &[plain!(Keyspace, Text16)]
     } else if target == "TABLE" || target == "TYPE" {
@@ -205,8 +200,7 @@ pub fn target_fields(target: &str) -> &'static [Expected]
 }
 
 /// The fields of an event of this type. Section 4.2.6.
-pub fn event_fields(event_type: &str) -> &'static [Expected]
-{
+pub fn event_fields(event_type: &str) -> &'static [Expected] {
     if event_type == "TOPOLOGY_CHANGE" || event_type == "STATUS_CHANGE" {
         &[plain!(Change, Text16), plain!(Address, Inet)]
     } else if event_type == "SCHEMA_CHANGE" {

@@ -13,5 +13,9 @@ pub struct SinkFault;
 /// What takes the events of a stream, one after the other.
 pub trait Sink {
     /// Takes the event at an offset.
+    ///
+    /// # Errors
+    ///
+    /// Whatever keeps the sink from going on: who hands the events out stops there.
     fn take(&mut self, at: u64, event: &Event<'_>) -> Result<(), SinkFault>;
 }

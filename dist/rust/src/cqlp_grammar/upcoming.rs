@@ -15,8 +15,7 @@ pub enum Slot {
 impl Slot {
     /// One group fewer, where there are several.
     #[inline(always)]
-    fn count_down(&mut self)
-    {
+    fn count_down(&mut self) {
         if let Slot::Many(_, left) = self
             && *left > 1
         {
@@ -32,23 +31,20 @@ pub struct Upcoming {
 }
 
 impl Upcoming {
-    pub fn new() -> Self
-    {
+    pub fn new() -> Self {
         Upcoming {
             slots: [Slot::Many(Group::Warnings, 1); 16],
             len: 0,
         }
     }
 
-    pub(crate) fn clear(&mut self)
-    {
+    pub(crate) fn clear(&mut self) {
         self.len = 0;
     }
 
     /// What is due next.
     #[inline(always)]
-    pub fn due(&self) -> Option<&Expected>
-    {
+    pub fn due(&self) -> Option<&Expected> {
         if self.len == 0 {
             return None;
         }
@@ -60,8 +56,7 @@ impl Upcoming {
 
     /// Goes past what is due next.
     #[inline(always)]
-    pub fn pass(&mut self)
-    {
+    pub fn pass(&mut self) {
         if let Some(group) = self.open_group() {
             self.push_others(group);
         }
@@ -69,8 +64,7 @@ impl Upcoming {
 
     /// Takes off the field that is due next, or the group that it begins, and answers which group that is.
     #[inline(always)]
-    fn open_group(&mut self) -> Option<Group>
-    {
+    fn open_group(&mut self) -> Option<Group> {
         if self.len == 0 {
             return None;
         }
@@ -92,30 +86,26 @@ impl Upcoming {
     }
 
     /// Puts this many groups before all else.
-    pub(crate) fn push_many(&mut self, group: Group, count: u32)
-    {
+    pub(crate) fn push_many(&mut self, group: Group, count: u32) {
         if count > 0 {
             self.push_slot(Slot::Many(group, count));
         }
     }
 
     /// Puts a field before all else.
-    pub(crate) fn push(&mut self, due: Expected)
-    {
+    pub(crate) fn push(&mut self, due: Expected) {
         self.push_slot(Slot::One(due));
     }
 
     /// Puts a field before all else, where it stands.
-    pub(crate) fn push_if(&mut self, stands: bool, due: Expected)
-    {
+    pub(crate) fn push_if(&mut self, stands: bool, due: Expected) {
         if stands {
             self.push(due);
         }
     }
 
     /// Puts these fields before all else.
-    pub(crate) fn push_fields(&mut self, fields: &[Expected])
-    {
+    pub(crate) fn push_fields(&mut self, fields: &[Expected]) {
         let mut left = fields.len();
         while left > 0 {
             left -= 1;
@@ -124,13 +114,11 @@ impl Upcoming {
     }
 
     /// Puts the fields of a group but the first before all else.
-    fn push_others(&mut self, group: Group)
-    {
+    fn push_others(&mut self, group: Group) {
         self.push_fields(&group_fields(group)[1..]);
     }
 
-    fn push_slot(&mut self, slot: Slot)
-    {
+    fn push_slot(&mut self, slot: Slot) {
         self.slots[self.len] = slot;
         self.len += 1;
     }

@@ -8,9 +8,12 @@ use crate::cqlp_note::{Address, BoundValue, Field, Header, Target};
 use crate::cqlp_text::{Pen, TextWriter, field_name, kind_name, opcode_name};
 
 /// Appends the JSON line of an event at an offset. A fault is the target's own.
+///
+/// # Errors
+///
+/// The fault of the target.
 #[inline]
-pub fn json_line<W: Target>(at: u64, event: &Event<'_>, target: &mut W) -> Result<(), SinkFault>
-{
+pub fn json_line<W: Target>(at: u64, event: &Event<'_>, target: &mut W) -> Result<(), SinkFault> {
     let mut writer = TextWriter::over(target);
     match put_json_line(at, event, &mut writer) {
         Ok(()) => {
@@ -31,8 +34,7 @@ pub fn put_json_line<P: Pen>(
     at: u64,
     event: &Event<'_>,
     writer: &mut TextWriter<P>,
-) -> Result<(), SinkFault>
-{
+) -> Result<(), SinkFault> {
     writer.put(b"{\"at\":")?;
     writer.put_number(at)?;
     put_event(event, writer)?;
@@ -40,8 +42,7 @@ pub fn put_json_line<P: Pen>(
 }
 
 /// Takes the members of an event after its offset.
-fn put_event<P: Pen>(event: &Event<'_>, writer: &mut TextWriter<P>) -> Result<(), SinkFault>
-{
+fn put_event<P: Pen>(event: &Event<'_>, writer: &mut TextWriter<P>) -> Result<(), SinkFault> {
     match *event {
         Event::Frame(header) => put_header(header, writer),
         Event::Byte { field, value } => put_field("Byte", field, number(u32::from(value)), writer),
@@ -102,8 +103,7 @@ fn put_event<P: Pen>(event: &Event<'_>, writer: &mut TextWriter<P>) -> Result<()
     }
 }
 
-fn put_header<P: Pen>(header: Header, writer: &mut TextWriter<P>) -> Result<(), SinkFault>
-{
+fn put_header<P: Pen>(header: Header, writer: &mut TextWriter<P>) -> Result<(), SinkFault> {
     put_members(
         &[
             Member(
@@ -126,8 +126,7 @@ fn put_field<P: Pen>(
     field: Field,
     value: Value<'_>,
     writer: &mut TextWriter<P>,
-) -> Result<(), SinkFault>
-{
+) -> Result<(), SinkFault> {
     put_members(
         &[
             Member(",\"event\":", Value::Name(notation)),
@@ -142,8 +141,7 @@ fn put_bytes_field<P: Pen>(
     field: Field,
     bytes: Option<&[u8]>,
     writer: &mut TextWriter<P>,
-) -> Result<(), SinkFault>
-{
+) -> Result<(), SinkFault> {
     match bytes {
         None => put_field("Bytes", field, Value::Null, writer),
         Some(bytes) => put_field("Bytes", field, Value::Scalar(Scalar::Blob(bytes)), writer),
@@ -155,8 +153,7 @@ fn put_bound<P: Pen>(
     field: Field,
     value: BoundValue<'_>,
     writer: &mut TextWriter<P>,
-) -> Result<(), SinkFault>
-{
+) -> Result<(), SinkFault> {
     match value {
         BoundValue::Null => put_set(field, true, Value::Null, writer),
         BoundValue::Unset => put_set(field, false, Value::Null, writer),
@@ -171,8 +168,7 @@ fn put_set<P: Pen>(
     set: bool,
     value: Value<'_>,
     writer: &mut TextWriter<P>,
-) -> Result<(), SinkFault>
-{
+) -> Result<(), SinkFault> {
     put_members(
         &[
             Member(
@@ -191,8 +187,7 @@ fn put_inet<P: Pen>(
     address: Address,
     port: i32,
     writer: &mut TextWriter<P>,
-) -> Result<(), SinkFault>
-{
+) -> Result<(), SinkFault> {
     put_members(
         &[
             Member(
@@ -206,8 +201,7 @@ fn put_inet<P: Pen>(
     )
 }
 
-fn put_node<P: Pen>(kind: Kind, writer: &mut TextWriter<P>) -> Result<(), SinkFault>
-{
+fn put_node<P: Pen>(kind: Kind, writer: &mut TextWriter<P>) -> Result<(), SinkFault> {
     put_members(
         &[Member(
             ",\"event\":\"TypeNode\",\"kind\":",
@@ -224,8 +218,7 @@ fn put_place<P: Pen>(
     column: u32,
     level: u32,
     writer: &mut TextWriter<P>,
-) -> Result<(), SinkFault>
-{
+) -> Result<(), SinkFault> {
     put_members(
         &[
             Member(",\"event\":", Value::Name(name)),
@@ -244,8 +237,7 @@ fn put_leaf<P: Pen>(
     level: u32,
     scalar: Scalar<'_>,
     writer: &mut TextWriter<P>,
-) -> Result<(), SinkFault>
-{
+) -> Result<(), SinkFault> {
     put_members(
         &[
             Member(
@@ -268,8 +260,7 @@ fn put_enter<P: Pen>(
     kind: Kind,
     items: u32,
     writer: &mut TextWriter<P>,
-) -> Result<(), SinkFault>
-{
+) -> Result<(), SinkFault> {
     put_members(
         &[
             Member(
@@ -285,8 +276,7 @@ fn put_enter<P: Pen>(
     )
 }
 
-fn put_leave<P: Pen>(level: u32, items: u32, writer: &mut TextWriter<P>) -> Result<(), SinkFault>
-{
+fn put_leave<P: Pen>(level: u32, items: u32, writer: &mut TextWriter<P>) -> Result<(), SinkFault> {
     put_members(
         &[
             Member(
@@ -307,8 +297,7 @@ fn put_part<P: Pen>(
     bytes: &[u8],
     last: bool,
     writer: &mut TextWriter<P>,
-) -> Result<(), SinkFault>
-{
+) -> Result<(), SinkFault> {
     put_members(
         &[
             Member(
@@ -325,8 +314,7 @@ fn put_part<P: Pen>(
     )
 }
 
-fn put_end<P: Pen>(extra: u32, writer: &mut TextWriter<P>) -> Result<(), SinkFault>
-{
+fn put_end<P: Pen>(extra: u32, writer: &mut TextWriter<P>) -> Result<(), SinkFault> {
     put_members(
         &[Member(
             ",\"event\":\"End\",\"extra\":",
@@ -336,14 +324,12 @@ fn put_end<P: Pen>(extra: u32, writer: &mut TextWriter<P>) -> Result<(), SinkFau
     )
 }
 
-fn direction(response: bool) -> &'static str
-{
+fn direction(response: bool) -> &'static str {
     if response { "response" } else { "request" }
 }
 
 /// The kind of a scalar.
-fn kind_of(scalar: &Scalar<'_>) -> Kind
-{
+fn kind_of(scalar: &Scalar<'_>) -> Kind {
     match *scalar {
         Scalar::Custom(_) => Kind::Custom,
         Scalar::Ascii(_) => Kind::Ascii,

@@ -21,26 +21,22 @@ pub(crate) enum Value<'a> {
 pub(crate) struct Member<'a>(pub &'a str, pub Value<'a>);
 
 /// A number without a sign.
-pub(crate) fn number(number: u32) -> Value<'static>
-{
+pub(crate) fn number(number: u32) -> Value<'static> {
     Value::Number(u64::from(number))
 }
 
 /// A number of 16 bits.
-pub(crate) fn smallint(number: i16) -> Value<'static>
-{
+pub(crate) fn smallint(number: i16) -> Value<'static> {
     Value::Scalar(Scalar::Smallint(number))
 }
 
 /// A number of 32 bits.
-pub(crate) fn int(number: i32) -> Value<'static>
-{
+pub(crate) fn int(number: i32) -> Value<'static> {
     Value::Scalar(Scalar::Int(number))
 }
 
 /// A number of 64 bits, between quotes.
-pub(crate) fn bigint(number: i64) -> Value<'static>
-{
+pub(crate) fn bigint(number: i64) -> Value<'static> {
     Value::Scalar(Scalar::Bigint(number))
 }
 
@@ -48,8 +44,7 @@ pub(crate) fn bigint(number: i64) -> Value<'static>
 pub(crate) fn put_members<P: Pen>(
     members: &[Member<'_>],
     writer: &mut TextWriter<P>,
-) -> Result<(), SinkFault>
-{
+) -> Result<(), SinkFault> {
     for member in members {
         writer.put_str(member.0)?;
         put_value(member.1, writer)?;
@@ -59,8 +54,7 @@ pub(crate) fn put_members<P: Pen>(
 
 /// Takes a value.
 #[inline]
-fn put_value<P: Pen>(value: Value<'_>, writer: &mut TextWriter<P>) -> Result<(), SinkFault>
-{
+fn put_value<P: Pen>(value: Value<'_>, writer: &mut TextWriter<P>) -> Result<(), SinkFault> {
     match value {
         Value::Null => writer.put(b"null"),
         Value::Number(number) => writer.put_number(number),
@@ -70,8 +64,7 @@ fn put_value<P: Pen>(value: Value<'_>, writer: &mut TextWriter<P>) -> Result<(),
 }
 
 /// Has a writer take a scalar as a JSON value. Those of at most 32 bits are numbers, booleans are such, and all others texts.
-pub fn put_scalar<P: Pen>(scalar: &Scalar<'_>, writer: &mut TextWriter<P>) -> Result<(), SinkFault>
-{
+pub fn put_scalar<P: Pen>(scalar: &Scalar<'_>, writer: &mut TextWriter<P>) -> Result<(), SinkFault> {
     match *scalar {
         Scalar::Int(_) | Scalar::Smallint(_) | Scalar::Tinyint(_) | Scalar::Boolean(_) => {
             writer.put_cell(scalar)
@@ -96,24 +89,21 @@ pub fn put_scalar<P: Pen>(scalar: &Scalar<'_>, writer: &mut TextWriter<P>) -> Re
 }
 
 /// Takes a text that needs no escape, between quotes.
-pub fn put_word<P: Pen>(text: &str, writer: &mut TextWriter<P>) -> Result<(), SinkFault>
-{
+pub fn put_word<P: Pen>(text: &str, writer: &mut TextWriter<P>) -> Result<(), SinkFault> {
     writer.put(b"\"")?;
     writer.put_str(text)?;
     writer.put(b"\"")
 }
 
 /// Takes the text of a cell as a line has it, between quotes.
-fn put_cell_word<P: Pen>(scalar: &Scalar<'_>, writer: &mut TextWriter<P>) -> Result<(), SinkFault>
-{
+fn put_cell_word<P: Pen>(scalar: &Scalar<'_>, writer: &mut TextWriter<P>) -> Result<(), SinkFault> {
     writer.put(b"\"")?;
     writer.put_cell(scalar)?;
     writer.put(b"\"")
 }
 
 /// Takes bytes as two lower case hexadecimal digits each, between quotes.
-pub fn put_bytes<P: Pen>(bytes: &[u8], writer: &mut TextWriter<P>) -> Result<(), SinkFault>
-{
+pub fn put_bytes<P: Pen>(bytes: &[u8], writer: &mut TextWriter<P>) -> Result<(), SinkFault> {
     writer.put(b"\"")?;
     writer.put_hex(bytes)?;
     writer.put(b"\"")
@@ -123,7 +113,6 @@ pub fn put_bytes<P: Pen>(bytes: &[u8], writer: &mut TextWriter<P>) -> Result<(),
 fn put_float<P: Pen, const N: usize>(
     bytes: [u8; N],
     writer: &mut TextWriter<P>,
-) -> Result<(), SinkFault>
-{
+) -> Result<(), SinkFault> {
     put_bytes(&bytes, writer)
 }

@@ -9,16 +9,14 @@ use crate::kit_std::simd::prelude::*;
 const BLOCK: usize = 16;
 
 /// Takes a text between quotes, with escapes.
-pub fn put_string<P: Pen>(text: &str, writer: &mut TextWriter<P>) -> Result<(), SinkFault>
-{
+pub fn put_string<P: Pen>(text: &str, writer: &mut TextWriter<P>) -> Result<(), SinkFault> {
     writer.put(b"\"")?;
     put_escaped(text.as_bytes(), writer)?;
     writer.put(b"\"")
 }
 
 /// Takes a text as it stands between quotes; what needs no escape is taken as it is, many bytes at once.
-fn put_escaped<P: Pen>(bytes: &[u8], writer: &mut TextWriter<P>) -> Result<(), SinkFault>
-{
+fn put_escaped<P: Pen>(bytes: &[u8], writer: &mut TextWriter<P>) -> Result<(), SinkFault> {
     let mut rest = bytes;
     while !rest.is_empty() {
         let plain = plain_len(rest);
@@ -32,8 +30,7 @@ fn put_escaped<P: Pen>(bytes: &[u8], writer: &mut TextWriter<P>) -> Result<(), S
 
 /// How many bytes the first escape is for: two of a control character beyond ASCII, and else one.
 #[inline(always)]
-fn front_len(bytes: &[u8]) -> usize
-{
+fn front_len(bytes: &[u8]) -> usize {
     match bytes {
         [] => 0,
         [0xC2, 0x80..=0x9F, ..] => 2,
@@ -42,8 +39,7 @@ fn front_len(bytes: &[u8]) -> usize
 }
 
 /// Takes the escape of what is at the front.
-fn put_front<P: Pen>(bytes: &[u8], writer: &mut TextWriter<P>) -> Result<(), SinkFault>
-{
+fn put_front<P: Pen>(bytes: &[u8], writer: &mut TextWriter<P>) -> Result<(), SinkFault> {
     match bytes {
         [] => Ok(()),
         [0xC2, number @ 0x80..=0x9F, ..] => put_unicode(*number, writer),
@@ -52,8 +48,7 @@ fn put_front<P: Pen>(bytes: &[u8], writer: &mut TextWriter<P>) -> Result<(), Sin
 }
 
 /// Takes a byte as it stands between quotes.
-fn put_byte<P: Pen>(byte: u8, writer: &mut TextWriter<P>) -> Result<(), SinkFault>
-{
+fn put_byte<P: Pen>(byte: u8, writer: &mut TextWriter<P>) -> Result<(), SinkFault> {
     if is_plain(byte) || byte == 0xC2 {
         return writer.put(&[byte]);
     }
@@ -70,16 +65,14 @@ fn put_byte<P: Pen>(byte: u8, writer: &mut TextWriter<P>) -> Result<(), SinkFaul
 }
 
 /// Takes a character below U+0100, by its number.
-fn put_unicode<P: Pen>(number: u8, writer: &mut TextWriter<P>) -> Result<(), SinkFault>
-{
+fn put_unicode<P: Pen>(number: u8, writer: &mut TextWriter<P>) -> Result<(), SinkFault> {
     writer.put(b"\\u00")?;
     writer.put_hex(&[number])
 }
 
 /// How many bytes at the front need no escape.
 #[inline(always)]
-fn plain_len(bytes: &[u8]) -> usize
-{
+fn plain_len(bytes: &[u8]) -> usize {
     let mut at = plain_blocks(bytes);
     while at < bytes.len() && is_plain(bytes[at]) {
         at += 1;
@@ -89,8 +82,7 @@ fn plain_len(bytes: &[u8]) -> usize
 
 /// How many blocks at the front need no escape, in bytes.
 #[inline(always)]
-fn plain_blocks(bytes: &[u8]) -> usize
-{
+fn plain_blocks(bytes: &[u8]) -> usize {
     let mut at = 0;
     while bytes.len() - at >= BLOCK && is_plain_block(bytes, at) {
         at += BLOCK;
@@ -100,8 +92,7 @@ fn plain_blocks(bytes: &[u8]) -> usize
 
 /// Whether none of the bytes of a block needs an escape.
 #[inline(always)]
-fn is_plain_block(bytes: &[u8], at: usize) -> bool
-{
+fn is_plain_block(bytes: &[u8], at: usize) -> bool {
     let block = u8x16::from_slice(&bytes[at..]);
     none_below(block, 32)
         & lacks(block, b'"')
@@ -112,21 +103,18 @@ fn is_plain_block(bytes: &[u8], at: usize) -> bool
 
 /// Whether no byte of a block is below this one.
 #[inline(always)]
-fn none_below(block: u8x16, byte: u8) -> bool
-{
+fn none_below(block: u8x16, byte: u8) -> bool {
     block.simd_lt(u8x16::splat(byte)).to_bitmask() == 0
 }
 
 /// Whether this byte is not in a block.
 #[inline(always)]
-fn lacks(block: u8x16, byte: u8) -> bool
-{
+fn lacks(block: u8x16, byte: u8) -> bool {
     block.simd_eq(u8x16::splat(byte)).to_bitmask() == 0
 }
 
 /// Whether a byte stands as itself, whatever comes after it.
 #[inline(always)]
-fn is_plain(byte: u8) -> bool
-{
+fn is_plain(byte: u8) -> bool {
     byte >= 32 && byte != b'"' && byte != b'\\' && byte != 127 && byte != 194
 }

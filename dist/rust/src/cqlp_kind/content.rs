@@ -16,8 +16,7 @@ pub const DAY: u64 = 86_400_000_000_000;
 /// A varint has no least form, and neither has the unscaled part of a decimal: bytes in front that only repeat the sign
 /// are taken as they are.
 #[inline(always)]
-pub(crate) fn scalar(kind: Kind, bytes: &[u8]) -> Result<Scalar<'_>, Reason>
-{
+pub(crate) fn scalar(kind: Kind, bytes: &[u8]) -> Result<Scalar<'_>, Reason> {
     if !allows(kind, bytes.len()) {
         Err(Reason::BadSize)
     } else if accepts(kind, bytes) {
@@ -29,8 +28,7 @@ pub(crate) fn scalar(kind: Kind, bytes: &[u8]) -> Result<Scalar<'_>, Reason>
 
 /// Whether a content of a scalar kind may have this many bytes, which are not none.
 #[inline(always)]
-pub fn allows(kind: Kind, len: usize) -> bool
-{
+pub fn allows(kind: Kind, len: usize) -> bool {
     match kind {
         Kind::Bigint | Kind::Counter | Kind::Timestamp | Kind::Time | Kind::Double => len == 8,
         Kind::Int | Kind::Date | Kind::Float => len == 4,
@@ -45,8 +43,7 @@ pub fn allows(kind: Kind, len: usize) -> bool
 
 /// Whether a content of an allowed length is a scalar of this kind.
 #[inline(always)]
-pub(crate) fn accepts(kind: Kind, bytes: &[u8]) -> bool
-{
+pub(crate) fn accepts(kind: Kind, bytes: &[u8]) -> bool {
     match kind {
         Kind::Ascii => bytes.is_ascii(),
         Kind::Varchar => is_text(bytes),
@@ -57,8 +54,7 @@ pub(crate) fn accepts(kind: Kind, bytes: &[u8]) -> bool
 }
 
 /// Why a content of an allowed length is no scalar of this kind.
-pub fn fault(kind: Kind) -> Reason
-{
+pub fn fault(kind: Kind) -> Reason {
     match kind {
         Kind::Varchar => Reason::BadUtf8,
         _ => Reason::BadScalar,
@@ -67,8 +63,7 @@ pub fn fault(kind: Kind) -> Reason
 
 /// The scalar that these bytes are.
 #[inline(always)]
-pub(crate) fn make_scalar(kind: Kind, bytes: &[u8]) -> Scalar<'_>
-{
+pub(crate) fn make_scalar(kind: Kind, bytes: &[u8]) -> Scalar<'_> {
     match kind {
         Kind::Custom => Scalar::Custom(bytes),
         // The bytes are text, which `accepts` found out.
@@ -102,8 +97,7 @@ pub(crate) fn make_scalar(kind: Kind, bytes: &[u8]) -> Scalar<'_>
 
 /// An address of 4 or 16 bytes.
 #[inline(always)]
-fn address(bytes: &[u8]) -> Address
-{
+fn address(bytes: &[u8]) -> Address {
     if bytes.len() == 4 {
         Address::V4(read_array(bytes))
     } else {
@@ -113,7 +107,6 @@ fn address(bytes: &[u8]) -> Address
 
 /// The first N bytes.
 #[inline(always)]
-pub(crate) fn read_array<const N: usize>(bytes: &[u8]) -> [u8; N]
-{
+pub(crate) fn read_array<const N: usize>(bytes: &[u8]) -> [u8; N] {
     *bytes.first_chunk().unwrap()
 }

@@ -30,14 +30,14 @@ pub enum Kind {
     Set,
     Udt,
     Tuple,
-    /// The kind of a cell whose type is not known; it stands in no table.
+    /// The kind of a cell whose type is not known. A table has it only after a lenient reading, for a type with an unknown id.
     Raw,
 }
 
 impl Kind {
     /// Whether a value of this kind has no items: all but lists, maps, sets, user-defined types and tuples.
-    pub fn is_scalar(self) -> bool
-    {
+    #[must_use]
+    pub fn is_scalar(self) -> bool {
         !matches!(
             self,
             Kind::List | Kind::Map | Kind::Set | Kind::Udt | Kind::Tuple
@@ -45,8 +45,8 @@ impl Kind {
     }
 
     /// The kind whose type option has this id, if one has.
-    pub fn from_id(id: u16) -> Option<Kind>
-    {
+    #[must_use]
+    pub fn from_id(id: u16) -> Option<Kind> {
         match id {
             0x00 => Some(Kind::Custom),
             0x01 => Some(Kind::Ascii),
@@ -78,8 +78,7 @@ impl Kind {
     }
 
     /// The id of its type option, which the kind of an unknown type has not.
-    pub(crate) fn id(self) -> u16
-    {
+    pub(crate) fn id(self) -> u16 {
         match self {
             Kind::Custom => 0x00,
             Kind::Ascii => 0x01,
@@ -111,8 +110,8 @@ impl Kind {
     }
 
     /// How many inner types each type of this kind has; 0 where they are counted.
-    pub fn arity(self) -> u16
-    {
+    #[must_use]
+    pub fn arity(self) -> u16 {
         match self {
             Kind::List | Kind::Set => 1,
             Kind::Map => 2,
@@ -121,8 +120,8 @@ impl Kind {
     }
 
     /// Whether it is one of the 19 kinds whose options have no parameters.
-    pub fn is_plain(self) -> bool
-    {
+    #[must_use]
+    pub fn is_plain(self) -> bool {
         !matches!(
             self,
             Kind::Custom | Kind::List | Kind::Map | Kind::Set | Kind::Udt | Kind::Tuple | Kind::Raw

@@ -13,15 +13,13 @@ use crate::cqlp_note::Opcode;
 use crate::cqlp_type::check_type;
 
 /// Whether both are so, or neither is.
-fn same(announced: bool, there: bool) -> bool
-{
+fn same(announced: bool, there: bool) -> bool {
     if announced { there } else { !there }
 }
 
 impl QueryParams {
     /// Whether the parts are those of the flags, and the values have names where they are to.
-    fn agrees(&self) -> bool
-    {
+    fn agrees(&self) -> bool {
         let flags = u32::from(self.flags);
         same(has(flags, 0x01), self.values.is_some())
             && self.are_named(has(flags, 0x40))
@@ -32,8 +30,7 @@ impl QueryParams {
     }
 
     /// Whether the values have names, or none has.
-    fn are_named(&self, named: bool) -> bool
-    {
+    fn are_named(&self, named: bool) -> bool {
         match &self.values {
             Some(values) => all_named(named, values),
             None => true,
@@ -42,14 +39,12 @@ impl QueryParams {
 }
 
 /// Whether each value has a name, or none has.
-fn all_named(named: bool, values: &[(Option<String>, OwnedBound)]) -> bool
-{
+fn all_named(named: bool, values: &[(Option<String>, OwnedBound)]) -> bool {
     values.iter().all(|value| same(named, value.0.is_some()))
 }
 
 /// Whether the parts at a batch's end are those of its flags.
-fn batch_agrees(flags: u8, serial: Option<u16>, timestamp: Option<i64>) -> bool
-{
+fn batch_agrees(flags: u8, serial: Option<u16>, timestamp: Option<i64>) -> bool {
     let flags = u32::from(flags);
     !has(flags, 0x4F)
         && same(has(flags, 0x10), serial.is_some())
@@ -57,8 +52,7 @@ fn batch_agrees(flags: u8, serial: Option<u16>, timestamp: Option<i64>) -> bool
 }
 
 /// Whether an error of this code has more than its message.
-fn has_extra(code: u32) -> bool
-{
+fn has_extra(code: u32) -> bool {
     match code {
         error_code::UNAVAILABLE
         | error_code::WRITE_TIMEOUT
@@ -74,8 +68,7 @@ fn has_extra(code: u32) -> bool
 
 impl ErrorExtra {
     /// Whether it is what this code adds.
-    fn agrees(&self, code: u32) -> bool
-    {
+    fn agrees(&self, code: u32) -> bool {
         match self {
             ErrorExtra::Plain => !has_extra(code),
             ErrorExtra::Unavailable { .. } => code == error_code::UNAVAILABLE,
@@ -92,8 +85,7 @@ impl ErrorExtra {
 
 impl SchemaOptions {
     /// Whether they are those of this target.
-    fn agrees(&self, target: &str) -> bool
-    {
+    fn agrees(&self, target: &str) -> bool {
         match self {
             SchemaOptions::Keyspace(_) => target == "KEYSPACE",
             SchemaOptions::Named(_, _) => target == "TABLE" || target == "TYPE",
@@ -105,16 +97,14 @@ impl SchemaOptions {
 
 impl SchemaChange {
     /// Whether the options are those of the target.
-    fn agrees(&self) -> bool
-    {
+    fn agrees(&self) -> bool {
         self.options.agrees(self.target.as_str())
     }
 }
 
 impl ServerEvent {
     /// Whether it is what an event of this type tells.
-    fn agrees(&self, event: &str) -> bool
-    {
+    fn agrees(&self, event: &str) -> bool {
         match self {
             ServerEvent::Node { .. } => event == "TOPOLOGY_CHANGE" || event == "STATUS_CHANGE",
             ServerEvent::Schema(change) => event == "SCHEMA_CHANGE" && change.agrees(),
@@ -125,15 +115,13 @@ impl ServerEvent {
 
 impl Spec {
     /// Whether it has a table where it is to have one of its own, and one type.
-    fn agrees(&self, own: bool) -> bool
-    {
+    fn agrees(&self, own: bool) -> bool {
         same(own, self.table.is_some()) && check_type(&self.tree).formed
     }
 }
 
 /// Whether there are as many specs as columns, and the tables are those of the flags.
-fn specs_agree(flags: u32, columns: u32, table: &Option<(String, String)>, specs: &[Spec]) -> bool
-{
+fn specs_agree(flags: u32, columns: u32, table: &Option<(String, String)>, specs: &[Spec]) -> bool {
     let one_table = has(flags, 0x01);
     specs.len() == columns as usize
         && same(one_table, table.is_some())
@@ -141,27 +129,23 @@ fn specs_agree(flags: u32, columns: u32, table: &Option<(String, String)>, specs
 }
 
 /// Whether each spec agrees.
-fn all_agree(own: bool, specs: &[Spec]) -> bool
-{
+fn all_agree(own: bool, specs: &[Spec]) -> bool {
     each_agrees(own, specs)
 }
 
 /// The same of the specs as they lie in memory.
-fn each_agrees(own: bool, specs: &[Spec]) -> bool
-{
+fn each_agrees(own: bool, specs: &[Spec]) -> bool {
     specs.iter().all(|spec| spec.agrees(own))
 }
 
 impl Metadata {
     /// Whether the parts are those of the flags.
-    fn agrees(&self) -> bool
-    {
+    fn agrees(&self) -> bool {
         same(has(self.flags.cast_unsigned(), 0x02), self.paging.is_some()) && self.columns_agree()
     }
 
     /// Whether the columns are told where the flags say so.
-    fn columns_agree(&self) -> bool
-    {
+    fn columns_agree(&self) -> bool {
         let flags = self.flags.cast_unsigned();
         match &self.specs {
             Some(specs) => {
@@ -174,8 +158,7 @@ impl Metadata {
 
 impl Prepared {
     /// Whether the parts are those of the flags, in its own metadata and in those of its pages.
-    fn agrees(&self) -> bool
-    {
+    fn agrees(&self) -> bool {
         let flags = self.flags.cast_unsigned();
         specs_agree(flags, self.columns, &self.table, &self.specs) && self.result.agrees()
     }
@@ -183,8 +166,8 @@ impl Prepared {
 
 impl Message {
     /// Its opcode.
-    pub fn opcode(&self) -> Opcode
-    {
+    #[must_use]
+    pub fn opcode(&self) -> Opcode {
         match self {
             Message::Startup(_) => Opcode::Startup,
             Message::Options => Opcode::Options,
@@ -211,14 +194,13 @@ impl Message {
     }
 
     /// Whether it is a response.
-    pub fn is_response(&self) -> bool
-    {
+    #[must_use]
+    pub fn is_response(&self) -> bool {
         self.opcode().is_response()
     }
 
     /// Whether its flags, codes and names agree with its parts.
-    fn agrees(&self) -> bool
-    {
+    fn agrees(&self) -> bool {
         match self {
             Message::Query { params, .. } => params.agrees(),
             Message::Execute { params, .. } => params.agrees(),
@@ -239,8 +221,8 @@ impl Message {
     }
 
     /// Whether a page has a cell of each row and each column.
-    pub fn has_its_cells(&self) -> bool
-    {
+    #[must_use]
+    pub fn has_its_cells(&self) -> bool {
         match self {
             Message::Rows(page) => page.has_its_cells(),
             _ => true,
@@ -249,29 +231,27 @@ impl Message {
 }
 
 /// Whether no result is of this kind.
-fn is_no_result(kind: u32) -> bool
-{
+fn is_no_result(kind: u32) -> bool {
     kind == 0 || kind > 5
 }
 
 impl Rows {
     /// Whether it has a cell of each row and each column.
-    fn has_its_cells(&self) -> bool
-    {
+    fn has_its_cells(&self) -> bool {
         self.cells.len() as u64 == u64::from(self.rows) * u64::from(self.meta.columns)
     }
 }
 
 impl Frame {
     /// Whether a request has neither a tracing id nor warnings.
-    pub fn is_directed(&self) -> bool
-    {
+    #[must_use]
+    pub fn is_directed(&self) -> bool {
         self.message.is_response() || (self.tracing.is_none() && self.warnings.is_none())
     }
 
     /// Whether its flags, codes and names agree with its parts.
-    pub fn agrees(&self) -> bool
-    {
+    #[must_use]
+    pub fn agrees(&self) -> bool {
         let flags = u32::from(self.flags);
         let response = self.message.is_response();
         !has(flags, 0x01)

@@ -99,60 +99,52 @@ impl HasParts for Message {
 }
 
 /// Hands over the consistency and the flags of a batch.
-fn walk_batch_flags<V: TakesParts>(consistency: u16, flags: u8, visitor: &mut V)
-{
+fn walk_batch_flags<V: TakesParts>(consistency: u16, flags: u8, visitor: &mut V) {
     visitor.take(PartRef::Short(Field::Consistency, consistency));
     visitor.take(PartRef::Byte(Field::BatchFlags, flags));
 }
 
 /// Hands over the kind of a result, and the parts of what it holds.
-fn walk_result<T: HasParts, V: TakesParts>(kind: i32, held: &T, visitor: &mut V)
-{
+fn walk_result<T: HasParts, V: TakesParts>(kind: i32, held: &T, visitor: &mut V) {
     walk_kind(kind, visitor);
     held.walk(visitor);
 }
 
 /// Hands over the kind of a result.
-fn walk_kind<V: TakesParts>(kind: i32, visitor: &mut V)
-{
+fn walk_kind<V: TakesParts>(kind: i32, visitor: &mut V) {
     visitor.take(PartRef::Int(Field::ResultKind, kind));
 }
 
 impl Frame {
     /// Hands over the parts after its header, in order.
-    pub fn walk<V: TakesParts>(&self, visitor: &mut V)
-    {
+    pub fn walk<V: TakesParts>(&self, visitor: &mut V) {
         self.walk_announced(visitor);
         self.message.walk(visitor);
     }
 
     /// Hands over the parts before its message.
-    fn walk_announced<V: TakesParts>(&self, visitor: &mut V)
-    {
+    fn walk_announced<V: TakesParts>(&self, visitor: &mut V) {
         self.walk_tracing(visitor);
         self.walk_warnings(visitor);
         self.walk_payload(visitor);
     }
 
     /// Hands over the id of a trace, if there is one.
-    fn walk_tracing<V: TakesParts>(&self, visitor: &mut V)
-    {
+    fn walk_tracing<V: TakesParts>(&self, visitor: &mut V) {
         if let Some(id) = &self.tracing {
             visitor.take(PartRef::Uuid(Field::TraceId, id));
         }
     }
 
     /// Hands over the warnings, if there are any.
-    fn walk_warnings<V: TakesParts>(&self, visitor: &mut V)
-    {
+    fn walk_warnings<V: TakesParts>(&self, visitor: &mut V) {
         if let Some(warnings) = &self.warnings {
             walk_texts(Field::Warnings, Field::Warning, warnings, visitor);
         }
     }
 
     /// Hands over the custom payload, if there is one.
-    fn walk_payload<V: TakesParts>(&self, visitor: &mut V)
-    {
+    fn walk_payload<V: TakesParts>(&self, visitor: &mut V) {
         if let Some(items) = &self.payload {
             walk_counted(Field::PayloadItems, items, visitor);
         }

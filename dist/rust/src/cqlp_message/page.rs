@@ -11,8 +11,11 @@ use crate::cqlp_value::{Value, fitting_size};
 impl Frame {
     /// How many bytes it has, with its header and cells of this many bytes after its parts; or why it is no page that can be
     /// written with them.
-    pub fn page_measure(&self, cells_len: u32) -> Result<u32, Unfit>
-    {
+    ///
+    /// # Errors
+    ///
+    /// The first reason, as [`Frame::page_unfit`] gives it.
+    pub fn page_measure(&self, cells_len: u32) -> Result<u32, Unfit> {
         let tally = self.frame_tally()?;
         if !self.message.is_bare() {
             return Err(Unfit::RowShape);
@@ -21,19 +24,16 @@ impl Frame {
         if body > u64::from(Header::LONGEST_BODY) {
             return Err(Unfit::BodyTooLong);
         }
-        if !can_have(self.cells_wanted(), cells_len) {
-            return Err(Unfit::RowShape);
-        }
         Ok(body as u32 + 9)
     }
 
     /// Why it is no page that can be written with cells of this many bytes after its parts, or None where it is one.
     ///
-    /// [`Unfit::RowShape`] comes first where it is no page or holds cells, and last where no cells of its rows and columns have
-    /// this many bytes: less than four for each, or some where there are to be none. Of longer cells nothing is said: whether
-    /// some have just this many bytes is for the caller to know.
-    pub fn page_unfit(&self, cells_len: u32) -> Option<Unfit>
-    {
+    /// In this order: [`Unfit::Direction`], [`Unfit::Parts`], [`Unfit::TooManyItems`] and [`Unfit::TextTooLong`] as [`unfit`](Self::unfit)
+    /// has them; [`Unfit::RowShape`] where it is no page or holds cells; [`Unfit::BodyTooLong`] where its body and the cells together
+    /// pass 268,435,456 bytes. Whether some cells have just this many bytes is for the caller to know.
+    #[must_use]
+    pub fn page_unfit(&self, cells_len: u32) -> Option<Unfit> {
         match self.page_measure(cells_len) {
             Ok(_) => None,
             Err(why) => Some(why),
@@ -41,8 +41,7 @@ impl Frame {
     }
 
     /// How many bytes it has, with its header and cells of this many bytes after its parts.
-    pub(crate) fn page_len(&self, cells_len: u32) -> u32
-    {
+    pub(crate) fn page_len(&self, cells_len: u32) -> u32 {
         match self.page_measure(cells_len) {
             Ok(len) => len,
             Err(_) => unreachable!(),
@@ -50,8 +49,8 @@ impl Frame {
     }
 
     /// The columns of its page; none where they are not told, and where it is no page.
-    pub fn specs(&self) -> &[Spec]
-    {
+    #[must_use]
+    pub fn specs(&self) -> &[Spec] {
         match &self.message {
             Message::Rows(page) => match &page.meta.specs {
                 Some(specs) => specs,
@@ -62,8 +61,8 @@ impl Frame {
     }
 
     /// How many columns the cells of its page are of; 0 where it is no page.
-    pub fn columns(&self) -> u32
-    {
+    #[must_use]
+    pub fn columns(&self) -> u32 {
         match &self.message {
             Message::Rows(page) => page.meta.columns,
             _ => 0,
@@ -71,8 +70,8 @@ impl Frame {
     }
 
     /// How many cells its page is to have: rows times columns; 0 where it is no page.
-    pub fn cells_wanted(&self) -> u64
-    {
+    #[must_use]
+    pub fn cells_wanted(&self) -> u64 {
         match &self.message {
             Message::Rows(page) => u64::from(page.rows) * u64::from(page.meta.columns),
             _ => 0,
@@ -81,16 +80,16 @@ impl Frame {
 
     /// Whether a value is one of the type of this column of its page, the first of which is 0. Where no columns are told, it is
     /// Null, Empty or a Raw leaf. False past the last column, and where it is no page.
-    pub fn fits_column(&self, column: usize, value: &Value) -> bool
-    {
+    #[must_use]
+    pub fn fits_column(&self, column: usize, value: &Value) -> bool {
         self.column_size(column, value).is_some()
     }
 
     /// How many bytes spell a value of the type of this column of its page, as [`fitting_size`] says it; None where
     /// [`fits_column`](Self::fits_column) is false.
+    #[must_use]
     #[inline]
-    pub fn column_size(&self, column: usize, value: &Value) -> Option<u64>
-    {
+    pub fn column_size(&self, column: usize, value: &Value) -> Option<u64> {
         match &self.message {
             Message::Rows(page) => page.meta.column_size(column, value),
             _ => None,
@@ -98,20 +97,9 @@ impl Frame {
     }
 }
 
-/// Whether so many cells can have this many bytes, four or more each.
-fn can_have(cells: u64, bytes: u32) -> bool
-{
-    if cells == 0 {
-        bytes == 0
-    } else {
-        cells <= u64::from(bytes / 4)
-    }
-}
-
 impl Message {
     /// Whether it is a page that holds no cells.
-    fn is_bare(&self) -> bool
-    {
+    fn is_bare(&self) -> bool {
         match self {
             Message::Rows(page) => page.cells.is_empty(),
             _ => false,
@@ -122,8 +110,7 @@ impl Message {
 impl Metadata {
     /// How many bytes spell a value of the type of this column, or None where it is none.
     #[inline]
-    fn column_size(&self, column: usize, value: &Value) -> Option<u64>
-    {
+    fn column_size(&self, column: usize, value: &Value) -> Option<u64> {
         match &self.specs {
             Some(specs) => spec_size(specs, column, value),
             None => {
@@ -139,8 +126,7 @@ impl Metadata {
 
 /// The same of the type that is told of this column.
 #[inline]
-fn spec_size(specs: &[Spec], column: usize, value: &Value) -> Option<u64>
-{
+fn spec_size(specs: &[Spec], column: usize, value: &Value) -> Option<u64> {
     match specs.get(column) {
         Some(spec) => fitting_size(value, Some(&spec.tree)),
         None => None,

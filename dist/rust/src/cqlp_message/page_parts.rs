@@ -16,8 +16,7 @@ impl HasParts for Rows {
 }
 
 /// Hands over the cells of this many rows.
-fn walk_rows<V: TakesParts>(meta: &Metadata, rows: u32, cells: &[Value], visitor: &mut V)
-{
+fn walk_rows<V: TakesParts>(meta: &Metadata, rows: u32, cells: &[Value], visitor: &mut V) {
     let columns = meta.columns_told();
     let mut rest = cells;
     for row in 0..rows {
@@ -31,8 +30,7 @@ fn walk_rows<V: TakesParts>(meta: &Metadata, rows: u32, cells: &[Value], visitor
 }
 
 /// Hands over the cells of a row, the first of these.
-fn walk_row<V: TakesParts>(meta: &Metadata, row: u32, cells: &[Value], visitor: &mut V)
-{
+fn walk_row<V: TakesParts>(meta: &Metadata, row: u32, cells: &[Value], visitor: &mut V) {
     match &meta.specs {
         Some(specs) => walk_typed(row, specs, cells, visitor),
         None => walk_raw(row, meta.columns, cells, visitor),
@@ -40,8 +38,7 @@ fn walk_row<V: TakesParts>(meta: &Metadata, row: u32, cells: &[Value], visitor: 
 }
 
 /// Hands over a cell of each of these columns.
-fn walk_typed<V: TakesParts>(row: u32, specs: &[Spec], cells: &[Value], visitor: &mut V)
-{
+fn walk_typed<V: TakesParts>(row: u32, specs: &[Spec], cells: &[Value], visitor: &mut V) {
     let mut rest = specs;
     for (column, value) in cells.iter().enumerate() {
         let Some((spec, others)) = rest.split_first() else {
@@ -58,8 +55,7 @@ fn walk_typed<V: TakesParts>(row: u32, specs: &[Spec], cells: &[Value], visitor:
 }
 
 /// Hands over a cell of each of this many columns, of which no types are told.
-fn walk_raw<V: TakesParts>(row: u32, columns: u32, cells: &[Value], visitor: &mut V)
-{
+fn walk_raw<V: TakesParts>(row: u32, columns: u32, cells: &[Value], visitor: &mut V) {
     for (column, value) in cells.iter().enumerate() {
         if column >= columns as usize {
             return;
@@ -75,8 +71,7 @@ fn walk_raw<V: TakesParts>(row: u32, columns: u32, cells: &[Value], visitor: &mu
 
 impl Metadata {
     /// How many columns the cells are of: those that are told, or as many as are said to be there.
-    fn columns_told(&self) -> usize
-    {
+    fn columns_told(&self) -> usize {
         match &self.specs {
             Some(specs) => specs.len(),
             None => self.columns as usize,

@@ -7,8 +7,7 @@ use crate::cqlp_message::message::Message;
 impl Frame {
     /// The frame of a message with no flags, and with no tracing id, warnings or custom payload before it.
     #[must_use]
-    pub fn plain(stream: i16, message: Message) -> Frame
-    {
+    pub fn plain(stream: i16, message: Message) -> Frame {
         Frame {
             flags: 0,
             stream,
@@ -26,8 +25,7 @@ impl Frame {
     /// [`Unfit::Parts`](crate::cqlp_message::Unfit::Parts), something in the message disagrees. A request that asks for tracing has 02
     /// beside them.
     #[must_use]
-    pub fn derived_flags(&self) -> u8
-    {
+    pub fn derived_flags(&self) -> u8 {
         flag(self.tracing.is_some(), 0x02)
             | flag(self.payload.is_some(), 0x04)
             | flag(self.warnings.is_some(), 0x08)
@@ -35,7 +33,6 @@ impl Frame {
 }
 
 /// This flag, where its part is there.
-fn flag(there: bool, bit: u8) -> u8
-{
+fn flag(there: bool, bit: u8) -> u8 {
     if there { bit } else { 0 }
 }

@@ -25,8 +25,7 @@ impl HasParts for (Option<String>, OwnedBound) {
 }
 
 /// Hands over the name of a value, if it has one.
-fn walk_name<V: TakesParts>(name: &Option<String>, visitor: &mut V)
-{
+fn walk_name<V: TakesParts>(name: &Option<String>, visitor: &mut V) {
     if let Some(name) = name {
         walk_text(Field::ValueName, name, visitor);
     }
@@ -46,16 +45,14 @@ impl HasParts for QueryParams {
 
 impl QueryParams {
     /// Hands over the values, if there are any.
-    fn walk_values<V: TakesParts>(&self, visitor: &mut V)
-    {
+    fn walk_values<V: TakesParts>(&self, visitor: &mut V) {
         if let Some(values) = &self.values {
             walk_counted(Field::Values, values, visitor);
         }
     }
 
     /// Hands over the rows of a page, if they are there.
-    fn walk_page_size<V: TakesParts>(&self, visitor: &mut V)
-    {
+    fn walk_page_size<V: TakesParts>(&self, visitor: &mut V) {
         if let Some(rows) = self.page_size {
             visitor.take(PartRef::Int(Field::PageSize, rows));
         }

@@ -73,8 +73,7 @@ impl HasParts for ErrorExtra {
 }
 
 /// Hands over how many replicas had to be alive, and how many were.
-fn walk_unavailable<V: TakesParts>(consistency: u16, required: i32, alive: i32, visitor: &mut V)
-{
+fn walk_unavailable<V: TakesParts>(consistency: u16, required: i32, alive: i32, visitor: &mut V) {
     visitor.take(PartRef::Short(Field::Consistency, consistency));
     visitor.take(PartRef::Int(Field::Required, required));
     visitor.take(PartRef::Int(Field::Alive, alive));
@@ -94,8 +93,7 @@ fn walk_failures<V: TakesParts>(
 }
 
 /// Hands over how many replicas have answered, and how many had to.
-fn walk_replicas<V: TakesParts>(consistency: u16, received: i32, block_for: i32, visitor: &mut V)
-{
+fn walk_replicas<V: TakesParts>(consistency: u16, received: i32, block_for: i32, visitor: &mut V) {
     visitor.take(PartRef::Short(Field::Consistency, consistency));
     visitor.take(PartRef::Int(Field::Received, received));
     visitor.take(PartRef::Int(Field::BlockFor, block_for));
@@ -172,15 +170,13 @@ impl HasParts for Metadata {
 
 impl Metadata {
     /// Hands over its flags, and how many columns there are.
-    fn walk_columns<V: TakesParts>(&self, visitor: &mut V)
-    {
+    fn walk_columns<V: TakesParts>(&self, visitor: &mut V) {
         visitor.take(PartRef::Int(Field::MetaFlags, self.flags));
         visitor.take(PartRef::Count32(Field::Columns, self.columns as usize));
     }
 
     /// Hands over the columns, if they are told.
-    fn walk_specs<V: TakesParts>(&self, visitor: &mut V)
-    {
+    fn walk_specs<V: TakesParts>(&self, visitor: &mut V) {
         if let Some(specs) = &self.specs {
             walk_each(specs, visitor);
         }
@@ -199,15 +195,13 @@ impl HasParts for Prepared {
 
 impl Prepared {
     /// Hands over the flags of its values, and how many there are.
-    fn walk_columns<V: TakesParts>(&self, visitor: &mut V)
-    {
+    fn walk_columns<V: TakesParts>(&self, visitor: &mut V) {
         visitor.take(PartRef::Int(Field::MetaFlags, self.flags));
         visitor.take(PartRef::Count32(Field::Columns, self.columns as usize));
     }
 
     /// Hands over the table of all values, and the values.
-    fn walk_specs<V: TakesParts>(&self, visitor: &mut V)
-    {
+    fn walk_specs<V: TakesParts>(&self, visitor: &mut V) {
         walk_table(&self.table, visitor);
         walk_each(&self.specs, visitor);
     }

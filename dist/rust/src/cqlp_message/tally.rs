@@ -23,15 +23,13 @@ pub struct Tally {
 impl Tally {
     /// That of no part.
     #[inline]
-    pub fn new() -> Tally
-    {
+    pub fn new() -> Tally {
         Tally::fixed(0)
     }
 
     /// Counts those of these parts, too.
     #[inline(always)]
-    fn add(&mut self, other: Tally)
-    {
+    fn add(&mut self, other: Tally) {
         if !other.is_fit() {
             self.note(other);
         }
@@ -40,14 +38,12 @@ impl Tally {
 
     /// Whether everything fits.
     #[inline(always)]
-    fn is_fit(&self) -> bool
-    {
+    fn is_fit(&self) -> bool {
         self.counts && self.texts && self.cells
     }
 
     /// Notes what does not fit of these.
-    fn note(&mut self, other: Tally)
-    {
+    fn note(&mut self, other: Tally) {
         self.counts = self.counts && other.counts;
         self.texts = self.texts && other.texts;
         self.cells = self.cells && other.cells;
@@ -55,8 +51,7 @@ impl Tally {
 
     /// That of a part.
     #[inline(always)]
-    fn of(part: PartRef<'_>) -> Tally
-    {
+    fn of(part: PartRef<'_>) -> Tally {
         match part {
             PartRef::Cell { tree, value, .. } => Tally::cell(value, tree),
             _ => Tally::of_any(part),
@@ -64,8 +59,7 @@ impl Tally {
     }
 
     /// That of a part that is mostly no cell.
-    fn of_any(part: PartRef<'_>) -> Tally
-    {
+    fn of_any(part: PartRef<'_>) -> Tally {
         match part {
             PartRef::Byte(_, _number) => Tally::fixed(1),
             PartRef::Short(_, _number) => Tally::fixed(2),
@@ -88,26 +82,22 @@ impl Tally {
     }
 
     /// That of a \[uuid\].
-    fn uuid(id: [u8; 16]) -> Tally
-    {
+    fn uuid(id: [u8; 16]) -> Tally {
         Tally::fixed(id.len() as u64)
     }
 
     /// That of a \[string\].
-    fn text(text: &str) -> Tally
-    {
+    fn text(text: &str) -> Tally {
         Tally::content(2, text.len(), is_short(text.len()))
     }
 
     /// That of a \[long string\].
-    fn long_text(text: &str) -> Tally
-    {
+    fn long_text(text: &str) -> Tally {
         Tally::content(4, text.len(), is_int(text.len()))
     }
 
     /// That of a \[value\].
-    fn bound(value: &OwnedBound) -> Tally
-    {
+    fn bound(value: &OwnedBound) -> Tally {
         match value {
             OwnedBound::Bytes(bytes) => Tally::content(4, bytes.len(), is_int(bytes.len())),
             OwnedBound::Null | OwnedBound::Unset => Tally::fixed(4),
@@ -115,8 +105,7 @@ impl Tally {
     }
 
     /// That of a type option.
-    fn option(tree: &TypeTree) -> Tally
-    {
+    fn option(tree: &TypeTree) -> Tally {
         let check = check_type(tree);
         Tally {
             counts: check.counts,
@@ -128,8 +117,7 @@ impl Tally {
 
     /// That of a cell.
     #[inline(always)]
-    fn cell(value: &Value, tree: Option<&TypeTree>) -> Tally
-    {
+    fn cell(value: &Value, tree: Option<&TypeTree>) -> Tally {
         match fitting_size(value, tree) {
             Some(size) => Tally::fixed(size),
             None => Tally {
@@ -141,8 +129,7 @@ impl Tally {
 
     /// That of a part of this many bytes, in which everything fits.
     #[inline(always)]
-    fn fixed(size: u64) -> Tally
-    {
+    fn fixed(size: u64) -> Tally {
         Tally {
             counts: true,
             texts: true,
@@ -152,8 +139,7 @@ impl Tally {
     }
 
     /// That of a count.
-    fn counted(counts: bool, size: u64) -> Tally
-    {
+    fn counted(counts: bool, size: u64) -> Tally {
         Tally {
             counts,
             ..Tally::fixed(size)
@@ -161,8 +147,7 @@ impl Tally {
     }
 
     /// That of a content after its length.
-    fn content(length: u64, content: usize, texts: bool) -> Tally
-    {
+    fn content(length: u64, content: usize, texts: bool) -> Tally {
         Tally {
             texts,
             ..Tally::fixed(length.saturating_add(content as u64))
@@ -171,14 +156,12 @@ impl Tally {
 }
 
 /// Whether a \[short\] can count this many.
-fn is_short(count: usize) -> bool
-{
+fn is_short(count: usize) -> bool {
     count < 1 << 16
 }
 
 /// Whether an \[int\] can count this many.
-fn is_int(count: usize) -> bool
-{
+fn is_int(count: usize) -> bool {
     count < 1 << 31
 }
 

@@ -22,8 +22,7 @@ pub enum Unfit {
     /// A \[string\] or \[short bytes\] above 65,535 bytes, or a longer field above 2,147,483,647, but for those in cells.
     #[error("a text is too long")]
     TextTooLong,
-    /// There are not as many cells as rows times columns. Of a page that is written cell by cell: it is none, or holds cells, or
-    /// no cells of its rows and columns have as many bytes as are said.
+    /// There are not as many cells as rows times columns. Of a page that is written cell by cell: it is none, or holds cells.
     #[error("a page has too few cells or too many")]
     RowShape,
     /// A cell is no value of its column's type.
@@ -37,8 +36,11 @@ pub enum Unfit {
 
 impl Frame {
     /// How many bytes it has, with its header and nothing after its parts; or why no bytes spell it.
-    pub fn measure(&self) -> Result<u32, Unfit>
-    {
+    ///
+    /// # Errors
+    ///
+    /// The first reason, as [`Frame::unfit`] gives it.
+    pub fn measure(&self) -> Result<u32, Unfit> {
         let tally = self.frame_tally()?;
         if !self.message.has_its_cells() {
             return Err(Unfit::RowShape);
@@ -53,8 +55,8 @@ impl Frame {
     }
 
     /// Why no bytes spell it, or None where some do.
-    pub fn unfit(&self) -> Option<Unfit>
-    {
+    #[must_use]
+    pub fn unfit(&self) -> Option<Unfit> {
         match self.measure() {
             Ok(_) => None,
             Err(why) => Some(why),
@@ -62,17 +64,16 @@ impl Frame {
     }
 
     /// How many bytes it has, with its header and nothing after its parts.
-    pub(crate) fn len(&self) -> u32
-    {
-        match self.measure() {
-            Ok(len) => len,
-            Err(_) => unreachable!(),
-        }
+    pub(crate) fn len(&self) -> u32 {
+        let Ok(len) = self.measure() else {
+            unreachable!()
+        };
+        len
     }
 
     /// Its header, where its body has this many bytes.
-    pub fn header(&self, length: u32) -> Header
-    {
+    #[must_use]
+    pub fn header(&self, length: u32) -> Header {
         Header {
             response: self.message.is_response(),
             flags: self.flags,
@@ -83,8 +84,7 @@ impl Frame {
     }
 
     /// What is found of its parts; or the first that holds of `Direction`, `Parts`, `TooManyItems` and `TextTooLong`.
-    pub(crate) fn frame_tally(&self) -> Result<Tally, Unfit>
-    {
+    pub(crate) fn frame_tally(&self) -> Result<Tally, Unfit> {
         if !self.is_directed() {
             return Err(Unfit::Direction);
         }
@@ -104,15 +104,13 @@ impl Frame {
 
     /// Reads the numbers of its header, which are so in the ranges of their types.
     #[inline(always)]
-    fn read_numbers(&self)
-    {
+    fn read_numbers(&self) {
         let _flags = self.flags;
         let _stream = self.stream;
     }
 
     /// What is found of its parts.
-    fn tally(&self) -> Tally
-    {
+    fn tally(&self) -> Tally {
         let mut tally = Tally::new();
         self.walk(&mut tally);
         tally

@@ -16,8 +16,11 @@ impl Frame {
     ///
     /// Its stream id is the request's: the third byte of a header of version 1 or 2, which has eight bytes, and the third and
     /// the fourth of any other. The frame has a spelling, so it can be encoded.
-    pub fn version_error(alloc: Global, header: &[u8; 9]) -> Result<Frame, AllocError>
-    {
+    ///
+    /// # Errors
+    ///
+    /// Memory that is refused: the text of the message takes some.
+    pub fn version_error(alloc: Global, header: &[u8; 9]) -> Result<Frame, AllocError> {
         let version = header[0] & 0x7F;
         let message = format!(in alloc;
             "Invalid or unsupported protocol version ({version}); the lowest supported version is 4 and the greatest is 4"
@@ -32,8 +35,7 @@ impl Frame {
 }
 
 /// The stream id of a header of this version.
-fn stream_under(version: u8, header: &[u8; 9]) -> i16
-{
+fn stream_under(version: u8, header: &[u8; 9]) -> i16 {
     match version {
         1 | 2 => i16::from(header[2].cast_signed()),
         _ => i16::from_be_bytes([header[2], header[3]]),

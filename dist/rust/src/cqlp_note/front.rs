@@ -8,32 +8,27 @@ pub(crate) struct FieldFront {
 }
 
 impl FieldFront {
-    pub fn new() -> Self
-    {
+    pub fn new() -> Self {
         FieldFront {
             bytes: [0; 24],
             len: 0,
         }
     }
 
-    pub fn as_slice(&self) -> &[u8]
-    {
+    pub fn as_slice(&self) -> &[u8] {
         &self.bytes[..self.len]
     }
 
-    pub fn len(&self) -> usize
-    {
+    pub fn len(&self) -> usize {
         self.len
     }
 
-    pub fn is_empty(&self) -> bool
-    {
+    pub fn is_empty(&self) -> bool {
         self.len == 0
     }
 
     /// These bytes, and as many of the input as there is room for.
-    pub fn with(&self, input: &[u8]) -> Self
-    {
+    pub fn with(&self, input: &[u8]) -> Self {
         let moved = input.len().min(24 - self.len);
         let len = self.len + moved;
         let mut bytes = self.bytes;

@@ -17,8 +17,7 @@ pub(crate) struct GatheredContent<A: Allocator> {
 
 impl<A: Allocator> GatheredContent<A> {
     /// With room for a content of up to `room` bytes. This is the one call that takes memory.
-    pub fn new(alloc: A, room: u32) -> Result<Self, NoMemory>
-    {
+    pub fn new(alloc: A, room: u32) -> Result<Self, NoMemory> {
         Ok(GatheredContent {
             bytes: Vec::with_capacity(alloc, room as usize)?,
             len: 0,
@@ -27,44 +26,37 @@ impl<A: Allocator> GatheredContent<A> {
     }
 
     /// The bytes so far.
-    pub fn as_slice(&self) -> &[u8]
-    {
+    pub fn as_slice(&self) -> &[u8] {
         &self.bytes[..self.len as usize]
     }
 
     /// Where its bytes lie from the index `start` on, or where they end if they are fewer.
-    pub fn address(&self, start: usize) -> *const u8
-    {
+    pub fn address(&self, start: usize) -> *const u8 {
         address_after(&self.bytes, start.min(self.len as usize))
     }
 
     /// How many bytes there are.
-    pub fn len(&self) -> u32
-    {
+    pub fn len(&self) -> u32 {
         self.len
     }
 
     /// Whether there are none.
-    pub fn is_empty(&self) -> bool
-    {
+    pub fn is_empty(&self) -> bool {
         self.len == 0
     }
 
     /// How many bytes its memory has places for.
-    pub fn capacity(&self) -> usize
-    {
+    pub fn capacity(&self) -> usize {
         self.bytes.capacity()
     }
 
     /// Removes all bytes, and keeps the memory.
-    pub fn clear(&mut self)
-    {
+    pub fn clear(&mut self) {
         self.len = 0;
     }
 
     /// Adds a piece at the end.
-    pub(crate) fn append(&mut self, piece: &[u8])
-    {
+    pub(crate) fn append(&mut self, piece: &[u8]) {
         let start = self.len as usize;
         let end = start + piece.len();
         let written = self.bytes.len();
@@ -76,8 +68,7 @@ impl<A: Allocator> GatheredContent<A> {
     }
 
     /// Adds at the end what one call of a reader gives, which is up to `most` bytes: it reads them where they belong.
-    pub(crate) fn read_from<R: Source>(&mut self, reader: &mut R, most: usize) -> Result<usize, IoFault>
-    {
+    pub(crate) fn read_from<R: Source>(&mut self, reader: &mut R, most: usize) -> Result<usize, IoFault> {
         let start = self.len as usize;
         let end = start + most;
         fill_to(&mut self.bytes, end);
@@ -96,15 +87,13 @@ fn has_address<A: Allocator>(bytes: &Vec<u8, A>)
 {}
 
 /// Where a byte of a vector lies, or where its bytes end.
-fn address_after<A: Allocator>(bytes: &Vec<u8, A>, start: usize) -> *const u8
-{
+fn address_after<A: Allocator>(bytes: &Vec<u8, A>, start: usize) -> *const u8 {
     has_address(bytes);
     unsafe { bytes.as_ptr().byte_add(start) }
 }
 
 /// Adds zeros behind the bytes that there are, so that there are at least so many.
-fn fill_to<A: Allocator>(bytes: &mut Vec<u8, A>, end: usize)
-{
+fn fill_to<A: Allocator>(bytes: &mut Vec<u8, A>, end: usize) {
     let written = bytes.len();
     if written < end {
         add_zeros(bytes, end - written);
@@ -112,8 +101,7 @@ fn fill_to<A: Allocator>(bytes: &mut Vec<u8, A>, end: usize)
 }
 
 /// Adds this many zeros.
-fn add_zeros<A: Allocator>(bytes: &mut Vec<u8, A>, count: usize)
-{
+fn add_zeros<A: Allocator>(bytes: &mut Vec<u8, A>, count: usize) {
     for _ in 0..count {
         bytes.push_reserved(0);
     }

@@ -54,8 +54,7 @@ pub(crate) enum Stop {
 impl Notation {
     /// The bytes that each field in this notation has.
     #[inline(always)]
-    pub(crate) fn fixed(self) -> usize
-    {
+    pub(crate) fn fixed(self) -> usize {
         match self {
             Notation::Content(_) => 0,
             Notation::Byte | Notation::Inet => 1,
@@ -72,8 +71,7 @@ impl Notation {
 }
 
 /// Reads the front of a field in its first bytes, which may be too few or go on after it.
-pub(crate) fn read_head(wanted: Wanted, bytes: &[u8]) -> Result<Head, Stop>
-{
+pub(crate) fn read_head(wanted: Wanted, bytes: &[u8]) -> Result<Head, Stop> {
     let fixed = wanted.notation.fixed();
     if wanted.room < fixed as u64 {
         Err(Stop::Refused(Reason::Overrun))
@@ -85,8 +83,7 @@ pub(crate) fn read_head(wanted: Wanted, bytes: &[u8]) -> Result<Head, Stop>
 }
 
 /// Reads on after the fixed part.
-fn read_after_fixed(wanted: Wanted, bytes: &[u8]) -> Result<Head, Stop>
-{
+fn read_after_fixed(wanted: Wanted, bytes: &[u8]) -> Result<Head, Stop> {
     match wanted.notation {
         Notation::Byte => end_field(1, Primitive::Byte(u8::from_be_bytes(read_array(bytes)))),
         Notation::Short => end_field(2, Primitive::Short(u16::from_be_bytes(read_array(bytes)))),
@@ -106,8 +103,7 @@ fn read_after_fixed(wanted: Wanted, bytes: &[u8]) -> Result<Head, Stop>
 }
 
 /// Reads a count of four bytes.
-fn read_count(bytes: &[u8]) -> Result<Head, Stop>
-{
+fn read_count(bytes: &[u8]) -> Result<Head, Stop> {
     match read_natural(bytes) {
         Some(count) => end_field(4, Primitive::Count(count)),
         None => Err(Stop::Refused(Reason::BadCount)),
@@ -115,8 +111,7 @@ fn read_count(bytes: &[u8]) -> Result<Head, Stop>
 }
 
 /// Reads the length of a \[long string\].
-fn read_long_text(wanted: Wanted, bytes: &[u8]) -> Result<Head, Stop>
-{
+fn read_long_text(wanted: Wanted, bytes: &[u8]) -> Result<Head, Stop> {
     match read_natural(bytes) {
         Some(len) => admit_content(wanted, 4, len, ContentForm::Text),
         None => Err(Stop::Refused(Reason::BadCount)),
@@ -124,8 +119,7 @@ fn read_long_text(wanted: Wanted, bytes: &[u8]) -> Result<Head, Stop>
 }
 
 /// Reads the length of \[bytes\].
-fn read_bytes(wanted: Wanted, bytes: &[u8]) -> Result<Head, Stop>
-{
+fn read_bytes(wanted: Wanted, bytes: &[u8]) -> Result<Head, Stop> {
     match read_natural(bytes) {
         Some(len) => admit_content(wanted, 4, len, ContentForm::Bytes),
         None => end_field(4, Primitive::Bytes(None)),
@@ -133,8 +127,7 @@ fn read_bytes(wanted: Wanted, bytes: &[u8]) -> Result<Head, Stop>
 }
 
 /// Reads the length of a \[value\].
-fn read_value(wanted: Wanted, bytes: &[u8]) -> Result<Head, Stop>
-{
+fn read_value(wanted: Wanted, bytes: &[u8]) -> Result<Head, Stop> {
     match read_natural(bytes) {
         Some(len) => admit_content(wanted, 4, len, ContentForm::Bound),
         None => match i32::from_be_bytes(read_array(bytes)) {
@@ -146,8 +139,7 @@ fn read_value(wanted: Wanted, bytes: &[u8]) -> Result<Head, Stop>
 }
 
 /// Reads an \[inet\].
-fn read_inet(wanted: Wanted, bytes: &[u8]) -> Result<Head, Stop>
-{
+fn read_inet(wanted: Wanted, bytes: &[u8]) -> Result<Head, Stop> {
     match u8::from_be_bytes(read_array(bytes)) {
         4 => read_address_and_port(wanted, 4, &bytes[1..]),
         16 => read_address_and_port(wanted, 16, &bytes[1..]),
@@ -156,8 +148,7 @@ fn read_inet(wanted: Wanted, bytes: &[u8]) -> Result<Head, Stop>
 }
 
 /// Goes on to a content of this length after this many bytes, if the room and the limit admit it.
-fn admit_content(wanted: Wanted, after: usize, len: u32, form: ContentForm) -> Result<Head, Stop>
-{
+fn admit_content(wanted: Wanted, after: usize, len: u32, form: ContentForm) -> Result<Head, Stop> {
     if wanted.room < after as u64 + u64::from(len) {
         Err(Stop::Refused(Reason::Overrun))
     } else if wanted.limit < len {
@@ -168,8 +159,7 @@ fn admit_content(wanted: Wanted, after: usize, len: u32, form: ContentForm) -> R
 }
 
 /// Reads an address of this many bytes and a port, after the number of the address's bytes.
-fn read_address_and_port(wanted: Wanted, size: usize, rest: &[u8]) -> Result<Head, Stop>
-{
+fn read_address_and_port(wanted: Wanted, size: usize, rest: &[u8]) -> Result<Head, Stop> {
     if wanted.room < size as u64 + 5 {
         return Err(Stop::Refused(Reason::Overrun));
     }
@@ -181,8 +171,7 @@ fn read_address_and_port(wanted: Wanted, size: usize, rest: &[u8]) -> Result<Hea
 }
 
 /// Reads an address in the first 4 or 16 bytes.
-fn read_address(size: usize, bytes: &[u8]) -> Address
-{
+fn read_address(size: usize, bytes: &[u8]) -> Address {
     if size == 4 {
         Address::V4(read_array(bytes))
     } else {
@@ -192,8 +181,7 @@ fn read_address(size: usize, bytes: &[u8]) -> Address
 
 /// Reads the number in the first four bytes, where it is not negative.
 #[inline(always)]
-pub(crate) fn read_natural(bytes: &[u8]) -> Option<u32>
-{
+pub(crate) fn read_natural(bytes: &[u8]) -> Option<u32> {
     let number = u32::from_be_bytes(read_array(bytes));
     if number > i32::MAX as u32 {
         None
@@ -204,20 +192,17 @@ pub(crate) fn read_natural(bytes: &[u8]) -> Option<u32>
 
 /// Reads the number in the first two bytes.
 #[inline(always)]
-pub(crate) fn read_short(bytes: &[u8]) -> u32
-{
+pub(crate) fn read_short(bytes: &[u8]) -> u32 {
     u16::from_be_bytes(read_array(bytes)).into()
 }
 
 /// Ends the field, which has this many bytes.
-fn end_field(used: usize, prim: Primitive<'static>) -> Result<Head, Stop>
-{
+fn end_field(used: usize, prim: Primitive<'static>) -> Result<Head, Stop> {
     Ok(Head::Whole { used, prim })
 }
 
 /// Reads the first N bytes.
 #[inline(always)]
-pub(crate) fn read_array<const N: usize>(bytes: &[u8]) -> [u8; N]
-{
+pub(crate) fn read_array<const N: usize>(bytes: &[u8]) -> [u8; N] {
     *bytes.first_chunk().unwrap()
 }

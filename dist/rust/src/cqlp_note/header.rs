@@ -26,8 +26,7 @@ impl Header {
     /// Whether the header may stand before a frame: the flag 01 is off, the opcode goes in this direction, and the
     /// body is no longer than [`Header::LONGEST_BODY`].
     #[must_use]
-    pub fn lawful(&self) -> bool
-    {
+    pub fn lawful(&self) -> bool {
         !has(self.flags, 0x01)
             && self.opcode.is_response() == self.response
             && self.length <= Header::LONGEST_BODY
@@ -35,8 +34,7 @@ impl Header {
 
     /// The header that nine bytes are, in a frame that begins at `at`, or the first fault of them in this order: the
     /// version (at +0), the flag 01 (+1), the opcode (+4), its direction (+4), the length (+5).
-    pub(crate) fn read(bytes: &[u8; 9], at: u64) -> Result<Header, Refusal>
-    {
+    pub(crate) fn read(bytes: &[u8; 9], at: u64) -> Result<Header, Refusal> {
         let [version, flags, _, _, number, _, _, _, _] = *bytes;
         if !is_version(version) {
             return fault(at, Reason::BadVersion);
@@ -66,8 +64,7 @@ impl Header {
 
     /// The nine bytes of the header, which `read` takes for this header again.
     #[must_use]
-    pub(crate) fn write(&self) -> [u8; 9]
-    {
+    pub(crate) fn write(&self) -> [u8; 9] {
         let [high, low] = self.stream.to_be_bytes();
         let [first, second, third, last] = self.length.to_be_bytes();
         [
@@ -85,25 +82,21 @@ impl Header {
 }
 
 /// The refusal at this offset.
-fn fault(at: u64, why: Reason) -> Result<Header, Refusal>
-{
+fn fault(at: u64, why: Reason) -> Result<Header, Refusal> {
     Err(Refusal { at, why })
 }
 
 /// Whether a header begins so.
-fn is_version(version: u8) -> bool
-{
+fn is_version(version: u8) -> bool {
     version == 0x04 || version == 0x84
 }
 
 /// The first byte of a header in this direction.
-fn version(response: bool) -> u8
-{
+fn version(response: bool) -> u8 {
     if response { 0x84 } else { 0x04 }
 }
 
 /// Whether some bit of these is set.
-fn has(flags: u8, bits: u8) -> bool
-{
+fn has(flags: u8, bits: u8) -> bool {
     flags & bits > 0
 }

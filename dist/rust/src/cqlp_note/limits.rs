@@ -33,8 +33,7 @@ pub struct Asked {
 
 impl Asked {
     /// These limits, for a reading that is lenient or not.
-    pub fn new(limits: &Limits, lenient: bool) -> Self
-    {
+    pub fn new(limits: &Limits, lenient: bool) -> Self {
         Asked {
             text: limits.text,
             cell: limits.cell,
@@ -105,8 +104,11 @@ impl Limits {
     };
 
     /// Whether the four numbers are in their ranges; else the first that is not, in the order of the fields.
-    pub fn check(&self) -> Result<(), BadLimits>
-    {
+    ///
+    /// # Errors
+    ///
+    /// The first number that is out of its range, in the order of the fields.
+    pub fn check(&self) -> Result<(), BadLimits> {
         if !Limits::TEXT.contains(self.text) {
             Err(BadLimits::Text)
         } else if !Limits::CELL.contains(self.cell) {
@@ -123,8 +125,8 @@ impl Limits {
 
 impl LimitRange {
     /// Whether a limit may be this number.
-    pub fn contains(self, number: u32) -> bool
-    {
+    #[must_use]
+    pub fn contains(self, number: u32) -> bool {
         self.least <= number && number <= self.greatest
     }
 }

@@ -40,8 +40,8 @@ pub enum Opcode {
 
 impl Opcode {
     /// The opcode that has this number, if one has: 00 to 10 but for 04.
-    pub fn from_number(number: u8) -> Option<Opcode>
-    {
+    #[must_use]
+    pub fn from_number(number: u8) -> Option<Opcode> {
         match number {
             0x00 => Some(Opcode::Error),
             0x01 => Some(Opcode::Startup),
@@ -64,8 +64,8 @@ impl Opcode {
     }
 
     /// The opcode's number.
-    pub fn number(self) -> u8
-    {
+    #[must_use]
+    pub fn number(self) -> u8 {
         match self {
             Opcode::Error => 0x00,
             Opcode::Startup => 0x01,
@@ -87,8 +87,8 @@ impl Opcode {
     }
 
     /// Whether messages of this kind are responses.
-    pub fn is_response(self) -> bool
-    {
+    #[must_use]
+    pub fn is_response(self) -> bool {
         match self {
             Opcode::Error
             | Opcode::Ready

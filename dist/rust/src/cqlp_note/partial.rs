@@ -26,8 +26,7 @@ pub struct Partial<A: Allocator = Global> {
 impl<A: Allocator> Partial<A> {
     /// With room for contents of up to `room` bytes, and no field under way. This is the one call that takes memory;
     /// the error is that it was refused.
-    pub fn new(alloc: A, room: u32) -> Result<Self, NoMemory>
-    {
+    pub fn new(alloc: A, room: u32) -> Result<Self, NoMemory> {
         Ok(Partial {
             stage: FieldStage::Idle,
             wanted: Wanted {
@@ -43,8 +42,7 @@ impl<A: Allocator> Partial<A> {
 
     /// Begins a field whose first byte is at the offset `at` of the stream, in a container that ends at `end`. Its
     /// content may have up to `limit` bytes.
-    pub(crate) fn begin(&mut self, notation: Notation, limit: u32, at: u64, end: u64)
-    {
+    pub(crate) fn begin(&mut self, notation: Notation, limit: u32, at: u64, end: u64) {
         self.wanted = Wanted {
             notation,
             limit,
@@ -57,16 +55,14 @@ impl<A: Allocator> Partial<A> {
     }
 
     /// Ends the field under way, whole or not, if there is one, and forgets its content. The memory stays.
-    pub fn stop(&mut self)
-    {
+    pub fn stop(&mut self) {
         self.stage = FieldStage::Idle;
         self.content.clear();
     }
 
     /// Takes the next bytes of the field that is under way. A content that lies whole in them is lent from them. No
     /// byte after the field is used; a field that is made or refused has ended.
-    pub(crate) fn push<'a>(&'a mut self, input: &'a [u8]) -> Push<'a>
-    {
+    pub(crate) fn push<'a>(&'a mut self, input: &'a [u8]) -> Push<'a> {
         match self.advance(input) {
             FieldAdvance::More { used } => Push::More { used },
             FieldAdvance::Got { used, item } => Push::Got {
@@ -78,8 +74,7 @@ impl<A: Allocator> Partial<A> {
     }
 
     /// The value of an item that `advance` made of this input.
-    pub(crate) fn lend<'a>(&'a self, input: &'a [u8], item: FieldOutline) -> Primitive<'a>
-    {
+    pub(crate) fn lend<'a>(&'a self, input: &'a [u8], item: FieldOutline) -> Primitive<'a> {
         match item {
             FieldOutline::Plain(prim) => prim,
             FieldOutline::Content { form, lies } => {
@@ -94,8 +89,7 @@ impl<A: Allocator> Partial<A> {
 
     /// Does what `push` does, but tells where a content lies in place of lending it, so that a reader around this one
     /// can go on before it lends.
-    pub(crate) fn advance(&mut self, input: &[u8]) -> FieldAdvance
-    {
+    pub(crate) fn advance(&mut self, input: &[u8]) -> FieldAdvance {
         if self.is_fresh() {
             // A number that lies whole in the input is most of all fields.
             match self.wanted.notation {
@@ -133,22 +127,19 @@ impl<A: Allocator> Partial<A> {
 
     /// Whether no byte of the field that is under way has come.
     #[inline(always)]
-    fn is_fresh(&self) -> bool
-    {
+    fn is_fresh(&self) -> bool {
         matches!(self.stage, FieldStage::Front) && self.front.is_empty()
     }
 
     /// Whether a field of this many bytes fits its container and lies whole in the input.
     #[inline(always)]
-    fn has_whole(&self, size: usize, input: &[u8]) -> bool
-    {
+    fn has_whole(&self, size: usize, input: &[u8]) -> bool {
         size as u64 <= self.wanted.room && size <= input.len()
     }
 
     /// Ends the field by a value without content, of this many bytes.
     #[inline(always)]
-    fn end_plain(&mut self, used: usize, prim: Primitive<'static>) -> FieldAdvance
-    {
+    fn end_plain(&mut self, used: usize, prim: Primitive<'static>) -> FieldAdvance {
         self.stage = FieldStage::Idle;
         let item = FieldOutline::Plain(prim);
         FieldAdvance::Got { used, item }
@@ -156,8 +147,7 @@ impl<A: Allocator> Partial<A> {
 
     /// The null of a field that lies whole in the input, or that its value is not set.
     #[inline(always)]
-    fn find_null(&self, input: &[u8]) -> Option<Primitive<'static>>
-    {
+    fn find_null(&self, input: &[u8]) -> Option<Primitive<'static>> {
         if !self.has_whole(4, input) {
             return None;
         }
@@ -178,8 +168,7 @@ impl<A: Allocator> Partial<A> {
     /// Where the content of the field begins, how long it is, and what is made of it, if it lies whole in the input and
     /// may stand there.
     #[inline(always)]
-    fn find_content(&self, input: &[u8]) -> Option<(usize, u32, ContentForm)>
-    {
+    fn find_content(&self, input: &[u8]) -> Option<(usize, u32, ContentForm)> {
         let (start, len, form) = read_content_head(self.wanted.notation, input)?;
         if self.has_content(start, len, form, input) {
             Some((start, len, form))
@@ -191,8 +180,7 @@ impl<A: Allocator> Partial<A> {
     /// Whether a content of this length, after this many bytes, is within the limit, fits its container, lies whole in
     /// the input, and may stand there.
     #[inline(always)]
-    fn has_content(&self, start: usize, len: u32, form: ContentForm, input: &[u8]) -> bool
-    {
+    fn has_content(&self, start: usize, len: u32, form: ContentForm, input: &[u8]) -> bool {
         let used = start + len as usize;
         len <= self.wanted.limit
             && used as u64 <= self.wanted.room
@@ -202,8 +190,7 @@ impl<A: Allocator> Partial<A> {
 
     /// Ends the field by a content of this length in the input, after this many bytes.
     #[inline(always)]
-    fn end_content(&mut self, start: usize, len: u32, form: ContentForm) -> FieldAdvance
-    {
+    fn end_content(&mut self, start: usize, len: u32, form: ContentForm) -> FieldAdvance {
         self.stage = FieldStage::Idle;
         let size = len as usize;
         let lies = ContentPlace::InInput { start, len: size };
@@ -216,8 +203,7 @@ impl<A: Allocator> Partial<A> {
 
     /// Does what `advance` does, whatever has come of the field.
     #[inline(never)]
-    fn advance_by_piece(&mut self, input: &[u8]) -> FieldAdvance
-    {
+    fn advance_by_piece(&mut self, input: &[u8]) -> FieldAdvance {
         match self.stage {
             FieldStage::Idle => unreachable!(),
             FieldStage::Front => self.read_front(input),
@@ -246,8 +232,7 @@ impl<A: Allocator> Partial<A> {
     }
 
     /// Reads the front of the field, of which some bytes may have come.
-    fn read_front(&mut self, input: &[u8]) -> FieldAdvance
-    {
+    fn read_front(&mut self, input: &[u8]) -> FieldAdvance {
         match read_head_of_pieces(self.wanted, &self.front, input) {
             Ok(Head::Whole { used, prim }) => {
                 self.stage = FieldStage::Idle;
@@ -275,8 +260,7 @@ impl<A: Allocator> Partial<A> {
         len: u32,
         form: ContentForm,
         input: &[u8],
-    ) -> FieldAdvance
-    {
+    ) -> FieldAdvance {
         let rest = &input[start..];
         let size = len as usize;
         if rest.len() < size {
@@ -296,8 +280,7 @@ impl<A: Allocator> Partial<A> {
     }
 
     /// Whether a content is gathered, some of which has come, and more than this many bytes of it are missing.
-    pub fn gathers_more(&self, most: usize) -> bool
-    {
+    pub fn gathers_more(&self, most: usize) -> bool {
         match self.stage {
             FieldStage::Content { len, .. } if !self.content.is_empty() => {
                 let missing = (len - self.content.len()) as usize;
@@ -309,8 +292,7 @@ impl<A: Allocator> Partial<A> {
 
     /// Reads the next bytes of the content that is gathered straight into the buffer, by one call of the reader for up
     /// to `most` bytes. It does what `advance` does of these bytes, which is to want more.
-    pub(crate) fn read_from<R: Source>(&mut self, reader: &mut R, most: usize) -> Result<usize, IoFault>
-    {
+    pub(crate) fn read_from<R: Source>(&mut self, reader: &mut R, most: usize) -> Result<usize, IoFault> {
         match self.stage {
             FieldStage::Idle => unreachable!(),
             FieldStage::Front => unreachable!(),
@@ -319,8 +301,7 @@ impl<A: Allocator> Partial<A> {
     }
 
     /// Ends the field by a refusal.
-    fn refuse(&mut self, why: Reason) -> FieldAdvance
-    {
+    fn refuse(&mut self, why: Reason) -> FieldAdvance {
         self.stage = FieldStage::Idle;
         self.content.clear();
         FieldAdvance::Refused(Refusal {
@@ -330,14 +311,12 @@ impl<A: Allocator> Partial<A> {
     }
 
     /// Whether a field is under way.
-    pub fn is_under_way(&self) -> bool
-    {
+    pub fn is_under_way(&self) -> bool {
         !matches!(self.stage, FieldStage::Idle)
     }
 
     /// How many bytes of the field that is under way have come.
-    pub fn came(&self) -> u64
-    {
+    pub fn came(&self) -> u64 {
         match self.stage {
             FieldStage::Idle => 0,
             FieldStage::Front => self.front.len() as u64,
@@ -347,28 +326,24 @@ impl<A: Allocator> Partial<A> {
 
     /// Where the content that the buffer holds lies from the index `start` on. The buffer lies in one place for as long as
     /// the reader lives, wherever that is moved, and what is in it stays until the next call that changes the reader.
-    pub fn address(&self, start: usize) -> *const u8
-    {
+    pub fn address(&self, start: usize) -> *const u8 {
         self.content.address(start)
     }
 
     /// How many bytes the buffer holds.
-    pub fn held(&self) -> u32
-    {
+    pub fn held(&self) -> u32 {
         self.content.len()
     }
 
     /// How many bytes of a content its memory has places for: the room, for as long as it lives.
-    pub fn capacity(&self) -> usize
-    {
+    pub fn capacity(&self) -> usize {
         self.content.capacity()
     }
 }
 
 impl ContentForm {
     /// What such a content is.
-    pub(crate) fn prim<'a>(self, bytes: &'a [u8]) -> Primitive<'a>
-    {
+    pub(crate) fn prim<'a>(self, bytes: &'a [u8]) -> Primitive<'a> {
         match self {
             // The bytes are text, which `accepts` found out.
             ContentForm::Text => Primitive::Text(unsafe { str::from_utf8_unchecked(bytes) }),
@@ -379,8 +354,7 @@ impl ContentForm {
 
     /// Whether these bytes may stand in such a content.
     #[inline]
-    pub(crate) fn accepts(self, bytes: &[u8]) -> bool
-    {
+    pub(crate) fn accepts(self, bytes: &[u8]) -> bool {
         match self {
             ContentForm::Text => is_text(bytes),
             ContentForm::Bytes | ContentForm::Bound => true,
@@ -389,8 +363,7 @@ impl ContentForm {
 }
 
 /// Reads the front of a field of which the first bytes came before.
-fn read_head_of_pieces(wanted: Wanted, front: &FieldFront, input: &[u8]) -> Result<Head, Stop>
-{
+fn read_head_of_pieces(wanted: Wanted, front: &FieldFront, input: &[u8]) -> Result<Head, Stop> {
     if front.as_slice().is_empty() {
         read_head(wanted, input)
     } else {
@@ -403,8 +376,7 @@ fn read_head_of_pieces(wanted: Wanted, front: &FieldFront, input: &[u8]) -> Resu
 pub(crate) fn read_content_head(
     notation: Notation,
     input: &[u8],
-) -> Option<(usize, u32, ContentForm)>
-{
+) -> Option<(usize, u32, ContentForm)> {
     match notation {
         Notation::Text16 if input.len() >= 2 => Some((2, read_short(input), ContentForm::Text)),
         Notation::Bytes16 if input.len() >= 2 => Some((2, read_short(input), ContentForm::Bytes)),

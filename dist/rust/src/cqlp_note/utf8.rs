@@ -3,15 +3,13 @@
 
 /// Whether these bytes are UTF-8. ASCII, which most texts are, is found out eight bytes at a time.
 #[inline]
-pub fn is_text(bytes: &[u8]) -> bool
-{
+pub fn is_text(bytes: &[u8]) -> bool {
     bytes.is_ascii() || is_wide_text(bytes)
 }
 
 /// The same, a character at a time.
 #[inline(never)]
-fn is_wide_text(bytes: &[u8]) -> bool
-{
+fn is_wide_text(bytes: &[u8]) -> bool {
     match str::from_utf8(bytes) {
         Ok(_) => true,
         Err(_) => false,

@@ -22,8 +22,7 @@ pub fn front_field<'a>(
     limit: u32,
     room: u64,
     input: &'a [u8],
-) -> Option<WholeField<'a>>
-{
+) -> Option<WholeField<'a>> {
     let wanted = Wanted {
         notation,
         limit,
@@ -44,8 +43,7 @@ fn front_content<'a>(
     len: u32,
     form: ContentForm,
     input: &'a [u8],
-) -> Option<WholeField<'a>>
-{
+) -> Option<WholeField<'a>> {
     let used = start + len as usize;
     if len > wanted.limit || used as u64 > wanted.room || used > input.len() {
         return None;
@@ -62,8 +60,7 @@ fn front_content<'a>(
 
 /// The field without a content.
 #[inline(always)]
-fn front_plain<'a>(wanted: Wanted, input: &[u8]) -> Option<WholeField<'a>>
-{
+fn front_plain<'a>(wanted: Wanted, input: &[u8]) -> Option<WholeField<'a>> {
     let used = wanted.notation.fixed();
     if used as u64 > wanted.room || used > input.len() {
         return None;
@@ -74,8 +71,7 @@ fn front_plain<'a>(wanted: Wanted, input: &[u8]) -> Option<WholeField<'a>>
 
 /// The value of a field in this notation, where it ends with its fixed part.
 #[inline(always)]
-fn plain_value<'a>(notation: Notation, input: &[u8]) -> Option<Primitive<'a>>
-{
+fn plain_value<'a>(notation: Notation, input: &[u8]) -> Option<Primitive<'a>> {
     match notation {
         Notation::Byte => Some(Primitive::Byte(u8::from_be_bytes(first(input)))),
         Notation::Short => Some(Primitive::Short(u16::from_be_bytes(first(input)))),
@@ -105,8 +101,7 @@ fn plain_value<'a>(notation: Notation, input: &[u8]) -> Option<Primitive<'a>>
 
 /// The value of a request without a content, by its length: null is -1, and not set is -2.
 #[inline(always)]
-fn bare_value<'a>(len: u32) -> Option<BoundValue<'a>>
-{
+fn bare_value<'a>(len: u32) -> Option<BoundValue<'a>> {
     if len == u32::MAX {
         Some(BoundValue::Null)
     } else if len == u32::MAX - 1 {

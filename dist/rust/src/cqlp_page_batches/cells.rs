@@ -27,8 +27,8 @@ pub struct PutCells<'a> {
 
 impl<'a> PutCells<'a> {
     /// The cells after the place of this page, none of which has come yet. It asks for no memory. `limits` is what may be held of one cell.
-    pub fn new(alloc: Global, page: &'a OpenPage, limits: CellLimits) -> PutCells<'a>
-    {
+    #[must_use]
+    pub fn new(alloc: Global, page: &'a OpenPage, limits: CellLimits) -> PutCells<'a> {
         let frame = &page.frame;
         PutCells {
             alloc,
@@ -41,8 +41,7 @@ impl<'a> PutCells<'a> {
 
     /// Where the page stands after the cells that were put.
     #[must_use]
-    pub fn place(&self) -> PagePlace
-    {
+    pub fn place(&self) -> PagePlace {
         self.place
     }
 
@@ -53,8 +52,7 @@ impl<'a> PutCells<'a> {
     ///
     /// [`PutError::Cell`] with what [`PageCells::take`] says, and [`PutError::NoRoom`] where the cell that ends has more bytes than the room.
     /// The cell is forgotten then, and the room is as it was.
-    pub fn take(&mut self, event: &Event<'_>, room: &mut [u8]) -> Result<Option<usize>, PutError>
-    {
+    pub fn take(&mut self, event: &Event<'_>, room: &mut [u8]) -> Result<Option<usize>, PutError> {
         if let Err(why) = self.cells.take(event) {
             self.begin();
             return Err(PutError::Cell(why));
@@ -67,14 +65,12 @@ impl<'a> PutCells<'a> {
     }
 
     /// Begins a cell after those that were put, and forgets the one under way.
-    fn begin(&mut self)
-    {
+    fn begin(&mut self) {
         self.cells = PageCells::new(self.alloc, self.frame, self.place, self.limits);
     }
 
     /// Puts the cell that was taken whole.
-    fn put(&mut self, room: &mut [u8]) -> Result<Option<usize>, PutError>
-    {
+    fn put(&mut self, room: &mut [u8]) -> Result<Option<usize>, PutError> {
         let next = PageCells::new(self.alloc, self.frame, self.place, self.limits);
         let Ok(written) = core::mem::replace(&mut self.cells, next).finish() else {
             unreachable!()

@@ -55,8 +55,7 @@ impl OpenPage {
         composer: Composer,
         rows: u32,
         cells_len: u64,
-    ) -> Result<BegunPage, BeginError>
-    {
+    ) -> Result<BegunPage, BeginError> {
         match bare_page(composer, rows) {
             Ok(frame) => begun(alloc, frame, said_len(cells_len)),
             Err(why) => Err(why),
@@ -65,14 +64,12 @@ impl OpenPage {
 
     /// Where it stands.
     #[must_use]
-    pub fn place(&self) -> PagePlace
-    {
+    pub fn place(&self) -> PagePlace {
         self.place
     }
 
     /// Goes on to the place after cells that were put.
-    pub fn set_place(&mut self, place: PagePlace)
-    {
+    pub fn set_place(&mut self, place: PagePlace) {
         self.place = place;
     }
 
@@ -81,8 +78,7 @@ impl OpenPage {
     /// # Errors
     ///
     /// [`Unended::CellsMissing`] where cells are still to come, and else [`Unended::BytesMissing`] where bytes are.
-    pub fn end(&self) -> Result<(), Unended>
-    {
+    pub fn end(&self) -> Result<(), Unended> {
         if self.place.cells() != self.frame.cells_wanted() {
             return Err(Unended::CellsMissing);
         }
@@ -94,14 +90,12 @@ impl OpenPage {
 }
 
 /// How many bytes the cells are said to have. No body has as many as do not fit.
-fn said_len(cells_len: u64) -> u32
-{
+fn said_len(cells_len: u64) -> u32 {
     cells_len.min(u64::from(u32::MAX)) as u32
 }
 
 /// A page without cells, begun with cells of this many bytes.
-fn begun(alloc: Global, frame: Frame, cells_len: u32) -> Result<BegunPage, BeginError>
-{
+fn begun(alloc: Global, frame: Frame, cells_len: u32) -> Result<BegunPage, BeginError> {
     let place = match PagePlace::start(&frame, cells_len) {
         Ok(place) => place,
         Err(why) => return Err(BeginError::Unfit(why)),
@@ -117,8 +111,7 @@ fn begun(alloc: Global, frame: Frame, cells_len: u32) -> Result<BegunPage, Begin
 }
 
 /// The page of as many rows and without cells whose other events came to a composer.
-fn bare_page(mut composer: Composer, rows: u32) -> Result<Frame, BeginError>
-{
+fn bare_page(mut composer: Composer, rows: u32) -> Result<Frame, BeginError> {
     let none = Event::Count {
         field: Field::Rows,
         count: 0,
@@ -133,8 +126,7 @@ fn bare_page(mut composer: Composer, rows: u32) -> Result<Frame, BeginError>
 }
 
 /// The same page with as many rows.
-fn with_rows(mut frame: Frame, rows: u32) -> Result<Frame, BeginError>
-{
+fn with_rows(mut frame: Frame, rows: u32) -> Result<Frame, BeginError> {
     if set_rows(&mut frame.message, rows) {
         Ok(frame)
     } else {
@@ -143,8 +135,7 @@ fn with_rows(mut frame: Frame, rows: u32) -> Result<Frame, BeginError>
 }
 
 /// Sets how many rows a page has, if it is one.
-fn set_rows(message: &mut Message, rows: u32) -> bool
-{
+fn set_rows(message: &mut Message, rows: u32) -> bool {
     match message {
         Message::Rows(page) => {
             page.rows = rows;

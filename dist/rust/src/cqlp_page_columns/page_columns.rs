@@ -32,8 +32,7 @@ pub struct PageColumns<S: Sink, A: Allocator = Global> {
 
 impl<S: Sink, A: Allocator> PageColumns<S, A> {
     /// These columns, with this sink beside them.
-    pub fn new(columns: Columns<A>, other: S) -> Self
-    {
+    pub fn new(columns: Columns<A>, other: S) -> Self {
         PageColumns {
             columns,
             other,
@@ -43,8 +42,7 @@ impl<S: Sink, A: Allocator> PageColumns<S, A> {
 
     /// Reads on: the next events of the input are cells that the columns take, up to the one that fills them or the first that they do not take, which
     /// the other sink gets. Columns that are full already use nothing.
-    pub fn read<B: Allocator>(&mut self, decoder: &mut Decoder<B>, input: &[u8]) -> Filled
-    {
+    pub fn read<B: Allocator>(&mut self, decoder: &mut Decoder<B>, input: &[u8]) -> Filled {
         if self.columns.is_full() {
             self.went = Went::Last;
             return Filled {
@@ -56,8 +54,7 @@ impl<S: Sink, A: Allocator> PageColumns<S, A> {
     }
 
     /// The same, of columns that are not full.
-    fn read_on<B: Allocator>(&mut self, decoder: &mut Decoder<B>, input: &[u8]) -> Filled
-    {
+    fn read_on<B: Allocator>(&mut self, decoder: &mut Decoder<B>, input: &[u8]) -> Filled {
         self.went = Went::Cell;
         let mut used = 0;
         loop {
@@ -91,8 +88,7 @@ impl<S: Sink, A: Allocator> PageColumns<S, A> {
     }
 
     /// What a call made that stops at the last event.
-    fn stopped(&self, used: usize) -> Filled
-    {
+    fn stopped(&self, used: usize) -> Filled {
         let stop = match self.went {
             Went::Cell => Stop::More,
             Went::Last => Stop::Full,
@@ -104,8 +100,7 @@ impl<S: Sink, A: Allocator> PageColumns<S, A> {
 
     /// Puts an event where it belongs.
     #[inline(always)]
-    fn sort(&mut self, at: u64, event: &Event<'_>) -> Went
-    {
+    fn sort(&mut self, at: u64, event: &Event<'_>) -> Went {
         if is_whole(event) && self.columns.take(event).is_ok() {
             if self.columns.is_full() {
                 Went::Last
@@ -134,8 +129,7 @@ impl<S: Sink, A: Allocator> Sink for PageColumns<S, A> {
 
 /// Whether an event is a whole cell.
 #[inline(always)]
-fn is_whole(event: &Event<'_>) -> bool
-{
+fn is_whole(event: &Event<'_>) -> bool {
     match *event {
         Event::Leaf { level, .. } | Event::Null { level, .. } | Event::Empty { level, .. } => {
             level == 0

@@ -54,13 +54,13 @@ pub struct WrittenCells {
 
 impl<'a> PageCells<'a> {
     /// The cells behind this place of this page, none of which has come yet. It asks for no memory. `limits` is what may be held of one cell.
+    #[must_use]
     pub fn new(
         alloc: Global,
         frame: &'a Frame,
         place: PagePlace,
         limits: CellLimits,
-    ) -> PageCells<'a>
-    {
+    ) -> PageCells<'a> {
         PageCells {
             frame,
             place,
@@ -79,8 +79,7 @@ impl<'a> PageCells<'a> {
     /// [`PageCellError::Cell`] with [`CellError::NoValue`] where the events are those of no value of the column's type, then
     /// [`PageCellError::PastLength`] where the cells would have more bytes than were said, and [`CellError::NoMemory`] where memory
     /// was refused: the whole cell is forgotten then, and it is where it was before the cell.
-    pub fn take(&mut self, event: &Event<'_>) -> Result<(), PageCellError>
-    {
+    pub fn take(&mut self, event: &Event<'_>) -> Result<(), PageCellError> {
         if !self.is_next(event) {
             return Err(PageCellError::Cell(CellError::Misplaced));
         }
@@ -95,8 +94,7 @@ impl<'a> PageCells<'a> {
     /// # Errors
     ///
     /// [`PageCellError::NotEnded`] where a cell has begun and not ended.
-    pub fn finish(self) -> Result<WrittenCells, PageCellError>
-    {
+    pub fn finish(self) -> Result<WrittenCells, PageCellError> {
         let PageCells {
             frame: _,
             place,
@@ -114,8 +112,7 @@ impl<'a> PageCells<'a> {
     }
 
     /// Whether an event can be of the next cell.
-    fn is_next(&self, event: &Event<'_>) -> bool
-    {
+    fn is_next(&self, event: &Event<'_>) -> bool {
         if self.place.cells >= self.frame.cells_wanted() {
             return false;
         }
@@ -133,8 +130,7 @@ impl<'a> PageCells<'a> {
     }
 
     /// The row of the next cell, the first of which is 0.
-    fn row(&self) -> u64
-    {
+    fn row(&self) -> u64 {
         match self
             .place
             .cells
@@ -146,8 +142,7 @@ impl<'a> PageCells<'a> {
     }
 
     /// The column of the next cell, the first of which is 0.
-    fn column(&self) -> u64
-    {
+    fn column(&self) -> u64 {
         match self
             .place
             .cells
@@ -159,8 +154,7 @@ impl<'a> PageCells<'a> {
     }
 
     /// An event was taken that is of the next cell: the cell ends after it, or goes on.
-    fn pass_event(&mut self, event: &Event<'_>) -> Result<(), PageCellError>
-    {
+    fn pass_event(&mut self, event: &Event<'_>) -> Result<(), PageCellError> {
         if ends_cell(event) {
             self.end()
         } else {
@@ -170,8 +164,7 @@ impl<'a> PageCells<'a> {
     }
 
     /// All events of the next cell have come.
-    fn end(&mut self) -> Result<(), PageCellError>
-    {
+    fn end(&mut self) -> Result<(), PageCellError> {
         let of = column_type(self.frame, self.column() as usize);
         self.cut = false;
         let value = match self.cell.finish(of) {
@@ -185,8 +178,7 @@ impl<'a> PageCells<'a> {
     }
 
     /// Writes a value as the next cell.
-    fn put(&mut self, value: &Value, of: Option<&TypeTree>) -> Result<(), PageCellError>
-    {
+    fn put(&mut self, value: &Value, of: Option<&TypeTree>) -> Result<(), PageCellError> {
         let len = self.target.len();
         match write_value(value, of, &mut self.target) {
             Ok(size) => {

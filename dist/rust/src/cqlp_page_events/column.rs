@@ -5,8 +5,7 @@ use crate::cqlp_message::{Frame, Message, Spec};
 use crate::cqlp_type::TypeTree;
 
 /// The type of a column of a page, the first of which is 0, where it is told.
-pub fn column_type(frame: &Frame, column: usize) -> Option<&TypeTree>
-{
+pub fn column_type(frame: &Frame, column: usize) -> Option<&TypeTree> {
     match &frame.message {
         Message::Rows(page) => match &page.meta.specs {
             Some(specs) => spec_type(specs, column),
@@ -17,8 +16,7 @@ pub fn column_type(frame: &Frame, column: usize) -> Option<&TypeTree>
 }
 
 /// The same of these columns.
-fn spec_type(specs: &[Spec], column: usize) -> Option<&TypeTree>
-{
+fn spec_type(specs: &[Spec], column: usize) -> Option<&TypeTree> {
     match specs.get(column) {
         Some(spec) => Some(&spec.tree),
         None => None,

@@ -15,8 +15,7 @@ use crate::kit_std::alloc::Global;
 ///
 /// [`HeadError::Unfit`] where [`Frame::page_unfit`] says why the frame is no page that can be written with cells of as many bytes, and
 /// [`HeadError::NoMemory`] where memory was refused.
-pub fn page_head(alloc: Global, frame: &Frame, cells_len: u32) -> Result<Vec<u8>, HeadError>
-{
+pub fn page_head(alloc: Global, frame: &Frame, cells_len: u32) -> Result<Vec<u8>, HeadError> {
     let mut target = InMemory::new(alloc);
     let begun = match PageWriter::begin(frame, cells_len, &mut target) {
         Ok(_) => None,

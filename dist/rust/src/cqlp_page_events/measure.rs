@@ -10,8 +10,7 @@ use crate::cqlp_note::Address;
 ///
 /// None of a part of a scalar, which is not written, and of an event that is none of a cell.
 #[must_use]
-pub fn event_size(event: &Event<'_>) -> u64
-{
+pub fn event_size(event: &Event<'_>) -> u64 {
     match event {
         Event::Leaf { scalar, .. } => 4 + scalar_len(scalar),
         Event::Null { .. } | Event::Empty { .. } => 4,
@@ -24,8 +23,7 @@ pub fn event_size(event: &Event<'_>) -> u64
 }
 
 /// How many bytes the content of a scalar has.
-fn scalar_len(scalar: &Scalar<'_>) -> u64
-{
+fn scalar_len(scalar: &Scalar<'_>) -> u64 {
     match scalar {
         Scalar::Custom(c) | Scalar::Blob(c) | Scalar::Varint(c) | Scalar::Raw(c) => len_of(c),
         Scalar::Ascii(t) | Scalar::Varchar(t) => t.len() as u64,
@@ -43,7 +41,6 @@ fn scalar_len(scalar: &Scalar<'_>) -> u64
 }
 
 /// How many bytes these are.
-fn len_of(bytes: &[u8]) -> u64
-{
+fn len_of(bytes: &[u8]) -> u64 {
     bytes.len() as u64
 }

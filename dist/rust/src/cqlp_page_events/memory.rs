@@ -10,34 +10,37 @@ pub struct InMemory {
     bytes: Vec<u8>,
     /// How many calls found no memory, up to 2^64 - 1.
     failures: u64,
+    /// How many calls took all of their bytes, up to 2^64 - 1.
+    writes: u64,
 }
 
 impl InMemory {
     /// With no bytes, for which it asks for no memory.
-    pub fn new(alloc: Global) -> InMemory
-    {
+    pub fn new(alloc: Global) -> InMemory {
         InMemory {
             bytes: Vec::new(alloc),
             failures: 0,
+            writes: 0,
         }
     }
 
     /// How many bytes it has.
-    pub fn len(&self) -> usize
-    {
+    pub fn len(&self) -> usize {
         self.bytes.len()
     }
 
     /// Keeps the first bytes, this many, if it has more.
-    pub fn truncate(&mut self, len: usize)
-    {
+    pub fn truncate(&mut self, len: usize) {
         self.bytes.truncate(len);
     }
 
     /// The bytes.
-    pub fn into_bytes(self) -> Vec<u8>
-    {
-        let InMemory { bytes, failures: _ } = self;
+    pub fn into_bytes(self) -> Vec<u8> {
+        let InMemory {
+            bytes,
+            failures: _,
+            writes: _,
+        } = self;
         bytes
     }
 }
@@ -45,7 +48,10 @@ impl InMemory {
 impl Target for InMemory {
     fn write(&mut self, bytes: &[u8]) -> Result<usize, IoFault> {
         match self.bytes.extend_from_slice(bytes) {
-            Ok(()) => Ok(bytes.len()),
+            Ok(()) => {
+                self.writes = self.writes.saturating_add(1);
+                Ok(bytes.len())
+            }
             Err(_) => {
                 self.failures = self.failures.saturating_add(1);
                 Err(IoFault)

@@ -20,8 +20,7 @@ impl PagePlace {
     /// # Errors
     ///
     /// What [`Frame::page_unfit`] says, where the frame is no page that can be written with cells of as many bytes.
-    pub fn start(frame: &Frame, cells_len: u32) -> Result<PagePlace, Unfit>
-    {
+    pub fn start(frame: &Frame, cells_len: u32) -> Result<PagePlace, Unfit> {
         match frame.page_unfit(cells_len) {
             Some(why) => Err(why),
             None => Ok(PagePlace {
@@ -33,22 +32,19 @@ impl PagePlace {
 
     /// How many cells have come.
     #[must_use]
-    pub fn cells(&self) -> u64
-    {
+    pub fn cells(&self) -> u64 {
         self.cells
     }
 
     /// How many bytes of cells are still to come.
     #[must_use]
-    pub fn free(&self) -> u32
-    {
+    pub fn free(&self) -> u32 {
         self.free
     }
 
     /// Whether all cells of this page have come, and all bytes that they were to have.
     #[must_use]
-    pub fn is_done(&self, frame: &Frame) -> bool
-    {
+    pub fn is_done(&self, frame: &Frame) -> bool {
         self.cells == frame.cells_wanted() && self.free == 0
     }
 }

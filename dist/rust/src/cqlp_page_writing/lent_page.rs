@@ -33,8 +33,7 @@ pub enum LentError {
 pub(crate) fn measure_cells<'v, I: Iterator<Item = &'v Value>>(
     frame: &Frame,
     cells: I,
-) -> Result<u32, Unfit>
-{
+) -> Result<u32, Unfit> {
     let mut tally = Tally::new(frame);
     for cell in cells {
         tally.add(cell);
@@ -76,8 +75,7 @@ fn write_cells<'v, J: Iterator<Item = &'v Value>, W: Target>(
     page: PageWriter<'_>,
     cells: J,
     target: &mut W,
-) -> Result<u32, LentError>
-{
+) -> Result<u32, LentError> {
     let mut page = page;
     for cell in cells {
         if let Err(why) = page.cell(cell, target) {
@@ -91,8 +89,7 @@ fn write_cells<'v, J: Iterator<Item = &'v Value>, W: Target>(
 }
 
 /// What the writer of a page says, once its cells were measured.
-fn told(why: PageError) -> LentError
-{
+fn told(why: PageError) -> LentError {
     match why {
         PageError::Write { written } => LentError::Write { written },
         _ => LentError::Changed,

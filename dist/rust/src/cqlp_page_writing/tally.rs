@@ -19,8 +19,7 @@ pub struct Tally<'a> {
 
 impl<'a> Tally<'a> {
     /// Of no cells of this page.
-    pub fn new(frame: &'a Frame) -> Tally<'a>
-    {
+    pub fn new(frame: &'a Frame) -> Tally<'a> {
         Tally {
             frame,
             count: 0,
@@ -31,8 +30,7 @@ impl<'a> Tally<'a> {
     }
 
     /// Counts the next cell.
-    pub fn add(&mut self, cell: &Value)
-    {
+    pub fn add(&mut self, cell: &Value) {
         self.size = self.size.saturating_add(value_size(cell));
         if self.count == self.frame.cells_wanted() {
             self.is_past = true;
@@ -44,8 +42,7 @@ impl<'a> Tally<'a> {
     }
 
     /// The column of the next cell, the first of which is 0; where the page has any.
-    fn column(&self) -> usize
-    {
+    fn column(&self) -> usize {
         match self.count.checked_rem(u64::from(self.frame.columns())) {
             Some(column) => column as usize,
             None => 0,
@@ -53,8 +50,7 @@ impl<'a> Tally<'a> {
     }
 
     /// How many bytes the cells have, or why the page is not written with them.
-    pub fn measure(&self) -> Result<u32, Unfit>
-    {
+    pub fn measure(&self) -> Result<u32, Unfit> {
         let len = self.size.min(u64::from(u32::MAX)) as u32;
         if let Some(why) = self.frame.page_unfit(len) {
             return Err(why);

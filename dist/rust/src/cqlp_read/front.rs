@@ -13,8 +13,7 @@ pub(crate) struct Front {
 }
 
 /// The content of the \[bytes\] at the front of those left in a container, which begin at this offset; None where it is null.
-pub(crate) fn front_content(bytes: &[u8], at: usize) -> Result<Option<&[u8]>, ReadError>
-{
+pub(crate) fn front_content(bytes: &[u8], at: usize) -> Result<Option<&[u8]>, ReadError> {
     if bytes.len() < 4 {
         return Err(refused(at, Reason::Overrun));
     }
@@ -29,8 +28,7 @@ pub(crate) fn front_content(bytes: &[u8], at: usize) -> Result<Option<&[u8]>, Re
 }
 
 /// The count at the front of the content of a list, a set or a map, whose value begins at this offset.
-pub(crate) fn front_count(content: &[u8], at: usize) -> Result<u32, ReadError>
-{
+pub(crate) fn front_count(content: &[u8], at: usize) -> Result<u32, ReadError> {
     if content.len() < 4 {
         return Err(refused(at + 4, Reason::Overrun));
     }
@@ -42,19 +40,16 @@ pub(crate) fn front_count(content: &[u8], at: usize) -> Result<u32, ReadError>
 }
 
 /// The number that the first four bytes are.
-fn front_number(bytes: &[u8]) -> u32
-{
+fn front_number(bytes: &[u8]) -> u32 {
     u32::from_be_bytes(read_array(bytes))
 }
 
 /// The bytes after the first, this many.
-pub(crate) fn rest(bytes: &[u8], used: usize) -> &[u8]
-{
+pub(crate) fn rest(bytes: &[u8], used: usize) -> &[u8] {
     &bytes[used..]
 }
 
 /// Bytes that are refused at this offset.
-pub(crate) fn refused(at: usize, why: Reason) -> ReadError
-{
+pub(crate) fn refused(at: usize, why: Reason) -> ReadError {
     ReadError::Refused(Refusal { at: at as u64, why })
 }

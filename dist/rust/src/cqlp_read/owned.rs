@@ -7,8 +7,7 @@ use crate::kit_std::alloc::{AllocError, Global};
 
 /// The same scalar, with bytes of its own.
 #[inline]
-pub fn own(alloc: Global, scalar: Scalar<'_>) -> Result<Atom, AllocError>
-{
+pub fn own(alloc: Global, scalar: Scalar<'_>) -> Result<Atom, AllocError> {
     let atom = match scalar {
         Scalar::Custom(bytes) => Atom::Custom(Vec::from_slice(alloc, bytes)?),
         Scalar::Ascii(text) => Atom::Ascii(String::from_str(alloc, text)?),

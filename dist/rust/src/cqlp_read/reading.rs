@@ -37,8 +37,7 @@ pub fn read_value(
     limits: &Limits,
     of: Option<&TypeTree>,
     bytes: &[u8],
-) -> Result<Value, ReadError>
-{
+) -> Result<Value, ReadError> {
     let reading = Reading {
         alloc,
         limits: *limits,
@@ -56,8 +55,7 @@ pub fn read_value(
 }
 
 /// The same of a type that is formed, or of that of a cell without a type.
-fn read_all(reading: &Reading, tree: &TypeTree, bytes: &[u8]) -> Result<Value, ReadError>
-{
+fn read_all(reading: &Reading, tree: &TypeTree, bytes: &[u8]) -> Result<Value, ReadError> {
     let front = read_front(reading, tree, bytes, 0)?;
     if front.used < bytes.len() {
         return Err(refused(front.used, Reason::ExtraInValue));
@@ -71,8 +69,7 @@ fn read_front(
     tree: &TypeTree,
     bytes: &[u8],
     at: usize,
-) -> Result<Front, ReadError>
-{
+) -> Result<Front, ReadError> {
     let Some(content) = front_content(bytes, at)? else {
         return Ok(Front {
             value: Value::Null,
@@ -96,8 +93,7 @@ fn read_content(
     tree: &TypeTree,
     content: &[u8],
     at: usize,
-) -> Result<Value, ReadError>
-{
+) -> Result<Value, ReadError> {
     match tree {
         TypeTree::Plain(kind) => read_scalar(reading, *kind, content, at),
         TypeTree::Custom(_) => read_scalar(reading, Kind::Custom, content, at),
@@ -117,8 +113,7 @@ fn read_items(
     inner: &TypeTree,
     content: &[u8],
     at: usize,
-) -> Result<Vec<Value>, ReadError>
-{
+) -> Result<Vec<Value>, ReadError> {
     let count = front_count(content, at)?;
     let body = rest(content, 4);
     let mut items = Vec::new(reading.alloc);
@@ -141,8 +136,7 @@ fn read_pairs(
     values: &TypeTree,
     content: &[u8],
     at: usize,
-) -> Result<Vec<(Value, Value)>, ReadError>
-{
+) -> Result<Vec<(Value, Value)>, ReadError> {
     let count = front_count(content, at)?;
     let body = rest(content, 4);
     let mut pairs = Vec::new(reading.alloc);
@@ -166,8 +160,7 @@ fn read_types(
     types: &[TypeTree],
     content: &[u8],
     at: usize,
-) -> Result<Vec<Value>, ReadError>
-{
+) -> Result<Vec<Value>, ReadError> {
     let mut items = Vec::new(reading.alloc);
     let mut used = 0;
     for tree in types {
@@ -190,8 +183,7 @@ fn read_fields(
     fields: &[(String, TypeTree)],
     content: &[u8],
     at: usize,
-) -> Result<Vec<Value>, ReadError>
-{
+) -> Result<Vec<Value>, ReadError> {
     let mut items = Vec::new(reading.alloc);
     let mut used = 0;
     for (_, tree) in fields {
@@ -210,8 +202,7 @@ fn read_fields(
 
 /// The scalar of this kind with this content, which is not empty.
 #[inline]
-fn read_scalar(reading: &Reading, kind: Kind, content: &[u8], at: usize) -> Result<Value, ReadError>
-{
+fn read_scalar(reading: &Reading, kind: Kind, content: &[u8], at: usize) -> Result<Value, ReadError> {
     if is_too_long(&reading.limits, kind, content.len()) {
         return Err(refused(at, Reason::TooLong));
     }
@@ -222,7 +213,6 @@ fn read_scalar(reading: &Reading, kind: Kind, content: &[u8], at: usize) -> Resu
 }
 
 /// Whether a content of this kind is past the limit on a cell, and of a length that the kind allows.
-fn is_too_long(limits: &Limits, kind: Kind, len: usize) -> bool
-{
+fn is_too_long(limits: &Limits, kind: Kind, len: usize) -> bool {
     len > limits.cell as usize && allows(kind, len)
 }

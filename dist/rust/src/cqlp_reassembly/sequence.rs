@@ -11,8 +11,8 @@ pub enum Distance {
 }
 
 /// How far this sequence number is from another, by the shorter way.
-pub fn distance_to(sequence: u32, from: u32) -> Distance
-{
+#[must_use]
+pub fn distance_to(sequence: u32, from: u32) -> Distance {
     let ahead = sequence.wrapping_sub(from);
     if ahead < 0x8000_0000 {
         Distance::Ahead(ahead)

@@ -57,8 +57,7 @@ pub struct Stream<A: Allocator = Global> {
 
 impl Control {
     /// The sequence number of the payload's first byte.
-    fn first_number(self) -> u32
-    {
+    fn first_number(self) -> u32 {
         if self.syn {
             self.sequence.wrapping_add(1)
         } else {
@@ -67,8 +66,7 @@ impl Control {
     }
 
     /// The sequence number of FIN, after a payload of which this many bytes were captured.
-    fn fin_number(self, len: usize) -> u32
-    {
+    fn fin_number(self, len: usize) -> u32 {
         let length = (len + self.missing as usize) % 0x1_0000_0000;
         self.first_number().wrapping_add(length as u32)
     }
@@ -77,8 +75,11 @@ impl Control {
 impl<A: Allocator> Stream<A> {
     /// A stream of which nothing was seen, which can hold this many bytes that come early. This is the one call that takes
     /// memory: two bytes for each.
-    pub fn new(alloc: A, room: usize) -> Result<Self, AllocError>
-    {
+    ///
+    /// # Errors
+    ///
+    /// Memory that is refused.
+    pub fn new(alloc: A, room: usize) -> Result<Self, AllocError> {
         let window = Window::new(alloc, room, 0)?;
         Ok(Stream {
             stage: Stage::Unseen,
@@ -88,8 +89,7 @@ impl<A: Allocator> Stream<A> {
     }
 
     /// The next that a segment tells.
-    pub fn take(&mut self, control: Control, payload: &[u8]) -> StreamStep
-    {
+    pub fn take(&mut self, control: Control, payload: &[u8]) -> StreamStep {
         match self.stage {
             Stage::Over => StreamStep::Done,
             Stage::Unseen => {
@@ -112,8 +112,7 @@ impl<A: Allocator> Stream<A> {
 
     /// The next that an acknowledgement of the other side tells, which wants this number next: bytes before it that are missing
     /// are lost, if later ones came or FIN did.
-    pub fn acknowledge(&mut self, number: u32) -> StreamStep
-    {
+    pub fn acknowledge(&mut self, number: u32) -> StreamStep {
         match self.stage {
             Stage::Over | Stage::Unseen => StreamStep::Done,
             Stage::Open => {
@@ -128,42 +127,36 @@ impl<A: Allocator> Stream<A> {
 
     /// The next that is told where no more segments come: a hole is a gap, if later bytes came or FIN did, as if the other side
     /// had acknowledged it.
-    pub fn close(&mut self) -> StreamStep
-    {
+    pub fn close(&mut self) -> StreamStep {
         let number = self.window.next().wrapping_add(0x7fff_ffff);
         self.acknowledge(number)
     }
 
     /// Forgets all that it has: it is a stream of which nothing was seen, with the memory that it had.
-    pub fn clear(&mut self)
-    {
+    pub fn clear(&mut self) {
         self.window.restart(0);
         self.stage = Stage::Unseen;
         self.end = None;
     }
 
     /// How many bytes that came before are next.
-    pub fn held(&self) -> usize
-    {
+    pub fn held(&self) -> usize {
         self.up_to_end(self.window.ready())
     }
 
     /// Hands on the next bytes that came before, as many as `bytes` has.
-    pub(crate) fn read(&mut self, bytes: &mut [u8])
-    {
+    pub(crate) fn read(&mut self, bytes: &mut [u8]) {
         self.window.read(bytes);
     }
 
     /// Ends it.
-    fn finish(&mut self, step: StreamStep) -> StreamStep
-    {
+    fn finish(&mut self, step: StreamStep) -> StreamStep {
         self.stage = Stage::Over;
         step
     }
 
     /// Begins it at a segment with SYN, FIN or this many bytes.
-    fn begin(&mut self, control: Control, len: usize) -> StreamStep
-    {
+    fn begin(&mut self, control: Control, len: usize) -> StreamStep {
         if control.syn || control.fin || len > 0 {
             self.window.restart(control.first_number());
             self.stage = Stage::Open;
@@ -175,16 +168,14 @@ impl<A: Allocator> Stream<A> {
     }
 
     /// Notes where FIN lies, if this is the first.
-    fn note_end(&mut self, control: Control, len: usize)
-    {
+    fn note_end(&mut self, control: Control, len: usize) {
         if self.end.is_none() && control.fin {
             self.end = Some(control.fin_number(len));
         }
     }
 
     /// Of this many bytes from the next on, those before FIN.
-    fn up_to_end(&self, count: usize) -> usize
-    {
+    fn up_to_end(&self, count: usize) -> usize {
         match self.end {
             None => count,
             Some(end) => match distance_to(end, self.window.next()) {
@@ -195,14 +186,12 @@ impl<A: Allocator> Stream<A> {
     }
 
     /// Whether no byte came early.
-    fn is_empty(&self) -> bool
-    {
+    fn is_empty(&self) -> bool {
         self.window.lead() == self.window.room()
     }
 
     /// Takes the bytes of a segment that begin at this sequence number.
-    fn receive(&mut self, number: u32, payload: &[u8]) -> StreamStep
-    {
+    fn receive(&mut self, number: u32, payload: &[u8]) -> StreamStep {
         let from = overlap(distance_to(number, self.window.next()), payload.len());
         let count = self.fresh(from, payload.len());
         if count > 0 {
@@ -214,8 +203,7 @@ impl<A: Allocator> Stream<A> {
     }
 
     /// How many bytes of a payload are next from this index on, where nothing came early.
-    fn fresh(&self, from: usize, len: usize) -> usize
-    {
+    fn fresh(&self, from: usize, len: usize) -> usize {
         if self.is_empty() {
             self.up_to_end(len - from)
         } else {
@@ -224,8 +212,7 @@ impl<A: Allocator> Stream<A> {
     }
 
     /// What is told after a payload of this length was put with those that came early.
-    fn keep_early(&mut self, number: u32, len: usize) -> StreamStep
-    {
+    fn keep_early(&mut self, number: u32, len: usize) -> StreamStep {
         if let Some(step) = self.next_step() {
             return step;
         }
@@ -234,8 +221,7 @@ impl<A: Allocator> Stream<A> {
     }
 
     /// Bytes that came, or the end, if either is next.
-    fn next_step(&mut self) -> Option<StreamStep>
-    {
+    fn next_step(&mut self) -> Option<StreamStep> {
         let count = self.held();
         if count > 0 {
             Some(StreamStep::Held { count })
@@ -248,8 +234,7 @@ impl<A: Allocator> Stream<A> {
 
     /// How many bytes are missing before the first that came, or before a segment so far away and of this length, if that lies
     /// beyond the window.
-    fn lacking(&self, distance: Distance, len: usize) -> usize
-    {
+    fn lacking(&self, distance: Distance, len: usize) -> usize {
         let Distance::Ahead(n) = distance else {
             return 0;
         };
@@ -263,8 +248,7 @@ impl<A: Allocator> Stream<A> {
     }
 
     /// Passes over this many bytes, if there are any.
-    fn give_up(&mut self, length: usize) -> StreamStep
-    {
+    fn give_up(&mut self, length: usize) -> StreamStep {
         if length == 0 {
             return StreamStep::Done;
         }
@@ -273,8 +257,7 @@ impl<A: Allocator> Stream<A> {
     }
 
     /// How many bytes are missing before the first that came, or before FIN.
-    fn hole(&self) -> usize
-    {
+    fn hole(&self) -> usize {
         let most = if self.is_empty() {
             0x8000_0000
         } else {
@@ -284,8 +267,7 @@ impl<A: Allocator> Stream<A> {
     }
 
     /// Whether the other side has all bytes of the hole.
-    fn is_lost(&self, number: u32) -> bool
-    {
+    fn is_lost(&self, number: u32) -> bool {
         if self.is_empty() && self.end.is_none() {
             return false;
         }
@@ -297,8 +279,7 @@ impl<A: Allocator> Stream<A> {
 }
 
 /// How many bytes of a payload lie before the next one: all, if it begins after it.
-fn overlap(distance: Distance, len: usize) -> usize
-{
+fn overlap(distance: Distance, len: usize) -> usize {
     match distance {
         Distance::Ahead(0) => 0,
         Distance::Ahead(_) => len,

@@ -15,8 +15,7 @@ pub(crate) struct BufferedSink<W: Target, A: Allocator, F: Form> {
 
 impl<W: Target, A: Allocator, F: Form> BufferedSink<W, A, F> {
     /// Over a buffer, in a form.
-    pub fn new(buffered: Buffered<W, A>, form: F) -> Self
-    {
+    pub fn new(buffered: Buffered<W, A>, form: F) -> Self {
         BufferedSink {
             writer: TextWriter::new(buffered),
             form,
@@ -24,8 +23,7 @@ impl<W: Target, A: Allocator, F: Form> BufferedSink<W, A, F> {
     }
 
     /// The buffer.
-    pub fn into_inner(self) -> Buffered<W, A>
-    {
+    pub fn into_inner(self) -> Buffered<W, A> {
         let BufferedSink { writer, form: _ } = self;
         writer.into_inner()
     }
@@ -33,8 +31,7 @@ impl<W: Target, A: Allocator, F: Form> BufferedSink<W, A, F> {
 
 impl<W: Target, A: Allocator, F: Form> BufferedSink<W, A, F> {
     /// Passes on all text that waits; after a fault nothing waits either.
-    pub fn flush(&mut self) -> Result<(), SinkFault>
-    {
+    pub fn flush(&mut self) -> Result<(), SinkFault> {
         self.writer.pass_on()
     }
 }

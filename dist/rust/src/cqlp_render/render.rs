@@ -16,14 +16,12 @@ pub(crate) struct TextSink<W: Target, F: Form> {
 
 impl<W: Target, F: Form> TextSink<W, F> {
     /// Over a target, in a form.
-    pub fn new(target: W, form: F) -> Self
-    {
+    pub fn new(target: W, form: F) -> Self {
         TextSink { target, form }
     }
 
     /// The target.
-    pub fn into_inner(self) -> W
-    {
+    pub fn into_inner(self) -> W {
         let TextSink { target, form: _ } = self;
         target
     }
@@ -43,8 +41,7 @@ pub fn render_events<R: Source, W: Target, A: Allocator>(
     reader: &mut R,
     w: W,
     turns: u64,
-) -> (Outcome, W)
-{
+) -> (Outcome, W) {
     let mut sink = TextSink::new(w, Lines);
     let outcome = run(decoder, reader, &mut sink, turns);
     (outcome, sink.into_inner())
@@ -58,8 +55,7 @@ pub fn render_rows<R: Source, W: Target, A: Allocator>(
     reader: &mut R,
     w: W,
     turns: u64,
-) -> (Outcome, W)
-{
+) -> (Outcome, W) {
     let mut sink = TextSink::new(w, PagePlace::new());
     let outcome = run(decoder, reader, &mut sink, turns);
     (outcome, sink.into_inner())
@@ -72,8 +68,7 @@ pub(crate) fn run_flushing<R: Source, W: Target, F: Form, A: Allocator, B: Alloc
     reader: &mut R,
     sink: &mut BufferedSink<W, B, F>,
     turns: u64,
-) -> Outcome
-{
+) -> Outcome {
     let mut outcome = run(decoder, reader, sink, 0);
     for turn in 0..turns {
         let Outcome::Turns = outcome else {

@@ -16,7 +16,7 @@ use crate::kit_std::alloc::Allocator;
 pub const TURNS: u64 = 4_294_967_296;
 
 /// How many bytes of text go to the output at once.
-const ROOM: usize = 16_384;
+pub const ROOM: usize = 16_384;
 
 /// Writes the lines of the events of a stream to `out`, and the verdict line or fault line to `err`. Answers the exit
 /// status, and the two outputs.
@@ -26,8 +26,7 @@ pub(crate) fn show<R: Source, O: Target, E: Target, A: Allocator>(
     input: &mut R,
     out: O,
     err: E,
-) -> (u8, O, E)
-{
+) -> (u8, O, E) {
     show_as(alloc, limits, false, TextForm::Lines, input, out, err)
 }
 
@@ -39,8 +38,7 @@ pub(crate) fn rows<R: Source, O: Target, E: Target, A: Allocator>(
     input: &mut R,
     out: O,
     err: E,
-) -> (u8, O, E)
-{
+) -> (u8, O, E) {
     show_as(
         alloc,
         limits,
@@ -62,8 +60,7 @@ pub(crate) fn show_as<R: Source, O: Target, E: Target, A: Allocator>(
     input: &mut R,
     out: O,
     err: E,
-) -> (u8, O, E)
-{
+) -> (u8, O, E) {
     let (ending, out) = write_as(alloc, limits, lenient, form, input, out);
     let (status, err) = conclude(ending, err);
     (status, out, err)
@@ -78,8 +75,7 @@ pub(crate) fn check<R: Source, O: Target, E: Target, A: Allocator>(
     input: &mut R,
     out: O,
     err: E,
-) -> (u8, O, E)
-{
+) -> (u8, O, E) {
     let (ending, mut out) = read_through(alloc, limits, lenient, input, out);
     let Ending::Finished(_) = ending else {
         let (status, err) = conclude(ending, err);
@@ -99,8 +95,7 @@ fn read_through<R: Source, O: Target, A: Allocator>(
     lenient: bool,
     input: &mut R,
     out: O,
-) -> (Ending, O)
-{
+) -> (Ending, O) {
     let Some(mut decoder) = decoder_within(alloc, limits, lenient) else {
         return (Ending::NoMemory, out);
     };
@@ -117,8 +112,7 @@ fn write_as<R: Source, O: Target, A: Allocator>(
     form: TextForm,
     input: &mut R,
     out: O,
-) -> (Ending, O)
-{
+) -> (Ending, O) {
     match form {
         TextForm::Lines => write_text(alloc, limits, lenient, Lines, input, out),
         TextForm::JsonLines => write_text(alloc, limits, lenient, JsonLines, input, out),
@@ -144,8 +138,7 @@ fn write_text<R: Source, O: Target, F: Form, A: Allocator>(
     form: F,
     input: &mut R,
     out: O,
-) -> (Ending, O)
-{
+) -> (Ending, O) {
     let Some(mut decoder) = decoder_within(alloc, limits, lenient) else {
         return (Ending::NoMemory, out);
     };
@@ -161,8 +154,7 @@ fn decoder_within<'a, A: Allocator>(
     alloc: &'a A,
     limits: Limits,
     lenient: bool,
-) -> Option<Decoder<&'a A>>
-{
+) -> Option<Decoder<&'a A>> {
     match new_decoder(alloc, limits, lenient) {
         Ok(decoder) => Some(decoder),
         Err(NewError::NoMemory) => None,
@@ -175,8 +167,7 @@ fn new_decoder<A: Allocator + Clone>(
     alloc: A,
     limits: Limits,
     lenient: bool,
-) -> Result<Decoder<A>, NewError>
-{
+) -> Result<Decoder<A>, NewError> {
     if lenient {
         Decoder::lenient(alloc, limits)
     } else {
@@ -185,8 +176,7 @@ fn new_decoder<A: Allocator + Clone>(
 }
 
 /// How the command ends where a run does.
-fn ending_of(outcome: Outcome) -> Ending
-{
+fn ending_of(outcome: Outcome) -> Ending {
     match outcome {
         Outcome::Finished(finish) => Ending::Finished(finish),
         Outcome::ReadFault => Ending::ReadFault,
@@ -202,8 +192,7 @@ fn render_buffered<R: Source, O: Target, F: Form, A: Allocator, B: Allocator>(
     out: O,
     form: F,
     buffer: Vec<u8, B>,
-) -> (Outcome, O)
-{
+) -> (Outcome, O) {
     let mut sink = BufferedSink::new(Buffered::new(out, buffer), form);
     let outcome = run_flushing(decoder, input, &mut sink, TURNS);
     let mut buffered = sink.into_inner();
@@ -217,8 +206,7 @@ fn render_buffered<R: Source, O: Target, F: Form, A: Allocator, B: Allocator>(
 }
 
 /// Writes the verdict line or fault line. Answers the exit status, which is that of a fault where the target fails.
-pub fn conclude<E: Target>(ending: Ending, mut err: E) -> (u8, E)
-{
+pub fn conclude<E: Target>(ending: Ending, mut err: E) -> (u8, E) {
     match ending_line(ending, &mut err) {
         Ok(()) => (ending.status(), err),
         Err(SinkFault) => (FAULT, err),

@@ -12,6 +12,9 @@ const TCP: u8 = 6;
 /// The number of IPv6's header of a fragment.
 const FRAGMENT: u8 = 44;
 
+/// The number of the header that authenticates a packet.
+const AUTHENTICATION: u8 = 51;
+
 /// What a packet of IP carries.
 #[derive(Clone, Copy)]
 pub(crate) struct Carried<'a> {
@@ -24,8 +27,7 @@ pub(crate) struct Carried<'a> {
 }
 
 /// What a packet of IP carries that had this many bytes beyond those that were captured.
-pub(crate) fn carried_by(ip: IpPacket<'_>, beyond: usize) -> Result<Carried<'_>, NoSegment>
-{
+pub(crate) fn carried_by(ip: IpPacket<'_>, beyond: usize) -> Result<Carried<'_>, NoSegment> {
     match ip.version {
         IpVersion::V4 => carried_by_4(ip.bytes, beyond),
         IpVersion::V6 => carried_by_6(ip.bytes, beyond),
@@ -33,8 +35,7 @@ pub(crate) fn carried_by(ip: IpPacket<'_>, beyond: usize) -> Result<Carried<'_>,
 }
 
 /// A length in a header of IP, or the length of all that there was where it is 0.
-fn length_or_all(said: u16, bytes: &[u8], beyond: usize) -> usize
-{
+fn length_or_all(said: u16, bytes: &[u8], beyond: usize) -> usize {
     match said {
         0 => bytes.len() + beyond,
         said => said as usize,
@@ -42,8 +43,7 @@ fn length_or_all(said: u16, bytes: &[u8], beyond: usize) -> usize
 }
 
 /// What a packet of IPv4 carries. RFC 791, section 3.1.
-fn carried_by_4(bytes: &[u8], beyond: usize) -> Result<Carried<'_>, NoSegment>
-{
+fn carried_by_4(bytes: &[u8], beyond: usize) -> Result<Carried<'_>, NoSegment> {
     if bytes.len() < 20 {
         return Err(NoSegment::CutInIp);
     }
@@ -73,8 +73,7 @@ fn carried_by_4(bytes: &[u8], beyond: usize) -> Result<Carried<'_>, NoSegment>
 }
 
 /// What a packet of IPv6 carries, after its extension headers. RFC 8200, sections 3 and 4.
-fn carried_by_6(bytes: &[u8], beyond: usize) -> Result<Carried<'_>, NoSegment>
-{
+fn carried_by_6(bytes: &[u8], beyond: usize) -> Result<Carried<'_>, NoSegment> {
     if bytes.len() < 40 {
         return Err(NoSegment::CutInIp);
     }
@@ -93,8 +92,7 @@ fn carried_by_6(bytes: &[u8], beyond: usize) -> Result<Carried<'_>, NoSegment>
 }
 
 /// The address in these sixteen bytes.
-fn address_6(octets: &[u8]) -> Address
-{
+fn address_6(octets: &[u8]) -> Address {
     match octets.try_into() {
         Ok(octets) => Address::V6(octets),
         Err(_) => unreachable!(),
@@ -103,8 +101,7 @@ fn address_6(octets: &[u8]) -> Address
 
 /// Passes over the extension headers, of which the first is of this kind. How many bytes are left of those that IP
 /// carries, and the bytes from the header of TCP on.
-fn past_extensions(kind: u8, size: usize, bytes: &[u8]) -> Result<(usize, &[u8]), NoSegment>
-{
+fn past_extensions(kind: u8, size: usize, bytes: &[u8]) -> Result<(usize, &[u8]), NoSegment> {
     let mut kind = kind;
     let mut size = size;
     let mut bytes = bytes;
@@ -112,12 +109,15 @@ fn past_extensions(kind: u8, size: usize, bytes: &[u8]) -> Result<(usize, &[u8])
         if bytes.len() < 2 {
             return Err(NoSegment::CutInIp);
         }
-        let header = 8 + 8 * bytes[1] as usize;
+        let header = 8 + unit(kind) * bytes[1] as usize;
         if size < header {
             return Err(NoSegment::BadIpLength);
         }
         if bytes.len() < header {
             return Err(NoSegment::CutInIp);
+        }
+        if is_part(kind, number_16(bytes, 2)) {
+            return Err(NoSegment::Fragment);
         }
         kind = bytes[0];
         size -= header;
@@ -127,17 +127,29 @@ fn past_extensions(kind: u8, size: usize, bytes: &[u8]) -> Result<(usize, &[u8])
 }
 
 /// What a header of this kind, which is no extension header that may be passed over, says of the bytes that are left.
-fn upper(kind: u8, size: usize, bytes: &[u8]) -> Result<(usize, &[u8]), NoSegment>
-{
+fn upper(kind: u8, size: usize, bytes: &[u8]) -> Result<(usize, &[u8]), NoSegment> {
     match kind {
         TCP => Ok((size, bytes)),
-        FRAGMENT => Err(NoSegment::Fragment),
         _ => Err(NoSegment::NotTcp),
     }
 }
 
-/// Whether an extension header may be passed over: options for each hop, routing, and options for the destination.
-fn is_extension(kind: u8) -> bool
-{
-    matches!(kind, 0 | 43 | 60)
+/// Whether an extension header may be passed over: options for each hop, routing, that of a fragment which is the whole packet,
+/// authentication, and options for the destination.
+fn is_extension(kind: u8) -> bool {
+    matches!(kind, 0 | 43 | FRAGMENT | AUTHENTICATION | 60)
+}
+
+/// In how many bytes an extension header's second byte counts those after the first eight.
+fn unit(kind: u8) -> usize {
+    match kind {
+        FRAGMENT => 0,
+        AUTHENTICATION => 4,
+        _ => 8,
+    }
+}
+
+/// Whether a header with this number in its third and fourth byte says that the packet is a fragment and not whole.
+fn is_part(kind: u8, number: u16) -> bool {
+    kind == FRAGMENT && !(number / 8 == 0 && number % 2 == 0)
 }

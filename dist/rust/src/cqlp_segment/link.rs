@@ -42,8 +42,11 @@ pub(crate) struct IpPacket<'a> {
 
 impl LinkType {
     /// The link type of this number; of any other, `UnknownLink`.
-    pub fn from_number(number: u16) -> Result<LinkType, NoSegment>
-    {
+    ///
+    /// # Errors
+    ///
+    /// `UnknownLink`, for any other number.
+    pub fn from_number(number: u16) -> Result<LinkType, NoSegment> {
         match number {
             0 => Ok(LinkType::Null),
             1 => Ok(LinkType::Ethernet),
@@ -59,8 +62,7 @@ impl LinkType {
 }
 
 /// The packet of IP in a captured packet.
-pub(crate) fn ip_packet(link: LinkType, packet: &[u8]) -> Result<IpPacket<'_>, NoSegment>
-{
+pub(crate) fn ip_packet(link: LinkType, packet: &[u8]) -> Result<IpPacket<'_>, NoSegment> {
     match link {
         LinkType::Null => after_family(packet, true),
         LinkType::Loop => after_family(packet, false),
@@ -86,8 +88,7 @@ pub(crate) fn ip_packet(link: LinkType, packet: &[u8]) -> Result<IpPacket<'_>, N
 }
 
 /// What follows a family of addresses in four bytes, which may be in either order.
-fn after_family(packet: &[u8], either: bool) -> Result<IpPacket<'_>, NoSegment>
-{
+fn after_family(packet: &[u8], either: bool) -> Result<IpPacket<'_>, NoSegment> {
     if packet.len() < 4 {
         return Err(NoSegment::CutInLink);
     }
@@ -106,8 +107,7 @@ fn after_family(packet: &[u8], either: bool) -> Result<IpPacket<'_>, NoSegment>
 }
 
 /// The version of IP whose addresses are of this family: BSDs have three numbers for IPv6.
-fn version_of_family(family: u32) -> Option<IpVersion>
-{
+fn version_of_family(family: u32) -> Option<IpVersion> {
     match family {
         2 => Some(IpVersion::V4),
         24 | 28 | 30 => Some(IpVersion::V6),
@@ -116,8 +116,7 @@ fn version_of_family(family: u32) -> Option<IpVersion>
 }
 
 /// What follows a header of this many bytes, which has an EtherType at this index, and the tags after it.
-fn after_type(packet: &[u8], index: usize, header: usize) -> Result<IpPacket<'_>, NoSegment>
-{
+fn after_type(packet: &[u8], index: usize, header: usize) -> Result<IpPacket<'_>, NoSegment> {
     if packet.len() < header {
         return Err(NoSegment::CutInLink);
     }
@@ -132,8 +131,7 @@ fn after_type(packet: &[u8], index: usize, header: usize) -> Result<IpPacket<'_>
 }
 
 /// The EtherType after all tags, and the bytes after it.
-fn untagged(ether_type: u16, bytes: &[u8]) -> Result<(u16, &[u8]), NoSegment>
-{
+fn untagged(ether_type: u16, bytes: &[u8]) -> Result<(u16, &[u8]), NoSegment> {
     let mut ether_type = ether_type;
     let mut bytes = bytes;
     while is_tag(ether_type) {
@@ -147,14 +145,12 @@ fn untagged(ether_type: u16, bytes: &[u8]) -> Result<(u16, &[u8]), NoSegment>
 }
 
 /// Whether an EtherType is that of a tag of a virtual network.
-fn is_tag(ether_type: u16) -> bool
-{
+fn is_tag(ether_type: u16) -> bool {
     matches!(ether_type, 0x8100 | 0x88A8 | 0x9100)
 }
 
 /// The version of IP that the first byte says.
-fn raw_version(packet: &[u8]) -> Result<IpVersion, NoSegment>
-{
+fn raw_version(packet: &[u8]) -> Result<IpVersion, NoSegment> {
     match packet {
         [] => Err(NoSegment::CutInIp),
         [first, ..] => match first >> 4 {

@@ -14,7 +14,7 @@ pub enum NoSegment {
     CutInIp,
     /// A length in the header of IP is less than the header, or an extension header is longer than what IP carries.
     BadIpLength,
-    /// A fragment of a packet: its bytes are no whole segment.
+    /// A fragment that is not the whole packet: its bytes are no whole segment.
     Fragment,
     /// IP carries something else than TCP.
     NotTcp,

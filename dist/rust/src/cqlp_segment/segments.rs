@@ -37,8 +37,11 @@ pub struct Segment<'a> {
 ///
 /// Checksums are not looked at, since network cards make them after a sender's packet was captured. Where a header of IP says
 /// the length 0, as it does of what a network card is to cut into segments, IP carries all that the packet had.
-pub fn read_segment(link: LinkType, packet: &[u8], original: u32) -> Result<Segment<'_>, NoSegment>
-{
+///
+/// # Errors
+///
+/// The first reason, from the outer header to the inner, why there is no segment.
+pub fn read_segment(link: LinkType, packet: &[u8], original: u32) -> Result<Segment<'_>, NoSegment> {
     let beyond = (original as usize).saturating_sub(packet.len());
     let ip = ip_packet(link, packet)?;
     let carried = carried_by(ip, beyond)?;
@@ -52,15 +55,13 @@ pub fn read_segment(link: LinkType, packet: &[u8], original: u32) -> Result<Segm
 }
 
 /// The bytes after a header of this length that were captured of those that IP carries.
-fn payload_of<'a>(carried: &Carried<'a>, header: usize) -> &'a [u8]
-{
+fn payload_of<'a>(carried: &Carried<'a>, header: usize) -> &'a [u8] {
     let captured = carried.bytes.len().min(carried.size);
     &carried.bytes[header..captured]
 }
 
 /// What the headers say, of which all of TCP's was captured.
-fn head_of(carried: &Carried<'_>) -> SegmentHead
-{
+fn head_of(carried: &Carried<'_>) -> SegmentHead {
     let bytes = carried.bytes;
     SegmentHead {
         source: Endpoint {

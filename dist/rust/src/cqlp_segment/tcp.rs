@@ -19,8 +19,7 @@ pub struct Flags {
 
 impl Flags {
     /// The flags in the byte of control bits.
-    pub(crate) fn of_byte(bits: u8) -> Flags
-    {
+    pub(crate) fn of_byte(bits: u8) -> Flags {
         Flags {
             syn: bits & 0x02 != 0,
             fin: bits & 0x01 != 0,
@@ -31,8 +30,7 @@ impl Flags {
 }
 
 /// How many bytes the header of TCP has, all of which were captured. RFC 9293, section 3.1.
-pub(crate) fn header_length(carried: &Carried<'_>) -> Result<usize, NoSegment>
-{
+pub(crate) fn header_length(carried: &Carried<'_>) -> Result<usize, NoSegment> {
     if carried.size < 20 {
         return Err(NoSegment::BadTcpLength);
     }

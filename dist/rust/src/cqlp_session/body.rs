@@ -14,8 +14,8 @@ pub struct Body {
 impl Body {
     /// A body of this many bytes, whose header has these flags. None where the flag 01, compression, is set, or where there
     /// are more bytes than [`Header::LONGEST_BODY`].
-    pub fn new(flags: u8, length: u32) -> Option<Body>
-    {
+    #[must_use]
+    pub fn new(flags: u8, length: u32) -> Option<Body> {
         let compressed = flags & 0x01 > 0;
         if compressed || length > Header::LONGEST_BODY {
             return None;
@@ -24,14 +24,14 @@ impl Body {
     }
 
     /// The header's flags.
-    pub fn flags(&self) -> u8
-    {
+    #[must_use]
+    pub fn flags(&self) -> u8 {
         self.flags
     }
 
     /// The bytes of the body.
-    pub fn length(&self) -> u32
-    {
+    #[must_use]
+    pub fn length(&self) -> u32 {
         self.length
     }
 }

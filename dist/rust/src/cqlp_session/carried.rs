@@ -18,8 +18,7 @@ pub struct Refused<E, T> {
 pub(crate) fn empty<T, A: Allocator>(
     alloc: A,
     len: usize,
-) -> Result<Vec<Option<T>, A>, AllocError>
-{
+) -> Result<Vec<Option<T>, A>, AllocError> {
     let mut carried = Vec::with_capacity(alloc, len)?;
     for _ in 0..len {
         carried.push_reserved(None);
@@ -28,8 +27,7 @@ pub(crate) fn empty<T, A: Allocator>(
 }
 
 /// Puts a value under an id.
-pub(crate) fn keep<T>(carried: &mut [Option<T>], id: i16, value: T)
-{
+pub(crate) fn keep<T>(carried: &mut [Option<T>], id: i16, value: T) {
     match slots::index_of(id) {
         Some(i) if i < carried.len() => carried[i] = Some(value),
         _ => {}
@@ -37,8 +35,7 @@ pub(crate) fn keep<T>(carried: &mut [Option<T>], id: i16, value: T)
 }
 
 /// Takes the value under an id, if one is there.
-pub(crate) fn take<T>(carried: &mut [Option<T>], id: i16) -> Option<T>
-{
+pub(crate) fn take<T>(carried: &mut [Option<T>], id: i16) -> Option<T> {
     match slots::index_of(id) {
         Some(i) if i < carried.len() => carried[i].take(),
         _ => None,
@@ -46,8 +43,7 @@ pub(crate) fn take<T>(carried: &mut [Option<T>], id: i16) -> Option<T>
 }
 
 /// The value under an id, if one is there.
-pub(crate) fn get<T>(carried: &[Option<T>], id: i16) -> Option<&T>
-{
+pub(crate) fn get<T>(carried: &[Option<T>], id: i16) -> Option<&T> {
     match slots::index_of(id) {
         Some(i) if i < carried.len() => carried[i].as_ref(),
         _ => None,
@@ -55,8 +51,7 @@ pub(crate) fn get<T>(carried: &[Option<T>], id: i16) -> Option<&T>
 }
 
 /// The value in a place, where one is, to write.
-pub(crate) fn value_in<T>(place: &mut Option<T>) -> &mut T
-{
+pub(crate) fn value_in<T>(place: &mut Option<T>) -> &mut T {
     match place {
         Some(value) => value,
         None => unreachable!(),

@@ -23,6 +23,10 @@ pub struct Client<A: Allocator = Global> {
 impl<A: Allocator> Client<A> {
     /// The core of a connection on which nothing was sent yet. `slots` is how many requests may be open at a time, 1 to
     /// 32,768; their stream ids are those below it (section 2.3 of `native_protocol_v4.spec`). All memory is taken here.
+    ///
+    /// # Errors
+    ///
+    /// A number of slots that is 0 or over 32,768, and memory that is refused.
     pub fn new(alloc: A, slots: u16) -> Result<Client<A>, SlotsOrMemory>
     where
         A: Clone,
@@ -38,15 +42,13 @@ impl<A: Allocator> Client<A> {
     }
 
     /// How far the setting up of the connection has come.
-    pub fn phase(&self) -> Phase
-    {
+    pub fn phase(&self) -> Phase {
         self.phase
     }
 
     /// Whether a request is open under this stream id: one began under it, and its reply has not come. A request that was
     /// cancelled is open until then. No request is open under a negative id.
-    pub fn is_open(&self, stream: i16) -> bool
-    {
+    pub fn is_open(&self, stream: i16) -> bool {
         self.streams.under(stream).is_some()
     }
 
@@ -54,6 +56,10 @@ impl<A: Allocator> Client<A> {
     ///
     /// The first of these refuses it, and changes nothing: `Phase`, where requests of this kind may not begin in the
     /// phase that stands; `Spent`, where 2^64 - 1 requests have begun; `Full`, where each id is taken.
+    ///
+    /// # Errors
+    ///
+    /// `Phase`, `Spent` or `Full`, as said above.
     pub fn begin(&mut self, kind: RequestKind) -> Result<Ticket, BeginError>
 
         // What the answer says of the ids and the numbers.
@@ -85,8 +91,11 @@ impl<A: Allocator> Client<A> {
     /// An EVENT response with a negative id is no reply. Of any other message, the first of these refuses it, and
     /// changes nothing: `NotResponse`, for a request; `NoSuchStream`, where no request is open under its id;
     /// `WrongOpcode`, where it does not answer requests of that kind.
-    pub fn reply(&mut self, header: &Header) -> Result<Reply, Stray>
-    {
+    ///
+    /// # Errors
+    ///
+    /// `NotResponse`, `NoSuchStream` or `WrongOpcode`, as said above.
+    pub fn reply(&mut self, header: &Header) -> Result<Reply, Stray> {
         let Header {
             response,
             flags: _,
@@ -124,8 +133,7 @@ impl<A: Allocator> Client<A> {
 
     /// Gives up a request that waits for its reply, and was not given up before, unless it is a STARTUP or an
     /// AUTH_RESPONSE; else changes nothing. Its id stays taken until its reply comes.
-    pub fn cancel(&mut self, ticket: Ticket) -> bool
-    {
+    pub fn cancel(&mut self, ticket: Ticket) -> bool {
         let Some(open) = self.streams.under(ticket.id) else {
             return false;
         };

@@ -41,6 +41,10 @@ pub struct ClientOf<T, A: Allocator = Global> {
 impl<T, A: Allocator> ClientOf<T, A> {
     /// The core of a connection on which nothing was sent yet. `slots` is how many requests may be open at a time, 1 to
     /// 32,768, as in [`Client::new`]. All memory is taken here: that of a `Client`, and a place for each value.
+    ///
+    /// # Errors
+    ///
+    /// A number of slots that is 0 or over 32,768, and memory that is refused.
     pub fn new(alloc: A, slots: u16) -> Result<ClientOf<T, A>, SlotsOrMemory>
     where
         A: Clone,
@@ -55,26 +59,22 @@ impl<T, A: Allocator> ClientOf<T, A> {
     }
 
     /// How far the setting up of the connection has come.
-    pub fn phase(&self) -> Phase
-    {
+    pub fn phase(&self) -> Phase {
         self.core.phase()
     }
 
     /// Whether a request is open under this stream id, as in [`Client::is_open`].
-    pub fn is_open(&self, stream: i16) -> bool
-    {
+    pub fn is_open(&self, stream: i16) -> bool {
         self.core.is_open(stream)
     }
 
     /// The value that the request carries which is open under this stream id. None where none is.
-    pub fn get(&self, stream: i16) -> Option<&T>
-    {
+    pub fn get(&self, stream: i16) -> Option<&T> {
         carried::get(&self.carried, stream)
     }
 
     /// The same, to write: what is left there is what the request carries from then on. Nothing else changes.
-    pub fn get_mut(&mut self, stream: i16) -> Option<&mut T>
-    {
+    pub fn get_mut(&mut self, stream: i16) -> Option<&mut T> {
         if self.get(stream).is_some() {
             Some(self.value_mut(stream))
         } else {
@@ -83,23 +83,24 @@ impl<T, A: Allocator> ClientOf<T, A> {
     }
 
     /// The value of the request that is open under this stream id, to write.
-    fn value_mut(&mut self, stream: i16) -> &mut T
-    {
+    fn value_mut(&mut self, stream: i16) -> &mut T {
         carried::value_in(&mut self.carried[stream as usize])
     }
 
     /// The values of all requests that are still open, in the order of their stream ids: what is left to be told when
     /// the connection ends. Takes no memory.
-    pub fn into_values(self) -> IntoValues<T, A>
-    {
+    pub fn into_values(self) -> IntoValues<T, A> {
         let ClientOf { core: _, carried } = self;
         IntoValues::new(carried)
     }
 
     /// Begins a request, as [`Client::begin`] does, and keeps a value until its reply. Where it is refused, the value
     /// comes back and nothing is changed.
-    pub fn begin(&mut self, kind: RequestKind, carried: T) -> Result<Ticket, Refused<BeginError, T>>
-    {
+    ///
+    /// # Errors
+    ///
+    /// As [`Client::begin`], with the value.
+    pub fn begin(&mut self, kind: RequestKind, carried: T) -> Result<Ticket, Refused<BeginError, T>> {
         match self.core.begin(kind) {
             Ok(ticket) => {
                 carried::keep(&mut self.carried, ticket.id, carried);
@@ -111,8 +112,11 @@ impl<T, A: Allocator> ClientOf<T, A> {
 
     /// Takes the header of a message that came, as [`Client::reply`] does. A reply hands out the value that its request
     /// began with, given up or not.
-    pub fn reply(&mut self, header: &Header) -> Result<ReplyOf<T>, Stray>
-    {
+    ///
+    /// # Errors
+    ///
+    /// As [`Client::reply`].
+    pub fn reply(&mut self, header: &Header) -> Result<ReplyOf<T>, Stray> {
         let reply = self.core.reply(header)?;
         let value = carried::take(&mut self.carried, header.stream);
         match (reply, value) {
@@ -128,8 +132,7 @@ impl<T, A: Allocator> ClientOf<T, A> {
     }
 
     /// Gives up a request, as [`Client::cancel`] does. Its value stays until its reply comes, which hands it out.
-    pub fn cancel(&mut self, ticket: Ticket) -> bool
-    {
+    pub fn cancel(&mut self, ticket: Ticket) -> bool {
         self.core.cancel(ticket)
     }
 }

@@ -15,12 +15,15 @@ use crate::kit_std::alloc::Allocator;
 impl<A: Allocator> Client<A> {
     /// Begins a request, as [`Client::begin`] does, and gives its header: a request with the ticket's stream id and the
     /// opcode of its kind. It is lawful, and what a server's core takes for this request.
+    ///
+    /// # Errors
+    ///
+    /// As [`Client::begin`].
     pub fn begin_with(
         &mut self,
         kind: RequestKind,
         body: Body,
-    ) -> Result<(Ticket, Header), BeginError>
-    {
+    ) -> Result<(Ticket, Header), BeginError> {
         let ticket = self.begin(kind)?;
         Ok((ticket, request_header(kind, ticket, body)))
     }
@@ -29,13 +32,16 @@ impl<A: Allocator> Client<A> {
 impl<A: Allocator> Server<A> {
     /// Answers the request that is open under this id, as [`Server::answer`] does, and gives the header of the response,
     /// with that id and that opcode. It is lawful, and what the client's core takes for the reply.
+    ///
+    /// # Errors
+    ///
+    /// As [`Server::answer`].
     pub fn answer_with(
         &mut self,
         id: i16,
         opcode: Opcode,
         body: Body,
-    ) -> Result<(Header, RequestKind), AnswerError>
-    {
+    ) -> Result<(Header, RequestKind), AnswerError> {
         let kind = self.answer(id, opcode)?;
         Ok((response_header(id, opcode, body), kind))
     }
@@ -43,13 +49,16 @@ impl<A: Allocator> Server<A> {
 
 impl<T, A: Allocator> ClientOf<T, A> {
     /// Begins a request and keeps a value, as [`ClientOf::begin`] does, and gives its header, as [`Client::begin_with`] does.
+    ///
+    /// # Errors
+    ///
+    /// As [`ClientOf::begin`].
     pub fn begin_with(
         &mut self,
         kind: RequestKind,
         body: Body,
         carried: T,
-    ) -> Result<(Ticket, Header), Refused<BeginError, T>>
-    {
+    ) -> Result<(Ticket, Header), Refused<BeginError, T>> {
         match self.begin(kind, carried) {
             Ok(ticket) => Ok((ticket, request_header(kind, ticket, body))),
             Err(refused) => Err(refused),
@@ -60,13 +69,16 @@ impl<T, A: Allocator> ClientOf<T, A> {
 impl<T, A: Allocator> ServerOf<T, A> {
     /// Answers a request and hands out its value, as [`ServerOf::answer`] does, and gives the header of the response, as
     /// [`Server::answer_with`] does.
+    ///
+    /// # Errors
+    ///
+    /// As [`ServerOf::answer`].
     pub fn answer_with(
         &mut self,
         id: i16,
         opcode: Opcode,
         body: Body,
-    ) -> Result<(Header, RequestKind, T), AnswerError>
-    {
+    ) -> Result<(Header, RequestKind, T), AnswerError> {
         let (kind, carried) = self.answer(id, opcode)?;
         Ok((response_header(id, opcode, body), kind, carried))
     }
@@ -74,8 +86,8 @@ impl<T, A: Allocator> ServerOf<T, A> {
 
 /// The header of an EVENT that a server pushes, whose stream id is -1 (section 4.2.6 of `native_protocol_v4.spec`). It is
 /// lawful, and what a client's core tells as [`Reply::ServerEvent`](crate::cqlp_session::Reply::ServerEvent).
-pub fn event_header(body: Body) -> Header
-{
+#[must_use]
+pub fn event_header(body: Body) -> Header {
     Header {
         response: true,
         flags: body.flags(),
@@ -86,8 +98,7 @@ pub fn event_header(body: Body) -> Header
 }
 
 /// The header of a request.
-fn request_header(kind: RequestKind, ticket: Ticket, body: Body) -> Header
-{
+fn request_header(kind: RequestKind, ticket: Ticket, body: Body) -> Header {
     Header {
         response: false,
         flags: body.flags(),
@@ -98,8 +109,7 @@ fn request_header(kind: RequestKind, ticket: Ticket, body: Body) -> Header
 }
 
 /// The header of a response.
-fn response_header(id: i16, opcode: Opcode, body: Body) -> Header
-{
+fn response_header(id: i16, opcode: Opcode, body: Body) -> Header {
     Header {
         response: true,
         flags: body.flags(),

@@ -15,8 +15,7 @@ pub struct IntoValues<T, A: Allocator = Global> {
 
 impl<T, A: Allocator> IntoValues<T, A> {
     /// The values that are carried under the ids from 0 on.
-    pub(crate) fn new(mut carried: Vec<Option<T>, A>) -> IntoValues<T, A>
-    {
+    pub(crate) fn new(mut carried: Vec<Option<T>, A>) -> IntoValues<T, A> {
         carried.reverse();
         IntoValues { carried }
     }

@@ -18,8 +18,7 @@ pub enum RequestKind {
 
 impl RequestKind {
     /// The kind of request that has this opcode, if it is a request's.
-    pub(crate) fn from_opcode(opcode: Opcode) -> Option<RequestKind>
-    {
+    pub(crate) fn from_opcode(opcode: Opcode) -> Option<RequestKind> {
         match opcode {
             Opcode::Startup => Some(RequestKind::Startup),
             Opcode::Options => Some(RequestKind::Options),
@@ -41,8 +40,8 @@ impl RequestKind {
     }
 
     /// The opcode of a request of this kind.
-    pub fn opcode(self) -> Opcode
-    {
+    #[must_use]
+    pub fn opcode(self) -> Opcode {
         match self {
             RequestKind::Startup => Opcode::Startup,
             RequestKind::Options => Opcode::Options,
@@ -56,8 +55,7 @@ impl RequestKind {
     }
 
     /// Whether a message with this opcode answers a request of this kind. Section 4.2.
-    pub(crate) fn is_answered_by(self, opcode: Opcode) -> bool
-    {
+    pub(crate) fn is_answered_by(self, opcode: Opcode) -> bool {
         match (self, opcode) {
             (_, Opcode::Error)
             | (RequestKind::Startup, Opcode::Ready | Opcode::Authenticate)
@@ -76,8 +74,7 @@ impl RequestKind {
     }
 
     /// Whether it takes part in setting up the connection.
-    pub(crate) fn is_handshake(self) -> bool
-    {
+    pub(crate) fn is_handshake(self) -> bool {
         matches!(self, RequestKind::Startup | RequestKind::AuthResponse)
     }
 }

@@ -21,8 +21,7 @@ pub enum Phase {
 
 impl Phase {
     /// Whether a request of this kind may begin.
-    pub(crate) fn may_begin(self, kind: RequestKind) -> bool
-    {
+    pub(crate) fn may_begin(self, kind: RequestKind) -> bool {
         match self {
             Phase::Fresh => matches!(kind, RequestKind::Startup | RequestKind::Options),
             Phase::Challenged => matches!(kind, RequestKind::AuthResponse),
@@ -32,8 +31,7 @@ impl Phase {
     }
 
     /// The phase once a request of this kind has begun.
-    pub(crate) fn begun(self, kind: RequestKind) -> Phase
-    {
+    pub(crate) fn begun(self, kind: RequestKind) -> Phase {
         if kind.is_handshake() {
             Phase::Opening
         } else {
@@ -42,8 +40,7 @@ impl Phase {
     }
 
     /// The phase once a request of this kind is answered by a message with this opcode.
-    pub(crate) fn answered(self, kind: RequestKind, opcode: Opcode) -> Phase
-    {
+    pub(crate) fn answered(self, kind: RequestKind, opcode: Opcode) -> Phase {
         match (kind, opcode) {
             (RequestKind::Startup | RequestKind::AuthResponse, Opcode::Error) => Phase::Failed,
             (RequestKind::Startup, Opcode::Ready)

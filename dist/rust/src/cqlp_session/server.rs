@@ -45,8 +45,11 @@ pub struct Server<A: Allocator = Global> {
 impl<A: Allocator> Server<A> {
     /// The core of a connection on which nothing came yet. `slots` is how many requests may be open at a time, 1 to
     /// 32,768; their stream ids are those below it (section 2.3 of `native_protocol_v4.spec`). All memory is taken here.
-    pub fn new(alloc: A, slots: u16) -> Result<Server<A>, SlotsOrMemory>
-    {
+    ///
+    /// # Errors
+    ///
+    /// A number of slots that is 0 or over 32,768, and memory that is refused.
+    pub fn new(alloc: A, slots: u16) -> Result<Server<A>, SlotsOrMemory> {
         if !(1..=slots::MOST).contains(&slots) {
             return Err(SlotsOrMemory::BadSlots);
         }
@@ -57,14 +60,12 @@ impl<A: Allocator> Server<A> {
     }
 
     /// How far the setting up of the connection has come.
-    pub fn phase(&self) -> Phase
-    {
+    pub fn phase(&self) -> Phase {
         self.phase
     }
 
     /// Whether a request is open under this stream id: one was accepted under it, and is not answered yet.
-    pub fn is_open(&self, stream: i16) -> bool
-    {
+    pub fn is_open(&self, stream: i16) -> bool {
         slots::under(&self.slots, stream).is_some()
     }
 
@@ -74,8 +75,11 @@ impl<A: Allocator> Server<A> {
     /// The first of these refuses it, and changes nothing: `NotRequest`, for a response, and for an opcode that is no
     /// request's; `BadId`, for an id that is negative or not below the number of slots; `IdTaken`, where a request is
     /// open under it; `Phase`, where requests of this kind may not begin in the phase that stands.
-    pub fn accept(&mut self, header: &Header) -> Result<RequestKind, ServerRefusal>
-    {
+    ///
+    /// # Errors
+    ///
+    /// `NotRequest`, `BadId`, `IdTaken` or `Phase`, as said above.
+    pub fn accept(&mut self, header: &Header) -> Result<RequestKind, ServerRefusal> {
         let Header {
             response,
             flags: _,
@@ -108,8 +112,11 @@ impl<A: Allocator> Server<A> {
     ///
     /// The first of these refuses it, and changes nothing: `NotTaken`, where no request is open under the id;
     /// `WrongOpcode`, where the opcode does not answer requests of that kind.
-    pub fn answer(&mut self, id: i16, opcode: Opcode) -> Result<RequestKind, AnswerError>
-    {
+    ///
+    /// # Errors
+    ///
+    /// `NotTaken` or `WrongOpcode`, as said above.
+    pub fn answer(&mut self, id: i16, opcode: Opcode) -> Result<RequestKind, AnswerError> {
         let Some(kind) = slots::under(&self.slots, id) else {
             return Err(AnswerError::NotTaken);
         };

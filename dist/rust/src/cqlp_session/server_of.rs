@@ -22,6 +22,10 @@ pub struct ServerOf<T, A: Allocator = Global> {
 impl<T, A: Allocator> ServerOf<T, A> {
     /// The core of a connection on which nothing came yet. `slots` is how many requests may be open at a time, 1 to
     /// 32,768, as in [`Server::new`]. All memory is taken here: that of a `Server`, and a place for each value.
+    ///
+    /// # Errors
+    ///
+    /// A number of slots that is 0 or over 32,768, and memory that is refused.
     pub fn new(alloc: A, slots: u16) -> Result<ServerOf<T, A>, SlotsOrMemory>
     where
         A: Clone,
@@ -36,26 +40,22 @@ impl<T, A: Allocator> ServerOf<T, A> {
     }
 
     /// How far the setting up of the connection has come.
-    pub fn phase(&self) -> Phase
-    {
+    pub fn phase(&self) -> Phase {
         self.core.phase()
     }
 
     /// Whether a request is open under this stream id, as in [`Server::is_open`].
-    pub fn is_open(&self, stream: i16) -> bool
-    {
+    pub fn is_open(&self, stream: i16) -> bool {
         self.core.is_open(stream)
     }
 
     /// The value that the request carries which is open under this stream id. None where none is.
-    pub fn get(&self, stream: i16) -> Option<&T>
-    {
+    pub fn get(&self, stream: i16) -> Option<&T> {
         carried::get(&self.carried, stream)
     }
 
     /// The same, to write: what is left there is what the request carries from then on. Nothing else changes.
-    pub fn get_mut(&mut self, stream: i16) -> Option<&mut T>
-    {
+    pub fn get_mut(&mut self, stream: i16) -> Option<&mut T> {
         if self.get(stream).is_some() {
             Some(self.value_mut(stream))
         } else {
@@ -64,27 +64,28 @@ impl<T, A: Allocator> ServerOf<T, A> {
     }
 
     /// The value of the request that is open under this stream id, to write.
-    fn value_mut(&mut self, stream: i16) -> &mut T
-    {
+    fn value_mut(&mut self, stream: i16) -> &mut T {
         carried::value_in(&mut self.carried[stream as usize])
     }
 
     /// The values of all requests that are still open, in the order of their stream ids: what is left to be told when
     /// the connection ends. Takes no memory.
-    pub fn into_values(self) -> IntoValues<T, A>
-    {
+    pub fn into_values(self) -> IntoValues<T, A> {
         let ServerOf { core: _, carried } = self;
         IntoValues::new(carried)
     }
 
     /// Takes the header of a request that came, as [`Server::accept`] does, and keeps a value until it is answered.
     /// Where it is refused, the value comes back and nothing is changed.
+    ///
+    /// # Errors
+    ///
+    /// As [`Server::accept`], with the value.
     pub fn accept(
         &mut self,
         header: &Header,
         carried: T,
-    ) -> Result<RequestKind, Refused<ServerRefusal, T>>
-    {
+    ) -> Result<RequestKind, Refused<ServerRefusal, T>> {
         match self.core.accept(header) {
             Ok(kind) => {
                 carried::keep(&mut self.carried, header.stream, carried);
@@ -96,8 +97,11 @@ impl<T, A: Allocator> ServerOf<T, A> {
 
     /// Answers the request that is open under this id, as [`Server::answer`] does, and hands out the value that it was
     /// accepted with.
-    pub fn answer(&mut self, id: i16, opcode: Opcode) -> Result<(RequestKind, T), AnswerError>
-    {
+    ///
+    /// # Errors
+    ///
+    /// As [`Server::answer`].
+    pub fn answer(&mut self, id: i16, opcode: Opcode) -> Result<(RequestKind, T), AnswerError> {
         let kind = self.core.answer(id, opcode)?;
         match carried::take(&mut self.carried, id) {
             Some(carried) => Ok((kind, carried)),

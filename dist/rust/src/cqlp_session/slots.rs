@@ -8,14 +8,12 @@ use crate::kit_std::alloc::{AllocError, Allocator};
 pub(crate) const MOST: u16 = 32_768;
 
 /// The place of a stream id, which is negative for none.
-pub(crate) fn index_of(id: i16) -> Option<usize>
-{
+pub(crate) fn index_of(id: i16) -> Option<usize> {
     if id < 0 { None } else { Some(id as usize) }
 }
 
 /// Whether this is the id of one of these slots.
-pub(crate) fn has<T>(slots: &[Option<T>], id: i16) -> bool
-{
+pub(crate) fn has<T>(slots: &[Option<T>], id: i16) -> bool {
     match index_of(id) {
         Some(i) => i < slots.len(),
         None => false,
@@ -23,8 +21,7 @@ pub(crate) fn has<T>(slots: &[Option<T>], id: i16) -> bool
 }
 
 /// What stands under this id.
-pub(crate) fn under<T: Copy>(slots: &[Option<T>], id: i16) -> Option<T>
-{
+pub(crate) fn under<T: Copy>(slots: &[Option<T>], id: i16) -> Option<T> {
     match index_of(id) {
         Some(i) if i < slots.len() => slots[i],
         _ => None,
@@ -32,8 +29,7 @@ pub(crate) fn under<T: Copy>(slots: &[Option<T>], id: i16) -> Option<T>
 }
 
 /// Puts this under an id.
-pub(crate) fn put<T: Copy>(slots: &mut [Option<T>], id: i16, what: Option<T>)
-{
+pub(crate) fn put<T: Copy>(slots: &mut [Option<T>], id: i16, what: Option<T>) {
     match index_of(id) {
         Some(i) if i < slots.len() => slots[i] = what,
         _ => {}
@@ -44,8 +40,7 @@ pub(crate) fn put<T: Copy>(slots: &mut [Option<T>], id: i16, what: Option<T>)
 pub(crate) fn empty<T: Copy, A: Allocator>(
     alloc: A,
     len: usize,
-) -> Result<Vec<Option<T>, A>, AllocError>
-{
+) -> Result<Vec<Option<T>, A>, AllocError> {
     let mut slots = Vec::with_capacity(alloc, len)?;
     for _ in 0..len {
         slots.push_reserved(None);

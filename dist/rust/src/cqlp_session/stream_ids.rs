@@ -7,8 +7,7 @@ use crate::kit_std::alloc::{AllocError, Allocator};
 const BITS: usize = 64;
 
 /// Words with a bit for each of `len` ids and for those that fill up the last word, all set, in memory for just these.
-pub(crate) fn all<A: Allocator>(alloc: A, len: usize) -> Result<Vec<u64, A>, AllocError>
-{
+pub(crate) fn all<A: Allocator>(alloc: A, len: usize) -> Result<Vec<u64, A>, AllocError> {
     let count = len.div_ceil(BITS);
     let mut words = Vec::with_capacity(alloc, count)?;
     for _ in 0..count {
@@ -18,8 +17,7 @@ pub(crate) fn all<A: Allocator>(alloc: A, len: usize) -> Result<Vec<u64, A>, All
 }
 
 /// The place of the first bit that is set.
-pub(crate) fn first(words: &[u64]) -> Option<usize>
-{
+pub(crate) fn first(words: &[u64]) -> Option<usize> {
     for (i, word) in words.iter().enumerate() {
         if *word > 0 {
             return Some(i * BITS + word.trailing_zeros() as usize);
@@ -29,15 +27,13 @@ pub(crate) fn first(words: &[u64]) -> Option<usize>
 }
 
 /// Sets the bit at a place.
-pub(crate) fn set(words: &mut [u64], place: usize)
-{
+pub(crate) fn set(words: &mut [u64], place: usize) {
     let word = &mut words[place / BITS];
     *word |= 1 << (place % BITS);
 }
 
 /// Clears the bit at a place.
-pub(crate) fn clear(words: &mut [u64], place: usize)
-{
+pub(crate) fn clear(words: &mut [u64], place: usize) {
     let word = &mut words[place / BITS];
     *word &= !(1 << (place % BITS));
 }

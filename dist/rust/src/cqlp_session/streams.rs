@@ -35,14 +35,12 @@ impl<A: Allocator> Streams<A> {
     }
 
     /// The request that is open under this id.
-    pub(crate) fn under(&self, id: i16) -> Option<OpenRequest>
-    {
+    pub(crate) fn under(&self, id: i16) -> Option<OpenRequest> {
         slots::under(&self.slots, id)
     }
 
     /// The least id that is free.
-    pub(crate) fn least_free(&self) -> Option<i16>
-    {
+    pub(crate) fn least_free(&self) -> Option<i16> {
         let place = stream_ids::first(&self.free)?;
         if place < self.slots.len() {
             Some(place as i16)
@@ -52,8 +50,7 @@ impl<A: Allocator> Streams<A> {
     }
 
     /// Opens a request under this id, or frees it.
-    pub(crate) fn put(&mut self, id: i16, what: Option<OpenRequest>)
-    {
+    pub(crate) fn put(&mut self, id: i16, what: Option<OpenRequest>) {
         let Some(place) = slots::index_of(id) else {
             return;
         };

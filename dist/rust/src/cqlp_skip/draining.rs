@@ -10,8 +10,7 @@ pub(crate) fn drain<S: Sink, A: Allocator>(
     decoder: &mut Decoder<A>,
     input: &[u8],
     sink: &mut S,
-) -> Fed
-{
+) -> Fed {
     let mut used = 0;
     loop {
         match decoder.hand_whole(&input[used..], sink) {

@@ -47,15 +47,13 @@ pub enum NotSkippable {
 
 /// How many bytes of a piece of this length are passed over first, where this many bytes of the whole stream were used and the
 /// stretch begins at `base`: those that the frame passed over last still has.
-pub(crate) fn passed_of(base: u64, used: u64, len: usize) -> usize
-{
+pub(crate) fn passed_of(base: u64, used: u64, len: usize) -> usize {
     let left = base.saturating_sub(used);
     left.min(len as u64) as usize
 }
 
 /// A refusal of a stretch that begins at `base`, at its offset in the whole stream.
-pub(crate) fn refusal_from(base: u64, refusal: Refusal) -> Refusal
-{
+pub(crate) fn refusal_from(base: u64, refusal: Refusal) -> Refusal {
     Refusal {
         at: told_at(base, refusal.at),
         why: refusal.why,
@@ -63,8 +61,7 @@ pub(crate) fn refusal_from(base: u64, refusal: Refusal) -> Refusal
 }
 
 /// How a piece ends whose first bytes were passed over, where the others end so.
-pub(crate) fn fed_from(base: u64, passed: usize, fed: Fed) -> Fed
-{
+pub(crate) fn fed_from(base: u64, passed: usize, fed: Fed) -> Fed {
     match fed {
         Fed::More => Fed::More,
         Fed::Refused { used, refusal } => Fed::Refused {
@@ -78,8 +75,7 @@ pub(crate) fn fed_from(base: u64, passed: usize, fed: Fed) -> Fed
 }
 
 /// How many bytes of a piece of this length were used.
-pub(crate) fn used_of(fed: Fed, len: usize) -> usize
-{
+pub(crate) fn used_of(fed: Fed, len: usize) -> usize {
     match fed {
         Fed::More => len,
         Fed::Refused { used, .. } => used,

@@ -15,8 +15,7 @@ pub struct OpenFrame {
 impl OpenFrame {
     /// The offset of its end in the whole stream, of which this many bytes were used, where the stretch begins at `base`.
     /// None where the end is the greatest number or greater, or lies before what was used.
-    pub(crate) fn end_within(&self, base: u64, used: u64) -> Option<u64>
-    {
+    pub(crate) fn end_within(&self, base: u64, used: u64) -> Option<u64> {
         let length = self.header.length;
         let end = u128::from(base) + u128::from(self.at) + u128::from(length) + 9;
         if end < u128::from(u64::MAX) && u128::from(used) <= end {
@@ -29,8 +28,7 @@ impl OpenFrame {
 
 /// The frame under way after an event at an offset.
 #[inline]
-pub(crate) fn frame_after(frame: Option<OpenFrame>, at: u64, event: &Event<'_>) -> Option<OpenFrame>
-{
+pub(crate) fn frame_after(frame: Option<OpenFrame>, at: u64, event: &Event<'_>) -> Option<OpenFrame> {
     match event {
         Event::Frame(header) => Some(OpenFrame {
             at,
@@ -43,7 +41,6 @@ pub(crate) fn frame_after(frame: Option<OpenFrame>, at: u64, event: &Event<'_>) 
 
 /// The offset in the whole stream of what lies at an offset from where a stretch begins.
 #[inline]
-pub(crate) fn told_at(base: u64, at: u64) -> u64
-{
+pub(crate) fn told_at(base: u64, at: u64) -> u64 {
     base.saturating_add(at)
 }

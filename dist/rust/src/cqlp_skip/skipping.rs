@@ -30,8 +30,11 @@ pub struct SkippingDecoder<A: Allocator = Global> {
 impl<A: Allocator + Clone> SkippingDecoder<A> {
     /// A decoder at the start of a stream, with the memory of a `Decoder` within these limits: four requests for memory,
     /// and the only ones.
-    pub fn new(alloc: A, limits: Limits) -> Result<Self, NewError>
-    {
+    ///
+    /// # Errors
+    ///
+    /// Limits out of their ranges, and memory that is refused.
+    pub fn new(alloc: A, limits: Limits) -> Result<Self, NewError> {
         match Decoder::new(alloc, limits) {
             Ok(decoder) => Ok(Self::around(decoder)),
             Err(error) => Err(error),
@@ -40,8 +43,11 @@ impl<A: Allocator + Clone> SkippingDecoder<A> {
 
     /// The same, for a lenient reading, as [`Decoder::lenient`] has it: a content that its type does not have is told as a raw scalar, and
     /// the frame is read on.
-    pub fn lenient(alloc: A, limits: Limits) -> Result<Self, NewError>
-    {
+    ///
+    /// # Errors
+    ///
+    /// As `new`.
+    pub fn lenient(alloc: A, limits: Limits) -> Result<Self, NewError> {
         match Decoder::lenient(alloc, limits) {
             Ok(decoder) => Ok(Self::around(decoder)),
             Err(error) => Err(error),
@@ -51,8 +57,7 @@ impl<A: Allocator + Clone> SkippingDecoder<A> {
 
 impl<A: Allocator> SkippingDecoder<A> {
     /// What reads a whole stream with a decoder at its start.
-    fn around(decoder: Decoder<A>) -> Self
-    {
+    fn around(decoder: Decoder<A>) -> Self {
         SkippingDecoder {
             decoder,
             base: 0,
@@ -65,8 +70,7 @@ impl<A: Allocator> SkippingDecoder<A> {
     /// Hands all events of a piece to the sink, at their offsets in the whole stream, up to a refusal or a fault of the
     /// sink. The bytes of a frame that was passed over are used without being looked at. The next call goes on after the
     /// bytes that were used. A refusal is said again until the frame is passed over.
-    pub fn feed<S: Sink>(&mut self, input: &[u8], sink: S) -> (Fed, S)
-    {
+    pub fn feed<S: Sink>(&mut self, input: &[u8], sink: S) -> (Fed, S) {
         let passed = passed_of(self.base, self.used, input.len());
         let mut shifting = Shifting {
             sink,
@@ -88,15 +92,17 @@ impl<A: Allocator> SkippingDecoder<A> {
     /// Gives types for a page without metadata of the present stretch, as `Decoder::give` does. While a frame is passed over that is
     /// the stretch after it. The table that was held before comes back; one that is not taken comes back with the reason, and
     /// nothing changes: after a refusal none is taken until the frame is passed over.
-    pub fn give(&mut self, table: TypeTable<A>) -> Result<Option<TypeTable<A>>, GiveError<A>>
-    {
+    ///
+    /// # Errors
+    ///
+    /// The first reason against the table, which comes back with it: nothing changes.
+    pub fn give(&mut self, table: TypeTable<A>) -> Result<Option<TypeTable<A>>, GiveError<A>> {
         self.decoder.give(table)
     }
 
     /// Takes back the table that was given over the present stretch, if one is held and not in use. After a refusal none is in
     /// use, so a table that the next stretch is to have is taken back before the frame is passed over, and given again.
-    pub fn take_given(&mut self) -> Option<TypeTable<A>>
-    {
+    pub fn take_given(&mut self) -> Option<TypeTable<A>> {
         self.decoder.take_given()
     }
 
@@ -104,8 +110,11 @@ impl<A: Allocator> SkippingDecoder<A> {
     /// them, and go on with the header after it. Nothing is held of them. A table of types that was given and not taken back
     /// is let go of: over the next stretch nothing is given yet. Where the stream is not refused, or no header of the frame was
     /// handed out, nothing changes.
-    pub fn skip(&mut self) -> Result<Skipped, NotSkippable>
-    {
+    ///
+    /// # Errors
+    ///
+    /// A stream that is not refused, or in which no header of the frame was handed out: nothing changes.
+    pub fn skip(&mut self) -> Result<Skipped, NotSkippable> {
         let Finish::Refused(refusal) = self.decoder.finish() else {
             return Err(NotSkippable::NotRefused);
         };
@@ -129,8 +138,7 @@ impl<A: Allocator> SkippingDecoder<A> {
     }
 
     /// How the stream ends, if it ends after the bytes that were used.
-    pub fn finish(&self) -> Finish
-    {
+    pub fn finish(&self) -> Finish {
         if self.used < self.base {
             return Finish::Cut {
                 frame_at: self.last,
@@ -148,26 +156,22 @@ impl<A: Allocator> SkippingDecoder<A> {
     }
 
     /// What is held of the stream, as `Decoder::held` says it.
-    pub fn held(&self) -> Held
-    {
+    pub fn held(&self) -> Held {
         self.decoder.held()
     }
 
     /// The places that the decoder has memory for, as `Decoder::capacity` says them.
-    pub fn capacity(&self) -> Capacity
-    {
+    pub fn capacity(&self) -> Capacity {
         self.decoder.capacity()
     }
 
     /// The types of the metadata begun last in the present stretch, as `Decoder::table` has them.
-    pub fn table(&self) -> &TypeTable<A>
-    {
+    pub fn table(&self) -> &TypeTable<A> {
         self.decoder.table()
     }
 
     /// How many bytes of the whole stream were used.
-    pub fn used(&self) -> u64
-    {
+    pub fn used(&self) -> u64 {
         self.used
     }
 }

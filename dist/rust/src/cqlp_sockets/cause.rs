@@ -21,8 +21,8 @@ pub enum Cause {
 
 impl Cause {
     /// What an error of std's says.
-    pub fn of(error: &io::Error) -> Cause
-    {
+    #[must_use]
+    pub fn of(error: &io::Error) -> Cause {
         match error.kind() {
             ErrorKind::WouldBlock => Cause::WouldBlock,
             ErrorKind::Interrupted => Cause::Interrupted,

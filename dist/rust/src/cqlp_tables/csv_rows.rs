@@ -10,13 +10,16 @@ use crate::cqlp_text::{Pen, TextWriter};
 
 /// Appends what is written of an event of a page as CSV, which nothing is of an event of another frame, and goes to the
 /// place after it, also at a fault, which is the target's own.
+///
+/// # Errors
+///
+/// The fault of the target.
 #[inline]
 pub fn csv_part<W: Target>(
     place: &mut TablePlace,
     event: &Event<'_>,
     target: &mut W,
-) -> Result<(), SinkFault>
-{
+) -> Result<(), SinkFault> {
     let mut writer = TextWriter::over(target);
     match put_csv_part(place, event, &mut writer) {
         Ok(()) => {
@@ -37,8 +40,7 @@ pub fn put_csv_part<P: Pen>(
     place: &mut TablePlace,
     event: &Event<'_>,
     writer: &mut TextWriter<P>,
-) -> Result<(), SinkFault>
-{
+) -> Result<(), SinkFault> {
     if !place.is_page() {
         place.pass(event);
         return Ok(());
@@ -50,8 +52,7 @@ pub fn put_csv_part<P: Pen>(
 
 /// What ends the record under way on a page that is cut at this place: the quote of its field, where that is between quotes, and the line.
 /// Nothing where there is no page.
-pub fn csv_break(place: &TablePlace) -> &'static str
-{
+pub fn csv_break(place: &TablePlace) -> &'static str {
     if !place.is_page() {
         return "";
     }
@@ -63,8 +64,7 @@ pub fn csv_break(place: &TablePlace) -> &'static str
 
 /// What is written of an event on a page.
 #[inline]
-fn shown_of<'a>(place: &TablePlace, event: &Event<'a>) -> Shown<'a>
-{
+fn shown_of<'a>(place: &TablePlace, event: &Event<'a>) -> Shown<'a> {
     match *event {
         Event::Text { field, text } => shown_name(place, field, text),
         Event::Count { field, .. } => shown_count(place, field),
@@ -84,8 +84,7 @@ fn shown_of<'a>(place: &TablePlace, event: &Event<'a>) -> Shown<'a>
     }
 }
 
-fn shown_name<'a>(place: &TablePlace, field: Field, name: &'a str) -> Shown<'a>
-{
+fn shown_name<'a>(place: &TablePlace, field: Field, name: &'a str) -> Shown<'a> {
     match field {
         Field::ColumnName => Shown {
             before: if place.is_named() { "," } else { "" },
@@ -97,8 +96,7 @@ fn shown_name<'a>(place: &TablePlace, field: Field, name: &'a str) -> Shown<'a>
 }
 
 /// The end of the names, before the rows.
-fn shown_count(place: &TablePlace, field: Field) -> Shown<'static>
-{
+fn shown_count(place: &TablePlace, field: Field) -> Shown<'static> {
     match field {
         Field::Rows if place.is_named() => Shown {
             after: "\r\n",
@@ -110,8 +108,7 @@ fn shown_count(place: &TablePlace, field: Field) -> Shown<'static>
 
 /// A cell or an item that has no items.
 #[inline]
-fn shown_scalar<'a>(place: &TablePlace, column: u32, scalar: Scalar<'a>) -> Shown<'a>
-{
+fn shown_scalar<'a>(place: &TablePlace, column: u32, scalar: Scalar<'a>) -> Shown<'a> {
     let around = place.innermost();
     Shown {
         before: before(column, around),
@@ -122,8 +119,7 @@ fn shown_scalar<'a>(place: &TablePlace, column: u32, scalar: Scalar<'a>) -> Show
 }
 
 #[inline]
-fn scalar_content<'a>(around: Option<OpenValue>, scalar: Scalar<'a>) -> Content<'a>
-{
+fn scalar_content<'a>(around: Option<OpenValue>, scalar: Scalar<'a>) -> Content<'a> {
     match scalar {
         Scalar::Ascii(text) | Scalar::Varchar(text) => text_content(around, text),
         Scalar::Custom(_)
@@ -148,37 +144,31 @@ fn scalar_content<'a>(around: Option<OpenValue>, scalar: Scalar<'a>) -> Content<
     }
 }
 
-fn text_content<'a>(around: Option<OpenValue>, text: &'a str) -> Content<'a>
-{
+fn text_content<'a>(around: Option<OpenValue>, text: &'a str) -> Content<'a> {
     match around {
         None => Content::TextField(text),
         Some(_) => Content::TextItem(text),
     }
 }
 
-fn shown_null(place: &TablePlace, column: u32) -> Shown<'static>
-{
+fn shown_null(place: &TablePlace, column: u32) -> Shown<'static> {
     let around = place.innermost();
     Shown {
         before: before(column, around),
-        begin: null(place.columns(), around),
+        begin: null(around),
         after: after(place.is_last(column), around),
         ..Shown::NOTHING
     }
 }
 
-/// Null, which is in quotes where it is alone in its record.
-fn null(columns: u32, around: Option<OpenValue>) -> &'static str
-{
+fn null(around: Option<OpenValue>) -> &'static str {
     match around {
-        None if columns == 1 => "\"\"",
         None => "",
         Some(_) => "null",
     }
 }
 
-fn shown_empty(place: &TablePlace, column: u32) -> Shown<'static>
-{
+fn shown_empty(place: &TablePlace, column: u32) -> Shown<'static> {
     let around = place.innermost();
     Shown {
         before: before(column, around),
@@ -188,16 +178,14 @@ fn shown_empty(place: &TablePlace, column: u32) -> Shown<'static>
     }
 }
 
-fn empty(around: Option<OpenValue>) -> &'static str
-{
+fn empty(around: Option<OpenValue>) -> &'static str {
     match around {
         None => "\"\"",
         Some(_) => "''",
     }
 }
 
-fn shown_opening(place: &TablePlace, column: u32, kind: Kind) -> Shown<'static>
-{
+fn shown_opening(place: &TablePlace, column: u32, kind: Kind) -> Shown<'static> {
     let around = place.innermost();
     Shown {
         before: before(column, around),
@@ -207,8 +195,7 @@ fn shown_opening(place: &TablePlace, column: u32, kind: Kind) -> Shown<'static>
     }
 }
 
-fn shown_closing(place: &TablePlace) -> Shown<'static>
-{
+fn shown_closing(place: &TablePlace) -> Shown<'static> {
     let outer = place.outer();
     match place.innermost() {
         None => Shown::NOTHING,
@@ -228,8 +215,7 @@ fn shown_part<'a>(
     offset: u32,
     bytes: &'a [u8],
     last: bool,
-) -> Shown<'a>
-{
+) -> Shown<'a> {
     let around = place.innermost();
     let (before, begin) = if offset == 0 {
         (before(column, around), "0x")
@@ -252,8 +238,7 @@ fn shown_part<'a>(
 
 /// What stands before a cell of this column, or before an item of the open value.
 #[inline(always)]
-fn before(column: u32, around: Option<OpenValue>) -> &'static str
-{
+fn before(column: u32, around: Option<OpenValue>) -> &'static str {
     match around {
         None if column == 0 => "",
         None => ",",
@@ -262,8 +247,7 @@ fn before(column: u32, around: Option<OpenValue>) -> &'static str
 }
 
 #[inline(always)]
-fn separator(turn: Turn) -> &'static str
-{
+fn separator(turn: Turn) -> &'static str {
     match turn {
         Turn::First => "",
         Turn::Paired => ": ",
@@ -273,8 +257,7 @@ fn separator(turn: Turn) -> &'static str
 
 /// What stands after a cell, which may be the last of its row, or after an item of the open value.
 #[inline(always)]
-fn after(is_last: bool, around: Option<OpenValue>) -> &'static str
-{
+fn after(is_last: bool, around: Option<OpenValue>) -> &'static str {
     match around {
         None if is_last => "\r\n",
         None | Some(_) => "",
@@ -283,8 +266,7 @@ fn after(is_last: bool, around: Option<OpenValue>) -> &'static str
 
 /// The quote around a value with items that is a field.
 #[inline]
-fn quote(around: Option<OpenValue>) -> &'static str
-{
+fn quote(around: Option<OpenValue>) -> &'static str {
     match around {
         None => "\"",
         Some(_) => "",
@@ -292,8 +274,7 @@ fn quote(around: Option<OpenValue>) -> &'static str
 }
 
 #[inline]
-fn opening(kind: Kind) -> &'static str
-{
+fn opening(kind: Kind) -> &'static str {
     match kind {
         Kind::List => "[",
         Kind::Set | Kind::Map => "{",
@@ -302,8 +283,7 @@ fn opening(kind: Kind) -> &'static str
 }
 
 #[inline]
-fn closing(kind: Kind) -> &'static str
-{
+fn closing(kind: Kind) -> &'static str {
     match kind {
         Kind::List => "]",
         Kind::Set | Kind::Map => "}",

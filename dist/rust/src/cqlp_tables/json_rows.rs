@@ -10,13 +10,16 @@ use crate::cqlp_text::{Pen, TextWriter};
 
 /// Appends what is written of an event of a page as JSON, which nothing is of an event of another frame, and goes to the
 /// place after it, also at a fault, which is the target's own.
+///
+/// # Errors
+///
+/// The fault of the target.
 #[inline]
 pub fn json_part<W: Target>(
     place: &mut TablePlace,
     event: &Event<'_>,
     target: &mut W,
-) -> Result<(), SinkFault>
-{
+) -> Result<(), SinkFault> {
     let mut writer = TextWriter::over(target);
     match put_json_part(place, event, &mut writer) {
         Ok(()) => {
@@ -37,8 +40,7 @@ pub fn put_json_part<P: Pen>(
     place: &mut TablePlace,
     event: &Event<'_>,
     writer: &mut TextWriter<P>,
-) -> Result<(), SinkFault>
-{
+) -> Result<(), SinkFault> {
     if !place.is_page() {
         place.pass(event);
         return Ok(());
@@ -49,15 +51,13 @@ pub fn put_json_part<P: Pen>(
 }
 
 /// What ends the line under way on a page that is cut at this place, which is no JSON then. Nothing where there is no page.
-pub fn json_break(place: &TablePlace) -> &'static str
-{
+pub fn json_break(place: &TablePlace) -> &'static str {
     if place.is_page() { "\n" } else { "" }
 }
 
 /// What is written of an event on a page.
 #[inline]
-fn shown_of<'a>(place: &TablePlace, event: &Event<'a>) -> Shown<'a>
-{
+fn shown_of<'a>(place: &TablePlace, event: &Event<'a>) -> Shown<'a> {
     match *event {
         Event::Text { field, text } => shown_name(place, field, text),
         Event::Count { field, count } => shown_count(field, count),
@@ -77,8 +77,7 @@ fn shown_of<'a>(place: &TablePlace, event: &Event<'a>) -> Shown<'a>
     }
 }
 
-fn shown_name<'a>(place: &TablePlace, field: Field, name: &'a str) -> Shown<'a>
-{
+fn shown_name<'a>(place: &TablePlace, field: Field, name: &'a str) -> Shown<'a> {
     match field {
         Field::ColumnName => Shown {
             before: if place.is_named() { "," } else { "" },
@@ -89,8 +88,7 @@ fn shown_name<'a>(place: &TablePlace, field: Field, name: &'a str) -> Shown<'a>
     }
 }
 
-fn shown_count(field: Field, count: u32) -> Shown<'static>
-{
+fn shown_count(field: Field, count: u32) -> Shown<'static> {
     let content = Content::Number(u64::from(count));
     match field {
         Field::Columns => Shown {
@@ -111,8 +109,7 @@ fn shown_count(field: Field, count: u32) -> Shown<'static>
 
 /// A cell or an item that has no items.
 #[inline]
-fn shown_value<'a>(place: &TablePlace, column: u32, content: Content<'a>) -> Shown<'a>
-{
+fn shown_value<'a>(place: &TablePlace, column: u32, content: Content<'a>) -> Shown<'a> {
     Shown {
         before: before(column, place.innermost()),
         content,
@@ -123,8 +120,7 @@ fn shown_value<'a>(place: &TablePlace, column: u32, content: Content<'a>) -> Sho
 
 /// A word in place of a value.
 #[inline]
-fn shown_word(place: &TablePlace, column: u32, word: &'static str) -> Shown<'static>
-{
+fn shown_word(place: &TablePlace, column: u32, word: &'static str) -> Shown<'static> {
     Shown {
         before: before(column, place.innermost()),
         begin: word,
@@ -133,8 +129,7 @@ fn shown_word(place: &TablePlace, column: u32, word: &'static str) -> Shown<'sta
     }
 }
 
-fn shown_opening(place: &TablePlace, column: u32) -> Shown<'static>
-{
+fn shown_opening(place: &TablePlace, column: u32) -> Shown<'static> {
     Shown {
         before: before(column, place.innermost()),
         begin: "[",
@@ -142,8 +137,7 @@ fn shown_opening(place: &TablePlace, column: u32) -> Shown<'static>
     }
 }
 
-fn shown_closing(place: &TablePlace) -> Shown<'static>
-{
+fn shown_closing(place: &TablePlace) -> Shown<'static> {
     match place.innermost() {
         None => Shown::NOTHING,
         Some(_) => Shown {
@@ -161,8 +155,7 @@ fn shown_part<'a>(
     offset: u32,
     bytes: &'a [u8],
     last: bool,
-) -> Shown<'a>
-{
+) -> Shown<'a> {
     let (before, begin) = if offset == 0 {
         (before(column, place.innermost()), "\"")
     } else {
@@ -184,8 +177,7 @@ fn shown_part<'a>(
 
 /// What stands before a cell of this column, or before an item of the open value.
 #[inline(always)]
-fn before(column: u32, around: Option<OpenValue>) -> &'static str
-{
+fn before(column: u32, around: Option<OpenValue>) -> &'static str {
     match around {
         None if column == 0 => "[",
         None => ",",
@@ -194,8 +186,7 @@ fn before(column: u32, around: Option<OpenValue>) -> &'static str
 }
 
 #[inline(always)]
-fn before_item(kind: Kind, turn: Turn) -> &'static str
-{
+fn before_item(kind: Kind, turn: Turn) -> &'static str {
     match (kind, turn) {
         (Kind::Map, Turn::First) => "[",
         (Kind::Map, Turn::Another) => ",[",
@@ -206,8 +197,7 @@ fn before_item(kind: Kind, turn: Turn) -> &'static str
 
 /// What stands after a cell, which may be the last of its row, or after an item of the open value.
 #[inline(always)]
-fn after(is_last: bool, around: Option<OpenValue>) -> &'static str
-{
+fn after(is_last: bool, around: Option<OpenValue>) -> &'static str {
     match around {
         None if is_last => "]\n",
         None => "",
@@ -216,8 +206,7 @@ fn after(is_last: bool, around: Option<OpenValue>) -> &'static str
 }
 
 #[inline(always)]
-fn after_item(kind: Kind, turn: Turn) -> &'static str
-{
+fn after_item(kind: Kind, turn: Turn) -> &'static str {
     match (kind, turn) {
         (Kind::Map, Turn::Another) => "]",
         _ => "",

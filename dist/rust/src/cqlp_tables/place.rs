@@ -32,8 +32,7 @@ pub(crate) struct OpenValue {
 impl OpenValue {
     /// After an item.
     #[inline(always)]
-    fn after_item(self) -> OpenValue
-    {
+    fn after_item(self) -> OpenValue {
         OpenValue {
             kind: self.kind,
             turn: turn_after(self.kind, self.turn),
@@ -54,8 +53,8 @@ pub struct TablePlace {
 
 impl TablePlace {
     /// Before any frame.
-    pub fn new() -> Self
-    {
+    #[must_use]
+    pub fn new() -> Self {
         TablePlace {
             is_page: false,
             is_named: false,
@@ -70,48 +69,36 @@ impl TablePlace {
     }
 
     #[inline]
-    pub(crate) fn is_page(&self) -> bool
-    {
+    pub(crate) fn is_page(&self) -> bool {
         self.is_page
     }
 
     #[inline]
-    pub(crate) fn is_named(&self) -> bool
-    {
+    pub(crate) fn is_named(&self) -> bool {
         self.is_named
-    }
-
-    #[inline]
-    pub(crate) fn columns(&self) -> u32
-    {
-        self.columns
     }
 
     /// The column of the cell that is open.
     #[inline]
-    pub(crate) fn column(&self) -> u32
-    {
+    pub(crate) fn column(&self) -> u32 {
         self.column
     }
 
     /// Whether a cell of this column is the last of its row.
     #[inline(always)]
-    pub(crate) fn is_last(&self, column: u32) -> bool
-    {
+    pub(crate) fn is_last(&self, column: u32) -> bool {
         u64::from(column) + 1 == u64::from(self.columns)
     }
 
     /// The innermost open value.
     #[inline(always)]
-    pub(crate) fn innermost(&self) -> Option<OpenValue>
-    {
+    pub(crate) fn innermost(&self) -> Option<OpenValue> {
         value_at(&self.open_values, self.free)
     }
 
     /// The innermost open value as it is after one more item.
     #[inline(always)]
-    pub(crate) fn after_item(&self) -> Option<OpenValue>
-    {
+    pub(crate) fn after_item(&self) -> Option<OpenValue> {
         match self.innermost() {
             Some(open) => Some(open.after_item()),
             None => None,
@@ -120,15 +107,13 @@ impl TablePlace {
 
     /// The open value around the innermost one.
     #[inline(always)]
-    pub(crate) fn outer(&self) -> Option<OpenValue>
-    {
+    pub(crate) fn outer(&self) -> Option<OpenValue> {
         value_at(&self.open_values, self.free + 1)
     }
 
     /// Goes to the place after an event.
     #[inline]
-    pub(crate) fn pass(&mut self, event: &Event<'_>)
-    {
+    pub(crate) fn pass(&mut self, event: &Event<'_>) {
         match *event {
             Event::Int { field, value } => self.pass_int(field, value),
             Event::Count { field, count } => self.pass_count(field, count),
@@ -147,8 +132,7 @@ impl TablePlace {
     }
 
     /// Goes to the begin of a result, which is a page or not.
-    fn start(&mut self, is_page: bool)
-    {
+    fn start(&mut self, is_page: bool) {
         self.is_page = is_page;
         self.columns = 0;
         self.column = 0;
@@ -156,8 +140,7 @@ impl TablePlace {
     }
 
     #[inline]
-    fn pass_int(&mut self, field: Field, value: i32)
-    {
+    fn pass_int(&mut self, field: Field, value: i32) {
         if let Field::ResultKind = field {
             if value == ROWS {
                 self.start(true);
@@ -166,16 +149,14 @@ impl TablePlace {
     }
 
     #[inline]
-    fn pass_count(&mut self, field: Field, count: u32)
-    {
+    fn pass_count(&mut self, field: Field, count: u32) {
         if let Field::Columns = field {
             self.columns = count;
         }
     }
 
     #[inline]
-    fn pass_text(&mut self, field: Field)
-    {
+    fn pass_text(&mut self, field: Field) {
         if let Field::ColumnName = field {
             self.is_named = true;
         }
@@ -183,15 +164,13 @@ impl TablePlace {
 
     /// Goes to the place after a cell of this column, or after an item of the open value.
     #[inline(always)]
-    fn pass_item(&mut self, column: u32)
-    {
+    fn pass_item(&mut self, column: u32) {
         self.column = column;
         self.count_item();
     }
 
     #[inline]
-    fn pass_part(&mut self, column: u32, last: bool)
-    {
+    fn pass_part(&mut self, column: u32, last: bool) {
         self.column = column;
         if last {
             self.count_item();
@@ -200,8 +179,7 @@ impl TablePlace {
 
     /// Goes to the place after an item of the open value, if there is one.
     #[inline(always)]
-    fn count_item(&mut self)
-    {
+    fn count_item(&mut self) {
         if self.free < ROOM {
             self.open_values[self.free] = self.open_values[self.free].after_item();
         }
@@ -209,15 +187,13 @@ impl TablePlace {
 
     /// Goes into a value of this kind, an item of the one that was open.
     #[inline]
-    fn enter(&mut self, column: u32, kind: Kind)
-    {
+    fn enter(&mut self, column: u32, kind: Kind) {
         self.pass_item(column);
         self.push(kind);
     }
 
     #[inline]
-    fn push(&mut self, kind: Kind)
-    {
+    fn push(&mut self, kind: Kind) {
         if self.free == 0 {
             return;
         }
@@ -229,8 +205,7 @@ impl TablePlace {
     }
 
     #[inline]
-    fn leave(&mut self)
-    {
+    fn leave(&mut self) {
         if self.free < ROOM {
             self.free += 1;
         }
@@ -239,15 +214,13 @@ impl TablePlace {
 
 /// The open value that is this many after the first.
 #[inline(always)]
-fn value_at(values: &[OpenValue], at: usize) -> Option<OpenValue>
-{
+fn value_at(values: &[OpenValue], at: usize) -> Option<OpenValue> {
     values.get(at).copied()
 }
 
 /// What comes next after an item of a value of this kind.
 #[inline(always)]
-fn turn_after(kind: Kind, turn: Turn) -> Turn
-{
+fn turn_after(kind: Kind, turn: Turn) -> Turn {
     match (kind, turn) {
         (Kind::Map, Turn::First | Turn::Another) => Turn::Paired,
         _ => Turn::Another,

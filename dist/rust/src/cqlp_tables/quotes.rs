@@ -12,16 +12,14 @@ const BLOCK: usize = 16;
 pub(crate) fn put_text_field<P: Pen>(
     text: &str,
     writer: &mut TextWriter<P>,
-) -> Result<(), SinkFault>
-{
+) -> Result<(), SinkFault> {
     writer.put(b"\"")?;
     put_doubled(b'"', b'"', text.as_bytes(), writer)?;
     writer.put(b"\"")
 }
 
 /// Takes a text as an item of a field.
-pub(crate) fn put_text_item<P: Pen>(text: &str, writer: &mut TextWriter<P>) -> Result<(), SinkFault>
-{
+pub(crate) fn put_text_item<P: Pen>(text: &str, writer: &mut TextWriter<P>) -> Result<(), SinkFault> {
     writer.put(b"'")?;
     put_doubled(b'\'', b'"', text.as_bytes(), writer)?;
     writer.put(b"'")
@@ -33,8 +31,7 @@ fn put_doubled<P: Pen>(
     b: u8,
     bytes: &[u8],
     writer: &mut TextWriter<P>,
-) -> Result<(), SinkFault>
-{
+) -> Result<(), SinkFault> {
     let mut rest = bytes;
     while !rest.is_empty() {
         let plain = plain_len(a, b, rest);
@@ -50,8 +47,7 @@ fn put_doubled<P: Pen>(
 
 /// Takes a byte, twice where it is one of these two.
 #[inline]
-fn put_byte<P: Pen>(a: u8, b: u8, byte: u8, writer: &mut TextWriter<P>) -> Result<(), SinkFault>
-{
+fn put_byte<P: Pen>(a: u8, b: u8, byte: u8, writer: &mut TextWriter<P>) -> Result<(), SinkFault> {
     if is_mark(a, b, byte) {
         writer.put(&[byte, byte])
     } else {
@@ -61,8 +57,7 @@ fn put_byte<P: Pen>(a: u8, b: u8, byte: u8, writer: &mut TextWriter<P>) -> Resul
 
 /// How many bytes at the front are neither of these two.
 #[inline]
-fn plain_len(a: u8, b: u8, bytes: &[u8]) -> usize
-{
+fn plain_len(a: u8, b: u8, bytes: &[u8]) -> usize {
     let mut at = plain_blocks(a, b, bytes);
     while at < bytes.len() && !is_mark(a, b, bytes[at]) {
         at += 1;
@@ -72,8 +67,7 @@ fn plain_len(a: u8, b: u8, bytes: &[u8]) -> usize
 
 /// How many bytes in whole blocks at the front are neither of these two.
 #[inline]
-fn plain_blocks(a: u8, b: u8, bytes: &[u8]) -> usize
-{
+fn plain_blocks(a: u8, b: u8, bytes: &[u8]) -> usize {
     let mut at = 0;
     while bytes.len() - at >= BLOCK && is_plain_block(a, b, bytes, at) {
         at += BLOCK;
@@ -83,22 +77,19 @@ fn plain_blocks(a: u8, b: u8, bytes: &[u8]) -> usize
 
 /// Whether none of the bytes of a block is one of these two.
 #[inline]
-fn is_plain_block(a: u8, b: u8, bytes: &[u8], at: usize) -> bool
-{
+fn is_plain_block(a: u8, b: u8, bytes: &[u8], at: usize) -> bool {
     let block = u8x16::from_slice(&bytes[at..]);
     lacks(block, a) & lacks(block, b)
 }
 
 /// Whether this byte is not in a block.
 #[inline]
-fn lacks(block: u8x16, byte: u8) -> bool
-{
+fn lacks(block: u8x16, byte: u8) -> bool {
     block.simd_eq(u8x16::splat(byte)).to_bitmask() == 0
 }
 
 /// Whether a byte is one of these two.
 #[inline]
-fn is_mark(a: u8, b: u8, byte: u8) -> bool
-{
+fn is_mark(a: u8, b: u8, byte: u8) -> bool {
     byte == a || byte == b
 }

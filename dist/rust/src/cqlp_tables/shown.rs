@@ -54,8 +54,7 @@ impl Shown<'static> {
 pub(crate) fn put_shown<P: Pen>(
     shown: &Shown<'_>,
     writer: &mut TextWriter<P>,
-) -> Result<(), SinkFault>
-{
+) -> Result<(), SinkFault> {
     writer.put_str(shown.before)?;
     writer.put_str(shown.begin)?;
     put_content(&shown.content, writer)?;
@@ -64,8 +63,7 @@ pub(crate) fn put_shown<P: Pen>(
 }
 
 #[inline]
-fn put_content<P: Pen>(content: &Content<'_>, writer: &mut TextWriter<P>) -> Result<(), SinkFault>
-{
+fn put_content<P: Pen>(content: &Content<'_>, writer: &mut TextWriter<P>) -> Result<(), SinkFault> {
     match *content {
         Content::Nothing => Ok(()),
         Content::Number(number) => writer.put_number(number),

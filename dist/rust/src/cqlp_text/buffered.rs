@@ -22,8 +22,7 @@ pub struct Buffered<W: Target, A: Allocator = Global> {
 
 impl<W: Target, A: Allocator> Buffered<W, A> {
     /// With nothing that waits. As much may wait as the buffer is long.
-    pub(crate) fn new(target: W, buffer: Vec<u8, A>) -> Self
-    {
+    pub(crate) fn new(target: W, buffer: Vec<u8, A>) -> Self {
         Buffered {
             target,
             buffer,
@@ -33,16 +32,14 @@ impl<W: Target, A: Allocator> Buffered<W, A> {
 
     /// Passes on all that waits; after a fault nothing waits either.
     #[inline(never)]
-    pub fn flush(&mut self) -> Result<(), SinkFault>
-    {
+    pub fn flush(&mut self) -> Result<(), SinkFault> {
         let len = self.len;
         self.len = 0;
         send(&mut self.target, &self.buffer[..len])
     }
 
     /// The target, which did not get what waits.
-    pub fn into_inner(self) -> W
-    {
+    pub fn into_inner(self) -> W {
         let Buffered {
             target,
             buffer: _,
@@ -53,15 +50,13 @@ impl<W: Target, A: Allocator> Buffered<W, A> {
 
     /// Takes a text after what waits was passed on.
     #[inline(never)]
-    fn put_afresh(&mut self, bytes: &[u8]) -> Result<(), SinkFault>
-    {
+    fn put_afresh(&mut self, bytes: &[u8]) -> Result<(), SinkFault> {
         self.flush()?;
         self.restart(bytes)
     }
 
     /// Takes a text where nothing waits: it waits where the buffer has room for it, and is passed on at once where not.
-    fn restart(&mut self, bytes: &[u8]) -> Result<(), SinkFault>
-    {
+    fn restart(&mut self, bytes: &[u8]) -> Result<(), SinkFault> {
         self.len = 0;
         if bytes.len() > self.buffer.len() {
             return send(&mut self.target, bytes);
@@ -73,16 +68,14 @@ impl<W: Target, A: Allocator> Buffered<W, A> {
 
     /// Takes a number as decimal digits after what waits was passed on.
     #[inline(never)]
-    fn put_number_afresh(&mut self, number: u64) -> Result<(), SinkFault>
-    {
+    fn put_number_afresh(&mut self, number: u64) -> Result<(), SinkFault> {
         let mut room = crate::itoa::Buffer::new();
         self.put_afresh(room.format(number).as_bytes())
     }
 
     /// Takes this many digits of a number after what waits was passed on.
     #[inline(never)]
-    fn put_digits_afresh(&mut self, count: usize, number: u64) -> Result<(), SinkFault>
-    {
+    fn put_digits_afresh(&mut self, count: usize, number: u64) -> Result<(), SinkFault> {
         let mut room = [0; 128];
         fill_with_digits(number, &mut room[..count]);
         self.put_afresh(&room[..count])

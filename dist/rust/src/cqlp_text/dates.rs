@@ -19,8 +19,7 @@ impl<P: Pen> TextWriter<P> {
     /// Takes the date of a day: of the years 0 to 9999 as year, month and day, and else as the number
     /// of days from 1970.
     #[inline(never)]
-    pub fn put_date(&mut self, number: u32) -> Result<(), SinkFault>
-    {
+    pub fn put_date(&mut self, number: u32) -> Result<(), SinkFault> {
         if number < FIRST {
             return self.put_day_number(number);
         }
@@ -32,15 +31,13 @@ impl<P: Pen> TextWriter<P> {
         }
     }
 
-    fn put_day_number(&mut self, number: u32) -> Result<(), SinkFault>
-    {
+    fn put_day_number(&mut self, number: u32) -> Result<(), SinkFault> {
         self.put(b"day ")?;
         self.put_signed(i64::from(number) - i64::from(EPOCH))
     }
 
     /// Takes the date of a day from the first of January of the year 0, up to the year 9999.
-    fn put_civil(&mut self, day: u32) -> Result<(), SinkFault>
-    {
+    fn put_civil(&mut self, day: u32) -> Result<(), SinkFault> {
         let date = date_of(day);
         let year = year_of(&date);
         let month = u64::from(date.month);
@@ -54,13 +51,11 @@ impl<P: Pen> TextWriter<P> {
 }
 
 /// The date of a day from the first of January of the year 0, up to the year 9999.
-fn date_of(day: u32) -> Date
-{
+fn date_of(day: u32) -> Date {
     Date::from_unix_epoch_day(i64::from(day) - 719_528).unwrap()
 }
 
 /// The year of a date that is not before the year 0.
-fn year_of(date: &Date) -> u64
-{
+fn year_of(date: &Date) -> u64 {
     u64::from(date.year.unsigned_abs())
 }

@@ -14,8 +14,7 @@ static PAIRS: [u8; 200] =
 
 /// Fills all room with the last digits of a number, after zeros where it has fewer.
 #[inline(always)]
-pub(crate) fn fill_with_digits(number: u64, room: &mut [u8])
-{
+pub(crate) fn fill_with_digits(number: u64, room: &mut [u8]) {
     let mut left = number;
     let mut at = room.len();
     while at > 0 {
@@ -27,15 +26,13 @@ pub(crate) fn fill_with_digits(number: u64, room: &mut [u8])
 
 /// Puts a number, as decimal digits, into a buffer, and answers how many there are.
 #[inline(always)]
-pub(crate) fn place_number(number: u64, buffer: &mut [u8], at: usize) -> usize
-{
+pub(crate) fn place_number(number: u64, buffer: &mut [u8], at: usize) -> usize {
     write_to_front(number, &mut buffer[at..])
 }
 
 /// Puts a number, as decimal digits, to the front of bytes, and answers how many there are.
 #[inline(always)]
-fn write_to_front(number: u64, bytes: &mut [u8]) -> usize
-{
+fn write_to_front(number: u64, bytes: &mut [u8]) -> usize {
     match bytes.first_chunk_mut::<DECIMAL_ROOM>() {
         Some(room) => write_number(number, room),
         None => write_apart(number, bytes),
@@ -44,8 +41,7 @@ fn write_to_front(number: u64, bytes: &mut [u8]) -> usize
 
 /// Puts a number, as decimal digits, to the front of bytes with no room for any other, and answers how many there are.
 #[inline(never)]
-fn write_apart(number: u64, bytes: &mut [u8]) -> usize
-{
+fn write_apart(number: u64, bytes: &mut [u8]) -> usize {
     let mut room = [0; DECIMAL_ROOM];
     let len = write_number(number, &mut room);
     copy_to_front(&room[..len], bytes);
@@ -54,8 +50,7 @@ fn write_apart(number: u64, bytes: &mut [u8]) -> usize
 
 /// Puts a number, as decimal digits, to the front of a room for any, and answers how many there are.
 #[inline(never)]
-fn write_number(number: u64, room: &mut [u8; DECIMAL_ROOM]) -> usize
-{
+fn write_number(number: u64, room: &mut [u8; DECIMAL_ROOM]) -> usize {
     if number < 10_000 {
         write_short(number, room)
     } else {
@@ -65,8 +60,7 @@ fn write_number(number: u64, room: &mut [u8; DECIMAL_ROOM]) -> usize
 
 /// Puts a number to the front, its last eight digits behind those before them, and answers how many there are.
 #[inline(never)]
-fn write_long(number: u64, room: &mut [u8; DECIMAL_ROOM]) -> usize
-{
+fn write_long(number: u64, room: &mut [u8; DECIMAL_ROOM]) -> usize {
     if number < 100_000_000 {
         return write_middle(number, room);
     }
@@ -79,8 +73,7 @@ fn write_long(number: u64, room: &mut [u8; DECIMAL_ROOM]) -> usize
 
 /// Puts a number of at most eight digits to the front, and answers how many there are.
 #[inline(always)]
-fn write_middle(number: u64, room: &mut [u8; DECIMAL_ROOM]) -> usize
-{
+fn write_middle(number: u64, room: &mut [u8; DECIMAL_ROOM]) -> usize {
     if number < 10_000 {
         return write_short(number, room);
     }
@@ -91,8 +84,7 @@ fn write_middle(number: u64, room: &mut [u8; DECIMAL_ROOM]) -> usize
 
 /// Puts a number of at most four digits to the front, and answers how many there are.
 #[inline(always)]
-fn write_short(number: u64, room: &mut [u8; DECIMAL_ROOM]) -> usize
-{
+fn write_short(number: u64, room: &mut [u8; DECIMAL_ROOM]) -> usize {
     if number < 100 {
         return write_front(number, room);
     }
@@ -105,8 +97,7 @@ fn write_short(number: u64, room: &mut [u8; DECIMAL_ROOM]) -> usize
 
 /// Puts a number of at most two digits to the front, and answers how many there are.
 #[inline(always)]
-fn write_front(number: u64, room: &mut [u8; DECIMAL_ROOM]) -> usize
-{
+fn write_front(number: u64, room: &mut [u8; DECIMAL_ROOM]) -> usize {
     if number < 10 {
         room[0] = b'0' + number as u8;
         return 1;
@@ -119,8 +110,7 @@ fn write_front(number: u64, room: &mut [u8; DECIMAL_ROOM]) -> usize
 
 /// Puts a number of three digits to the front, and answers how many these are.
 #[inline(always)]
-fn write_three(number: u64, room: &mut [u8; DECIMAL_ROOM]) -> usize
-{
+fn write_three(number: u64, room: &mut [u8; DECIMAL_ROOM]) -> usize {
     let [tens, ones] = pair(number % 100);
     room[0] = b'0' + (number / 100) as u8;
     room[1] = tens;
@@ -130,8 +120,7 @@ fn write_three(number: u64, room: &mut [u8; DECIMAL_ROOM]) -> usize
 
 /// Puts a number below 10,000, as four digits, into a room.
 #[inline(always)]
-fn write_four(number: u64, room: &mut [u8; DECIMAL_ROOM], at: usize)
-{
+fn write_four(number: u64, room: &mut [u8; DECIMAL_ROOM], at: usize) {
     let [thousands, hundreds] = pair(number / 100);
     let [tens, ones] = pair(number % 100);
     room[at..at + 4].copy_from_slice(&[thousands, hundreds, tens, ones]);
@@ -139,16 +128,14 @@ fn write_four(number: u64, room: &mut [u8; DECIMAL_ROOM], at: usize)
 
 /// The two digits of a number below 100.
 #[inline(always)]
-fn pair(number: u64) -> [u8; 2]
-{
+fn pair(number: u64) -> [u8; 2] {
     let from = number as usize * 2;
     [PAIRS[from], PAIRS[from + 1]]
 }
 
 /// Puts a number, as decimal digits, into a room, in line where it is short, and answers how many there are.
 #[inline(always)]
-pub(crate) fn place_in_line(number: u64, at: usize, room: &mut [u8]) -> usize
-{
+pub(crate) fn place_in_line(number: u64, at: usize, room: &mut [u8]) -> usize {
     if number < SHORT {
         place_short(number, at, room)
     } else {
@@ -158,15 +145,13 @@ pub(crate) fn place_in_line(number: u64, at: usize, room: &mut [u8]) -> usize
 
 /// Puts a short number, as decimal digits, into a room, and answers how many there are.
 #[inline(always)]
-fn place_short(number: u64, at: usize, room: &mut [u8]) -> usize
-{
+fn place_short(number: u64, at: usize, room: &mut [u8]) -> usize {
     write_short_to_front(number, &mut room[at..])
 }
 
 /// Puts a short number, as decimal digits, to the front of bytes, and answers how many there are.
 #[inline(always)]
-fn write_short_to_front(number: u64, bytes: &mut [u8]) -> usize
-{
+fn write_short_to_front(number: u64, bytes: &mut [u8]) -> usize {
     match bytes.first_chunk_mut::<DECIMAL_ROOM>() {
         Some(room) => write_middle(number, room),
         None => write_apart(number, bytes),
@@ -175,22 +160,19 @@ fn write_short_to_front(number: u64, bytes: &mut [u8]) -> usize
 
 /// Puts this many digits of a number, with leading zeros, into a buffer.
 #[inline(always)]
-pub(crate) fn place_digits(number: u64, count: usize, buffer: &mut [u8], at: usize)
-{
+pub(crate) fn place_digits(number: u64, count: usize, buffer: &mut [u8], at: usize) {
     fill_with_digits(number, &mut buffer[at..at + count]);
 }
 
 /// Puts bytes into a buffer. What stands between two values has two or three, which take less when they are not copied.
 #[inline(always)]
-pub(crate) fn place(bytes: &[u8], buffer: &mut [u8], at: usize)
-{
+pub(crate) fn place(bytes: &[u8], buffer: &mut [u8], at: usize) {
     copy_to_front(bytes, &mut buffer[at..]);
 }
 
 /// Puts bytes to the front of others.
 #[inline(always)]
-pub(crate) fn copy_to_front(bytes: &[u8], room: &mut [u8])
-{
+pub(crate) fn copy_to_front(bytes: &[u8], room: &mut [u8]) {
     match bytes {
         [first, second] => {
             room[0] = *first;

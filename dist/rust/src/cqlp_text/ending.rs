@@ -29,8 +29,8 @@ pub enum Ending {
 
 impl Ending {
     /// The exit status.
-    pub fn status(self) -> u8
-    {
+    #[must_use]
+    pub fn status(self) -> u8 {
         match self {
             Ending::Finished(Finish::Whole { .. }) => DONE,
             Ending::Finished(Finish::Cut { .. }) => NOT_WHOLE,
@@ -46,8 +46,11 @@ impl Ending {
 }
 
 /// Appends the verdict line or the fault line of an ending. A fault is the writer's own.
-pub fn ending_line<W: Target>(ending: Ending, w: &mut W) -> Result<(), SinkFault>
-{
+///
+/// # Errors
+///
+/// The fault of the target.
+pub fn ending_line<W: Target>(ending: Ending, w: &mut W) -> Result<(), SinkFault> {
     let mut writer = TextWriter::over(w);
     let written = writer.put_ending(ending);
     let _ = writer.into_target();
@@ -55,8 +58,7 @@ pub fn ending_line<W: Target>(ending: Ending, w: &mut W) -> Result<(), SinkFault
 }
 
 /// Appends the line of a file that cannot be opened. A fault is the writer's own.
-pub fn cannot_open_line<W: Target>(file: &str, w: &mut W) -> Result<(), SinkFault>
-{
+pub fn cannot_open_line<W: Target>(file: &str, w: &mut W) -> Result<(), SinkFault> {
     let mut writer = TextWriter::over(w);
     let written = writer.put_cannot_open(file);
     let _ = writer.into_target();
@@ -65,8 +67,7 @@ pub fn cannot_open_line<W: Target>(file: &str, w: &mut W) -> Result<(), SinkFaul
 
 impl<W: Target> TextWriter<LinePen<'_, W>> {
     /// Takes the verdict line or the fault line, and passes all on.
-    pub fn put_ending(&mut self, ending: Ending) -> Result<(), SinkFault>
-    {
+    pub fn put_ending(&mut self, ending: Ending) -> Result<(), SinkFault> {
         match ending {
             Ending::Finished(finish) => self.put_verdict(finish),
             Ending::ReadFault => self.put_line("cqlp: read fault", &[]),
@@ -78,8 +79,7 @@ impl<W: Target> TextWriter<LinePen<'_, W>> {
         }
     }
 
-    fn put_verdict(&mut self, finish: Finish) -> Result<(), SinkFault>
-    {
+    fn put_verdict(&mut self, finish: Finish) -> Result<(), SinkFault> {
         match finish {
             Finish::Whole { bytes } => self.put_line("whole", &[Word::Number(bytes)]),
             Finish::Cut { frame_at, bytes } => {
@@ -93,14 +93,12 @@ impl<W: Target> TextWriter<LinePen<'_, W>> {
     }
 
     /// Takes the line of a file that cannot be opened, and passes all on.
-    pub fn put_cannot_open(&mut self, file: &str) -> Result<(), SinkFault>
-    {
+    pub fn put_cannot_open(&mut self, file: &str) -> Result<(), SinkFault> {
         self.put_line("cqlp: cannot open", &[Word::Foreign(file)])
     }
 
     /// Takes a line of words, and passes all on.
-    fn put_line(&mut self, first: &str, words: &[Word<'_>]) -> Result<(), SinkFault>
-    {
+    fn put_line(&mut self, first: &str, words: &[Word<'_>]) -> Result<(), SinkFault> {
         self.put(first.as_bytes())?;
         self.put_words(words)?;
         self.put(b"\n")?;

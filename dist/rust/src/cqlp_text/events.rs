@@ -11,9 +11,12 @@ use crate::cqlp_kind::{Kind, Scalar};
 use crate::cqlp_note::{Address, BoundValue, Field, Header, Target};
 
 /// Appends the line of an event at an offset. A fault is the writer's own.
+///
+/// # Errors
+///
+/// The fault of the target.
 #[inline]
-pub fn event_line<W: Target>(at: u64, event: &Event<'_>, w: &mut W) -> Result<(), SinkFault>
-{
+pub fn event_line<W: Target>(at: u64, event: &Event<'_>, w: &mut W) -> Result<(), SinkFault> {
     let mut writer = TextWriter::over(w);
     let written = writer.put_whole_event(at, event);
     let _ = writer.into_target();
@@ -23,8 +26,7 @@ pub fn event_line<W: Target>(at: u64, event: &Event<'_>, w: &mut W) -> Result<()
 impl<W: Target> TextWriter<LinePen<'_, W>> {
     /// Takes the line of an event at an offset, and passes all on.
     #[inline]
-    fn put_whole_event(&mut self, at: u64, event: &Event<'_>) -> Result<(), SinkFault>
-    {
+    fn put_whole_event(&mut self, at: u64, event: &Event<'_>) -> Result<(), SinkFault> {
         self.put_event(at, event)?;
         self.flush()
     }
@@ -33,16 +35,14 @@ impl<W: Target> TextWriter<LinePen<'_, W>> {
 impl<P: Pen> TextWriter<P> {
     /// Takes the line of an event at an offset.
     #[inline]
-    pub fn put_event(&mut self, at: u64, event: &Event<'_>) -> Result<(), SinkFault>
-    {
+    pub fn put_event(&mut self, at: u64, event: &Event<'_>) -> Result<(), SinkFault> {
         self.put_number(at)?;
         self.put_event_words(event)?;
         self.put(b"\n")
     }
 
     #[inline]
-    fn put_event_words(&mut self, event: &Event<'_>) -> Result<(), SinkFault>
-    {
+    fn put_event_words(&mut self, event: &Event<'_>) -> Result<(), SinkFault> {
         match *event {
             Event::Frame(header) => self.put_header_words(header),
             Event::Byte { field, value } => self.put_natural(" Byte ", field, u64::from(value)),
@@ -94,30 +94,26 @@ impl<P: Pen> TextWriter<P> {
 
     /// Takes the words of a field that is a number without a sign.
     #[inline(always)]
-    fn put_natural(&mut self, notation: &str, field: Field, value: u64) -> Result<(), SinkFault>
-    {
+    fn put_natural(&mut self, notation: &str, field: Field, value: u64) -> Result<(), SinkFault> {
         self.put_field(notation, field, Word::Number(value))
     }
 
     /// The same of a number with a sign.
     #[inline(always)]
-    fn put_integer(&mut self, notation: &str, field: Field, value: i64) -> Result<(), SinkFault>
-    {
+    fn put_integer(&mut self, notation: &str, field: Field, value: i64) -> Result<(), SinkFault> {
         self.put_field(notation, field, Word::Signed(value))
     }
 
     /// Takes the words of a field: how it is written, between spaces, its name, and its value.
     #[inline(always)]
-    fn put_field(&mut self, notation: &str, field: Field, value: Word<'_>) -> Result<(), SinkFault>
-    {
+    fn put_field(&mut self, notation: &str, field: Field, value: Word<'_>) -> Result<(), SinkFault> {
         self.put_str(notation)?;
         self.put_field_name(field)?;
         self.put(b" ")?;
         self.put_word(value)
     }
 
-    fn put_inet_words(&mut self, field: Field, address: Address, port: i32) -> Result<(), SinkFault>
-    {
+    fn put_inet_words(&mut self, field: Field, address: Address, port: i32) -> Result<(), SinkFault> {
         self.put(b" Inet ")?;
         self.put_field_name(field)?;
         self.put(b" ")?;
@@ -127,16 +123,14 @@ impl<P: Pen> TextWriter<P> {
     }
 
     #[inline(always)]
-    fn put_node_words(&mut self, kind: Kind) -> Result<(), SinkFault>
-    {
+    fn put_node_words(&mut self, kind: Kind) -> Result<(), SinkFault> {
         self.put(b" TypeNode ")?;
         self.put_kind_name(kind)
     }
 
     /// Takes the words of a value's place: its name, between spaces, its row, its column and its level.
     #[inline(always)]
-    fn put_place(&mut self, name: &str, row: u32, column: u32, level: u32) -> Result<(), SinkFault>
-    {
+    fn put_place(&mut self, name: &str, row: u32, column: u32, level: u32) -> Result<(), SinkFault> {
         self.put_str(name)?;
         self.put_count(row)?;
         self.put(b" ")?;
@@ -152,8 +146,7 @@ impl<P: Pen> TextWriter<P> {
         column: u32,
         level: u32,
         scalar: &Scalar<'_>,
-    ) -> Result<(), SinkFault>
-    {
+    ) -> Result<(), SinkFault> {
         self.put_place(" Leaf ", row, column, level)?;
         self.put(b" ")?;
         self.put_cell(scalar)
@@ -167,8 +160,7 @@ impl<P: Pen> TextWriter<P> {
         level: u32,
         kind: Kind,
         items: u32,
-    ) -> Result<(), SinkFault>
-    {
+    ) -> Result<(), SinkFault> {
         self.put_place(" Enter ", row, column, level)?;
         self.put(b" ")?;
         self.put_kind_name(kind)?;
@@ -177,8 +169,7 @@ impl<P: Pen> TextWriter<P> {
     }
 
     #[inline(always)]
-    fn put_leave_words(&mut self, level: u32, items: u32) -> Result<(), SinkFault>
-    {
+    fn put_leave_words(&mut self, level: u32, items: u32) -> Result<(), SinkFault> {
         self.put(b" Leave ")?;
         self.put_count(level)?;
         self.put(b" ")?;
@@ -193,8 +184,7 @@ impl<P: Pen> TextWriter<P> {
         offset: u32,
         bytes: &[u8],
         last: bool,
-    ) -> Result<(), SinkFault>
-    {
+    ) -> Result<(), SinkFault> {
         self.put_place(" Part ", row, column, level)?;
         self.put(b" ")?;
         self.put_count(offset)?;
@@ -205,14 +195,12 @@ impl<P: Pen> TextWriter<P> {
     }
 
     #[inline(always)]
-    fn put_end_words(&mut self, extra: u32) -> Result<(), SinkFault>
-    {
+    fn put_end_words(&mut self, extra: u32) -> Result<(), SinkFault> {
         self.put(b" End ")?;
         self.put_count(extra)
     }
 
-    fn put_header_words(&mut self, header: Header) -> Result<(), SinkFault>
-    {
+    fn put_header_words(&mut self, header: Header) -> Result<(), SinkFault> {
         self.put_words(&[
             Word::Name("Frame"),
             Word::Name(direction(header.response)),
@@ -223,36 +211,30 @@ impl<P: Pen> TextWriter<P> {
         ])
     }
 
-    fn put_field_name(&mut self, field: Field) -> Result<(), SinkFault>
-    {
+    fn put_field_name(&mut self, field: Field) -> Result<(), SinkFault> {
         self.put(field_name(field).as_bytes())
     }
 
     #[inline]
-    fn put_kind_name(&mut self, kind: Kind) -> Result<(), SinkFault>
-    {
+    fn put_kind_name(&mut self, kind: Kind) -> Result<(), SinkFault> {
         self.put(kind_name(kind).as_bytes())
     }
 
     #[inline]
-    fn put_part_place(&mut self, last: bool) -> Result<(), SinkFault>
-    {
+    fn put_part_place(&mut self, last: bool) -> Result<(), SinkFault> {
         self.put(part_place(last).as_bytes())
     }
 }
 
-fn direction(response: bool) -> &'static str
-{
+fn direction(response: bool) -> &'static str {
     if response { "response" } else { "request" }
 }
 
-fn part_place(last: bool) -> &'static str
-{
+fn part_place(last: bool) -> &'static str {
     if last { "last" } else { "more" }
 }
 
-fn bound_word(value: BoundValue<'_>) -> Word<'_>
-{
+fn bound_word(value: BoundValue<'_>) -> Word<'_> {
     match value {
         BoundValue::Null => Word::Name("null"),
         BoundValue::Unset => Word::Name("unset"),

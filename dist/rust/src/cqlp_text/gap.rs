@@ -17,8 +17,7 @@ pub enum Gap {
 impl Gap {
     /// Four bytes, the first of which are its text.
     #[inline(always)]
-    pub(crate) fn padded(self) -> [u8; 4]
-    {
+    pub(crate) fn padded(self) -> [u8; 4] {
         match self {
             Gap::Nothing => *b"    ",
             Gap::Bar => *b" |  ",
@@ -29,8 +28,7 @@ impl Gap {
 
     /// How many bytes its text has.
     #[inline(always)]
-    pub(crate) fn len(self) -> usize
-    {
+    pub(crate) fn len(self) -> usize {
         match self {
             Gap::Nothing => 0,
             Gap::Bar => 3,

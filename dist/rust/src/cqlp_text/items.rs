@@ -12,16 +12,14 @@ pub(crate) const TEXT_MARGIN: usize = 8;
 
 /// Puts a gap to the front of a room, and answers how many bytes it has. What it writes behind it means nothing.
 #[inline(always)]
-pub(crate) fn write_gap(gap: Gap, room: &mut [u8]) -> usize
-{
+pub(crate) fn write_gap(gap: Gap, room: &mut [u8]) -> usize {
     copy_to_front(&gap.padded(), room);
     gap.len()
 }
 
 /// Puts the end of a line, where one ends, behind this many bytes of a room, and answers how many there are then.
 #[inline(always)]
-pub(crate) fn write_line_end(ends_line: bool, at: usize, room: &mut [u8]) -> usize
-{
+pub(crate) fn write_line_end(ends_line: bool, at: usize, room: &mut [u8]) -> usize {
     if ends_line {
         write_newline(at, room)
     } else {
@@ -31,8 +29,7 @@ pub(crate) fn write_line_end(ends_line: bool, at: usize, room: &mut [u8]) -> usi
 
 /// Puts the end of a line behind this many bytes of a room, and answers how many there are then.
 #[inline(always)]
-fn write_newline(at: usize, room: &mut [u8]) -> usize
-{
+fn write_newline(at: usize, room: &mut [u8]) -> usize {
     room[at] = b'\n';
     at + 1
 }
@@ -40,8 +37,7 @@ fn write_newline(at: usize, room: &mut [u8]) -> usize
 /// Puts a number, behind a gap and, where a line ends, before its end, to the front of a room, and answers how many bytes
 /// these are.
 #[inline(always)]
-fn write_item(gap: Gap, number: u64, ends_line: bool, room: &mut [u8; ITEM_ROOM]) -> usize
-{
+fn write_item(gap: Gap, number: u64, ends_line: bool, room: &mut [u8; ITEM_ROOM]) -> usize {
     let front = write_gap(gap, room);
     let len = place_in_line(number, front, room);
     write_line_end(ends_line, front + len, room)
@@ -49,8 +45,7 @@ fn write_item(gap: Gap, number: u64, ends_line: bool, room: &mut [u8; ITEM_ROOM]
 
 /// The same to the front of bytes.
 #[inline(always)]
-fn write_item_to_front(gap: Gap, number: u64, ends_line: bool, bytes: &mut [u8]) -> usize
-{
+fn write_item_to_front(gap: Gap, number: u64, ends_line: bool, bytes: &mut [u8]) -> usize {
     match bytes.first_chunk_mut::<ITEM_ROOM>() {
         Some(room) => write_item(gap, number, ends_line, room),
         None => unreachable!(),
@@ -60,8 +55,7 @@ fn write_item_to_front(gap: Gap, number: u64, ends_line: bool, bytes: &mut [u8])
 /// Puts a text in quotes, behind a gap and, where a line ends, before its end, to the front of a room, and answers how
 /// many bytes these are.
 #[inline(always)]
-fn write_text(gap: Gap, text: &[u8], ends_line: bool, room: &mut [u8]) -> usize
-{
+fn write_text(gap: Gap, text: &[u8], ends_line: bool, room: &mut [u8]) -> usize {
     let front = write_gap(gap, room);
     place(b"\"", room, front);
     place(text, room, front + 1);
@@ -78,8 +72,7 @@ pub(crate) fn place_text(
     ends_line: bool,
     buffer: &mut [u8],
     at: usize,
-) -> usize
-{
+) -> usize {
     write_text(gap, text, ends_line, &mut buffer[at..])
 }
 
@@ -91,7 +84,6 @@ pub(crate) fn place_item(
     ends_line: bool,
     buffer: &mut [u8],
     at: usize,
-) -> usize
-{
+) -> usize {
     write_item_to_front(gap, number, ends_line, &mut buffer[at..])
 }

@@ -20,8 +20,7 @@ pub struct LinePen<'a, W: Target> {
 
 impl<'a, W: Target> LinePen<'a, W> {
     /// With nothing that waits.
-    pub fn new(target: &'a mut W) -> Self
-    {
+    pub fn new(target: &'a mut W) -> Self {
         LinePen {
             target,
             buffer: [0; ROOM],
@@ -30,8 +29,7 @@ impl<'a, W: Target> LinePen<'a, W> {
     }
 
     /// The target, which did not get what waits.
-    pub fn into_inner(self) -> &'a mut W
-    {
+    pub fn into_inner(self) -> &'a mut W {
         let LinePen {
             target,
             buffer: _,
@@ -42,8 +40,7 @@ impl<'a, W: Target> LinePen<'a, W> {
 
     /// Takes a text after what waits was passed on.
     #[inline(never)]
-    fn put_afresh(&mut self, bytes: &[u8]) -> Result<(), SinkFault>
-    {
+    fn put_afresh(&mut self, bytes: &[u8]) -> Result<(), SinkFault> {
         self.flush()?;
         if bytes.len() <= ROOM {
             self.keep(bytes);
@@ -55,23 +52,20 @@ impl<'a, W: Target> LinePen<'a, W> {
 
     /// Passes on all that waits; after a fault nothing waits either.
     #[inline(always)]
-    pub fn flush(&mut self) -> Result<(), SinkFault>
-    {
+    pub fn flush(&mut self) -> Result<(), SinkFault> {
         let len = self.len;
         self.len = 0;
         send(self.target, &self.buffer[..len])
     }
 
     /// Passes a text on, where nothing waits.
-    fn pass_on(&mut self, bytes: &[u8]) -> Result<(), SinkFault>
-    {
+    fn pass_on(&mut self, bytes: &[u8]) -> Result<(), SinkFault> {
         send(self.target, bytes)
     }
 
     /// Passes what waits on where there is no room for this many bytes more.
     #[inline(always)]
-    fn make_room(&mut self, count: usize) -> Result<(), SinkFault>
-    {
+    fn make_room(&mut self, count: usize) -> Result<(), SinkFault> {
         if count <= ROOM - self.len {
             Ok(())
         } else {
@@ -81,23 +75,20 @@ impl<'a, W: Target> LinePen<'a, W> {
 
     /// Passes on all that waits, in code of its own.
     #[inline(never)]
-    fn flush_apart(&mut self) -> Result<(), SinkFault>
-    {
+    fn flush_apart(&mut self) -> Result<(), SinkFault> {
         self.flush()
     }
 
     /// Takes a number that there is room for, as decimal digits.
     #[inline(always)]
-    fn keep_number(&mut self, number: u64)
-    {
+    fn keep_number(&mut self, number: u64) {
         let len = place_number(number, &mut self.buffer, self.len);
         self.len += len;
     }
 
     /// Takes this many digits of a number, which there is room for.
     #[inline(always)]
-    fn keep_digits(&mut self, count: usize, number: u64)
-    {
+    fn keep_digits(&mut self, count: usize, number: u64) {
         let end = self.len + count;
         fill_with_digits(number, &mut self.buffer[self.len..end]);
         self.len = end;
@@ -105,8 +96,7 @@ impl<'a, W: Target> LinePen<'a, W> {
 
     /// Takes a text that there is room for.
     #[inline(always)]
-    fn keep(&mut self, bytes: &[u8])
-    {
+    fn keep(&mut self, bytes: &[u8]) {
         let end = self.len + bytes.len();
         self.buffer[self.len..end].copy_from_slice(bytes);
         self.len = end;

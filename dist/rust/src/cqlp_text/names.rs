@@ -5,8 +5,8 @@ use crate::cqlp_kind::Kind;
 use crate::cqlp_note::{Field, Opcode, Reason};
 
 /// The name of a field.
-pub fn field_name(field: Field) -> &'static str
-{
+#[must_use]
+pub fn field_name(field: Field) -> &'static str {
     match field {
         Field::TraceId => "TraceId",
         Field::Warnings => "Warnings",
@@ -68,8 +68,8 @@ pub fn field_name(field: Field) -> &'static str
 }
 
 /// The name of an opcode, as section 2.4 of `native_protocol_v4.spec` has it.
-pub fn opcode_name(opcode: Opcode) -> &'static str
-{
+#[must_use]
+pub fn opcode_name(opcode: Opcode) -> &'static str {
     match opcode {
         Opcode::Error => "ERROR",
         Opcode::Startup => "STARTUP",
@@ -91,8 +91,8 @@ pub fn opcode_name(opcode: Opcode) -> &'static str
 }
 
 /// The name of a kind of type, as CQL has it.
-pub fn kind_name(kind: Kind) -> &'static str
-{
+#[must_use]
+pub fn kind_name(kind: Kind) -> &'static str {
     match kind {
         Kind::Custom => "custom",
         Kind::Ascii => "ascii",
@@ -124,8 +124,8 @@ pub fn kind_name(kind: Kind) -> &'static str
 }
 
 /// The name of a reason.
-pub fn reason_name(reason: Reason) -> &'static str
-{
+#[must_use]
+pub fn reason_name(reason: Reason) -> &'static str {
     match reason {
         Reason::BadVersion => "BadVersion",
         Reason::Compressed => "Compressed",

@@ -18,13 +18,16 @@ const ROWS: i32 = 2;
 
 /// Appends what is written of an event of a page, which nothing is of an event of another frame, and goes to the place
 /// after it, also at a fault, which is the writer's own.
+///
+/// # Errors
+///
+/// The fault of the target.
 #[inline]
 pub fn page_part<W: Target>(
     place: &mut PagePlace,
     event: &Event<'_>,
     w: &mut W,
-) -> Result<(), SinkFault>
-{
+) -> Result<(), SinkFault> {
     if !place.shows(event) {
         place.pass(event);
         return Ok(());
@@ -65,8 +68,8 @@ pub struct PagePlace {
 
 impl PagePlace {
     /// Before any frame.
-    pub fn new() -> Self
-    {
+    #[must_use]
+    pub fn new() -> Self {
         PagePlace {
             is_page: false,
             columns: 0,
@@ -80,15 +83,13 @@ impl PagePlace {
     }
 
     #[inline]
-    fn is_page(&self) -> bool
-    {
+    fn is_page(&self) -> bool {
         self.is_page
     }
 
     /// Whether anything may be written of an event.
     #[inline]
-    fn shows(&self, event: &Event<'_>) -> bool
-    {
+    fn shows(&self, event: &Event<'_>) -> bool {
         match *event {
             Event::Text { .. }
             | Event::Count { .. }
@@ -103,22 +104,19 @@ impl PagePlace {
     }
 
     #[inline]
-    fn columns(&self) -> u32
-    {
+    fn columns(&self) -> u32 {
         self.columns
     }
 
     /// The innermost open value.
     #[inline(always)]
-    fn innermost(&self) -> Option<WrittenValue>
-    {
+    fn innermost(&self) -> Option<WrittenValue> {
         self.open_values.get(self.free).copied()
     }
 
     /// What stands before a cell of this column, or before an item of the open value.
     #[inline(always)]
-    fn gap(&self, column: u32) -> Gap
-    {
+    fn gap(&self, column: u32) -> Gap {
         match self.innermost() {
             None if column == 0 => Gap::Nothing,
             None => Gap::Bar,
@@ -128,8 +126,7 @@ impl PagePlace {
 
     /// Whether a row ends after a cell of this column, which no item of an open value is.
     #[inline(always)]
-    fn ends_row(&self, column: u32) -> bool
-    {
+    fn ends_row(&self, column: u32) -> bool {
         if self.free < ROOM {
             return false;
         }
@@ -138,8 +135,7 @@ impl PagePlace {
 
     /// Whether a row ends after the innermost open value, which no item of another one is.
     #[inline]
-    fn ends_row_after_innermost(&self) -> bool
-    {
+    fn ends_row_after_innermost(&self) -> bool {
         if self.free + 1 < ROOM {
             return false;
         }
@@ -148,8 +144,7 @@ impl PagePlace {
 
     /// Goes to the place after an event.
     #[inline(always)]
-    fn pass(&mut self, event: &Event<'_>)
-    {
+    fn pass(&mut self, event: &Event<'_>) {
         match *event {
             Event::Int { field, value } => self.pass_int(field, value),
             Event::Count { field, count } => self.pass_count(field, count),
@@ -164,8 +159,7 @@ impl PagePlace {
     }
 
     /// Goes to the begin of a result, which is a page or not.
-    fn start(&mut self, is_page: bool)
-    {
+    fn start(&mut self, is_page: bool) {
         self.is_page = is_page;
         self.columns = 0;
         self.column = 0;
@@ -173,8 +167,7 @@ impl PagePlace {
     }
 
     #[inline]
-    fn pass_int(&mut self, field: Field, value: i32)
-    {
+    fn pass_int(&mut self, field: Field, value: i32) {
         if let Field::ResultKind = field {
             if value == ROWS {
                 self.start(true);
@@ -183,8 +176,7 @@ impl PagePlace {
     }
 
     #[inline]
-    fn pass_count(&mut self, field: Field, count: u32)
-    {
+    fn pass_count(&mut self, field: Field, count: u32) {
         if let Field::Columns = field {
             self.columns = count;
         }
@@ -192,15 +184,13 @@ impl PagePlace {
 
     /// Goes to the place after a cell of this column, or after an item of the open value.
     #[inline(always)]
-    fn pass_item(&mut self, column: u32)
-    {
+    fn pass_item(&mut self, column: u32) {
         self.column = column;
         self.count_item();
     }
 
     #[inline]
-    fn pass_part(&mut self, column: u32, last: bool)
-    {
+    fn pass_part(&mut self, column: u32, last: bool) {
         self.column = column;
         if last {
             self.count_item();
@@ -209,8 +199,7 @@ impl PagePlace {
 
     /// Goes to the place after an item of the open value, if there is one.
     #[inline(always)]
-    fn count_item(&mut self)
-    {
+    fn count_item(&mut self) {
         if self.free < ROOM {
             let open = self.open_values[self.free];
             self.open_values[self.free] = WrittenValue {
@@ -222,15 +211,13 @@ impl PagePlace {
 
     /// Goes into a value of this kind, an item of the one that was open.
     #[inline]
-    fn enter(&mut self, column: u32, kind: Kind)
-    {
+    fn enter(&mut self, column: u32, kind: Kind) {
         self.pass_item(column);
         self.push(kind);
     }
 
     #[inline]
-    fn push(&mut self, kind: Kind)
-    {
+    fn push(&mut self, kind: Kind) {
         if self.free == 0 {
             return;
         }
@@ -242,8 +229,7 @@ impl PagePlace {
     }
 
     #[inline]
-    fn leave(&mut self)
-    {
+    fn leave(&mut self) {
         if self.free < ROOM {
             self.free += 1;
         }
@@ -256,8 +242,7 @@ impl<W: Target> TextWriter<LinePen<'_, W>> {
         &mut self,
         place: &mut PagePlace,
         event: &Event<'_>,
-    ) -> Result<(), SinkFault>
-    {
+    ) -> Result<(), SinkFault> {
         self.put_page_part(place, event)?;
         self.flush()
     }
@@ -270,8 +255,7 @@ impl<P: Pen> TextWriter<P> {
         &mut self,
         place: &mut PagePlace,
         event: &Event<'_>,
-    ) -> Result<(), SinkFault>
-    {
+    ) -> Result<(), SinkFault> {
         if !place.is_page() {
             place.pass(event);
             return Ok(());
@@ -292,16 +276,14 @@ impl<P: Pen> TextWriter<P> {
 
     /// Takes what is written of an event within a page, and goes to the place after it, also at a fault.
     #[inline(never)]
-    fn put_other_part(&mut self, place: &mut PagePlace, event: &Event<'_>) -> Result<(), SinkFault>
-    {
+    fn put_other_part(&mut self, place: &mut PagePlace, event: &Event<'_>) -> Result<(), SinkFault> {
         let written = self.put_event_part(place, event);
         place.pass(event);
         written
     }
 
     #[inline(always)]
-    fn put_event_part(&mut self, place: &PagePlace, event: &Event<'_>) -> Result<(), SinkFault>
-    {
+    fn put_event_part(&mut self, place: &PagePlace, event: &Event<'_>) -> Result<(), SinkFault> {
         match *event {
             Event::Text { field, text } => self.put_text_part(place, field, text),
             Event::Count { field, count } => self.put_count_part(place, field, count),
@@ -330,16 +312,14 @@ impl<P: Pen> TextWriter<P> {
         place: &PagePlace,
         field: Field,
         text: &str,
-    ) -> Result<(), SinkFault>
-    {
+    ) -> Result<(), SinkFault> {
         match field {
             Field::ColumnName => self.put_column_line(text),
             _ => Ok(()),
         }
     }
 
-    fn put_column_line(&mut self, name: &str) -> Result<(), SinkFault>
-    {
+    fn put_column_line(&mut self, name: &str) -> Result<(), SinkFault> {
         self.put(b"column ")?;
         self.put_quoted(name)?;
         self.put(b"\n")
@@ -350,16 +330,14 @@ impl<P: Pen> TextWriter<P> {
         place: &PagePlace,
         field: Field,
         count: u32,
-    ) -> Result<(), SinkFault>
-    {
+    ) -> Result<(), SinkFault> {
         match field {
             Field::Rows => self.put_page_line(place.columns(), count),
             _ => Ok(()),
         }
     }
 
-    fn put_page_line(&mut self, columns: u32, rows: u32) -> Result<(), SinkFault>
-    {
+    fn put_page_line(&mut self, columns: u32, rows: u32) -> Result<(), SinkFault> {
         self.put(b"page ")?;
         self.put_number(u64::from(columns))?;
         self.put(b" columns ")?;
@@ -375,8 +353,7 @@ impl<P: Pen> TextWriter<P> {
         place: &mut PagePlace,
         column: u32,
         scalar: &Scalar<'_>,
-    ) -> Result<(), SinkFault>
-    {
+    ) -> Result<(), SinkFault> {
         match *scalar {
             Scalar::Int(number) => self.put_number_item(place, column, i64::from(number)),
             Scalar::Smallint(number) => self.put_small_item(place, column, i64::from(number)),
@@ -397,8 +374,7 @@ impl<P: Pen> TextWriter<P> {
         place: &mut PagePlace,
         column: u32,
         number: i64,
-    ) -> Result<(), SinkFault>
-    {
+    ) -> Result<(), SinkFault> {
         self.put_number_item(place, column, number)
     }
 
@@ -409,8 +385,7 @@ impl<P: Pen> TextWriter<P> {
         place: &mut PagePlace,
         column: u32,
         number: i64,
-    ) -> Result<(), SinkFault>
-    {
+    ) -> Result<(), SinkFault> {
         let gap = place.gap(column);
         let ends_row = place.ends_row(column);
         place.pass_item(column);
@@ -424,8 +399,7 @@ impl<P: Pen> TextWriter<P> {
         place: &mut PagePlace,
         column: u32,
         number: i64,
-    ) -> Result<(), SinkFault>
-    {
+    ) -> Result<(), SinkFault> {
         let gap = place.gap(column);
         let ends_row = place.ends_row(column);
         place.pass_item(column);
@@ -439,8 +413,7 @@ impl<P: Pen> TextWriter<P> {
         place: &mut PagePlace,
         column: u32,
         text: &str,
-    ) -> Result<(), SinkFault>
-    {
+    ) -> Result<(), SinkFault> {
         let gap = place.gap(column);
         let ends_row = place.ends_row(column);
         place.pass_item(column);
@@ -454,8 +427,7 @@ impl<P: Pen> TextWriter<P> {
         place: &mut PagePlace,
         column: u32,
         scalar: &Scalar<'_>,
-    ) -> Result<(), SinkFault>
-    {
+    ) -> Result<(), SinkFault> {
         let written = self.put_value(place, column, scalar);
         place.pass_item(column);
         written
@@ -468,8 +440,7 @@ impl<P: Pen> TextWriter<P> {
         place: &mut PagePlace,
         column: u32,
         value: bool,
-    ) -> Result<(), SinkFault>
-    {
+    ) -> Result<(), SinkFault> {
         let written = self.put_truth(place, column, value);
         place.pass_item(column);
         written
@@ -482,8 +453,7 @@ impl<P: Pen> TextWriter<P> {
         place: &mut PagePlace,
         column: u32,
         name: &str,
-    ) -> Result<(), SinkFault>
-    {
+    ) -> Result<(), SinkFault> {
         let written = self.put_named(place, column, name);
         place.pass_item(column);
         written
@@ -491,8 +461,7 @@ impl<P: Pen> TextWriter<P> {
 
     /// Takes the begin of a value with items, and goes into it, also at a fault.
     #[inline(always)]
-    fn put_enter(&mut self, place: &mut PagePlace, column: u32, kind: Kind) -> Result<(), SinkFault>
-    {
+    fn put_enter(&mut self, place: &mut PagePlace, column: u32, kind: Kind) -> Result<(), SinkFault> {
         let written = self.put_opening(place, column, kind);
         place.enter(column, kind);
         written
@@ -500,8 +469,7 @@ impl<P: Pen> TextWriter<P> {
 
     /// Takes the end of the innermost open value, and goes out of it, also at a fault.
     #[inline(always)]
-    fn put_leave(&mut self, place: &mut PagePlace) -> Result<(), SinkFault>
-    {
+    fn put_leave(&mut self, place: &mut PagePlace) -> Result<(), SinkFault> {
         let written = self.put_closing(place);
         place.leave();
         written
@@ -509,8 +477,7 @@ impl<P: Pen> TextWriter<P> {
 
     /// Takes a number as decimal digits, behind a gap, and where a row ends, its end.
     #[inline(always)]
-    fn put_item(&mut self, gap: Gap, number: i64, ends_row: bool) -> Result<(), SinkFault>
-    {
+    fn put_item(&mut self, gap: Gap, number: i64, ends_row: bool) -> Result<(), SinkFault> {
         if number >= 0 {
             if self.takes_item(gap, number.unsigned_abs(), ends_row) {
                 return Ok(());
@@ -521,8 +488,7 @@ impl<P: Pen> TextWriter<P> {
 
     /// The same, where a number of more than eight digits has no code in line.
     #[inline(always)]
-    fn put_short_item(&mut self, gap: Gap, number: i64, ends_row: bool) -> Result<(), SinkFault>
-    {
+    fn put_short_item(&mut self, gap: Gap, number: i64, ends_row: bool) -> Result<(), SinkFault> {
         if number < SHORT as i64 {
             self.put_item(gap, number, ends_row)
         } else {
@@ -532,8 +498,7 @@ impl<P: Pen> TextWriter<P> {
 
     /// The same, one part after the other.
     #[inline(never)]
-    fn put_item_in_parts(&mut self, gap: Gap, number: i64, ends_row: bool) -> Result<(), SinkFault>
-    {
+    fn put_item_in_parts(&mut self, gap: Gap, number: i64, ends_row: bool) -> Result<(), SinkFault> {
         self.put_gap(gap)?;
         self.put_signed(number)?;
         self.put_row_end(ends_row)
@@ -541,8 +506,7 @@ impl<P: Pen> TextWriter<P> {
 
     /// Takes a gap.
     #[inline(always)]
-    fn put_gap(&mut self, gap: Gap) -> Result<(), SinkFault>
-    {
+    fn put_gap(&mut self, gap: Gap) -> Result<(), SinkFault> {
         match gap {
             Gap::Nothing => Ok(()),
             Gap::Bar => self.put(b" | "),
@@ -553,8 +517,7 @@ impl<P: Pen> TextWriter<P> {
 
     /// Takes a text in quotes, behind a gap, and where a row ends, its end.
     #[inline(always)]
-    fn put_text(&mut self, gap: Gap, text: &str, ends_row: bool) -> Result<(), SinkFault>
-    {
+    fn put_text(&mut self, gap: Gap, text: &str, ends_row: bool) -> Result<(), SinkFault> {
         if self.takes_text(gap, text, ends_row) {
             return Ok(());
         }
@@ -563,8 +526,7 @@ impl<P: Pen> TextWriter<P> {
 
     /// The same, one part after the other.
     #[inline(never)]
-    fn put_text_in_parts(&mut self, gap: Gap, text: &str, ends_row: bool) -> Result<(), SinkFault>
-    {
+    fn put_text_in_parts(&mut self, gap: Gap, text: &str, ends_row: bool) -> Result<(), SinkFault> {
         self.put_gap(gap)?;
         self.put_quoted(text)?;
         self.put_row_end(ends_row)
@@ -577,8 +539,7 @@ impl<P: Pen> TextWriter<P> {
         place: &PagePlace,
         column: u32,
         scalar: &Scalar<'_>,
-    ) -> Result<(), SinkFault>
-    {
+    ) -> Result<(), SinkFault> {
         self.put_before(place, column)?;
         self.put_any_cell(scalar)?;
         self.put_row_end(place.ends_row(column))
@@ -586,8 +547,7 @@ impl<P: Pen> TextWriter<P> {
 
     /// Takes a truth value, with what stands before and after it.
     #[inline(always)]
-    fn put_truth(&mut self, place: &PagePlace, column: u32, value: bool) -> Result<(), SinkFault>
-    {
+    fn put_truth(&mut self, place: &PagePlace, column: u32, value: bool) -> Result<(), SinkFault> {
         self.put_before(place, column)?;
         self.put_boolean(value)?;
         self.put_row_end(place.ends_row(column))
@@ -595,8 +555,7 @@ impl<P: Pen> TextWriter<P> {
 
     /// Takes a name in place of a value, with what stands before and after it.
     #[inline]
-    fn put_named(&mut self, place: &PagePlace, column: u32, name: &str) -> Result<(), SinkFault>
-    {
+    fn put_named(&mut self, place: &PagePlace, column: u32, name: &str) -> Result<(), SinkFault> {
         self.put_before(place, column)?;
         self.put_str(name)?;
         self.put_row_end(place.ends_row(column))
@@ -604,8 +563,7 @@ impl<P: Pen> TextWriter<P> {
 
     /// Takes what stands before a cell of this column, or before an item of the open value.
     #[inline(always)]
-    fn put_before(&mut self, place: &PagePlace, column: u32) -> Result<(), SinkFault>
-    {
+    fn put_before(&mut self, place: &PagePlace, column: u32) -> Result<(), SinkFault> {
         match place.innermost() {
             None if column == 0 => Ok(()),
             None => self.put(b" | "),
@@ -615,8 +573,7 @@ impl<P: Pen> TextWriter<P> {
 
     /// Takes what stands before an item of an open value.
     #[inline(always)]
-    fn put_separator(&mut self, turn: Turn) -> Result<(), SinkFault>
-    {
+    fn put_separator(&mut self, turn: Turn) -> Result<(), SinkFault> {
         match turn {
             Turn::First => Ok(()),
             Turn::Paired => self.put(b": "),
@@ -626,21 +583,18 @@ impl<P: Pen> TextWriter<P> {
 
     /// Takes the end of a row, where one ends.
     #[inline(always)]
-    fn put_row_end(&mut self, ends: bool) -> Result<(), SinkFault>
-    {
+    fn put_row_end(&mut self, ends: bool) -> Result<(), SinkFault> {
         if ends { self.put(b"\n") } else { Ok(()) }
     }
 
     #[inline(always)]
-    fn put_opening(&mut self, place: &PagePlace, column: u32, kind: Kind) -> Result<(), SinkFault>
-    {
+    fn put_opening(&mut self, place: &PagePlace, column: u32, kind: Kind) -> Result<(), SinkFault> {
         self.put_before(place, column)?;
         self.put(opening(kind).as_bytes())
     }
 
     #[inline(always)]
-    fn put_closing(&mut self, place: &PagePlace) -> Result<(), SinkFault>
-    {
+    fn put_closing(&mut self, place: &PagePlace) -> Result<(), SinkFault> {
         let Some(open) = place.innermost() else {
             return Ok(());
         };
@@ -656,8 +610,7 @@ impl<P: Pen> TextWriter<P> {
         offset: u32,
         bytes: &[u8],
         last: bool,
-    ) -> Result<(), SinkFault>
-    {
+    ) -> Result<(), SinkFault> {
         self.put_content_start(place, column, offset)?;
         self.put_hex(bytes)?;
         self.put_content_end(place, column, last)
@@ -668,8 +621,7 @@ impl<P: Pen> TextWriter<P> {
         place: &PagePlace,
         column: u32,
         offset: u32,
-    ) -> Result<(), SinkFault>
-    {
+    ) -> Result<(), SinkFault> {
         if offset > 0 {
             return Ok(());
         }
@@ -682,8 +634,7 @@ impl<P: Pen> TextWriter<P> {
         place: &PagePlace,
         column: u32,
         last: bool,
-    ) -> Result<(), SinkFault>
-    {
+    ) -> Result<(), SinkFault> {
         if last {
             self.put_row_end(place.ends_row(column))
         } else {
@@ -694,15 +645,13 @@ impl<P: Pen> TextWriter<P> {
 
 /// Whether a row ends after a cell of this column.
 #[inline(always)]
-fn is_last(column: u32, columns: u32) -> bool
-{
+fn is_last(column: u32, columns: u32) -> bool {
     u64::from(column) + 1 == u64::from(columns)
 }
 
 /// What stands before an item of an open value.
 #[inline(always)]
-fn gap_at(turn: Turn) -> Gap
-{
+fn gap_at(turn: Turn) -> Gap {
     match turn {
         Turn::First => Gap::Nothing,
         Turn::Paired => Gap::Colon,
@@ -711,8 +660,7 @@ fn gap_at(turn: Turn) -> Gap
 }
 
 #[inline]
-fn opening(kind: Kind) -> &'static str
-{
+fn opening(kind: Kind) -> &'static str {
     match kind {
         Kind::List => "[",
         Kind::Set | Kind::Map => "{",
@@ -721,8 +669,7 @@ fn opening(kind: Kind) -> &'static str
 }
 
 #[inline]
-fn closing(kind: Kind) -> &'static str
-{
+fn closing(kind: Kind) -> &'static str {
     match kind {
         Kind::List => "]",
         Kind::Set | Kind::Map => "}",
@@ -732,8 +679,7 @@ fn closing(kind: Kind) -> &'static str
 
 /// What comes next after an item of a value of this kind.
 #[inline(always)]
-fn turn_after(kind: Kind, turn: Turn) -> Turn
-{
+fn turn_after(kind: Kind, turn: Turn) -> Turn {
     match (kind, turn) {
         (Kind::Map, Turn::First | Turn::Another) => Turn::Paired,
         _ => Turn::Another,

@@ -5,15 +5,13 @@ use crate::cqlp_grammar::SinkFault;
 use crate::cqlp_note::{Target, offer};
 
 /// Appends a text as it is. A fault is the writer's own.
-pub fn put_text<W: Target>(text: &str, w: &mut W) -> Result<(), SinkFault>
-{
+pub fn put_text<W: Target>(text: &str, w: &mut W) -> Result<(), SinkFault> {
     send(w, text.as_bytes())
 }
 
 /// Passes on all of the bytes.
 #[inline(always)]
-pub(crate) fn send<W: Target>(target: &mut W, bytes: &[u8]) -> Result<(), SinkFault>
-{
+pub(crate) fn send<W: Target>(target: &mut W, bytes: &[u8]) -> Result<(), SinkFault> {
     if offer(target, bytes) < bytes.len() {
         Err(SinkFault)
     } else {

@@ -13,8 +13,7 @@ const CHUNK: usize = 64;
 impl<P: Pen> TextWriter<P> {
     /// Takes a number as decimal digits, after a `-` where it is negative.
     #[inline(always)]
-    pub fn put_signed(&mut self, number: i64) -> Result<(), SinkFault>
-    {
+    pub fn put_signed(&mut self, number: i64) -> Result<(), SinkFault> {
         if number >= 0 {
             return self.put_number(number.unsigned_abs());
         }
@@ -24,29 +23,25 @@ impl<P: Pen> TextWriter<P> {
 
     /// Takes a number as decimal digits, after a `-` where it is negative.
     #[inline(always)]
-    pub fn put_int(&mut self, number: i32) -> Result<(), SinkFault>
-    {
+    pub fn put_int(&mut self, number: i32) -> Result<(), SinkFault> {
         self.put_signed(i64::from(number))
     }
 
     /// Takes a number as decimal digits.
     #[inline(always)]
-    pub fn put_count(&mut self, number: u32) -> Result<(), SinkFault>
-    {
+    pub fn put_count(&mut self, number: u32) -> Result<(), SinkFault> {
         self.put_number(u64::from(number))
     }
 
     /// Takes a text as it is.
     #[inline(always)]
-    pub fn put_str(&mut self, text: &str) -> Result<(), SinkFault>
-    {
+    pub fn put_str(&mut self, text: &str) -> Result<(), SinkFault> {
         self.put(text.as_bytes())
     }
 
     /// Takes bytes as two lower case hexadecimal digits each.
     #[inline(never)]
-    pub fn put_hex(&mut self, bytes: &[u8]) -> Result<(), SinkFault>
-    {
+    pub fn put_hex(&mut self, bytes: &[u8]) -> Result<(), SinkFault> {
         let mut digits = [0; 2 * CHUNK];
         let mut rest = bytes;
         while !rest.is_empty() {
@@ -60,16 +55,14 @@ impl<P: Pen> TextWriter<P> {
 
     /// Takes bytes as `0x` and two lower case hexadecimal digits each.
     #[inline(never)]
-    pub fn put_hex_text(&mut self, bytes: &[u8]) -> Result<(), SinkFault>
-    {
+    pub fn put_hex_text(&mut self, bytes: &[u8]) -> Result<(), SinkFault> {
         self.put(b"0x")?;
         self.put_hex(bytes)
     }
 
     /// Takes a uuid as lower case hexadecimal digits with hyphens.
     #[inline(never)]
-    pub fn put_uuid(&mut self, bytes: [u8; 16]) -> Result<(), SinkFault>
-    {
+    pub fn put_uuid(&mut self, bytes: [u8; 16]) -> Result<(), SinkFault> {
         let mut buffer = Uuid::encode_buffer();
         let text = Uuid::from_bytes(bytes)
             .hyphenated()
@@ -79,8 +72,7 @@ impl<P: Pen> TextWriter<P> {
 
     /// Takes a text in quotes, where a quote, a backslash and each byte that does not print is escaped.
     #[inline(always)]
-    pub fn put_quoted(&mut self, text: &str) -> Result<(), SinkFault>
-    {
+    pub fn put_quoted(&mut self, text: &str) -> Result<(), SinkFault> {
         self.put(b"\"")?;
         self.put_escaped(text.as_bytes())?;
         self.put(b"\"")
@@ -88,8 +80,7 @@ impl<P: Pen> TextWriter<P> {
 
     /// Takes an address: four decimal numbers with dots, or eight groups of four hexadecimal digits with colons.
     #[inline(never)]
-    pub fn put_address(&mut self, address: Address) -> Result<(), SinkFault>
-    {
+    pub fn put_address(&mut self, address: Address) -> Result<(), SinkFault> {
         match address {
             Address::V4(bytes) => self.put_dotted(bytes),
             Address::V6(bytes) => self.put_groups(bytes),
@@ -97,8 +88,7 @@ impl<P: Pen> TextWriter<P> {
     }
 
     /// Takes four bytes as decimal numbers with dots.
-    fn put_dotted(&mut self, bytes: [u8; 4]) -> Result<(), SinkFault>
-    {
+    fn put_dotted(&mut self, bytes: [u8; 4]) -> Result<(), SinkFault> {
         self.put_number(u64::from(bytes[0]))?;
         let mut rest = &bytes[1..];
         while let [byte, after @ ..] = rest {
@@ -110,8 +100,7 @@ impl<P: Pen> TextWriter<P> {
     }
 
     /// Takes sixteen bytes as groups of four hexadecimal digits with colons.
-    fn put_groups(&mut self, bytes: [u8; 16]) -> Result<(), SinkFault>
-    {
+    fn put_groups(&mut self, bytes: [u8; 16]) -> Result<(), SinkFault> {
         self.put_group(&bytes[..2])?;
         let mut rest = &bytes[2..];
         while let [high, low, after @ ..] = rest {
@@ -124,8 +113,7 @@ impl<P: Pen> TextWriter<P> {
 
     /// Takes two bytes as four hexadecimal digits.
     #[inline(always)]
-    fn put_group(&mut self, bytes: &[u8]) -> Result<(), SinkFault>
-    {
+    fn put_group(&mut self, bytes: &[u8]) -> Result<(), SinkFault> {
         let mut digits = [0; 4];
         crate::hex::encode_to_slice(bytes, &mut digits).unwrap();
         self.put(&digits)

@@ -28,8 +28,7 @@ pub enum Word<'a> {
 
 impl<P: Pen> TextWriter<P> {
     /// Takes words, each after a space.
-    pub fn put_words(&mut self, words: &[Word<'_>]) -> Result<(), SinkFault>
-    {
+    pub fn put_words(&mut self, words: &[Word<'_>]) -> Result<(), SinkFault> {
         for word in words {
             self.put(b" ")?;
             self.put_word(*word)?;
@@ -39,8 +38,7 @@ impl<P: Pen> TextWriter<P> {
 
     /// Takes the text of a word.
     #[inline(always)]
-    pub fn put_word(&mut self, word: Word<'_>) -> Result<(), SinkFault>
-    {
+    pub fn put_word(&mut self, word: Word<'_>) -> Result<(), SinkFault> {
         match word {
             Word::Name(name) => self.put(name.as_bytes()),
             Word::Foreign(text) => self.put_in_one_line(text.as_bytes()),

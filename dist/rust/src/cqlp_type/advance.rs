@@ -35,8 +35,7 @@ pub enum TypeAdvance {
 
 impl TypeOutline {
     /// The part, with its text lent from where it lies.
-    pub(crate) fn lend<'a, B: Allocator>(self, partial: &'a Partial<B>, input: &'a [u8]) -> TypeItem<'a>
-    {
+    pub(crate) fn lend<'a, B: Allocator>(self, partial: &'a Partial<B>, input: &'a [u8]) -> TypeItem<'a> {
         match self {
             TypeOutline::Node(kind) => TypeItem::Node(kind),
             TypeOutline::Count(count) => TypeItem::Count(count),

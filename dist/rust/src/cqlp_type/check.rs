@@ -17,8 +17,7 @@ pub struct TreeCheck {
 
 impl TreeCheck {
     /// Both.
-    fn and(self, other: TreeCheck) -> TreeCheck
-    {
+    fn and(self, other: TreeCheck) -> TreeCheck {
         TreeCheck {
             formed: self.formed && other.formed,
             counts: self.counts && other.counts,
@@ -28,8 +27,8 @@ impl TreeCheck {
 }
 
 /// What keeps a type from having an option.
-pub fn check_type(tree: &TypeTree) -> TreeCheck
-{
+#[must_use]
+pub fn check_type(tree: &TypeTree) -> TreeCheck {
     match tree {
         TypeTree::Plain(kind) => checked(kind.is_plain(), true, true),
         TypeTree::Custom(class) => checked(true, true, is_counted(class.len())),
@@ -55,8 +54,7 @@ pub fn check_type(tree: &TypeTree) -> TreeCheck
 }
 
 /// The same of inner types without names.
-fn check_types(types: &[TypeTree]) -> TreeCheck
-{
+fn check_types(types: &[TypeTree]) -> TreeCheck {
     let mut check = checked(true, true, true);
     for tree in types {
         check = check.and(check_type(tree));
@@ -65,8 +63,7 @@ fn check_types(types: &[TypeTree]) -> TreeCheck
 }
 
 /// The same of inner types with names.
-fn check_fields(fields: &[(String, TypeTree)]) -> TreeCheck
-{
+fn check_fields(fields: &[(String, TypeTree)]) -> TreeCheck {
     let mut check = checked(true, true, true);
     for (name, tree) in fields {
         let named = checked(true, true, is_counted(name.len()));
@@ -76,8 +73,7 @@ fn check_fields(fields: &[(String, TypeTree)]) -> TreeCheck
 }
 
 /// What is found so far.
-fn checked(formed: bool, counts: bool, texts: bool) -> TreeCheck
-{
+fn checked(formed: bool, counts: bool, texts: bool) -> TreeCheck {
     TreeCheck {
         formed,
         counts,
@@ -86,7 +82,6 @@ fn checked(formed: bool, counts: bool, texts: bool) -> TreeCheck
 }
 
 /// Whether a \[short\] can count this many.
-fn is_counted(count: usize) -> bool
-{
+fn is_counted(count: usize) -> bool {
     count < 65_536
 }

@@ -5,8 +5,7 @@ use crate::cqlp_kind::Node;
 
 /// The greatest depth at which a type stands, 0 where there are no nodes. It looks at each node once, and calls itself
 /// as deep as types are nested.
-pub(crate) fn deepest(nodes: &[Node]) -> u32
-{
+pub(crate) fn deepest(nodes: &[Node]) -> u32 {
     let mut depth = 0;
     let mut rest = nodes;
     while let Some((first, after)) = rest.split_first() {
@@ -18,8 +17,7 @@ pub(crate) fn deepest(nodes: &[Node]) -> u32
 }
 
 /// The nodes of a type's inner types, of those that stand after its own node.
-pub(crate) fn inner_of(first: Node, after: &[Node]) -> &[Node]
-{
+pub(crate) fn inner_of(first: Node, after: &[Node]) -> &[Node] {
     let span = first.span as usize;
     if span == 0 || span > after.len() {
         after

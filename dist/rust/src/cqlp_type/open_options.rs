@@ -35,39 +35,33 @@ pub(crate) struct OpenOptions<A: Allocator> {
 
 impl<A: Allocator> OpenOptions<A> {
     /// With room for this many.
-    pub(crate) fn new(alloc: A, room: u32) -> Result<Self, NoMemory>
-    {
+    pub(crate) fn new(alloc: A, room: u32) -> Result<Self, NoMemory> {
         Ok(OpenOptions {
             options: Vec::with_capacity(alloc, room as usize)?,
             room,
         })
     }
 
-    pub(crate) fn len(&self) -> u32
-    {
+    pub(crate) fn len(&self) -> u32 {
         self.options.len() as u32
     }
 
     /// How many options its memory has places for: the room, for as long as it lives.
-    pub(crate) fn capacity(&self) -> usize
-    {
+    pub(crate) fn capacity(&self) -> usize {
         self.options.capacity()
     }
 
-    pub(crate) fn clear(&mut self)
-    {
+    pub(crate) fn clear(&mut self) {
         self.options.clear();
     }
 
     /// Begins the inner options of the option that begins at this node.
-    pub(crate) fn push(&mut self, node: u32, named: bool, left: u16)
-    {
+    pub(crate) fn push(&mut self, node: u32, named: bool, left: u16) {
         self.options.push_reserved(OpenOption { node, named, left });
     }
 
     /// What comes next, which is no longer left then.
-    pub(crate) fn next(&mut self) -> NextOption
-    {
+    pub(crate) fn next(&mut self) -> NextOption {
         let Some(option) = self.options.pop() else {
             return NextOption::Nothing;
         };

@@ -26,14 +26,12 @@ pub struct TypeReader<A: Allocator = Global> {
 
 impl<A: Allocator> TypeReader<A> {
     /// With room for the nesting that the limits allow.
-    pub fn new(alloc: A, limits: &Limits) -> Result<Self, NoMemory>
-    {
+    pub fn new(alloc: A, limits: &Limits) -> Result<Self, NoMemory> {
         Self::asked(alloc, &Asked::new(limits, false))
     }
 
     /// The same, where the caller may ask for a lenient reading.
-    pub fn asked(alloc: A, limits: &Asked) -> Result<Self, NoMemory>
-    {
+    pub fn asked(alloc: A, limits: &Asked) -> Result<Self, NoMemory> {
         Ok(TypeReader {
             limits: *limits,
             at: 0,
@@ -48,8 +46,7 @@ impl<A: Allocator> TypeReader<A> {
     }
 
     /// Begins an option at an offset, in a frame that ends at another. It may be read into any table of whole types.
-    pub(crate) fn begin(&mut self, at: u64, end: u64)
-    {
+    pub(crate) fn begin(&mut self, at: u64, end: u64) {
         self.at = at;
         self.end = end;
         self.begun = false;
@@ -59,26 +56,22 @@ impl<A: Allocator> TypeReader<A> {
     }
 
     /// Whether an option is under way and whole, so that the next push says so.
-    pub fn done(&self) -> bool
-    {
+    pub fn done(&self) -> bool {
         matches!(self.remaining.stage, OptionStage::Done)
     }
 
     /// How many options are open around the one that is read.
-    pub fn held(&self) -> u32
-    {
+    pub fn held(&self) -> u32 {
         self.remaining.open_options.len()
     }
 
     /// How many open options its memory has places for: as many as the limits allow, for as long as it lives.
-    pub fn capacity(&self) -> usize
-    {
+    pub fn capacity(&self) -> usize {
         self.remaining.open_options.capacity()
     }
 
     /// The offset of the first byte of what is read now.
-    pub fn offset(&self) -> u64
-    {
+    pub fn offset(&self) -> u64 {
         self.at
     }
 
@@ -88,8 +81,7 @@ impl<A: Allocator> TypeReader<A> {
         partial: &mut Partial<B>,
         table: &mut TypeTable<C>,
         input: &[u8],
-    ) -> TypeAdvance
-    {
+    ) -> TypeAdvance {
         if let OptionStage::Done = self.remaining.stage {
             self.stop();
             return TypeAdvance::Done;
@@ -131,8 +123,7 @@ impl<A: Allocator> TypeReader<A> {
         reader: &mut Self,
         table: &mut TypeTable<C>,
         input: &'a [u8],
-    ) -> TypePush<'a>
-    {
+    ) -> TypePush<'a> {
         match reader.advance(partial, table, input) {
             TypeAdvance::More { used } => TypePush::More { used },
             TypeAdvance::Item { at, used, item } => TypePush::Item {
@@ -146,8 +137,7 @@ impl<A: Allocator> TypeReader<A> {
     }
 
     /// Begins the item, unless it has begun.
-    fn begin_item<B: Allocator>(&mut self, partial: &mut Partial<B>)
-    {
+    fn begin_item<B: Allocator>(&mut self, partial: &mut Partial<B>) {
         if self.begun {
             return;
         }
@@ -161,8 +151,7 @@ impl<A: Allocator> TypeReader<A> {
     }
 
     /// Ends the option, whole or not.
-    pub fn stop(&mut self)
-    {
+    pub fn stop(&mut self) {
         self.begun = false;
         self.taken = 0;
         self.remaining.open_options.clear();

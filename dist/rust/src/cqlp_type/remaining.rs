@@ -42,8 +42,7 @@ impl<A: Allocator> Remaining<A> {
         limits: &Asked,
         item: FieldOutline,
         table: &mut TypeTable<C>,
-    ) -> Result<TypeOutline, Reason>
-    {
+    ) -> Result<TypeOutline, Reason> {
         match self.stage {
             OptionStage::Idle | OptionStage::Done => unreachable!(),
             OptionStage::Id => self.take_id(limits, number_in(item), table),
@@ -78,8 +77,7 @@ impl<A: Allocator> Remaining<A> {
         limits: &Asked,
         id: u16,
         table: &mut TypeTable<C>,
-    ) -> Result<TypeOutline, Reason>
-    {
+    ) -> Result<TypeOutline, Reason> {
         let Some(kind) = option_kind(limits.lenient, id) else {
             return Err(Reason::BadType);
         };
@@ -107,8 +105,7 @@ impl<A: Allocator> Remaining<A> {
 }
 
 /// The kind of an option of this id: of an unknown type, where no kind has the id and the caller is lenient.
-fn option_kind(lenient: bool, id: u16) -> Option<Kind>
-{
+fn option_kind(lenient: bool, id: u16) -> Option<Kind> {
     match Kind::from_id(id) {
         None if lenient => Some(Kind::Raw),
         known => known,
@@ -116,8 +113,7 @@ fn option_kind(lenient: bool, id: u16) -> Option<Kind>
 }
 
 /// The number that an item is; 0 where it is no \[short\].
-fn number_in(item: FieldOutline) -> u16
-{
+fn number_in(item: FieldOutline) -> u16 {
     match item {
         FieldOutline::Plain(Prim::Short(number)) => number,
         _ => 0,
@@ -131,8 +127,7 @@ fn enter_option<A: Allocator, C: Allocator>(
     named: bool,
     count: u16,
     table: &mut TypeTable<C>,
-) -> OptionStage
-{
+) -> OptionStage {
     around.push(node, named, count);
     close_whole_types(around, table)
 }
@@ -141,8 +136,7 @@ fn enter_option<A: Allocator, C: Allocator>(
 fn close_whole_types<A: Allocator, C: Allocator>(
     around: &mut OpenOptions<A>,
     table: &mut TypeTable<C>,
-) -> OptionStage
-{
+) -> OptionStage {
     loop {
         match around.next() {
             NextOption::Inner { named: true } => return OptionStage::Name,

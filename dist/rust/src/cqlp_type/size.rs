@@ -5,8 +5,7 @@ use crate::kit_std::prelude::{String};
 use crate::cqlp_type::tree::TypeTree;
 
 /// How many bytes a type's option has, if it has one; 2^64 - 1 where there are more.
-pub fn type_size(tree: &TypeTree) -> u64
-{
+pub fn type_size(tree: &TypeTree) -> u64 {
     match tree {
         TypeTree::Plain(_) => 2,
         TypeTree::Custom(class) => text_size(class).saturating_add(2),
@@ -30,8 +29,7 @@ pub fn type_size(tree: &TypeTree) -> u64
 }
 
 /// The same of inner types without names.
-fn types_size(types: &[TypeTree]) -> u64
-{
+fn types_size(types: &[TypeTree]) -> u64 {
     let mut size: u64 = 0;
     for tree in types {
         size = size.saturating_add(type_size(tree));
@@ -40,8 +38,7 @@ fn types_size(types: &[TypeTree]) -> u64
 }
 
 /// The same of inner types with names.
-fn fields_size(fields: &[(String, TypeTree)]) -> u64
-{
+fn fields_size(fields: &[(String, TypeTree)]) -> u64 {
     let mut size: u64 = 0;
     for (name, tree) in fields {
         size = size.saturating_add(text_size(name));
@@ -51,7 +48,6 @@ fn fields_size(fields: &[(String, TypeTree)]) -> u64
 }
 
 /// How many bytes a text has, those of its length counted.
-fn text_size(text: &String) -> u64
-{
+fn text_size(text: &String) -> u64 {
     text.len() as u64 + 2
 }

@@ -16,8 +16,11 @@ pub struct TypeTable<A: Allocator = Global> {
 
 impl<A: Allocator> TypeTable<A> {
     /// With room for `room` nodes, which is all that it will ever have.
-    pub fn new(alloc: A, room: u32) -> Result<Self, NoMemory>
-    {
+    ///
+    /// # Errors
+    ///
+    /// Memory that is refused.
+    pub fn new(alloc: A, room: u32) -> Result<Self, NoMemory> {
         Ok(TypeTable {
             nodes: Vec::with_capacity(alloc, room as usize)?,
             room,
@@ -25,83 +28,70 @@ impl<A: Allocator> TypeTable<A> {
     }
 
     /// How many nodes there are.
-    pub fn len(&self) -> u32
-    {
+    pub fn len(&self) -> u32 {
         self.nodes.len() as u32
     }
 
     /// Whether there are none.
-    pub fn is_empty(&self) -> bool
-    {
+    pub fn is_empty(&self) -> bool {
         self.nodes.is_empty()
     }
 
     /// Whether no type is under way. Then the nodes are those of whole types side by side.
-    pub fn whole(&self) -> bool
-    {
+    pub fn whole(&self) -> bool {
         self.nodes.iter().all(|node| node.span != 0)
     }
 
     /// How deep the types are nested; 0 where there are none. A type without inner types has depth 1, and another one
     /// more than its deepest inner type. Of a type that is under way the inner types that stand so far count.
-    pub fn depth(&self) -> u32
-    {
+    pub fn depth(&self) -> u32 {
         deepest(&self.nodes)
     }
 
     /// The node with this number; the first has the number 0.
-    pub fn node(&self, i: u32) -> Option<Node>
-    {
+    pub fn node(&self, i: u32) -> Option<Node> {
         self.nodes.get(i as usize).copied()
     }
 
     /// How many types stand side by side, one that is under way counted.
-    pub fn roots(&self) -> u32
-    {
+    pub fn roots(&self) -> u32 {
         count_beginnings(&self.nodes)
     }
 
     /// The number of the node at which the type with number `i` begins, of those that stand side by side.
-    pub fn root(&self, i: u32) -> Option<u32>
-    {
+    pub fn root(&self, i: u32) -> Option<u32> {
         beginning(&self.nodes, 0, i)
     }
 
     /// The number of the node at which inner type `i` of a node's type begins, where it stands in the table.
-    pub fn child(&self, node: u32, i: u32) -> Option<u32>
-    {
+    pub fn child(&self, node: u32, i: u32) -> Option<u32> {
         let first = self.node(node)?;
         let after = &self.nodes[node as usize + 1..];
         beginning(inner_of(first, after), node + 1, i)
     }
 
     /// Removes all nodes, and keeps the room.
-    pub fn clear(&mut self)
-    {
+    pub fn clear(&mut self) {
         self.nodes.clear();
     }
 
     /// How many nodes there can be.
-    pub fn room(&self) -> u32
-    {
+    pub fn room(&self) -> u32 {
         self.room
     }
 
     /// How many nodes its memory has places for: the room, for as long as it lives.
-    pub fn capacity(&self) -> usize
-    {
+    pub fn capacity(&self) -> usize {
         self.nodes.capacity()
     }
 
     /// Adds the node of a type that is under way.
-    pub(crate) fn push(&mut self, node: Node)
-    {
+    pub(crate) fn push(&mut self, node: Node) {
         self.nodes.push_reserved(node);
     }
 
     /// Sets how many inner types the last type has.
-    pub(crate) fn set_arity(&mut self, arity: u16)
-    {
+    pub(crate) fn set_arity(&mut self, arity: u16) {
         if !self.nodes.is_empty() {
             let last = self.nodes.len() - 1;
             self.nodes[last].arity = arity;
@@ -109,8 +99,7 @@ impl<A: Allocator> TypeTable<A> {
     }
 
     /// The type that begins at this node ends with the last one.
-    pub(crate) fn close(&mut self, i: u32)
-    {
+    pub(crate) fn close(&mut self, i: u32) {
         let first = i as usize;
         if first < self.nodes.len() {
             self.nodes[first].span = (self.nodes.len() - first) as u32;
@@ -120,8 +109,11 @@ impl<A: Allocator> TypeTable<A> {
 
 impl<A: Allocator + Clone> TypeTable<A> {
     /// An equal table with the same room.
-    pub fn clone_table(&self) -> Result<Self, NoMemory>
-    {
+    ///
+    /// # Errors
+    ///
+    /// Memory that is refused; this table stays as it is.
+    pub fn clone_table(&self) -> Result<Self, NoMemory> {
         let mut nodes = Vec::with_capacity(self.nodes.allocator().clone()?, self.room as usize)?;
         append(&mut nodes, &self.nodes);
         Ok(TypeTable {
@@ -132,16 +124,14 @@ impl<A: Allocator + Clone> TypeTable<A> {
 }
 
 /// Adds these nodes, for which there are places.
-fn append<A: Allocator>(nodes: &mut Vec<Node, A>, added: &[Node])
-{
+fn append<A: Allocator>(nodes: &mut Vec<Node, A>, added: &[Node]) {
     for node in added {
         nodes.push_reserved(*node);
     }
 }
 
 /// How many types stand side by side.
-fn count_beginnings(nodes: &[Node]) -> u32
-{
+fn count_beginnings(nodes: &[Node]) -> u32 {
     let mut count = 0;
     let mut at = 0;
     while at < nodes.len() {
@@ -156,8 +146,7 @@ fn count_beginnings(nodes: &[Node]) -> u32
 }
 
 /// Where type `i` of those that stand side by side begins, if the first node has the number `first`.
-fn beginning(nodes: &[Node], first: u32, i: u32) -> Option<u32>
-{
+fn beginning(nodes: &[Node], first: u32, i: u32) -> Option<u32> {
     let mut at = 0;
     for _ in 0..i {
         let span = nodes.get(at)?.span as usize;

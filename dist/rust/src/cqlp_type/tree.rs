@@ -31,8 +31,8 @@ pub enum TypeTree {
 /// How many bytes a type's option has. None where it has no option, since a text has more than 65,535 bytes, a
 /// user-defined type or a tuple has more fields than that, or a `Plain` is of the kind `Raw` or of one that has
 /// parameters; and where the option has more than 268,435,456 bytes. `laws::len_is_of_option` says so by the bytes.
-pub fn type_len(tree: &TypeTree) -> Option<u32>
-{
+#[must_use]
+pub fn type_len(tree: &TypeTree) -> Option<u32> {
     match tree {
         TypeTree::Plain(kind) => { if kind.is_plain() { Some(2) } else { None } }
         TypeTree::Custom(class) => sum(Some(2), text_len(class)),
@@ -56,8 +56,7 @@ pub fn type_len(tree: &TypeTree) -> Option<u32>
 }
 
 /// The same of inner types without names.
-fn types_len(types: &[TypeTree]) -> Option<u32>
-{
+fn types_len(types: &[TypeTree]) -> Option<u32> {
     let mut len = Some(0);
     for tree in types {
         len = sum(len, type_len(tree));
@@ -66,8 +65,7 @@ fn types_len(types: &[TypeTree]) -> Option<u32>
 }
 
 /// The same of inner types with names.
-fn fields_len(fields: &[(String, TypeTree)]) -> Option<u32>
-{
+fn fields_len(fields: &[(String, TypeTree)]) -> Option<u32> {
     let mut len = Some(0);
     for (name, tree) in fields {
         len = sum(len, sum(text_len(name), type_len(tree)));
@@ -76,8 +74,7 @@ fn fields_len(fields: &[(String, TypeTree)]) -> Option<u32>
 }
 
 /// Both lengths together.
-fn sum(a: Option<u32>, b: Option<u32>) -> Option<u32>
-{
+fn sum(a: Option<u32>, b: Option<u32>) -> Option<u32> {
     match (a, b) {
         (Some(a), Some(b)) if a <= LONGEST && b <= LONGEST - a => Some(a + b),
         _ => None,
@@ -85,8 +82,7 @@ fn sum(a: Option<u32>, b: Option<u32>) -> Option<u32>
 }
 
 /// How many bytes a text has, those of its length counted.
-fn text_len(text: &String) -> Option<u32>
-{
+fn text_len(text: &String) -> Option<u32> {
     let len = text.len();
     if len <= 65_535 {
         Some(2 + len as u32)
@@ -96,7 +92,6 @@ fn text_len(text: &String) -> Option<u32>
 }
 
 /// How many bytes a count has.
-fn count_len(count: usize) -> Option<u32>
-{
+fn count_len(count: usize) -> Option<u32> {
     if count <= 65_535 { Some(2) } else { None }
 }

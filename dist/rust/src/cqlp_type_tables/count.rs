@@ -5,8 +5,7 @@ use crate::kit_std::prelude::{String};
 use crate::cqlp_type::TypeTree;
 
 /// How many nodes a type has, those of its inner types counted; 2^64 - 1 where there are more.
-pub(crate) fn count_nodes(tree: &TypeTree) -> u64
-{
+pub(crate) fn count_nodes(tree: &TypeTree) -> u64 {
     match tree {
         TypeTree::Plain(_) => 1,
         TypeTree::Custom(_) => 1,
@@ -27,8 +26,7 @@ pub(crate) fn count_nodes(tree: &TypeTree) -> u64
 }
 
 /// The same of inner types without names.
-fn count_types(types: &[TypeTree]) -> u64
-{
+fn count_types(types: &[TypeTree]) -> u64 {
     let mut count: u64 = 0;
     for tree in types {
         count = count.saturating_add(count_nodes(tree));
@@ -37,8 +35,7 @@ fn count_types(types: &[TypeTree]) -> u64
 }
 
 /// The same of inner types with names.
-fn count_fields(fields: &[(String, TypeTree)]) -> u64
-{
+fn count_fields(fields: &[(String, TypeTree)]) -> u64 {
     let mut count: u64 = 0;
     for (_name, tree) in fields {
         count = count.saturating_add(count_nodes(tree));

@@ -18,15 +18,13 @@ pub(crate) struct Found {
 
 impl Found {
     /// Whether each of the types has an option.
-    pub fn is_writable(&self) -> bool
-    {
+    pub fn is_writable(&self) -> bool {
         self.check.formed && self.check.counts && self.check.texts
     }
 }
 
 /// What is found of the types of these, in order.
-pub(crate) fn find<T: HasType>(items: &[T]) -> Found
-{
+pub(crate) fn find<T: HasType>(items: &[T]) -> Found {
     let mut check = TreeCheck {
         formed: true,
         counts: true,
@@ -44,8 +42,7 @@ pub(crate) fn find<T: HasType>(items: &[T]) -> Found
 }
 
 /// What keeps some types or others from having options.
-fn both(one: TreeCheck, other: TreeCheck) -> TreeCheck
-{
+fn both(one: TreeCheck, other: TreeCheck) -> TreeCheck {
     TreeCheck {
         formed: one.formed && other.formed,
         counts: one.counts && other.counts,

@@ -38,8 +38,7 @@ pub enum TableError {
 pub fn table_of<A: Allocator + Clone>(
     alloc: A,
     types: &[TypeTree],
-) -> Result<TypeTable<A>, TableError>
-{
+) -> Result<TypeTable<A>, TableError> {
     make(alloc, types)
 }
 
@@ -53,14 +52,12 @@ pub fn table_of<A: Allocator + Clone>(
 pub fn table_of_specs<A: Allocator + Clone>(
     alloc: A,
     specs: &[Spec],
-) -> Result<TypeTable<A>, TableError>
-{
+) -> Result<TypeTable<A>, TableError> {
     make(alloc, specs)
 }
 
 /// The table of the types of these.
-fn make<A: Allocator + Clone, T: HasType>(alloc: A, items: &[T]) -> Result<TypeTable<A>, TableError>
-{
+fn make<A: Allocator + Clone, T: HasType>(alloc: A, items: &[T]) -> Result<TypeTable<A>, TableError> {
     let found = find(items);
     if !found.is_writable() {
         return Err(TableError::NotWritable);
@@ -80,8 +77,7 @@ fn read_types<A: Allocator + Clone, T: HasType>(
     items: &[T],
     size: u32,
     nodes: u32,
-) -> Result<TypeTable<A>, NoMemory>
-{
+) -> Result<TypeTable<A>, NoMemory> {
     let limits = Limits {
         text: size.min(LONGEST_TEXT),
         cell: 0,
@@ -116,8 +112,7 @@ fn add_type<A: Allocator>(
     table: &mut TypeTable<A>,
     option: &mut Vec<u8, A>,
     tree: &TypeTree,
-) -> Result<(), NoMemory>
-{
+) -> Result<(), NoMemory> {
     option.clear();
     put_tree(option, tree)?;
     reader.begin(0, option.len() as u64);

@@ -7,8 +7,7 @@ use crate::cqlp_type::{Kind, TypeTree};
 use crate::kit_std::alloc::Allocator;
 
 /// Appends a type's option.
-pub(crate) fn put_tree<A: Allocator>(out: &mut Vec<u8, A>, tree: &TypeTree) -> Result<(), NoMemory>
-{
+pub(crate) fn put_tree<A: Allocator>(out: &mut Vec<u8, A>, tree: &TypeTree) -> Result<(), NoMemory> {
     match tree {
         TypeTree::Plain(kind) => put_kind(out, *kind),
         TypeTree::Custom(class) => {
@@ -48,8 +47,7 @@ pub(crate) fn put_tree<A: Allocator>(out: &mut Vec<u8, A>, tree: &TypeTree) -> R
 }
 
 /// Appends the options of inner types without names.
-fn put_types<A: Allocator>(out: &mut Vec<u8, A>, types: &[TypeTree]) -> Result<(), NoMemory>
-{
+fn put_types<A: Allocator>(out: &mut Vec<u8, A>, types: &[TypeTree]) -> Result<(), NoMemory> {
     for tree in types {
         put_tree(out, tree)?;
     }
@@ -60,8 +58,7 @@ fn put_types<A: Allocator>(out: &mut Vec<u8, A>, types: &[TypeTree]) -> Result<(
 fn put_fields<A: Allocator>(
     out: &mut Vec<u8, A>,
     fields: &[(String, TypeTree)],
-) -> Result<(), NoMemory>
-{
+) -> Result<(), NoMemory> {
     for (name, tree) in fields {
         put_text(out, name)?;
         put_tree(out, tree)?;
@@ -70,8 +67,7 @@ fn put_fields<A: Allocator>(
 }
 
 /// Appends an option's id; 0 of the kind that has none.
-fn put_kind<A: Allocator>(out: &mut Vec<u8, A>, kind: Kind) -> Result<(), NoMemory>
-{
+fn put_kind<A: Allocator>(out: &mut Vec<u8, A>, kind: Kind) -> Result<(), NoMemory> {
     let id = match kind {
         Kind::Raw => 0,
         _ => kind.id(),
@@ -80,16 +76,14 @@ fn put_kind<A: Allocator>(out: &mut Vec<u8, A>, kind: Kind) -> Result<(), NoMemo
 }
 
 /// Appends a \[string\].
-fn put_text<A: Allocator>(out: &mut Vec<u8, A>, text: &str) -> Result<(), NoMemory>
-{
+fn put_text<A: Allocator>(out: &mut Vec<u8, A>, text: &str) -> Result<(), NoMemory> {
     put_count(out, text.len())?;
     out.extend_from_slice(text.as_bytes())?;
     Ok(())
 }
 
 /// Appends a number of two bytes, the lowest two of this.
-fn put_count<A: Allocator>(out: &mut Vec<u8, A>, count: usize) -> Result<(), NoMemory>
-{
+fn put_count<A: Allocator>(out: &mut Vec<u8, A>, count: usize) -> Result<(), NoMemory> {
     let bytes = count.to_be_bytes();
     out.extend_from_slice(&bytes[6..])?;
     Ok(())

@@ -21,9 +21,9 @@ pub enum Content<'a> {
 
 impl Atom {
     /// The kind of its type.
+    #[must_use]
     #[inline(always)]
-    pub fn kind(&self) -> Kind
-    {
+    pub fn kind(&self) -> Kind {
         match self {
             Atom::Custom(_) => Kind::Custom,
             Atom::Ascii(_) => Kind::Ascii,
@@ -51,9 +51,9 @@ impl Atom {
 
     /// Its content: what follows its length where it is spelled. A true is the byte 01. What it holds is in the range of
     /// its types.
+    #[must_use]
     #[inline(always)]
-    pub fn content(&self) -> Content<'_>
-    {
+    pub fn content(&self) -> Content<'_> {
         match self {
             Atom::Custom(bytes) | Atom::Blob(bytes) | Atom::Varint(bytes) | Atom::Raw(bytes) => {
                 Content::Lent(bytes)
@@ -78,9 +78,9 @@ impl Atom {
     }
 
     /// How many bytes its content has. What it holds is in the range of its types.
+    #[must_use]
     #[inline(always)]
-    pub fn content_len(&self) -> u64
-    {
+    pub fn content_len(&self) -> u64 {
         match self.content() {
             Content::One(_) => 1,
             Content::Two(_) => 2,
@@ -93,8 +93,7 @@ impl Atom {
 
     /// How many bytes it has with the four of its length. What it holds is in the range of its types.
     #[inline(always)]
-    pub(crate) fn size(&self) -> u64
-    {
+    pub(crate) fn size(&self) -> u64 {
         match self.content() {
             Content::One(_) => 5,
             Content::Two(_) => 6,
@@ -107,9 +106,9 @@ impl Atom {
 
     /// How many bytes it has with the four of its length, or None where [`is_allowed`](Self::is_allowed) is false. What it
     /// holds is then in the range of its types.
+    #[must_use]
     #[inline(always)]
-    pub fn allowed_size(&self) -> Option<u64>
-    {
+    pub fn allowed_size(&self) -> Option<u64> {
         if self.is_allowed() {
             Some(self.size())
         } else {
@@ -118,9 +117,9 @@ impl Atom {
     }
 
     /// Its content, or None where it is none of this kind, as [`fits`](crate::cqlp_value::fits) says. What it holds is then in the range of its types.
+    #[must_use]
     #[inline(always)]
-    pub fn content_as(&self, kind: Kind) -> Option<Content<'_>>
-    {
+    pub fn content_as(&self, kind: Kind) -> Option<Content<'_>> {
         if is(self.kind(), kind) && self.is_allowed() {
             Some(self.content())
         } else {
@@ -130,9 +129,9 @@ impl Atom {
 
     /// Whether its content is one of its kind: it is not empty, an ascii is ASCII, a timeuuid is of version 1, a time
     /// is within a day, and a decimal has an unscaled number.
+    #[must_use]
     #[inline(always)]
-    pub fn is_allowed(&self) -> bool
-    {
+    pub fn is_allowed(&self) -> bool {
         match self {
             Atom::Custom(bytes) | Atom::Blob(bytes) | Atom::Varint(bytes) | Atom::Raw(bytes) => {
                 !bytes.is_empty()
@@ -156,7 +155,6 @@ impl Atom {
 
 /// Whether a content of this kind may be as long as these bytes.
 #[inline]
-fn may_be<const N: usize>(kind: Kind, bytes: [u8; N]) -> bool
-{
+fn may_be<const N: usize>(kind: Kind, bytes: [u8; N]) -> bool {
     allows(kind, bytes.len())
 }

@@ -10,9 +10,9 @@ use crate::cqlp_type::{Kind, TypeTree};
 /// more. None where it is none of the type, as [`fits`] says. What its scalars hold is then in the range of their types.
 ///
 /// It goes through the value once, where [`fits`] and [`value_size`] go through it twice.
+#[must_use]
 #[inline(always)]
-pub fn fitting_size(value: &Value, of: Option<&TypeTree>) -> Option<u64>
-{
+pub fn fitting_size(value: &Value, of: Option<&TypeTree>) -> Option<u64> {
     match of {
         Some(tree) => size_in(value, tree),
         None => size_if(fits(value, None), value),
@@ -21,8 +21,7 @@ pub fn fitting_size(value: &Value, of: Option<&TypeTree>) -> Option<u64>
 
 /// The same of a type.
 #[inline(always)]
-fn size_in(value: &Value, tree: &TypeTree) -> Option<u64>
-{
+fn size_in(value: &Value, tree: &TypeTree) -> Option<u64> {
     match value {
         Value::Leaf(atom) => match tree {
             TypeTree::Plain(kind) => scalar_size(atom, *kind),
@@ -33,8 +32,7 @@ fn size_in(value: &Value, tree: &TypeTree) -> Option<u64>
 }
 
 /// The same of a value that is mostly no scalar.
-fn any_size_in(value: &Value, tree: &TypeTree) -> Option<u64>
-{
+fn any_size_in(value: &Value, tree: &TypeTree) -> Option<u64> {
     match value {
         Value::List(items) => match tree {
             TypeTree::List(inner) => counted(items.len(), items_size_in(items, inner)),
@@ -54,8 +52,7 @@ fn any_size_in(value: &Value, tree: &TypeTree) -> Option<u64>
 
 /// The same of values side by side, each of this type. Mostly they are scalars of one kind.
 #[inline(always)]
-fn items_size_in(items: &[Value], tree: &TypeTree) -> Option<u64>
-{
+fn items_size_in(items: &[Value], tree: &TypeTree) -> Option<u64> {
     match tree {
         TypeTree::Plain(kind) => match scalars_size(items, *kind) {
             Some(size) => Some(size),
@@ -67,8 +64,7 @@ fn items_size_in(items: &[Value], tree: &TypeTree) -> Option<u64>
 
 /// The same, of any values.
 #[inline(never)]
-fn each_size_in(items: &[Value], tree: &TypeTree) -> Option<u64>
-{
+fn each_size_in(items: &[Value], tree: &TypeTree) -> Option<u64> {
     let mut size: u64 = 0;
     for item in items {
         match size_in(item, tree) {
@@ -81,8 +77,7 @@ fn each_size_in(items: &[Value], tree: &TypeTree) -> Option<u64>
 
 /// The same of pairs, each of these types.
 #[inline(always)]
-fn pairs_size_in(pairs: &[(Value, Value)], keys: &TypeTree, values: &TypeTree) -> Option<u64>
-{
+fn pairs_size_in(pairs: &[(Value, Value)], keys: &TypeTree, values: &TypeTree) -> Option<u64> {
     match keys {
         TypeTree::Plain(key) => match values {
             TypeTree::Plain(value) => match scalar_pairs_size(pairs, *key, *value) {
@@ -97,8 +92,7 @@ fn pairs_size_in(pairs: &[(Value, Value)], keys: &TypeTree, values: &TypeTree) -
 
 /// The same, of any pairs.
 #[inline(never)]
-fn each_pair_size_in(pairs: &[(Value, Value)], keys: &TypeTree, values: &TypeTree) -> Option<u64>
-{
+fn each_pair_size_in(pairs: &[(Value, Value)], keys: &TypeTree, values: &TypeTree) -> Option<u64> {
     let mut size: u64 = 0;
     for (key, value) in pairs {
         match size_in(key, keys) {
@@ -116,8 +110,7 @@ fn each_pair_size_in(pairs: &[(Value, Value)], keys: &TypeTree, values: &TypeTre
 /// The size of values that all are scalars of this kind, which is one of those that lists and sets mostly have; else None. Each has a loop
 /// of its own, in which the content of that kind alone is looked at.
 #[inline(always)]
-fn scalars_size(items: &[Value], kind: Kind) -> Option<u64>
-{
+fn scalars_size(items: &[Value], kind: Kind) -> Option<u64> {
     match kind {
         Kind::Int => scalars_of(items, Kind::Int),
         Kind::Bigint => scalars_of(items, Kind::Bigint),
@@ -131,8 +124,7 @@ fn scalars_size(items: &[Value], kind: Kind) -> Option<u64>
 
 /// The size of values that all are scalars of this kind.
 #[inline(always)]
-fn scalars_of(items: &[Value], kind: Kind) -> Option<u64>
-{
+fn scalars_of(items: &[Value], kind: Kind) -> Option<u64> {
     let mut size: u64 = 0;
     for item in items {
         match leaf_size(item, kind) {
@@ -146,8 +138,7 @@ fn scalars_of(items: &[Value], kind: Kind) -> Option<u64>
 /// The size of pairs whose keys all are scalars of the first kind and whose values are of the second, if these are kinds that maps mostly
 /// have; else None.
 #[inline(always)]
-fn scalar_pairs_size(pairs: &[(Value, Value)], keys: Kind, values: Kind) -> Option<u64>
-{
+fn scalar_pairs_size(pairs: &[(Value, Value)], keys: Kind, values: Kind) -> Option<u64> {
     match keys {
         Kind::Varchar => scalar_pairs_to(pairs, Kind::Varchar, values),
         Kind::Int => scalar_pairs_to(pairs, Kind::Int, values),
@@ -157,8 +148,7 @@ fn scalar_pairs_size(pairs: &[(Value, Value)], keys: Kind, values: Kind) -> Opti
 
 /// The same, whatever the kind of the keys.
 #[inline(always)]
-fn scalar_pairs_to(pairs: &[(Value, Value)], keys: Kind, values: Kind) -> Option<u64>
-{
+fn scalar_pairs_to(pairs: &[(Value, Value)], keys: Kind, values: Kind) -> Option<u64> {
     match values {
         Kind::Int => scalar_pairs_of(pairs, keys, Kind::Int),
         Kind::Bigint => scalar_pairs_of(pairs, keys, Kind::Bigint),
@@ -170,8 +160,7 @@ fn scalar_pairs_to(pairs: &[(Value, Value)], keys: Kind, values: Kind) -> Option
 
 /// The size of pairs whose keys all are scalars of the first kind and whose values are of the second.
 #[inline(always)]
-fn scalar_pairs_of(pairs: &[(Value, Value)], keys: Kind, values: Kind) -> Option<u64>
-{
+fn scalar_pairs_of(pairs: &[(Value, Value)], keys: Kind, values: Kind) -> Option<u64> {
     let mut size: u64 = 0;
     for (key, value) in pairs {
         match leaf_size(key, keys) {
@@ -188,8 +177,7 @@ fn scalar_pairs_of(pairs: &[(Value, Value)], keys: Kind, values: Kind) -> Option
 
 /// The size of a value that is a scalar of this kind.
 #[inline(always)]
-fn leaf_size(value: &Value, kind: Kind) -> Option<u64>
-{
+fn leaf_size(value: &Value, kind: Kind) -> Option<u64> {
     match value {
         Value::Leaf(atom) => scalar_size(atom, kind),
         _ => None,
@@ -198,8 +186,7 @@ fn leaf_size(value: &Value, kind: Kind) -> Option<u64>
 
 /// The size of a collection of so many items, by that of its items, if a count says so many.
 #[inline(always)]
-fn counted(len: usize, items: Option<u64>) -> Option<u64>
-{
+fn counted(len: usize, items: Option<u64>) -> Option<u64> {
     match items {
         Some(size) => {
             if len > MOST {
@@ -213,15 +200,13 @@ fn counted(len: usize, items: Option<u64>) -> Option<u64>
 }
 
 /// The size of a value, if it fits.
-fn size_if(fits: bool, value: &Value) -> Option<u64>
-{
+fn size_if(fits: bool, value: &Value) -> Option<u64> {
     if fits { Some(value_size(value)) } else { None }
 }
 
 /// The size of a scalar, if it is one of this kind.
 #[inline(always)]
-fn scalar_size(atom: &Atom, kind: Kind) -> Option<u64>
-{
+fn scalar_size(atom: &Atom, kind: Kind) -> Option<u64> {
     if is(atom.kind(), kind) {
         atom.allowed_size()
     } else {

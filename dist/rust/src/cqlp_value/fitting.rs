@@ -15,9 +15,9 @@ pub const MOST: usize = i32::MAX as usize;
 /// time within a day, and a decimal has an unscaled number. A list, a set or a map has at most
 /// 2,147,483,647 items, which fit. A tuple or a user-defined type has one field at least and no more than its type,
 /// which fit. Without a type a value is raw.
+#[must_use]
 #[inline(always)]
-pub fn fits(value: &Value, of: Option<&TypeTree>) -> bool
-{
+pub fn fits(value: &Value, of: Option<&TypeTree>) -> bool {
     match of {
         Some(tree) => is_of(value, tree),
         None => match value {
@@ -30,8 +30,7 @@ pub fn fits(value: &Value, of: Option<&TypeTree>) -> bool
 
 /// The same of a type.
 #[inline(always)]
-fn is_of(value: &Value, tree: &TypeTree) -> bool
-{
+fn is_of(value: &Value, tree: &TypeTree) -> bool {
     match value {
         Value::Leaf(atom) => is_scalar_of(atom, kind(tree)),
         _ => is_any_of(value, tree),
@@ -39,8 +38,7 @@ fn is_of(value: &Value, tree: &TypeTree) -> bool
 }
 
 /// The same of a value that is mostly no scalar.
-fn is_any_of(value: &Value, tree: &TypeTree) -> bool
-{
+fn is_any_of(value: &Value, tree: &TypeTree) -> bool {
     match value {
         Value::Null => true,
         Value::Empty => true,
@@ -54,8 +52,7 @@ fn is_any_of(value: &Value, tree: &TypeTree) -> bool
 }
 
 /// The same of the items of a list or a set.
-fn items_fit(items: &[Value], tree: &TypeTree) -> bool
-{
+fn items_fit(items: &[Value], tree: &TypeTree) -> bool {
     match tree {
         TypeTree::List(inner) => each_fits(items, inner),
         TypeTree::Set(inner) => each_fits(items, inner),
@@ -64,8 +61,7 @@ fn items_fit(items: &[Value], tree: &TypeTree) -> bool
 }
 
 /// Whether each item is one of this type.
-fn each_fits(items: &[Value], tree: &TypeTree) -> bool
-{
+fn each_fits(items: &[Value], tree: &TypeTree) -> bool {
     for item in items {
         if !is_of(item, tree) {
             return false;
@@ -75,8 +71,7 @@ fn each_fits(items: &[Value], tree: &TypeTree) -> bool
 }
 
 /// The same of the pairs of a map.
-fn pairs_fit(pairs: &[(Value, Value)], tree: &TypeTree) -> bool
-{
+fn pairs_fit(pairs: &[(Value, Value)], tree: &TypeTree) -> bool {
     match tree {
         TypeTree::Map(keys, values) => each_pair_fits(pairs, keys, values),
         _ => pairs.is_empty(),
@@ -84,8 +79,7 @@ fn pairs_fit(pairs: &[(Value, Value)], tree: &TypeTree) -> bool
 }
 
 /// Whether each key and each value is one of these types.
-fn each_pair_fits(pairs: &[(Value, Value)], keys: &TypeTree, values: &TypeTree) -> bool
-{
+fn each_pair_fits(pairs: &[(Value, Value)], keys: &TypeTree, values: &TypeTree) -> bool {
     for (key, value) in pairs {
         if !is_of(key, keys) {
             return false;
@@ -98,8 +92,7 @@ fn each_pair_fits(pairs: &[(Value, Value)], keys: &TypeTree, values: &TypeTree) 
 }
 
 /// The same of the fields of a tuple or a user-defined type.
-fn fields_fit(items: &[Value], tree: &TypeTree) -> bool
-{
+fn fields_fit(items: &[Value], tree: &TypeTree) -> bool {
     match tree {
         TypeTree::Tuple(types) => types_fit(items, types),
         TypeTree::Udt { fields, .. } => named_fit(items, fields),
@@ -112,8 +105,7 @@ fn fields_fit(items: &[Value], tree: &TypeTree) -> bool
 }
 
 /// The same of the fields of a tuple.
-fn types_fit(items: &[Value], types: &[TypeTree]) -> bool
-{
+fn types_fit(items: &[Value], types: &[TypeTree]) -> bool {
     if items.len() > types.len() {
         return false;
     }
@@ -126,8 +118,7 @@ fn types_fit(items: &[Value], types: &[TypeTree]) -> bool
 }
 
 /// The same of the fields of a user-defined type.
-fn named_fit(items: &[Value], fields: &[(String, TypeTree)]) -> bool
-{
+fn named_fit(items: &[Value], fields: &[(String, TypeTree)]) -> bool {
     if items.len() > fields.len() {
         return false;
     }
@@ -141,27 +132,23 @@ fn named_fit(items: &[Value], fields: &[(String, TypeTree)]) -> bool
 
 /// Whether a scalar is one of this kind.
 #[inline(always)]
-fn is_scalar_of(atom: &Atom, kind: Kind) -> bool
-{
+fn is_scalar_of(atom: &Atom, kind: Kind) -> bool {
     is(atom.kind(), kind) && atom.is_allowed()
 }
 
 /// Whether a type is of this kind, and a count says so many items.
-fn has_count(of: Kind, len: usize, tree: &TypeTree) -> bool
-{
+fn has_count(of: Kind, len: usize, tree: &TypeTree) -> bool {
     is(of, kind(tree)) && len <= MOST
 }
 
 /// Whether a type is of this kind, and there is a field.
-fn has_some(of: Kind, len: usize, tree: &TypeTree) -> bool
-{
+fn has_some(of: Kind, len: usize, tree: &TypeTree) -> bool {
     is(of, kind(tree)) && len > 0
 }
 
 /// The kind of a type.
 #[inline(always)]
-fn kind(tree: &TypeTree) -> Kind
-{
+fn kind(tree: &TypeTree) -> Kind {
     if let TypeTree::Plain(kind) = tree {
         *kind
     } else {
@@ -170,8 +157,7 @@ fn kind(tree: &TypeTree) -> Kind
 }
 
 /// The same of a type that is mostly not plain.
-fn kind_with_inner(tree: &TypeTree) -> Kind
-{
+fn kind_with_inner(tree: &TypeTree) -> Kind {
     match tree {
         TypeTree::Plain(kind) => *kind,
         TypeTree::Custom(_) => Kind::Custom,
@@ -185,7 +171,6 @@ fn kind_with_inner(tree: &TypeTree) -> Kind
 
 /// Whether two kinds are the same.
 #[inline(always)]
-pub fn is(one: Kind, other: Kind) -> bool
-{
+pub fn is(one: Kind, other: Kind) -> bool {
     one == other
 }

@@ -11,8 +11,8 @@ const LONGEST: u64 = Header::LONGEST_BODY as u64;
 
 /// How many bytes spell a value of this type, or of a cell without a type: those of its \[bytes\], with the four of the
 /// length. None where the value does not fit the type, as [`fits`] says, and where that is more than 268,435,456.
-pub fn value_len(value: &Value, of: Option<&TypeTree>) -> Option<u32>
-{
+#[must_use]
+pub fn value_len(value: &Value, of: Option<&TypeTree>) -> Option<u32> {
     let size = value_size(value);
     if size > LONGEST {
         return None;
@@ -25,16 +25,16 @@ pub fn value_len(value: &Value, of: Option<&TypeTree>) -> Option<u32>
 }
 
 /// How many bytes of a value follow its length; 2^64 - 5 where there are more.
-pub fn content_len(value: &Value) -> u64
-{
+#[must_use]
+pub fn content_len(value: &Value) -> u64 {
     value_size(value) - 4
 }
 
 /// How many bytes spell a value, the four of its length counted; 2^64 - 1 where there are more. What its scalars hold is
 /// in the range of their types.
+#[must_use]
 #[inline(always)]
-pub fn value_size(value: &Value) -> u64
-{
+pub fn value_size(value: &Value) -> u64 {
     match value {
         Value::Leaf(atom) => atom.size(),
         _ => any_size(value),
@@ -42,8 +42,7 @@ pub fn value_size(value: &Value) -> u64
 }
 
 /// The same of a value that is mostly no scalar.
-fn any_size(value: &Value) -> u64
-{
+fn any_size(value: &Value) -> u64 {
     match value {
         Value::Null => 4,
         Value::Empty => 4,
@@ -57,8 +56,7 @@ fn any_size(value: &Value) -> u64
 }
 
 /// The same of values side by side.
-fn items_size(items: &[Value]) -> u64
-{
+fn items_size(items: &[Value]) -> u64 {
     let mut size: u64 = 0;
     for item in items {
         size = size.saturating_add(value_size(item));
@@ -67,8 +65,7 @@ fn items_size(items: &[Value]) -> u64
 }
 
 /// The same of pairs.
-fn pairs_size(pairs: &[(Value, Value)]) -> u64
-{
+fn pairs_size(pairs: &[(Value, Value)]) -> u64 {
     let mut size: u64 = 0;
     for (key, value) in pairs {
         size = size.saturating_add(value_size(key));

@@ -67,8 +67,8 @@ pub enum Value {
 impl Value {
     /// The value of a cell that is this scalar: [`Value::Empty`] where its content has no bytes, as that of an empty text, and
     /// else a [`Value::Leaf`]. Section 6 of `native_protocol_v4.spec`.
-    pub fn scalar(atom: Atom) -> Value
-    {
+    #[must_use]
+    pub fn scalar(atom: Atom) -> Value {
         if atom.content_len() == 0 {
             Value::Empty
         } else {

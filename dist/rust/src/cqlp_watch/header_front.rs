@@ -10,22 +10,19 @@ pub(crate) struct HeaderFront {
 }
 
 impl HeaderFront {
-    pub(crate) fn new() -> Self
-    {
+    pub(crate) fn new() -> Self {
         HeaderFront {
             bytes: [0; 9],
             len: 0,
         }
     }
 
-    pub(crate) fn len(&self) -> usize
-    {
+    pub(crate) fn len(&self) -> usize {
         self.len
     }
 
     /// These bytes, and as many of the input as there is room for.
-    pub(crate) fn with(&self, input: &[u8]) -> Self
-    {
+    pub(crate) fn with(&self, input: &[u8]) -> Self {
         let moved = input.len().min(9 - self.len);
         let len = self.len + moved;
         let mut bytes = self.bytes;
@@ -34,8 +31,7 @@ impl HeaderFront {
     }
 
     /// The header that the bytes are, in this direction, if they are nine.
-    pub(crate) fn head(&self, responses: bool) -> Option<Header>
-    {
+    pub(crate) fn head(&self, responses: bool) -> Option<Header> {
         if self.len < 9 {
             return None;
         }
@@ -44,8 +40,7 @@ impl HeaderFront {
 }
 
 /// The header that nine bytes are in this direction. Its frame may be compressed.
-fn read_head(bytes: &[u8; 9], responses: bool) -> Option<Header>
-{
+fn read_head(bytes: &[u8; 9], responses: bool) -> Option<Header> {
     let flags = bytes[1];
     let mut plain = *bytes;
     plain[1] = flags & 0xFE;

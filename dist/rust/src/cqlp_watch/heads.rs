@@ -3,6 +3,7 @@
 
 use crate::cqlp_watch::header_front::HeaderFront;
 use crate::cqlp_watch::message::Frame;
+use crate::cqlp_watch::opening::{Opening, opening_with};
 use crate::cqlp_note::Header;
 use core::mem;
 
@@ -23,6 +24,12 @@ pub(crate) enum Stage {
         frame: Frame,
         left: u32,
     },
+}
+
+impl Stage {
+    fn is_between(&self) -> bool {
+        matches!(self, Stage::Between)
+    }
 }
 
 /// What bytes of a direction are.
@@ -61,8 +68,8 @@ pub struct Heads {
 
 impl Heads {
     /// A direction of which nothing came: that of the responses, or that of the requests. Its first byte begins a frame, where `from_start`.
-    pub fn new(responses: bool, from_start: bool) -> Heads
-    {
+    #[must_use]
+    pub fn new(responses: bool, from_start: bool) -> Heads {
         let stage = if from_start {
             Stage::Between
         } else {
@@ -77,8 +84,7 @@ impl Heads {
 
     /// What the next bytes are that came at this time. `begins` says whether the first of them begins a segment. To be called again and again
     /// with the bytes that were not used, until it says `More`.
-    pub fn take(&mut self, piece: &[u8], time: Option<u64>, begins: bool) -> HeardStep
-    {
+    pub fn take(&mut self, piece: &[u8], time: Option<u64>, begins: bool) -> HeardStep {
         let stage = mem::replace(&mut self.stage, Stage::Lost);
         if let Stage::Body { frame, left: 0 } = stage {
             self.stage = Stage::Between;
@@ -105,10 +111,17 @@ impl Heads {
         }
     }
 
+    /// What these bytes are that come next, if none came before.
+    pub(crate) fn opening(&self, piece: &[u8]) -> Opening {
+        if self.position > 0 {
+            return Opening::Frames;
+        }
+        opening_with(self.responses, self.stage.is_between(), piece)
+    }
+
     /// So many bytes did not come. The frame that ends there, or past which no frame is known to begin, is told; it is whole only if all its bytes
     /// came before.
-    pub fn gap(&mut self, length: u64) -> Option<Frame>
-    {
+    pub fn gap(&mut self, length: u64) -> Option<Frame> {
         self.count(length);
         match self.stage {
             Stage::Body { frame, left } if length < left as u64 => {
@@ -134,8 +147,7 @@ impl Heads {
     }
 
     /// No more bytes come. The frame of which some did is told.
-    pub fn end(&mut self) -> Option<Frame>
-    {
+    pub fn end(&mut self) -> Option<Frame> {
         match mem::replace(&mut self.stage, Stage::Lost) {
             Stage::Body { frame, left } => Some(if left == 0 { frame } else { cut(frame) }),
             _ => None,
@@ -143,8 +155,7 @@ impl Heads {
     }
 
     /// Looks for a frame where a segment begins.
-    fn seek(&mut self, piece: &[u8], time: Option<u64>, begins: bool) -> HeardStep
-    {
+    fn seek(&mut self, piece: &[u8], time: Option<u64>, begins: bool) -> HeardStep {
         match self.head_at_begin(piece, begins) {
             Some(header) => self.begin(9, header, self.position, time, time),
             None => self.stray(piece.len()),
@@ -152,8 +163,7 @@ impl Heads {
     }
 
     /// The header that a segment begins with.
-    fn head_at_begin(&self, piece: &[u8], begins: bool) -> Option<Header>
-    {
+    fn head_at_begin(&self, piece: &[u8], begins: bool) -> Option<Header> {
         if begins {
             HeaderFront::new().with(piece).head(self.responses)
         } else {
@@ -162,8 +172,7 @@ impl Heads {
     }
 
     /// So many bytes are stray.
-    fn stray(&mut self, used: usize) -> HeardStep
-    {
+    fn stray(&mut self, used: usize) -> HeardStep {
         self.count(used as u64);
         self.stage = Stage::Lost;
         HeardStep {
@@ -180,8 +189,7 @@ impl Heads {
         begun: Option<u64>,
         piece: &[u8],
         time: Option<u64>,
-    ) -> HeardStep
-    {
+    ) -> HeardStep {
         let more = front.with(piece);
         let used = more.len() - front.len();
         if more.len() < 9 {
@@ -210,8 +218,7 @@ impl Heads {
         at: u64,
         first: Option<u64>,
         last: Option<u64>,
-    ) -> HeardStep
-    {
+    ) -> HeardStep {
         self.count(used as u64);
         let frame = Frame {
             header,
@@ -231,8 +238,7 @@ impl Heads {
     }
 
     /// Takes bytes of a body.
-    fn pass(&mut self, frame: Frame, left: u32, piece: &[u8], time: Option<u64>) -> HeardStep
-    {
+    fn pass(&mut self, frame: Frame, left: u32, piece: &[u8], time: Option<u64>) -> HeardStep {
         let used = piece.len().min(left as usize);
         self.count(used as u64);
         self.stage = Stage::Body {
@@ -248,15 +254,13 @@ impl Heads {
         }
     }
 
-    fn count(&mut self, more: u64)
-    {
+    fn count(&mut self, more: u64) {
         self.position = self.position.saturating_add(more);
     }
 }
 
 /// The frame, of which some bytes did not come.
-fn cut(frame: Frame) -> Frame
-{
+fn cut(frame: Frame) -> Frame {
     Frame {
         whole: false,
         ..frame

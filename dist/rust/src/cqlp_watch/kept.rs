@@ -22,22 +22,20 @@ impl Front {
     /// How many bytes of a message are kept at most.
     pub const MOST: usize = 256;
 
-    pub(crate) fn new() -> Self
-    {
+    pub(crate) fn new() -> Self {
         Front {
             bytes: [0; 256],
             len: 0,
         }
     }
 
-    pub fn as_slice(&self) -> &[u8]
-    {
+    #[must_use]
+    pub fn as_slice(&self) -> &[u8] {
         &self.bytes[..self.len]
     }
 
     /// Keeps as many of these bytes behind the others as there is room for.
-    pub(crate) fn add(&mut self, input: &[u8])
-    {
+    pub(crate) fn add(&mut self, input: &[u8]) {
         let moved = input.len().min(256 - self.len);
         let len = self.len + moved;
         self.bytes[self.len..len].copy_from_slice(&input[..moved]);

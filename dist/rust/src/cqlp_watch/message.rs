@@ -26,21 +26,18 @@ pub struct Message<T> {
 
 impl<T> Message<T> {
     /// The stream id, which is a request's and its response's.
-    pub fn stream(&self) -> i16
-    {
+    pub fn stream(&self) -> i16 {
         self.frame.header.stream
     }
 
     /// Whether it is a request.
-    pub fn is_request(&self) -> bool
-    {
+    pub fn is_request(&self) -> bool {
         !self.frame.header.response
     }
 
     /// Whether it is an event that the node pushed: an EVENT under a negative stream id. Section 4.2.6 of
     /// `native_protocol_v4.spec`.
-    pub fn is_event(&self) -> bool
-    {
+    pub fn is_event(&self) -> bool {
         let Header {
             response,
             flags: _,
@@ -53,8 +50,7 @@ impl<T> Message<T> {
 
     /// Whether it and the next under its stream id are a request and its response: a request and any response, or a response and a request
     /// whose first byte was captured no later than that of the response, where both times are known.
-    pub(crate) fn meets(&self, next: &Message<T>) -> bool
-    {
+    pub(crate) fn meets(&self, next: &Message<T>) -> bool {
         if self.is_request() {
             !next.is_request()
         } else {
@@ -64,8 +60,7 @@ impl<T> Message<T> {
 }
 
 /// Whether one time is known to be no later than another.
-fn is_no_later(one: Option<u64>, other: Option<u64>) -> bool
-{
+fn is_no_later(one: Option<u64>, other: Option<u64>) -> bool {
     match (one, other) {
         (Some(one), Some(other)) => one <= other,
         _ => false,

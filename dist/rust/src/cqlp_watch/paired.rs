@@ -31,8 +31,7 @@ pub enum Paired<T> {
 
 impl<T> Paired<T> {
     /// Of a message that is in no exchange.
-    pub(crate) fn alone(message: Message<T>) -> Self
-    {
+    pub(crate) fn alone(message: Message<T>) -> Self {
         if message.is_request() {
             Paired::Unanswered { request: message }
         } else {
@@ -41,8 +40,7 @@ impl<T> Paired<T> {
     }
 
     /// Of a request and its response, whichever came first.
-    pub(crate) fn exchange(first: Message<T>, second: Message<T>) -> Self
-    {
+    pub(crate) fn exchange(first: Message<T>, second: Message<T>) -> Self {
         if first.is_request() {
             Paired::Exchange {
                 request: first,

@@ -21,8 +21,11 @@ pub struct Pairing<T, A: Allocator = Global> {
 impl<T, A: Allocator> Pairing<T, A> {
     /// No message waits. At most `limit` messages will, 1 to 65,535. All memory is taken here, in one request: so many times the size
     /// of a [`Message`].
-    pub fn new(alloc: A, limit: u16) -> Result<Self, NewPairingError>
-    {
+    ///
+    /// # Errors
+    ///
+    /// A limit of 0, and memory that is refused.
+    pub fn new(alloc: A, limit: u16) -> Result<Self, NewPairingError> {
         if limit == 0 {
             return Err(NewPairingError::BadLimit);
         }
@@ -33,14 +36,12 @@ impl<T, A: Allocator> Pairing<T, A> {
     }
 
     /// How many messages wait: at most as many as the limit.
-    pub fn len(&self) -> usize
-    {
+    pub fn len(&self) -> usize {
         self.waiting.len()
     }
 
     /// Whether none waits.
-    pub fn is_empty(&self) -> bool
-    {
+    pub fn is_empty(&self) -> bool {
         self.waiting.is_empty()
     }
 
@@ -49,8 +50,7 @@ impl<T, A: Allocator> Pairing<T, A> {
     ///
     /// Else it takes the place of that one, and what is told is that the other of its exchange was not seen. Where none waits under its id
     /// and too many do, a request takes the place of the one that waits longest, and a response is itself told alone.
-    pub fn take(&mut self, message: Message<T>) -> Option<Paired<T>>
-    {
+    pub fn take(&mut self, message: Message<T>) -> Option<Paired<T>> {
         if message.is_event() {
             return Some(Paired::Event { event: message });
         }
@@ -60,9 +60,19 @@ impl<T, A: Allocator> Pairing<T, A> {
         }
     }
 
+    /// Whether `take` gives a message up for this one, or this one itself, since none waits under its stream id and as many wait as may.
+    pub fn overtakes(&self, message: &Message<T>) -> bool {
+        if message.is_event() {
+            false
+        } else if self.waiting.len() < self.limit as usize {
+            false
+        } else {
+            !has_one_under(&self.waiting, message.stream())
+        }
+    }
+
     /// Where no more frames come: the message that waits longest, which waits no more. `None` once none waits.
-    pub fn end(&mut self) -> Option<Paired<T>>
-    {
+    pub fn end(&mut self) -> Option<Paired<T>> {
         if self.waiting.is_empty() {
             return None;
         }
@@ -70,8 +80,7 @@ impl<T, A: Allocator> Pairing<T, A> {
     }
 
     /// A message comes after one that waited under its stream id.
-    fn meet(&mut self, first: Message<T>, second: Message<T>) -> Paired<T>
-    {
+    fn meet(&mut self, first: Message<T>, second: Message<T>) -> Paired<T> {
         if first.meets(&second) {
             Paired::exchange(first, second)
         } else {
@@ -81,8 +90,7 @@ impl<T, A: Allocator> Pairing<T, A> {
     }
 
     /// A message comes under an id under which none waits.
-    fn wait(&mut self, message: Message<T>) -> Option<Paired<T>>
-    {
+    fn wait(&mut self, message: Message<T>) -> Option<Paired<T>> {
         if self.waiting.len() < self.limit as usize {
             self.waiting.push_reserved(message);
             None
@@ -94,8 +102,7 @@ impl<T, A: Allocator> Pairing<T, A> {
     }
 
     /// A request waits in place of the one that waits longest.
-    fn crowd(&mut self, request: Message<T>) -> Paired<T>
-    {
+    fn crowd(&mut self, request: Message<T>) -> Paired<T> {
         let first = self.waiting.remove(0);
         self.waiting.push_reserved(request);
         Paired::alone(first)
@@ -103,14 +110,17 @@ impl<T, A: Allocator> Pairing<T, A> {
 }
 
 /// Takes the first message under a stream id away.
-fn leave<T, A: Allocator>(messages: &mut Vec<Message<T>, A>, id: i16) -> Option<Message<T>>
-{
+fn leave<T, A: Allocator>(messages: &mut Vec<Message<T>, A>, id: i16) -> Option<Message<T>> {
     let at = place_under(messages, id)?;
     Some(messages.remove(at))
 }
 
+/// Whether a message waits under a stream id.
+fn has_one_under<T>(messages: &[Message<T>], id: i16) -> bool {
+    messages.iter().any(|message| message.stream() == id)
+}
+
 /// The place of the first message under a stream id.
-fn place_under<T>(messages: &[Message<T>], id: i16) -> Option<usize>
-{
+fn place_under<T>(messages: &[Message<T>], id: i16) -> Option<usize> {
     messages.iter().position(|message| message.stream() == id)
 }

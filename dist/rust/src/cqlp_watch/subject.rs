@@ -7,8 +7,7 @@ use crate::cqlp_note::{Header, Notation, Opcode, WholeField, front_field};
 /// The first field of a message, if that tells what the message is about, and lies whole in the message's first bytes: of a QUERY or a PREPARE its
 /// text, of an EXECUTE the id of its statement, of an ERROR its code and of a RESULT its kind. Sections 4.1.4, 4.1.5, 4.1.6, 4.2.1 and 4.2.5 of
 /// `native_protocol_v4.spec`. `None` also where the body is compressed, by the header's flags.
-pub fn subject_of<'a>(header: &Header, front: &'a [u8]) -> Option<WholeField<'a>>
-{
+pub fn subject_of<'a>(header: &Header, front: &'a [u8]) -> Option<WholeField<'a>> {
     match subject_notation(header) {
         Some(notation) => front_field(notation, Front::MOST as u32, Front::MOST as u64, front),
         None => None,
@@ -16,8 +15,7 @@ pub fn subject_of<'a>(header: &Header, front: &'a [u8]) -> Option<WholeField<'a>
 }
 
 /// How that field is written.
-fn subject_notation(header: &Header) -> Option<Notation>
-{
+fn subject_notation(header: &Header) -> Option<Notation> {
     if has(header.flags, 0x01) {
         return None;
     }
@@ -30,7 +28,6 @@ fn subject_notation(header: &Header) -> Option<Notation>
 }
 
 /// Whether some bit of these is set.
-fn has(flags: u8, bits: u8) -> bool
-{
+fn has(flags: u8, bits: u8) -> bool {
     flags & bits > 0
 }

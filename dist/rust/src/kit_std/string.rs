@@ -16,6 +16,10 @@ impl<A: Allocator> String<A> {
     }
 
     /// A copy of a text.
+    ///
+    /// # Errors
+    ///
+    /// Memory that is refused.
     pub fn from_str(alloc: A, text: &str) -> Result<Self, AllocError> {
         let mut made = ::alloc::string::String::new();
         made.try_reserve_exact(text.len()).map_err(|_| AllocError)?;

@@ -16,6 +16,10 @@ impl<T, A: Allocator> Vec<T, A> {
     }
 
     /// With memory for this many items.
+    ///
+    /// # Errors
+    ///
+    /// Memory that is refused.
     pub fn with_capacity(alloc: A, capacity: usize) -> Result<Self, AllocError> {
         let mut items = ::alloc::vec::Vec::new();
         items.try_reserve_exact(capacity).map(|()| Vec { items, alloc }).map_err(|_| AllocError)
@@ -32,6 +36,10 @@ impl<T, A: Allocator> Vec<T, A> {
     }
 
     /// Adds an item at the end; it comes back where memory is refused.
+    ///
+    /// # Errors
+    ///
+    /// Memory that is refused.
     #[inline]
     pub fn push(&mut self, item: T) -> Result<(), AllocFailed<T>> {
         if self.items.try_reserve(1).is_err() {
@@ -96,17 +104,29 @@ impl<T, A: Allocator> Vec<T, A> {
 
 impl<T: Copy, A: Allocator> Vec<T, A> {
     /// A copy of these items.
+    ///
+    /// # Errors
+    ///
+    /// Memory that is refused.
     pub fn from_slice(alloc: A, items: &[T]) -> Result<Self, AllocError> {
         let mut made = Vec::with_capacity(alloc, items.len())?;
         made.extend_from_slice(items).map(|()| made)
     }
 
     /// Adds copies of these items at the end.
+    ///
+    /// # Errors
+    ///
+    /// Memory that is refused.
     pub fn extend_from_slice(&mut self, items: &[T]) -> Result<(), AllocError> {
         self.items.try_reserve(items.len()).map(|()| self.items.extend_from_slice(items)).map_err(|_| AllocError)
     }
 
     /// Has it this long, by copies of an item where it was shorter.
+    ///
+    /// # Errors
+    ///
+    /// Memory that is refused.
     pub fn resize(&mut self, len: usize, item: T) -> Result<(), AllocError> {
         self.items.try_reserve(len.saturating_sub(self.items.len())).map(|()| self.items.resize(len, item)).map_err(|_| AllocError)
     }

@@ -56,11 +56,7 @@ fn batch(words: &mut Words<'_>) -> Message {
 /// `id` and an id, or a text; and values.
 impl FromWords for BatchEntry {
     fn from_words(words: &mut Words<'_>) -> BatchEntry {
-        if words.accept("id") {
-            BatchEntry::Id(words.bytes(), words.list())
-        } else {
-            BatchEntry::Text(words.text(), words.list())
-        }
+        if words.accept("id") { BatchEntry::Id(words.bytes(), words.list()) } else { BatchEntry::Text(words.text(), words.list()) }
     }
 }
 

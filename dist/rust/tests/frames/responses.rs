@@ -111,13 +111,7 @@ pub fn result_of(words: &mut Words<'_>) -> Message {
 
 impl FromWords for Metadata {
     fn from_words(words: &mut Words<'_>) -> Metadata {
-        Metadata {
-            flags: words.read(),
-            columns: words.read(),
-            paging: words.option(),
-            table: words.option(),
-            specs: words.list_option(),
-        }
+        Metadata { flags: words.read(), columns: words.read(), paging: words.option(), table: words.option(), specs: words.list_option() }
     }
 }
 

@@ -12,11 +12,11 @@ pub overflow_cast-result : goal.overflow_cast-result
 overflow_cast-result g c =
     let value = rw c.new-out.ensures at c.put_inside.ensures in
     let long : length (content_written (value_of c.args.value.now)) ≤ values_size (value_of c.args.value.now) = omega (arith, content_size c.args.value.now) in
-    let sent = value_sent (written g.W.Target) c.args.target.now c.into_inner.result.now c.into_inner.result.now _ _ _ _ _ _ c.requires long value c.flush.ensures.puts c.flush.ensures.empty c.into_inner.ensures.output (λ e. refl) in
+    let sent = value_sent (written g.W.Target) g.W.Target.writes c.args.target.now c.into_inner.result.now c.into_inner.result.now _ _ _ _ _ _ c.requires long value c.flush.ensures c.into_inner.ensures.output (λ e. refl) in
     omega (arith, sent.1, c.taken-taken.ensures)
 
 pub returns : goal.returns
 returns g c =
     let value = rw c.new-out.ensures at c.put_inside.ensures in
     let long : length (content_written (value_of c.args.value.now)) ≤ values_size (value_of c.args.value.now) = omega (arith, content_size c.args.value.now) in
-    rw c.taken-taken.ensures (anew _ _ _ _ (value_offered (written g.W.Target) c.args.target.now c.into_inner.result.now _ _ _ _ _ _ _ c.requires long value c.flush.ensures.puts c.flush.ensures.empty c.into_inner.ensures.output (λ e. grind arith)))
+    rw c.taken-taken.ensures (anew _ _ _ _ (value_offered (written g.W.Target) g.W.Target.writes c.args.target.now c.into_inner.result.now _ _ _ _ _ _ _ c.requires long value c.flush.ensures c.into_inner.ensures.output (λ e. grind arith)))

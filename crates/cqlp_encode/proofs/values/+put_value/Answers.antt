@@ -1,4 +1,4 @@
-use Rattle.std.proofs.Common.{◌≡◌, length, arith}
+use Rattle.std.proofs.Common.{◌≡◌, ◌<◌, length, arith}
 use Rattle.std.proofs.lemmas.List.{take_all}
 use Rattle.cqlp_value.proofs.OwnedLists.{list_is, set_is, map_is, tuple_is, udt_is}
 use Rattle.cqlp_encode.proofs.KeptValues.{whole_put, flushed_put}
@@ -8,15 +8,20 @@ use Rattle.cqlp_encode.proofs.values.+put_value.Goals as goal
 pub put_nested-returns-then-keep_whole : goal.put_nested-returns-then-keep_whole
 put_nested-returns-then-keep_whole g t c = whole_put _ _ _ _ (c.keep_whole.ensures.kept c.if-keep_whole.true)
 
+pub put_nested-returns-then-waiting-le256 : goal.put_nested-returns-then-waiting-le256
+put_nested-returns-then-waiting-le256 g t c = rw (c.keep_whole.ensures.none c.if-keep_whole.false) at c.put_measured.ensures
+
 pub put_nested-returns-then-not-keep_whole : goal.put_nested-returns-then-not-keep_whole
 put_nested-returns-then-not-keep_whole g t c =
-    let measured = rw (c.keep_whole-2.ensures.none c.if-not-keep_whole.true) at c.put_measured.ensures in
-    flushed_put _ _ _ _ _ _ (c.keep_whole.ensures.none c.if-keep_whole.false) c.flush.ensures.puts measured
+    let many : 256 < length c.keep_whole.new.out.waiting = omega (arith, c.waiting.ensures, c.if-waiting-le256.false) in
+    let measured = rw (c.keep_whole-2.ensures.none c.if-not-keep_whole.true) at c.put_measured-then-not-keep_whole.ensures in
+    flushed_put _ _ _ _ _ _ (c.keep_whole.ensures.none c.if-keep_whole.false) many c.flush.ensures measured
 
 pub put_nested-returns-else-not-keep_whole : goal.put_nested-returns-else-not-keep_whole
 put_nested-returns-else-not-keep_whole g t c =
+    let many : 256 < length c.keep_whole.new.out.waiting = omega (arith, c.waiting.ensures, c.if-waiting-le256.false) in
     let second = whole_put _ _ _ _ (c.keep_whole-2.ensures.kept c.if-not-keep_whole.false) in
-    flushed_put _ _ _ _ _ _ (c.keep_whole.ensures.none c.if-keep_whole.false) c.flush.ensures.puts second
+    flushed_put _ _ _ _ _ _ (c.keep_whole.ensures.none c.if-keep_whole.false) many c.flush.ensures second
 
 pub put_measured-returns-in_default : goal.put_measured-returns-in_default
 put_measured-returns-in_default g t c = known_put c.args.value.now _ _ _ _ c.in_default.not-Null c.requires c.put_count32.ensures c.put_inside.ensures

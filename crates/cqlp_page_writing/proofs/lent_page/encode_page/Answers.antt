@@ -27,7 +27,7 @@ returns-in-Ok-begin g c =
       w.1,
       m.1,
       w.2,
-      lent_again c.args.frame.now c.in-Ok.len c.in-Ok-begin.page _ _ c.in-Ok-begin.ensures cells (cells_of w.0) w.1 c.write_cells.result _ fits.0 fits.1 (w.3 c.in-Ok.len c.in-Ok-begin.ensures.2),
+      lent_again c.args.frame.now c.in-Ok.len c.in-Ok-begin.page _ _ c.in-Ok-begin.ensures.begins cells (cells_of w.0) w.1 c.write_cells.result _ fits.0 fits.1 (w.3 c.in-Ok.len c.in-Ok-begin.ensures.begins.2),
     )
 
 pub returns-in-Err-begin : goal.returns-in-Err-begin
@@ -42,5 +42,5 @@ returns-in-Err-begin g c =
       m.1,
       (c.args.again, refl, λ e. absurd cc),
       subst (λ (x : LentError). EncodesLent (frame_of c.args.frame.now) cells [] false (written g.W.Target c.args.target.now) (Err x) (written g.W.Target c.begin.new.target)) (sym c.told.ensures)
-          (head_cut c.args.frame.now c.in-Ok.len cells c.in-Err-begin.why false _ _ fits.0 begins fits.1 c.in-Err-begin.ensures),
+          (head_cut c.args.frame.now c.in-Ok.len cells c.in-Err-begin.why false _ _ fits.0 begins fits.1 c.in-Err-begin.ensures.begins),
     )

@@ -1,6 +1,6 @@
 use Rattle.std.proofs.Common.{◌≡◌, ℕ, [], ◌∙◌, IsSome, Ok, Err, refl, sym, ap, inl, inr, subst, arith}
 use Rattle.cqlp_decode.specs.declared.running.Outcome.TheVariants as outcome
-use Rattle.cqlp_decode.specs.Draining.{Counts, MakesReads, RunsTo, WaitsAt}
+use Rattle.cqlp_decode.specs.Draining.{Counts, MakesReads, RunsTo, WaitsAt, calls}
 use Rattle.cqlp_decode.specs.Streams.{state}
 use Rattle.cqlp_render.specs.Rendering.{rendered, with_event, FallsShortAtEvent}
 use Rattle.cqlp_render.proofs.Buffering.{flushes, goes_same, known_taken, still_rendered, breaks_short_taken, goes_then, passes_go, writes_goes}
@@ -53,7 +53,7 @@ loop-turn-preserved g c =
                 still_in_time c.args.sink.now.form c.args.turns _ xs _ _ _ _ _ _ _ _ (c.loop-turn.invariant.in_time xs left known fresh) none.0 (none.1 ∙ sym ran.1)
                 (goes_then _ _ _ (writes_goes c.loop-turn.sink.written c.flush.new.self.written [] (Ok _) c.in-Ok.ensures.writes) onward)
             | inr last ↦
-                more_in_time c.args.turns c.loop-turn.turn _ _ (state c.run-outcome-in-loop-turn.new.decoder) xs _ _ _ (rendered c.args.sink.now) (rendered c.loop-turn.sink) _ _ _ _ _ _ c.run-outcome-in-loop-turn.result ran left (rw c.in-Turns.is at c.loop-turn.invariant.reads) waits c.loop-turn.invariant.rules (let a = c.loop-turn-test.true in omega arith) last
+                more_in_time c.args.turns c.loop-turn.turn _ _ (state c.run-outcome-in-loop-turn.new.decoder) xs (calls g.R.Source c.args.reader.now) (calls g.R.Source c.loop-turn.reader) _ (rendered c.args.sink.now) (rendered c.loop-turn.sink) _ _ _ _ _ _ c.run-outcome-in-loop-turn.result ran left (rw c.in-Turns.is at c.loop-turn.invariant.reads) waits c.loop-turn.invariant.rules (let a = c.loop-turn-test.true in omega arith) last
                 (goes_then _ _ _ (goes_same _ _ (ap (λ o. o.given) given)) onward)
           ];
     }
@@ -91,4 +91,4 @@ returns-in_default-flush-clause-reads g c = reads_flushed c.loop-turn.turn _ _ _
 pub returns-clause-reads : goal.returns-clause-reads
 returns-clause-reads g c =
     let all : c.loop-turn.turn ≡ c.args.turns = omega arith in
-    subst (λ (n : ℕ). MakesReads n c.loop-turn.outcome (g.R.Source.reads c.args.reader.now) (g.R.Source.reads c.loop-turn.reader) (g.R.Source.left c.args.reader.now) (g.R.Source.left c.loop-turn.reader)) all c.loop-turn.invariant.reads
+    subst (λ (n : ℕ). MakesReads n c.loop-turn.outcome (calls g.R.Source c.args.reader.now) (calls g.R.Source c.loop-turn.reader) (g.R.Source.left c.args.reader.now) (g.R.Source.left c.loop-turn.reader)) all c.loop-turn.invariant.reads

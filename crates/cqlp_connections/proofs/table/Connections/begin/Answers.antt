@@ -1,4 +1,4 @@
-use Rattle.std.proofs.Common.{◌≡◌, ℕ, ◌<◌, ◌∷◌, ◌∙◌, true, List, length, map, take, set, ap, subst, sym, arith}
+use Rattle.std.proofs.Common.{◌≡◌, ◌<◌, ◌∷◌, ◌∙◌, true, List, length, map, take, set, ap, subst, sym, arith}
 use Rattle.std.specs.Box.{box_value, with_value}
 use Rattle.cqlp_connections.specs.Known.{HasRoom, Known, counted_on}
 use Rattle.cqlp_connections.specs.declared.ends.Ends.{Ends}
@@ -15,9 +15,11 @@ invariant_of-self-2 g c =
     let i = c.self-2.inside in
     let b = c.index_mut.result.now in
     let way = c.args.way in
-    let e : c.count_segment.new.self ≡ counted_on way b.value = rw c.deref_mut.ensures.value at c.count_segment.ensures in
-    lawful_first box_value i.limits i.len i.places.items b (with_value b c.count_segment.new.self) c.self-2.invariant c.index_mut.ensures.value
-    (λ h. subst (λ (k : Known). HasRoom i.limits.early k) (sym e) (counted_room i.limits.early way b.value h))
+    let e : c.count_segment.new.self ≡ counted_on way b.value = rw c.deref_mut.ensures.value at c.count_segment.ensures in (
+      lawful_first box_value i.limits i.len i.places.items b (with_value b c.count_segment.new.self) c.self-2.invariant.0 c.index_mut.ensures.value
+          (λ h. subst (λ (k : Known). HasRoom i.limits.early k) (sym e) (counted_room i.limits.early way b.value h)),
+      c.self-2.invariant.1,
+    )
 
 pub returns : goal.returns
 returns g c =
@@ -36,10 +38,10 @@ returns g c =
     let e : T (take j.len (map box_value j.places.items)) ≡ G (ends_of way h) = c.self-2.view_is ∙ added ∙ ap G c.ends_of-ends.ensures in
     let long : length (take j.len (map box_value j.places.items)) ≡ length (new_known n t.limits.early (ends_of way h).client (ends_of way h).node ∷ t.known) =
     ap (λ (z : Table). length z.known) e in
-    let there : 0 < j.len = omega (arith, long, length_known box_value j.limits j.len j.places.items c.self-2.invariant) in
+    let there : 0 < j.len = omega (arith, long, length_known box_value j.limits j.len j.places.items c.self-2.invariant.0) in
     subst (λ (z : Table). taking (Taken n way true) (T (take j.len (map box_value (set j.places.items 0 (with_value b v))))) ≡ begun way h z) c.self.view_is
     (of_first box_value j.limits
     (λ old new. T old ≡ G (ends_of way h) → taking (Taken n way true) (T new) ≡ begun way h t)
-    j.len j.places.items b (with_value b v) c.self-2.invariant there c.index_mut.ensures.value
+    j.len j.places.items b (with_value b v) c.self-2.invariant.0 there c.index_mut.ensures.value
     (λ rest f. begin_is t way h j.limits j.ports.items j.counts b.value v rest n c.saturating_add-self-inside.ensures is f)
     e)

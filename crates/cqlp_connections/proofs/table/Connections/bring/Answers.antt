@@ -9,10 +9,12 @@ pub invariant_of-self : goal.invariant_of-self
 invariant_of-self g c =
     let i = c.self.inside in
     let at = c.args.at in
-    let lt : at < length (take i.len (map box_value i.places.items)) = subst (λ (t : Table). at < length t.known) (sym c.self.view_is) c.requires in
-    bring_lawful box_value i.limits i.len i.places.items c.bring_to_front.new.places _ at c.self.invariant lt
-    (omega (arith, c.as_mut_slice.ensures.len, c.bring_to_front.auto.places))
-    (rw c.as_mut_slice.ensures.value at c.bring_to_front.ensures)
+    let lt : at < length (take i.len (map box_value i.places.items)) = subst (λ (t : Table). at < length t.known) (sym c.self.view_is) c.requires in (
+      bring_lawful box_value i.limits i.len i.places.items c.bring_to_front.new.places _ at c.self.invariant.0 lt
+          (omega (arith, c.as_mut_slice.ensures.len, c.bring_to_front.auto.places))
+          (rw c.as_mut_slice.ensures.value at c.bring_to_front.ensures),
+      c.self.invariant.1,
+    )
 
 pub returns : goal.returns
 returns g c =
@@ -24,6 +26,6 @@ returns g c =
     table i.limits i.ports.items (take i.len (map box_value (take i.places.len (new ++ drop (length new) i.places.items)))) i.counts ≡ with_known (to_front at t.known) t in
     subst P c.self.view_is
     (ap (λ (ks : List Known). table i.limits i.ports.items ks i.counts)
-    (bring_is box_value i.limits i.len i.places.items new _ at c.self.invariant lt
+    (bring_is box_value i.limits i.len i.places.items new _ at c.self.invariant.0 lt
     (omega (arith, c.as_mut_slice.ensures.len, c.bring_to_front.auto.places))
     (rw c.as_mut_slice.ensures.value at c.bring_to_front.ensures)))

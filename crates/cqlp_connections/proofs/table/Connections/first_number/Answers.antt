@@ -11,6 +11,6 @@ pub returns-clause-is : goal.returns-clause-is
 returns-clause-is g c =
     let i = c.self.inside in
     let t = c.args.self.now in
-    let long : length t.known ≡ i.len = subst (λ (z : Table). length z.known ≡ i.len) c.self.view_is (length_known box_value i.limits i.len i.places.items c.self.invariant) in
+    let long : length t.known ≡ i.len = subst (λ (z : Table). length z.known ≡ i.len) c.self.view_is (length_known box_value i.limits i.len i.places.items c.self.invariant.0) in
     let some = c.requires in
     least_all (numbers t.known) c.loop-at.best c.loop-at.at c.loop-at.invariant (omega (arith, long, some, length-map t.known (λ (k : Known). k.number)))

@@ -1,4 +1,4 @@
-use Rattle.std.proofs.Common.{◌≡◌, ◌∷◌, List, length, map, take, drop, set, ap, subst, sym, refl, ◌∙◌, arith}
+use Rattle.std.proofs.Common.{◌≡◌, ◌∷◌, List, map, take, drop, set, ap, subst, sym, refl, ◌∙◌, arith}
 use Rattle.std.specs.Box.{box_value, with_value}
 use Rattle.std.specs.Prelude.{Option, Some, None}
 use Rattle.std.proofs.lemmas.List.{length-map}
@@ -15,17 +15,21 @@ pub invariant_of-self : goal.invariant_of-self
 invariant_of-self g c =
     let i = c.self.inside in
     let b = c.index_mut.result.now in
-    let e : telling c.close.result c.close.new.self ≡ closed b.value = rw c.deref_mut.ensures.value at c.close.ensures in
-    lawful_first box_value i.limits i.len i.places.items b (with_value b c.close.new.self) c.self.invariant c.index_mut.ensures.value
-    (λ h. subst (λ (t : Telling). HasRoom i.limits.early t.after) (sym e) (closed_room i.limits.early b.value h))
+    let e : telling c.close.result c.close.new.self ≡ closed b.value = rw c.deref_mut.ensures.value at c.close.ensures in (
+      lawful_first box_value i.limits i.len i.places.items b (with_value b c.close.new.self) c.self.invariant.0 c.index_mut.ensures.value
+          (λ h. subst (λ (t : Telling). HasRoom i.limits.early t.after) (sym e) (closed_room i.limits.early b.value h)),
+      c.self.invariant.1,
+    )
 
 pub invariant_of-self-2 : goal.invariant_of-self-2
 invariant_of-self-2 g c =
     let i = c.self.inside in
     let b = c.index_mut.result.now in
-    let e : telling c.close.result c.close.new.self ≡ closed b.value = rw c.deref_mut.ensures.value at c.close.ensures in
-    lawful_first box_value i.limits i.len i.places.items b (with_value b c.close.new.self) c.self.invariant c.index_mut.ensures.value
-    (λ h. subst (λ (t : Telling). HasRoom i.limits.early t.after) (sym e) (closed_room i.limits.early b.value h))
+    let e : telling c.close.result c.close.new.self ≡ closed b.value = rw c.deref_mut.ensures.value at c.close.ensures in (
+      lawful_first box_value i.limits i.len i.places.items b (with_value b c.close.new.self) c.self.invariant.0 c.index_mut.ensures.value
+          (λ h. subst (λ (t : Telling). HasRoom i.limits.early t.after) (sym e) (closed_room i.limits.early b.value h)),
+      c.self.invariant.1,
+    )
 
 pub returns-in-Some : goal.returns-in-Some
 returns-in-Some g c =
@@ -38,7 +42,7 @@ returns-in-Some g c =
     let T : List Known → Table = λ ks. table i.limits i.ports.items ks i.counts in
     let P : Table → Type 0 = λ t. departing (departure.Told told) (T (take i.len (map box_value (set i.places.items 0 w)))) ≡ left t in
     subst P c.self.view_is
-    (of_first box_value i.limits (λ old new. departing (departure.Told told) (T new) ≡ left (T old)) i.len i.places.items b w c.self.invariant (omega arith) c.index_mut.ensures.value
+    (of_first box_value i.limits (λ old new. departing (departure.Told told) (T new) ≡ left (T old)) i.len i.places.items b w c.self.invariant.0 (omega arith) c.index_mut.ensures.value
     (λ rest. ap (λ (z : Telling). left_as z rest (T (b.value ∷ rest))) e))
 
 none_of : (o : Option Told) → ((x : Told) → o ≡ Some x → ⊥) → o ≡ None
@@ -53,8 +57,8 @@ returns g c =
     let w = with_value b k in
     let x = c.index.result.now in
     let r = c.totals-totals.result in
-    let m = c.self.invariant.made.many in
-    let n = c.self.invariant.some in
+    let m = c.self.invariant.0.made.many in
+    let n = c.self.invariant.0.some in
     let e : telling None k ≡ closed b.value =
     subst (λ (o : Option Told). telling o k ≡ closed b.value) (none_of c.close.result c.in_default.not-Some) (rw c.deref_mut.ensures.value at c.close.ensures) in
     let same : x ≡ w = first_written i.places.items w x (omega (arith, m, n, length-map i.places.items box_value)) c.index.ensures in
@@ -64,5 +68,5 @@ returns g c =
     let removed : c.remove_first.new.self ≡ with_known (drop 1 old.known) old = c.remove_first.ensures in
     subst (λ (z : Table). departing (departure.Left r) c.remove_first.new.self ≡ left z) c.self.view_is
     (ap (λ (z : Table). departing (departure.Left r) z) removed
-    ∙ of_first box_value i.limits (λ old new. departing (departure.Left r) (T (drop 1 new)) ≡ left (T old)) i.len i.places.items b w c.self.invariant (omega arith) c.index_mut.ensures.value
+    ∙ of_first box_value i.limits (λ old new. departing (departure.Left r) (T (drop 1 new)) ≡ left (T old)) i.len i.places.items b w c.self.invariant.0 (omega arith) c.index_mut.ensures.value
     (λ rest. ap (λ z. departing (departure.Left z) (T rest)) total ∙ ap (λ (z : Telling). left_as z rest (T (b.value ∷ rest))) e))

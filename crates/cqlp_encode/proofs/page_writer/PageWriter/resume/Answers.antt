@@ -11,7 +11,7 @@ pub returns-clause-adds : goal.returns-clause-adds
 returns-clause-adds g c n cells a =
     let v = value_of c.args.value.now in
     let s : (n : ℕ) (cells : List Values) → After c.args.self.now n cells → StandsFor c.args.self.now cells (is_some c.column_size-size.result) v v = rw (← c.self.view_is) (stands _ c.self.inside.column v _ c.self.invariant.0 c.column_size-size.ensures.fits) in
-    c.put_rest.ensures cells v (s n cells a)
+    c.put_rest.ensures.adds cells v (s n cells a)
 
 pub returns-clause-after : goal.returns-clause-after
 returns-clause-after g c n cells a = after_rest c.args.self.now n cells _ _ _ _ _ a (returns-clause-adds g c n cells a)

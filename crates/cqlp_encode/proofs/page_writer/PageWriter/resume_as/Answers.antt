@@ -13,7 +13,7 @@ returns-clause-adds g c n cells a =
     let v = c.args.value.now in
     let t = c.args.of.now in
     let s : (n : ℕ) (cells : List Values) → After c.args.self.now n cells → StandsFor c.args.self.now cells (is_some c.untold_size-size.result) (value_of v) (cell_of (page c.args.self.now) v t) = rw (← c.self.view_is) (stands_untold _ c.self.inside.column v t _ c.self.invariant.0 c.untold_size-size.ensures.fits) in
-    c.put_rest.ensures cells (cell_of (page c.args.self.now) v t) (s n cells a)
+    c.put_rest.ensures.adds cells (cell_of (page c.args.self.now) v t) (s n cells a)
 
 pub returns-clause-after : goal.returns-clause-after
 returns-clause-after g c n cells a = after_rest c.args.self.now n cells _ _ _ _ _ a (returns-clause-adds g c n cells a)

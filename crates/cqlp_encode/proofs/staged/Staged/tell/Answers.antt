@@ -12,5 +12,5 @@ returns g c =
     let room : s.len ≤ length s.buffer = omega (arith, c.self.told, c.self.invariant.0) in
     let bytes = c.copy_from_slice.ensures.after ∙ ap (λ (t : List ℕ). take 4 (drop 4 t)) c.to_be_bytes-len.ensures in
     let within : c.args.start + 4 ≤ s.len = omega (arith, waits, length-take-le s.len s.buffer room) in
-    rw (← c.self.view_is) (ap (λ (w : List ℕ). record { output = written g.W.Target s.target.now; waiting = w; taken = s.taken; skip = s.skip; failed = s.failed; lender = s.target.ghost_name })
+    rw (← c.self.view_is) (ap (λ (w : List ℕ). record { output = written g.W.Target s.target.now; calls = g.W.Target.writes s.target.now; waiting = w; taken = s.taken; skip = s.skip; failed = s.failed; lender = s.target.ghost_name })
     (told_view c.args.start s.len s.buffer _ within room bytes))

@@ -1,0 +1,34 @@
+// Asks a server for the orders by gocql as it comes: ask PORT. It looks for the version and for the nodes, and prepares each statement.
+package main
+
+import (
+	"fmt"
+	"log"
+	"os"
+	"strconv"
+
+	"github.com/gocql/gocql"
+)
+
+func main() {
+	log.SetFlags(0)
+	port, err := strconv.Atoi(os.Args[1])
+	if err != nil {
+		log.Fatal(err)
+	}
+	cluster := gocql.NewCluster("127.0.0.1")
+	cluster.Port = port
+	session, err := cluster.CreateSession()
+	if err != nil {
+		log.Fatal(err)
+	}
+	defer session.Close()
+	rows, err := session.Query("SELECT * FROM shop.orders").Iter().SliceMap()
+	if err != nil {
+		log.Fatal(err)
+	}
+	fmt.Println(len(rows), "orders")
+	if err := session.Query("SELECT * FROM shop.nothing").Exec(); err != nil {
+		fmt.Println("refused")
+	}
+}

@@ -1,0 +1,42 @@
+// Written by dist/erase from crates/cqlp_capture_rows/src/capturing.rt.
+//! A capture whose pages are written.
+
+use crate::kit_host::prelude::{AllocGlobal};
+use crate::cqlp_capture_rows::rows::Rows;
+use crate::cqlp_note::{Source, Target};
+use crate::cqlp_streams::{CaptureRead, LIMITS, StreamsFault, conclude_capture, read_capture};
+use crate::kit_std::alloc::Global;
+
+/// Reads the frames on one connection of a capture with nodes that listen on these ports: on the one with this number; the first has the
+/// number 1. Writes the text of the pages among them to `out`, and what the capture was, or the fault line, to `err`. Answers the exit status
+/// and the two outputs.
+///
+/// After a fault nothing more is asked of what failed.
+pub fn write_rows<R: Source, O: Target, E: Target>(
+    alloc: Global,
+    ports: &[u16],
+    connection: u64,
+    input: &mut R,
+    out: O,
+    err: E,
+) -> (u8, O, E) {
+    let (answer, out) = listen(alloc, ports, connection, input, out);
+    let (status, err) = conclude_capture(alloc, &answer, "rows", err);
+    (status, out, err)
+}
+
+/// Reads the capture, and writes the text. Answers what it was, and the output.
+fn listen<R: Source, O: Target>(
+    alloc: Global,
+    ports: &[u16],
+    connection: u64,
+    input: &mut R,
+    out: O,
+) -> (Result<CaptureRead, StreamsFault>, O) {
+    let mut rows = match Rows::new(alloc, connection, out) {
+        Ok(rows) => rows,
+        Err(out) => return (Err(StreamsFault::NoMemory), out),
+    };
+    let answer = read_capture(alloc, LIMITS, ports, input, &mut rows);
+    (answer, rows.into_output())
+}

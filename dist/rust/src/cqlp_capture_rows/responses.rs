@@ -1,0 +1,165 @@
+// Written by dist/erase from crates/cqlp_capture_rows/src/responses.rt.
+//! The text of the responses of a connection.
+
+use crate::kit_host::prelude::{AllocGlobal, Clone};
+use crate::cqlp_capture_rows::fault::TellFault;
+use crate::cqlp_capture_rows::limits::{EXECUTES, STATEMENTS};
+use crate::cqlp_capture_rows::page::Page;
+use crate::cqlp_capture_rows::spot::{FrameSpot, Spot, put_compressed, put_gap, put_refused};
+use crate::cqlp_capture_frames::Transcript;
+use crate::cqlp_grammar::{Event, SinkFault};
+use crate::cqlp_note::{Header, NoMemory, Opcode, Reason};
+use crate::cqlp_prepared::{NewPreparedError, PreparedTypes, Requests};
+use crate::cqlp_reassembly::StreamStep;
+use crate::cqlp_text::{Pen, TextWriter};
+use crate::cqlp_type::TypeTable;
+use crate::kit_std::alloc::{AllocError, Allocator, Global};
+
+/// The header before that of the first frame.
+const NO_HEADER: Header = Header {
+    response: true,
+    flags: 0,
+    stream: 0,
+    opcode: Opcode::Ready,
+    length: 0,
+};
+
+/// What is known of the responses of a connection: of its statements, and of the page of the frame that is read.
+pub(crate) struct Responses<A: Allocator = Global> {
+    /// The number of the connection.
+    number: u64,
+    known: PreparedTypes<A>,
+    /// Where the frame that began last begins, and its header.
+    begun: FrameSpot,
+    /// What it said of a page.
+    page: Page,
+}
+
+impl<A: Allocator + Clone> Responses<A> {
+    /// Nothing came of the connection with this number. All memory but that of types is taken here.
+    pub(crate) fn new(alloc: A, number: u64) -> Result<Self, AllocError> {
+        match PreparedTypes::new(alloc, STATEMENTS, EXECUTES) {
+            Ok(known) => Ok(Responses {
+                number,
+                known,
+                begun: FrameSpot {
+                    spot: Spot { number, at: 0 },
+                    header: NO_HEADER,
+                },
+                page: Page::new(),
+            }),
+            Err(NewPreparedError::NoMemory | NewPreparedError::BadLimit) => Err(AllocError),
+        }
+    }
+}
+
+impl<A: Allocator> Responses<A> {
+    /// Takes what is told of the requests, with its bytes: what is known of statements changes by that.
+    pub(crate) fn hear_requests(&mut self, step: StreamStep, bytes: &[u8], requests: &mut Requests) {
+        requests.hear(step, bytes, &mut self.known);
+    }
+
+    /// A place in the responses.
+    fn spot(&self, at: u64) -> Spot {
+        Spot {
+            number: self.number,
+            at,
+        }
+    }
+
+    /// No more is read of the frame. Takes the end of its page, if that has not ended.
+    fn cut<P: Pen>(&mut self, writer: &mut TextWriter<P>) -> Result<(), SinkFault> {
+        let cut = self.page.put_cut(writer);
+        self.page = Page::new();
+        cut
+    }
+
+    /// The frame came whole. A PREPARED says the types of its statement's result: it is the RESULT that names a statement.
+    fn learn(&mut self, types: &TypeTable<A>) -> Result<(), NoMemory>
+    where
+        A: Clone,
+    {
+        if !is_result(&self.begun.header) {
+            return Ok(());
+        }
+        match self.page.id() {
+            Some(id) => self.known.prepared(id.as_slice(), types),
+            None => Ok(()),
+        }
+    }
+}
+
+impl<A: Allocator + Clone> Transcript<A> for Responses<A> {
+    type Fault = TellFault;
+
+    fn begin<P: Pen>(
+        &mut self,
+        at: u64,
+        header: &Header,
+        _writer: &mut TextWriter<P>,
+    ) -> Result<Option<TypeTable<A>>, TellFault> {
+        let types = self.known.types_for(header.stream)?;
+        self.begun = FrameSpot {
+            spot: self.spot(at),
+            header: *header,
+        };
+        self.page = Page::new();
+        Ok(types)
+    }
+
+    fn event<P: Pen>(
+        &mut self,
+        _at: u64,
+        event: &Event<'_>,
+        writer: &mut TextWriter<P>,
+    ) -> Result<(), TellFault> {
+        Ok(self.page.put_event(event, self.begun, writer)?)
+    }
+
+    fn refusal<P: Pen>(
+        &mut self,
+        at: u64,
+        why: Reason,
+        writer: &mut TextWriter<P>,
+    ) -> Result<(), TellFault> {
+        self.cut(writer)?;
+        Ok(put_refused(writer, self.spot(at), why)?)
+    }
+
+    fn compressed<P: Pen>(
+        &mut self,
+        at: u64,
+        header: &Header,
+        writer: &mut TextWriter<P>,
+    ) -> Result<(), TellFault> {
+        self.known.forget(header.stream);
+        Ok(put_compressed(writer, self.spot(at))?)
+    }
+
+    fn gap<P: Pen>(
+        &mut self,
+        at: u64,
+        length: u64,
+        writer: &mut TextWriter<P>,
+    ) -> Result<(), TellFault> {
+        Ok(put_gap(writer, self.spot(at), length)?)
+    }
+
+    fn end<P: Pen>(
+        &mut self,
+        types: &TypeTable<A>,
+        writer: &mut TextWriter<P>,
+    ) -> Result<(), TellFault> {
+        self.learn(types)?;
+        Ok(self.cut(writer)?)
+    }
+
+    fn close<P: Pen>(&mut self, writer: &mut TextWriter<P>) -> Result<(), TellFault> {
+        Ok(self.cut(writer)?)
+    }
+}
+
+/// Whether it is that of a RESULT.
+fn is_result(header: &Header) -> bool {
+    header.opcode == Opcode::Result
+}

@@ -1,0 +1,135 @@
+// Written by dist/erase from crates/cqlp_exchanges/src/capturing.rt.
+//! A capture whose exchanges are written.
+
+use crate::kit_host::prelude::{AllocGlobal, Clone, String, ToCopy, format};
+use crate::cqlp_exchanges::exchanges::{ExchangeLimits, Exchanges};
+use crate::cqlp_exchanges::filter::ExchangeFilter;
+use crate::cqlp_exchanges::form::ExchangeForm;
+use crate::cqlp_exchanges::losses::{Losses, losses_of, note_of, push_losses};
+use crate::cqlp_exchanges::sums::ExchangeSums;
+use crate::cqlp_connections::ConnectionLimits;
+use crate::cqlp_grammar::SinkFault;
+use crate::cqlp_note::{Source, Target};
+use crate::cqlp_streams::{CaptureRead, StreamsFault, conclude_noted, read_capture};
+use crate::cqlp_watch::Missed;
+use crate::kit_std::alloc::{AllocError, Allocator, Global};
+
+/// How many connections there are at one time, and how many bytes that came early each direction holds: as many connections as `ExchangeLimits::DEFAULT` has.
+const LIMITS: ConnectionLimits = ConnectionLimits {
+    connections: 1_024,
+    early: 4_096,
+};
+
+/// Pairs the requests on the connections of a capture with their responses, of nodes that listen on these ports. Writes each that the
+/// filter shows to `out` in this form, and what the capture was, or the fault line, to `err`. Answers the exit status and the two outputs.
+///
+/// After a fault nothing more is asked of what failed.
+pub fn write_exchanges<R: Source, O: Target, E: Target>(
+    alloc: Global,
+    ports: &[u16],
+    filter: ExchangeFilter,
+    form: ExchangeForm,
+    input: &mut R,
+    out: O,
+    err: E,
+) -> (u8, O, E) {
+    let (answer, counts, out) = listen(alloc, ports, filter, form, input, out);
+    let (status, err) = conclude(alloc, &answer, &counts, err);
+    (status, out, err)
+}
+
+/// What was told of a capture's connections, and what was missed.
+#[derive(Clone, Copy, Debug, PartialEq, Eq)]
+struct Counts {
+    sums: ExchangeSums,
+    missed: Missed,
+}
+
+impl Counts {
+    /// Nothing.
+    fn none() -> Self {
+        Counts {
+            sums: ExchangeSums::none(),
+            missed: Missed::NONE,
+        }
+    }
+}
+
+/// Reads the capture, and writes the lines. Answers what it was, what was told, and the output.
+fn listen<R: Source, O: Target>(
+    alloc: Global,
+    ports: &[u16],
+    filter: ExchangeFilter,
+    form: ExchangeForm,
+    input: &mut R,
+    out: O,
+) -> (Result<CaptureRead, StreamsFault>, Counts, O) {
+    let mut exchanges = match Exchanges::new(alloc, ExchangeLimits::DEFAULT, filter, form, out) {
+        Ok(exchanges) => exchanges,
+        Err(out) => return (Err(StreamsFault::NoMemory), Counts::none(), out),
+    };
+    let read = read_capture(alloc, LIMITS, ports, input, &mut exchanges);
+    let answer = finish(&mut exchanges, read);
+    let missed = exchanges.missed();
+    let (out, sums) = exchanges.into_parts();
+    (answer, Counts { sums, missed }, out)
+}
+
+/// Where the capture was read, writes what stands at the end.
+fn finish<O: Target>(
+    exchanges: &mut Exchanges<O>,
+    read: Result<CaptureRead, StreamsFault>,
+) -> Result<CaptureRead, StreamsFault> {
+    match read {
+        Ok(read) => match exchanges.finish() {
+            Ok(()) => Ok(read),
+            Err(SinkFault) => Err(StreamsFault::Write),
+        },
+        Err(fault) => Err(fault),
+    }
+}
+
+/// Writes the lines of how the reading ended. Answers the exit status.
+fn conclude<E: Target>(
+    alloc: Global,
+    answer: &Result<CaptureRead, StreamsFault>,
+    counts: &Counts,
+    err: E,
+) -> (u8, E) {
+    let losses = losses_of(answer, &counts.missed);
+    match texts_of(alloc, &counts.sums, &losses) {
+        Ok(Texts { note, words }) => conclude_noted(alloc, answer, &note, &words, err),
+        Err(AllocError) => conclude_noted(alloc, &Err(StreamsFault::NoMemory), "", "", err),
+    }
+}
+
+/// The note before the last line, and its words.
+struct Texts<A: Allocator> {
+    note: String<A>,
+    words: String<A>,
+}
+
+fn texts_of<A: Allocator + Clone>(
+    alloc: A,
+    sums: &ExchangeSums,
+    losses: &Losses,
+) -> Result<Texts<A>, AllocError> {
+    let note = note_of(alloc.to_copy()?, losses)?;
+    let mut text = words(alloc, sums)?;
+    push_losses(&mut text, losses)?;
+    Ok(Texts { note, words: text })
+}
+
+/// The words of what was told, in the last line.
+fn words<A: Allocator>(alloc: A, sums: &ExchangeSums) -> Result<String<A>, AllocError> {
+    let ExchangeSums {
+        exchanges,
+        unanswered,
+        unasked,
+        events,
+        cut,
+    } = *sums;
+    format!(in alloc;
+        "exchanges {exchanges} unanswered {unanswered} unasked {unasked} events {events} cut {cut}"
+    )
+}

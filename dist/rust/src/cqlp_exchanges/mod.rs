@@ -1,0 +1,29 @@
+// Written by dist/erase from crates/cqlp_exchanges/src/lib.rt.
+//! The exchanges on the connections of a capture: each request with its reply, as lines, as JSON, or in a summary.
+
+mod batch_name;
+mod capturing;
+mod clock;
+mod exchanges;
+mod filter;
+mod form;
+mod lines;
+mod losses;
+mod member;
+mod noting;
+mod object;
+mod prepared;
+mod reply;
+mod slot;
+mod span;
+mod statement;
+mod sums;
+mod table;
+mod teller;
+
+pub use capturing::write_exchanges;
+pub use exchanges::{ExchangeLimits, Exchanges};
+pub use filter::ExchangeFilter;
+pub use form::ExchangeForm;
+pub use statement::{Statement, statement_of, statements_of};
+pub use sums::ExchangeSums;

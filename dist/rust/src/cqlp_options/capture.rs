@@ -1,0 +1,154 @@
+// Written by dist/erase from crates/cqlp_options/src/capture.rt.
+//! What is asked for with a capture.
+
+use crate::cqlp_options::matched::{flag, long_number, number, path};
+use crate::clap::ArgMatches;
+
+/// How many ports may be named.
+pub const MOST_PORTS: usize = 16;
+
+/// The ports of nodes.
+#[derive(Clone, Copy, Debug, PartialEq, Eq)]
+pub struct Ports {
+    /// The ports that are named, and after them zeros.
+    numbers: [u16; MOST_PORTS],
+    count: usize,
+}
+
+impl Ports {
+    /// The port on which nodes listen where none is named.
+    pub const DEFAULT: u16 = 9_042;
+
+    /// This one.
+    pub fn one(port: u16) -> Ports {
+        let mut numbers = [0; MOST_PORTS];
+        numbers[0] = port;
+        Ports { numbers, count: 1 }
+    }
+
+    /// The ports, each as often as it was named: at least one, and at most 16 of them.
+    pub(crate) fn as_slice(&self) -> &[u16] {
+        &self.numbers[..self.count]
+    }
+
+    /// With one more, if there are not too many.
+    fn with(self, port: u16) -> Option<Ports> {
+        let Ports { mut numbers, count } = self;
+        if count >= MOST_PORTS {
+            return None;
+        }
+        numbers[count] = port;
+        Some(Ports {
+            numbers,
+            count: count + 1,
+        })
+    }
+}
+
+/// How exchanges are written.
+#[derive(Clone, Copy, Debug, PartialEq, Eq)]
+pub enum ExchangesAs {
+    /// A line for each.
+    Lines,
+    /// A JSON object in a line for each.
+    Json,
+    /// A line for each statement at the end.
+    Summary,
+}
+
+impl ExchangesAs {
+    fn matched(matches: &ArgMatches<'_>) -> ExchangesAs {
+        if flag(matches, "summary") {
+            ExchangesAs::Summary
+        } else if flag(matches, "json") {
+            ExchangesAs::Json
+        } else {
+            ExchangesAs::Lines
+        }
+    }
+}
+
+/// Which exchanges of a capture are written, those of which all holds that is asked for, and how.
+#[derive(Clone, Copy, Debug, PartialEq, Eq)]
+pub struct ExchangeOptions {
+    /// Those alone whose reply's last byte came so many milliseconds after the request's first, or more.
+    pub slow: Option<u32>,
+    /// Those alone whose reply is an ERROR, and requests without a reply.
+    pub errors: bool,
+    /// Those of the connection with this number alone; the first has the number 1.
+    pub connection: Option<u64>,
+    pub form: ExchangesAs,
+}
+
+impl ExchangeOptions {
+    fn matched(matches: &ArgMatches<'_>) -> ExchangeOptions {
+        ExchangeOptions {
+            slow: number(matches, "slow"),
+            errors: flag(matches, "errors"),
+            connection: long_number(matches, "connection"),
+            form: ExchangesAs::matched(matches),
+        }
+    }
+}
+
+/// What is done with a capture.
+#[derive(Clone, Copy, Debug, PartialEq, Eq)]
+pub enum CaptureTask<'a> {
+    /// The bytes of each direction of each connection are written to a file in the folder with this path.
+    Streams { folder: &'a str },
+    /// Requests are written with their replies.
+    Exchanges(ExchangeOptions),
+    /// A line is written for each event of each frame: of the connection with this number alone, if one is named; the first has the
+    /// number 1.
+    Events { connection: Option<u64> },
+    /// The pages of the connection with this number are written; the first has the number 1.
+    Rows { connection: u64 },
+}
+
+impl<'a> CaptureTask<'a> {
+    /// What the words were matched to, if a connection is named whose pages are asked for.
+    fn matched(matches: &ArgMatches<'a>) -> Option<CaptureTask<'a>> {
+        let connection = long_number(matches, "connection");
+        if let Some(folder) = path(matches, "streams") {
+            return Some(CaptureTask::Streams { folder });
+        }
+        if flag(matches, "rows") {
+            return connection.map(|connection| CaptureTask::Rows { connection });
+        }
+        Some(if flag(matches, "events") {
+            CaptureTask::Events { connection }
+        } else {
+            CaptureTask::Exchanges(ExchangeOptions::matched(matches))
+        })
+    }
+}
+
+/// A task with a capture.
+#[derive(Clone, Copy, Debug, PartialEq, Eq)]
+pub struct CaptureOptions<'a> {
+    pub task: CaptureTask<'a>,
+    pub ports: Ports,
+    /// The path of the capture's file, or `-` for standard input.
+    pub file: &'a str,
+}
+
+impl<'a> CaptureOptions<'a> {
+    /// What the words were matched to, if there are not too many ports.
+    pub(crate) fn matched(matches: &ArgMatches<'a>) -> Option<CaptureOptions<'a>> {
+        let file = path(matches, "file")?;
+        let task = CaptureTask::matched(matches)?;
+        let ports = ports_of(matches)?;
+        Some(CaptureOptions { task, ports, file })
+    }
+}
+
+fn ports_of(matches: &ArgMatches<'_>) -> Option<Ports> {
+    let mut ports = Ports {
+        numbers: [0; MOST_PORTS],
+        count: 0,
+    };
+    for port in matches.get_many::<u16>("port")? {
+        ports = ports.with(port.ok()?)?;
+    }
+    if ports.count == 0 { None } else { Some(ports) }
+}

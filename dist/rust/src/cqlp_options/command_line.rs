@@ -1,0 +1,98 @@
+// Written by dist/erase from crates/cqlp_options/src/command_line.rt.
+//! Command lines.
+
+use crate::kit_host::prelude::{AllocGlobal};
+use crate::cqlp_options::capture::CaptureOptions;
+use crate::cqlp_options::matched::short_number;
+use crate::cqlp_options::no_task::{NoTask, no_task_of};
+use crate::cqlp_options::options::Options;
+use crate::cqlp_options::program::program;
+use crate::cqlp_options::reported::report_all;
+use crate::clap::error::ErrorKind;
+use crate::clap::{ArgMatches, Command, Error};
+use crate::cqlp_note::LimitRange;
+use crate::kit_std::alloc::Global;
+use crate::kit_host::text::AsStr;
+
+/// How many queries a conversation may have.
+pub const QUERIES: LimitRange = LimitRange {
+    least: 1,
+    greatest: 1_000,
+};
+
+/// What a command line asks for.
+#[derive(Clone, Copy, Debug, PartialEq, Eq)]
+pub enum CommandLine<'a> {
+    /// A task with a stream.
+    Stream(Options<'a>),
+    /// A conversation of a client and a server, with this many queries: 1 to 1,000.
+    Loop { queries: u16 },
+    /// A task with a capture.
+    Capture(CaptureOptions<'a>),
+}
+
+impl<'a> CommandLine<'a> {
+    /// Reads the words after the program's name. What is no command line of the program, and a request for help or the
+    /// version, is an error, whose text says what is wrong or what was asked for.
+    pub fn parse(alloc: Global, words: &'a [&'a str]) -> Result<CommandLine<'a>, NoTask> {
+        match parsed(alloc, words) {
+            Ok(line) => Ok(line),
+            Err(error) => Err(no_task(alloc, words, &error)),
+        }
+    }
+}
+
+/// What there is in place of a command line. The parser reports words as they are, so for its text they are read once
+/// more, each in one line.
+fn no_task(alloc: Global, words: &[&str], error: &Error) -> NoTask {
+    let Ok(texts) = report_all(alloc, words) else {
+        return NoTask::NoMemory;
+    };
+    match parsed(alloc, &texts) {
+        Ok(_) => no_task_of(alloc, error),
+        Err(error) => no_task_of(alloc, &error),
+    }
+}
+
+fn parsed<'a, S: AsStr>(alloc: Global, words: &'a [S]) -> Result<CommandLine<'a>, Error> {
+    let mut program = program(alloc)?;
+    let matches = program.try_get_matches_from_mut(words)?;
+    match line_of(&matches) {
+        Some(line) => Ok(line),
+        None => Err(out_of_range(&mut program)),
+    }
+}
+
+fn out_of_range(program: &mut Command<'_>) -> Error {
+    match program.error(ErrorKind::ValueValidation, "a number is out of its range") {
+        Ok(error) => error,
+        Err(error) => Error::from(error),
+    }
+}
+
+/// What the words of a command line were matched to, if its numbers are in their ranges.
+fn line_of<'a>(matches: &ArgMatches<'a>) -> Option<CommandLine<'a>> {
+    match matches.subcommand()? {
+        ("loop", matches) => {
+            let queries = queries_of(matches)?;
+            Some(CommandLine::Loop { queries })
+        }
+        ("capture", matches) => {
+            let options = CaptureOptions::matched(matches)?;
+            Some(CommandLine::Capture(options))
+        }
+        (name, matches) => {
+            let options = Options::matched(name, matches)?;
+            Some(CommandLine::Stream(options))
+        }
+    }
+}
+
+fn queries_of(matches: &ArgMatches<'_>) -> Option<u16> {
+    let queries = short_number(matches, "queries")?;
+    if QUERIES.contains(u32::from(queries)) {
+        Some(queries)
+    } else {
+        None
+    }
+}

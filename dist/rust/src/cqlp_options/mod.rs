@@ -1,0 +1,15 @@
+// Written by dist/erase from crates/cqlp_options/src/lib.rt.
+//! What a command line of the program cqlp asks for.
+
+mod capture;
+mod command_line;
+mod matched;
+mod no_task;
+mod options;
+mod program;
+mod reported;
+
+pub use capture::{CaptureOptions, CaptureTask, ExchangeOptions, ExchangesAs, MOST_PORTS, Ports};
+pub use command_line::{CommandLine, QUERIES};
+pub use no_task::NoTask;
+pub use options::{AtRefusal, DEFAULT_LIMITS, EventsAs, Options, RowsAs, Task};

@@ -1,0 +1,47 @@
+// Written by dist/erase from crates/cqlp_render_skip/src/feeding.rt.
+//! A piece of a stream, written as text with frames passed over.
+
+use crate::cqlp_render_skip::report::Report;
+use crate::cqlp_decode::SinkFault;
+use crate::cqlp_note::{Refusal, Target};
+use crate::cqlp_skip::{Fed, SkippingDecoder};
+use crate::kit_std::alloc::Allocator;
+
+/// How handing on a piece ends.
+#[derive(Clone, Copy, Debug, PartialEq, Eq)]
+pub(crate) enum Handed {
+    /// All of it was used, and more is wanted.
+    More,
+    /// The stream is refused in a frame that cannot be passed over.
+    Refused(Refusal),
+    /// One of the outputs failed.
+    Fault,
+}
+
+/// Hands all events of a piece to the report, and passes over each frame whose body is refused.
+pub(crate) fn hand_piece<O: Target, E: Target, A: Allocator, B: Allocator>(
+    decoder: &mut SkippingDecoder<A>,
+    piece: &[u8],
+    report: Report<O, E, B>,
+) -> (Handed, Report<O, E, B>) {
+    let mut rest = piece;
+    let mut told = report;
+    loop {
+        let (fed, next) = decoder.feed(rest, told);
+        told = next;
+        match fed {
+            Fed::More => return (Handed::More, told),
+            Fed::Fault { .. } => return (Handed::Fault, told),
+            Fed::Refused { used, refusal } => {
+                let skipped = match decoder.skip() {
+                    Ok(skipped) => skipped,
+                    Err(_) => return (Handed::Refused(refusal), told),
+                };
+                if let Err(SinkFault) = told.end_stretch(&skipped) {
+                    return (Handed::Fault, told);
+                }
+                rest = &rest[used..];
+            }
+        }
+    }
+}

@@ -1,0 +1,81 @@
+// Written by dist/erase from crates/cqlp_streams/src/capturing.rt.
+//! A whole capture.
+
+use crate::kit_host::prelude::{AllocGlobal, vec};
+use crate::cqlp_streams::fault::StreamsFault;
+use crate::cqlp_streams::listener::Listener;
+use crate::cqlp_streams::packets::PacketCounts;
+use crate::cqlp_streams::running::split;
+use crate::cqlp_streams::splitter::Splitter;
+use crate::cqlp_capture::{CaptureEnd, CaptureLimits, CaptureReader};
+use crate::cqlp_connections::{ConnectionCounts, ConnectionLimits, Connections};
+use crate::cqlp_note::Source;
+use crate::kit_std::alloc::{Allocator, Global};
+
+/// How many connections there are at one time where streams are written, and how many bytes that came early each direction holds.
+pub const LIMITS: ConnectionLimits = ConnectionLimits {
+    connections: 256,
+    early: 32_768,
+};
+
+/// How many reads are made at most.
+const TURNS: u64 = 4_294_967_296;
+
+/// How many bytes a read asks for.
+const ROOM: usize = 65_536;
+
+/// What a capture was that was read to its end, or to where it is refused.
+#[derive(Clone, Copy, Debug, PartialEq, Eq)]
+pub struct CaptureRead {
+    pub end: CaptureEnd,
+    pub packets: PacketCounts,
+    pub connections: ConnectionCounts,
+}
+
+/// Has a listener take all that a capture tells of the connections of nodes that listen on these ports, out of at most 2^32 reads. There are
+/// at most as many connections at one time, with as many bytes that came early, as the limits say. No read is made before it has taken all
+/// that the bytes read so far tell. At the end of the file, or where it is refused, all connections leave.
+///
+/// After a fault nothing more is read, and nothing more is told to the listener.
+pub(crate) fn read_capture<R: Source, L: Listener>(
+    alloc: Global,
+    limits: ConnectionLimits,
+    ports: &[u16],
+    input: &mut R,
+    listener: &mut L,
+) -> Result<CaptureRead, StreamsFault> {
+    let Ok(mut reader) = CaptureReader::new(alloc, CaptureLimits::DEFAULT) else {
+        return Err(StreamsFault::NoMemory);
+    };
+    let Ok(connections) = Connections::new(alloc, limits, ports) else {
+        return Err(StreamsFault::NoMemory);
+    };
+    let Ok(mut buffer) = vec![in alloc; 0; ROOM] else {
+        return Err(StreamsFault::NoMemory);
+    };
+    let mut splitter = Splitter::new(connections);
+    let answer = split(
+        &mut reader,
+        &mut splitter,
+        input,
+        buffer.as_mut_slice(),
+        listener,
+        TURNS,
+    );
+    read_of(answer, &splitter)
+}
+
+/// What a capture was that was split so.
+fn read_of<A: Allocator>(
+    answer: Result<CaptureEnd, StreamsFault>,
+    splitter: &Splitter<A>,
+) -> Result<CaptureRead, StreamsFault> {
+    match answer {
+        Err(fault) => Err(fault),
+        Ok(end) => Ok(CaptureRead {
+            end,
+            packets: splitter.packet_counts(),
+            connections: splitter.connection_counts(),
+        }),
+    }
+}

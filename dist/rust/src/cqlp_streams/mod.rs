@@ -1,0 +1,27 @@
+// Written by dist/erase from crates/cqlp_streams/src/lib.rt.
+//! The bytes of each direction of each connection of a capture, apart, and a line for each connection.
+
+mod capturing;
+mod ending;
+mod fault;
+mod files;
+mod lines;
+mod listener;
+mod packets;
+mod recorder;
+mod running;
+mod saying;
+mod splitter;
+mod summary;
+mod telling;
+mod writing;
+
+pub use capturing::{CaptureRead, LIMITS};
+pub(crate) use capturing::{read_capture};
+pub use ending::{capture_line, capture_status, conclude_capture, conclude_noted};
+pub use fault::StreamsFault;
+pub use files::{FileFault, StreamFile, StreamFiles};
+pub use listener::Listener;
+pub use packets::{PacketCounts, WithoutCounts};
+pub use saying::Saying;
+pub use writing::write_streams;

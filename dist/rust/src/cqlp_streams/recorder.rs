@@ -1,0 +1,128 @@
+// Written by dist/erase from crates/cqlp_streams/src/recorder.rt.
+//! What is told of connections, on its way to files and to lines.
+
+use crate::kit_host::prelude::{AllocGlobal, String, format};
+use crate::cqlp_streams::fault::StreamsFault;
+use crate::cqlp_streams::files::{StreamFile, StreamFiles};
+use crate::cqlp_streams::lines::{connection_line, gap_line};
+use crate::cqlp_streams::listener::Listener;
+use crate::cqlp_streams::saying::Saying;
+use crate::cqlp_connections::{ConnectionTotals, DirectionTotals, Told};
+use crate::cqlp_grammar::SinkFault;
+use crate::cqlp_note::Target;
+use crate::cqlp_reassembly::StreamStep;
+use crate::cqlp_text::put_text;
+use crate::kit_std::alloc::{AllocError, Allocator};
+
+/// What was told of the connections that have left. A number stays at 2^64 - 1 once it is there.
+#[derive(Clone, Copy, Debug, PartialEq, Eq)]
+pub(crate) struct Sums {
+    pub gaps: u64,
+    /// Bytes that were handed on.
+    pub bytes: u64,
+}
+
+/// Has files keep the bytes of connections, and writes a line for each gap and for each connection that has left.
+pub(crate) struct Recorder<F: StreamFiles, O: Target, A: Allocator> {
+    alloc: A,
+    files: F,
+    out: O,
+    sums: Sums,
+}
+
+impl Sums {
+    fn add(&mut self, totals: &DirectionTotals) {
+        self.gaps = self.gaps.saturating_add(totals.gaps);
+        self.bytes = self.bytes.saturating_add(totals.bytes);
+    }
+
+    /// Their words in the last line.
+    pub fn words<A: Allocator>(&self, alloc: A) -> Result<String<A>, AllocError> {
+        let Sums { gaps, bytes } = *self;
+        format!(in alloc; "gaps {gaps} bytes {bytes}")
+    }
+}
+
+impl<F: StreamFiles, O: Target, A: Allocator> Recorder<F, O, A> {
+    /// Over files and an output, with nothing told.
+    pub fn new(alloc: A, files: F, out: O) -> Self {
+        Recorder {
+            alloc,
+            files,
+            out,
+            sums: Sums { gaps: 0, bytes: 0 },
+        }
+    }
+
+    /// The files, the output and the sums.
+    pub fn into_parts(self) -> (F, O, Sums) {
+        let Recorder {
+            alloc: _,
+            files,
+            out,
+            sums,
+        } = self;
+        (files, out, sums)
+    }
+}
+
+impl<F: StreamFiles, O: Target, A: Allocator> Recorder<F, O, A> {
+    /// Takes what is told: a new connection's files are made, bytes are appended to the file of their direction, a gap is a line,
+    /// and the files of a connection that has left are kept, and then its line is written.
+    fn record(&mut self, saying: &Saying<'_>) -> Result<(), StreamsFault> {
+        match saying {
+            Saying::Packet { .. } => Ok(()),
+            Saying::New { number } => Ok(self.files.make(*number)?),
+            Saying::Of { told, bytes } => self.record_step(told, bytes),
+            Saying::Left(totals) => self.keep(totals),
+        }
+    }
+
+    /// Takes what is told of a direction.
+    fn record_step(&mut self, told: &Told, bytes: &[u8]) -> Result<(), StreamsFault> {
+        let file = StreamFile {
+            number: told.number,
+            way: told.way,
+        };
+        match told.step {
+            StreamStep::Payload { .. } | StreamStep::Held { .. } => {
+                Ok(self.files.append(file, bytes)?)
+            }
+            StreamStep::Gap { length } => self.put_gap(file, told.at, length),
+            StreamStep::Began { .. } | StreamStep::Ended | StreamStep::Reset | StreamStep::Done =>
+                Ok(()),
+        }
+    }
+
+    /// Writes the line of a gap.
+    fn put_gap(&mut self, file: StreamFile, at: u64, length: usize) -> Result<(), StreamsFault> {
+        match gap_line(&self.alloc, file, at, length) {
+            Ok(line) => put_line(&line, &mut self.out),
+            Err(AllocError) => Err(StreamsFault::NoMemory),
+        }
+    }
+
+    /// Keeps the files of a connection, and writes its line.
+    fn keep(&mut self, totals: &ConnectionTotals) -> Result<(), StreamsFault> {
+        self.files.keep(totals.number)?;
+        self.sums.add(&totals.requests);
+        self.sums.add(&totals.responses);
+        match connection_line(&self.alloc, totals) {
+            Ok(line) => put_line(&line, &mut self.out),
+            Err(AllocError) => Err(StreamsFault::NoMemory),
+        }
+    }
+}
+
+impl<F: StreamFiles, O: Target, A: Allocator> Listener for Recorder<F, O, A> {
+    fn hear(&mut self, saying: &Saying<'_>) -> Result<(), StreamsFault> {
+        self.record(saying)
+    }
+}
+
+fn put_line<O: Target>(line: &str, out: &mut O) -> Result<(), StreamsFault> {
+    match put_text(line, out) {
+        Ok(()) => Ok(()),
+        Err(SinkFault) => Err(StreamsFault::Write),
+    }
+}

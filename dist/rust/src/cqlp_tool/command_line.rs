@@ -1,0 +1,324 @@
+// Written by dist/erase from crates/cqlp_tool/src/command_line.rt.
+//! The command line, from its words to the exit status.
+
+use crate::kit_host::prelude::{AllocGlobal, Vec};
+use crate::cqlp_tool::conversing::converse;
+use crate::cqlp_tool::folder::{Folder, is_folder};
+use crate::cqlp_capture_events::write_events;
+use crate::cqlp_capture_rows::write_rows;
+use crate::cqlp_decode::SinkFault;
+use crate::cqlp_exchanges::{ExchangeFilter, ExchangeForm, write_exchanges};
+use crate::cqlp_note::{OfStd, Source, Target};
+use crate::cqlp_options::{
+    AtRefusal, CaptureOptions, CaptureTask, CommandLine, DEFAULT_LIMITS, EventsAs, ExchangeOptions,
+    ExchangesAs, NoTask, Options, RowsAs, Task,
+};
+use crate::cqlp_progress::{MARK, Progress};
+use crate::cqlp_render::{TextForm, check, conclude, show, show_as};
+use crate::cqlp_render_skip::{check_skipping, show_skipping};
+use crate::cqlp_streams::write_streams;
+use crate::cqlp_tables::TablePlace;
+use crate::cqlp_text::exit_status::{BAD_COMMAND_LINE, DONE, FAULT};
+use crate::cqlp_text::{Ending, PagePlace, cannot_open_line, put_text};
+use crate::kit_std::alloc::Allocator;
+use crate::kit_host::fs::{File, OpenFile};
+use crate::kit_host::net::{Net, TcpListener, TcpStream};
+use crate::kit_host::rt::Files;
+
+const NANOSECONDS_PER_MILLISECOND: u64 = 1_000_000;
+
+/// What the program does: `words` are those after its name, and `input` is standard input. Without words that is what
+/// `show -` does; with words, what `execute` does with what they are read as. Answers the exit status, and the two
+/// outputs.
+///
+/// What is wrong with a command line is written to `err`, and help that was asked for to `out`.
+pub fn command<R, I: Source, O: Target, E: Target>(
+    rt: &R,
+    words: &[&str],
+    input: &mut I,
+    out: O,
+    err: E,
+) -> (u8, O, E)
+where
+    R: Files + Net<Listener = TcpListener, Stream = TcpStream> + AllocGlobal,
+{
+    let mut nowhere: Option<OfStd<Vec<u8>>> = None;
+    command_with_notes(rt, words, input, out, err, &mut nowhere)
+}
+
+/// What `command` does; and while a capture of more than 64 MB is read from a file, `notes` is given a line after each further 64 MB. The
+/// program gives standard error for it, where that is a terminal.
+pub fn command_with_notes<R, I: Source, O: Target, E: Target, N: Target>(
+    rt: &R,
+    words: &[&str],
+    input: &mut I,
+    out: O,
+    err: E,
+    notes: &mut Option<N>,
+) -> (u8, O, E)
+where
+    R: Files + Net<Listener = TcpListener, Stream = TcpStream> + AllocGlobal,
+{
+    if words.is_empty() {
+        return show(&rt.alloc(), DEFAULT_LIMITS, input, out, err);
+    }
+    let line = CommandLine::parse(rt.alloc(), words);
+    execute(rt, line, input, out, err, notes)
+}
+
+/// Does what a command line asks for: a task with a stream or a capture, which is standard input or a file, or a conversation; or writes why it
+/// starts none. Answers the exit status, and the two outputs.
+pub(crate) fn execute<R, I: Source, O: Target, E: Target, N: Target>(
+    rt: &R,
+    line: Result<CommandLine<'_>, NoTask>,
+    input: &mut I,
+    out: O,
+    err: E,
+    notes: &mut Option<N>,
+) -> (u8, O, E)
+where
+    R: Files + Net<Listener = TcpListener, Stream = TcpStream> + AllocGlobal,
+{
+    match line {
+        Ok(CommandLine::Stream(options)) => stream(rt, options, input, out, err),
+        Ok(CommandLine::Loop { queries }) => converse(rt, queries, out, err),
+        Ok(CommandLine::Capture(options)) => capture(rt, options, input, out, err, notes),
+        Err(no_task) => tell(no_task, out, err),
+    }
+}
+
+/// Opens a stream, and does the task with it.
+fn stream<R: Files + AllocGlobal, I: Source, O: Target, E: Target>(
+    rt: &R,
+    options: Options<'_>,
+    input: &mut I,
+    out: O,
+    err: E,
+) -> (u8, O, E) {
+    let heap = rt.alloc();
+    if options.file == "-" {
+        return perform(&heap, options, input, out, err);
+    }
+    match File::open(rt, options.file) {
+        Ok(file) => perform(&heap, options, &mut OfStd::new(file), out, err),
+        Err(_) => {
+            let (status, err) = cannot_open(options.file, err);
+            (status, out, err)
+        }
+    }
+}
+
+/// Opens a capture, and does the task with it.
+fn capture<R: Files + AllocGlobal, I: Source, O: Target, E: Target, N: Target>(
+    rt: &R,
+    options: CaptureOptions<'_>,
+    input: &mut I,
+    out: O,
+    err: E,
+    notes: &mut Option<N>,
+) -> (u8, O, E) {
+    if let Some(folder) = missing_folder(rt, options.task) {
+        let (status, err) = cannot_open(folder, err);
+        return (status, out, err);
+    }
+    if options.file == "-" {
+        return read_capture(rt, &options, input, out, err);
+    }
+    match File::open(rt, options.file) {
+        Ok(file) => read_file(rt, &options, file, notes.take(), out, err),
+        Err(_) => {
+            let (status, err) = cannot_open(options.file, err);
+            (status, out, err)
+        }
+    }
+}
+
+/// The folder that a task with a capture asks for, if there is none with this path.
+fn missing_folder<'a, R: Files>(rt: &R, asked: CaptureTask<'a>) -> Option<&'a str> {
+    match asked {
+        CaptureTask::Streams { folder } if !is_folder(rt, folder) => Some(folder),
+        CaptureTask::Streams { .. }
+        | CaptureTask::Exchanges(_)
+        | CaptureTask::Events { .. }
+        | CaptureTask::Rows { .. } => None,
+    }
+}
+
+/// Does the task with a capture in a file. Where the file is long, `notes` is told how much of it was read.
+fn read_file<R: Files + AllocGlobal, O: Target, E: Target, N: Target>(
+    rt: &R,
+    options: &CaptureOptions<'_>,
+    file: R::File,
+    notes: Option<N>,
+    out: O,
+    err: E,
+) -> (u8, O, E) {
+    match (notes, long_length(&file)) {
+        (Some(notes), Some(length)) => {
+            let mut input = Progress::new(OfStd::new(file), length, notes);
+            read_capture(rt, options, &mut input, out, err)
+        }
+        _ => read_capture(rt, options, &mut OfStd::new(file), out, err),
+    }
+}
+
+/// How long a file is, if it is a regular one and longer than 64 MB.
+fn long_length<F: OpenFile>(file: &F) -> Option<u64> {
+    match file.metadata() {
+        Ok(metadata) if metadata.is_file() && metadata.len() > MARK => Some(metadata.len()),
+        _ => None,
+    }
+}
+
+/// Does the task with a capture, whose folder is there if it asks for one.
+fn read_capture<R: Files + AllocGlobal, I: Source, O: Target, E: Target>(
+    rt: &R,
+    options: &CaptureOptions<'_>,
+    input: &mut I,
+    out: O,
+    err: E,
+) -> (u8, O, E) {
+    let ports = options.ports.as_slice();
+    match options.task {
+        CaptureTask::Streams { folder } => split_to_folder(rt, folder, ports, input, out, err),
+        CaptureTask::Exchanges(asked) => {
+            write_exchanges(
+                rt.alloc(),
+                ports,
+                filter_of(asked),
+                form_of(asked.form),
+                input,
+                out,
+                err,
+            )
+        }
+        CaptureTask::Events { connection } => {
+            write_events(rt.alloc(), ports, connection, input, out, err)
+        }
+        CaptureTask::Rows { connection } => {
+            write_rows(rt.alloc(), ports, connection, input, out, err)
+        }
+    }
+}
+
+/// Splits a capture into the streams of its connections, whose files are made in the folder.
+fn split_to_folder<R: Files + AllocGlobal, I: Source, O: Target, E: Target>(
+    rt: &R,
+    folder: &str,
+    ports: &[u16],
+    input: &mut I,
+    out: O,
+    err: E,
+) -> (u8, O, E) {
+    let folder = Folder::new(rt, rt.alloc(), folder);
+    let (status, _, out, err) = write_streams(rt.alloc(), ports, input, folder, out, err);
+    (status, out, err)
+}
+
+/// What is asked of exchanges, with the time in nanoseconds.
+fn filter_of(asked: ExchangeOptions) -> ExchangeFilter {
+    let ExchangeOptions {
+        slow,
+        errors,
+        connection,
+        form: _,
+    } = asked;
+    ExchangeFilter {
+        slow: slow.map(|ms| u64::from(ms) * NANOSECONDS_PER_MILLISECOND),
+        errors,
+        connection,
+    }
+}
+
+fn form_of(asked: ExchangesAs) -> ExchangeForm {
+    match asked {
+        ExchangesAs::Lines => ExchangeForm::Lines,
+        ExchangesAs::Json => ExchangeForm::Json,
+        ExchangesAs::Summary => ExchangeForm::Summary,
+    }
+}
+
+/// Does the task with a stream.
+fn perform<A: Allocator, I: Source, O: Target, E: Target>(
+    heap: &A,
+    options: Options<'_>,
+    input: &mut I,
+    out: O,
+    err: E,
+) -> (u8, O, E) {
+    let (limits, lenient) = (options.limits, options.lenient);
+    match options.task {
+        Task::Show(form, AtRefusal::End) => {
+            show_as(heap, limits, lenient, form_of_events(form), input, out, err)
+        }
+        Task::Show(form, AtRefusal::Skip) => {
+            show_skipping(heap, limits, lenient, form_of_events(form), input, out, err)
+        }
+        Task::Rows(form, AtRefusal::End) => {
+            show_as(heap, limits, lenient, form_of_rows(form), input, out, err)
+        }
+        Task::Rows(form, AtRefusal::Skip) => {
+            show_skipping(heap, limits, lenient, form_of_rows(form), input, out, err)
+        }
+        Task::Check(AtRefusal::End) => check(heap, limits, lenient, input, out, err),
+        Task::Check(AtRefusal::Skip) => check_skipping(heap, limits, lenient, input, out, err),
+    }
+}
+
+/// The form of the text of events.
+fn form_of_events(form: EventsAs) -> TextForm {
+    match form {
+        EventsAs::Lines => TextForm::Lines,
+        EventsAs::Json => TextForm::JsonLines,
+    }
+}
+
+/// The form of the text of rows, before the first page.
+fn form_of_rows(form: RowsAs) -> TextForm {
+    match form {
+        RowsAs::Text => TextForm::Pages(PagePlace::new()),
+        RowsAs::Json => TextForm::JsonRows(TablePlace::new()),
+        RowsAs::Csv => TextForm::CsvRows(TablePlace::new()),
+    }
+}
+
+/// Reports that a file cannot be opened. Answers the exit status.
+fn cannot_open<E: Target>(file: &str, mut err: E) -> (u8, E) {
+    match cannot_open_line(file, &mut err) {
+        Ok(()) | Err(SinkFault) => (FAULT, err),
+    }
+}
+
+/// Writes what there is in place of options: help or the version to `out`, and a mistake to `err`.
+fn tell<O: Target, E: Target>(no_task: NoTask, out: O, err: E) -> (u8, O, E) {
+    match no_task {
+        NoTask::Help(text) => help(text.as_str(), out, err),
+        NoTask::Mistake(text) => {
+            let (status, err) = complain(text.as_str(), err);
+            (status, out, err)
+        }
+        NoTask::NoMemory => {
+            let (status, err) = conclude(Ending::NoMemory, err);
+            (status, out, err)
+        }
+    }
+}
+
+/// Writes help that was asked for.
+fn help<O: Target, E: Target>(text: &str, mut out: O, err: E) -> (u8, O, E) {
+    match put_text(text, &mut out) {
+        Ok(()) => (DONE, out, err),
+        Err(SinkFault) => {
+            let (status, err) = conclude(Ending::WriteFault, err);
+            (status, out, err)
+        }
+    }
+}
+
+/// Writes what is wrong with a command line. Answers the exit status.
+fn complain<E: Target>(text: &str, mut err: E) -> (u8, E) {
+    match put_text(text, &mut err) {
+        Ok(()) => (BAD_COMMAND_LINE, err),
+        Err(SinkFault) => (FAULT, err),
+    }
+}

@@ -1,0 +1,67 @@
+//! Files, for one who holds a handle.
+use super::rt::{Files, HostRuntime};
+pub use std::fs::Metadata;
+use std::io::{self, Read, Write};
+
+pub struct File(std::fs::File);
+
+impl File {
+    pub fn open<R: Files>(rt: &R, path: &str) -> io::Result<R::File> {
+        rt.open(path)
+    }
+
+    pub fn create_new<R: Files>(rt: &R, path: &str) -> io::Result<R::File> {
+        rt.create_new(path)
+    }
+}
+
+pub fn metadata<R>(_: &R, path: &str) -> io::Result<Metadata> {
+    std::fs::metadata(path)
+}
+
+pub fn symlink_metadata<R>(_: &R, path: &str) -> io::Result<Metadata> {
+    std::fs::symlink_metadata(path)
+}
+
+pub fn rename<R>(_: &R, from: &str, to: &str) -> io::Result<()> {
+    std::fs::rename(from, to)
+}
+
+/// What an open file says of itself.
+pub trait OpenFile {
+    fn metadata(&self) -> io::Result<Metadata>;
+}
+
+impl OpenFile for File {
+    fn metadata(&self) -> io::Result<Metadata> {
+        self.0.metadata()
+    }
+}
+
+impl Files for HostRuntime {
+    type File = File;
+
+    fn open(&self, path: &str) -> io::Result<File> {
+        std::fs::File::open(path).map(File)
+    }
+
+    fn create_new(&self, path: &str) -> io::Result<File> {
+        std::fs::File::create_new(path).map(File)
+    }
+}
+
+impl Read for File {
+    fn read(&mut self, room: &mut [u8]) -> io::Result<usize> {
+        self.0.read(room)
+    }
+}
+
+impl Write for File {
+    fn write(&mut self, bytes: &[u8]) -> io::Result<usize> {
+        self.0.write(bytes)
+    }
+
+    fn flush(&mut self) -> io::Result<()> {
+        Ok(())
+    }
+}

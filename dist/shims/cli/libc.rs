@@ -1,0 +1,20 @@
+//! What the program uses of the C library.
+pub const STDIN_FILENO: i32 = 0;
+
+/// Closes a descriptor. No value of the program owns the one that it closes.
+pub fn close(fd: i32) -> i32 {
+    unsafe extern "C" {
+        fn close(fd: i32) -> i32;
+    }
+    unsafe { close(fd) }
+}
+
+/// Has a write to a closed pipe be a fault, and not the end of the program.
+pub fn keep_broken_pipes() {
+    const SIGPIPE: i32 = 13;
+    const IGNORED: usize = 1;
+    unsafe extern "C" {
+        fn signal(number: i32, what: usize) -> usize;
+    }
+    unsafe { signal(SIGPIPE, IGNORED) };
+}
