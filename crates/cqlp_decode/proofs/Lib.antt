@@ -22,3 +22,4 @@ pub mod Lists
 pub mod FieldLoop
 pub mod Gathering
 pub mod Onward
+pub mod Pieces

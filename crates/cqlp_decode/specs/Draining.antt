@@ -3,12 +3,13 @@ use Rattle.std.specs.Prelude.{◌≡◌, ℕ, ◌+◌, ◌-◌, ◌*◌, ◌≤�
 use Rattle.cqlp_note.specs.declared.refusal.Refusal.{Refusal}
 use Rattle.cqlp_note.specs.declared.streams.Source.{Ghosts}
 use Rattle.cqlp_note.specs.Streams.{counted, CountsUp}
-use Rattle.cqlp_decode.specs.declared.running.Drained.{Drained}
-use Rattle.cqlp_decode.specs.declared.running.Drained.TheVariants as drained
+use Rattle.cqlp_decode.specs.declared.feeding.Fed.{Fed}
+use Rattle.cqlp_decode.specs.declared.feeding.Fed.TheVariants as fed
 use Rattle.cqlp_decode.specs.declared.running.Outcome.{Outcome}
 use Rattle.cqlp_decode.specs.declared.running.Outcome.TheVariants as outcome
 use Rattle.cqlp_grammar.specs.declared.event.Finish.TheVariants as finish
-use Rattle.cqlp_decode.specs.Reading.{Event, Gifts, Verdict, start_with, Says, Waits, Refused}
+use Rattle.cqlp_note.specs.Limits.{Rules}
+use Rattle.cqlp_decode.specs.Reading.{Event, Gifts, Place, Reads, Verdict, start_with, Says, Waits, Refused}
 use Rattle.cqlp_decode.specs.Progress.{StreamState}
 use Rattle.cqlp_decode.specs.Streams.{AfterGifts, EndsAs}
 use Rattle.cqlp_decode.specs.Cells.{Item, GetsAll}
@@ -26,11 +27,22 @@ abbrev pub verdict_of : Option Refusal → Verdict
 verdict_of None = Waits
 verdict_of (Some r) = Refused r.at r.why
 
--- a piece that was drained to its end was refused nothing, and one that ends early was
-abbrev pub DrainsBy : Drained → StreamState → Type 0
-DrainsBy drained.More new = new.refusal ≡ None
-DrainsBy drained.Refused new = HasRefused new
-DrainsBy drained.Fault new = ⊤
+-- what is refused after a piece
+abbrev pub DrainsBy : Fed → Option Refusal → Type 0
+DrainsBy fed.More new = new ≡ None
+DrainsBy (fed.Refused used r) new = new ≡ Some r
+DrainsBy (fed.Fault used) new = new ≡ None
+
+-- how many bytes of a piece of this length were used
+abbrev pub used_of : ℕ → Fed → ℕ
+used_of len fed.More = len
+used_of len (fed.Refused used r) = used
+used_of len (fed.Fault used) = used
+
+-- These bytes of a stream end with its last event; or no event and no byte is new.
+abbrev pub EndsAtEvent : Rules → Gifts → (s : List ℕ) → (es more : List (ℕ × Event)) → (used : ℕ) → Type 0
+EndsAtEvent l gifts s es more used =
+    ((used ≡ 0) × (more ≡ [])) ⊎ ((q : Place) × Reads l (start_with gifts) s (es ++ more) q [])
 
 -- Of the bytes xs of a reader this many reads gave these, from the first on, and each of them from 1 to 4,096; the
 -- others are left.
@@ -123,13 +135,18 @@ module _ {V : Type 0} (f : V → ℕ → Event → V) where
         (gifts : Gifts) (s : List ℕ) (es : List (ℕ × Event)) → AfterGifts gifts old s es
         → Fails gifts new s es bytes before after
 
-    -- What draining a piece leaves, by how it ends: all of its events, those before a refusal, or those up to a fault.
-    abbrev pub DrainsTo : StreamState → List ℕ → Drained → StreamState → (before after : V) → Type 0
-    DrainsTo old input drained.More new before after = DrainsPiece old new input input before after
-    DrainsTo old input drained.Refused new before after =
-        (used : ℕ) × DrainsPiece old new input (take used input) before after
-    DrainsTo old input drained.Fault new before after =
-        (used : ℕ) × FailsWithin old new (take used input) before after
+    -- What draining a piece leaves, by how it ends: all of its events, those before a refusal, or those up to a fault. The bytes used end
+    -- with an event.
+    abbrev pub DrainsTo : StreamState → List ℕ → Fed → StreamState → (before after : V) → Type 0
+    DrainsTo old input fed.More new before after = DrainsPiece old new input input before after
+    DrainsTo old input (fed.Refused used r) new before after =
+        (gifts : Gifts) (s : List ℕ) (es : List (ℕ × Event)) → AfterGifts gifts old s es
+        → (d : DrainsAll gifts old new s es input (take used input) before after)
+        × EndsAtEvent new.rules gifts (s ++ take used input) es d.drains.more used
+    DrainsTo old input (fed.Fault used) new before after =
+        (gifts : Gifts) (s : List ℕ) (es : List (ℕ × Event)) → AfterGifts gifts old s es
+        → (d : Fails gifts new s es (take used input) before after)
+        × ((q : Place) × Reads new.rules (start_with gifts) (s ++ take used input) (es ++ d.more ++ (d.at, d.event) ∷ []) q [])
 
     -- The same as `Feeds`, but at the last of the events the sink failed. Of the bytes that were not used, the first
     -- are lost, at most as many as one read may give, and the others are left.

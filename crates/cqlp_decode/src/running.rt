@@ -1,13 +1,13 @@
 //! A reader's stream, drained into a sink.
 
 ghost use Rattle.std.specs.Prelude.{◌≡◌, List, ℕ, Some};
-ghost use Rattle.cqlp_decode.specs.Draining.{Counts, DrainsBy, DrainsTo, MakesReads, Passes, ReadsInTime, RunsTo, WaitsAt, calls};
+ghost use Rattle.cqlp_decode.specs.Draining.{Counts, MakesReads, Passes, ReadsInTime, RunsTo, WaitsAt, calls};
 ghost use Rattle.cqlp_decode.specs.Streams.{state};
 ghost use Rattle.cqlp_note.specs.declared.refusal.Refusal.{Refusal};
 
 use crate::decoder::Decoder;
-use crate::step::Step;
-use cqlp_grammar::{Finish, Sink, SinkFault};
+use crate::feeding::Fed;
+use cqlp_grammar::{Finish, Sink};
 use cqlp_note::{IoFault, Source};
 use std::alloc::Allocator;
 
@@ -22,14 +22,6 @@ pub enum Outcome {
     SinkFault,
     /// As many reads were made as the run may make. The run may be called again.
     Turns,
-}
-
-/// How draining a piece ends.
-#[derive(Clone, Copy, Debug, PartialEq, Eq)]
-enum Drained {
-    More,
-    Refused,
-    Fault,
 }
 
 /// Hands all events of a reader's bytes to the sink, from at most `turns` reads, each with room for 4,096 bytes and none
@@ -59,10 +51,10 @@ pub fn run<R: Source, S: Sink, A: Allocator>(
     ensures given { (state decoder.new).given ≡ (state decoder.old).given }
 {
     let mut buffer = [0; 4096];
-    match drain(decoder, &[], sink) {
-        Drained::More => {}
-        Drained::Refused => return Outcome::Finished(decoder.finish()),
-        Drained::Fault => return Outcome::SinkFault,
+    match decoder.feed(&[], sink) {
+        Fed::More => {}
+        Fed::Refused { .. } => return Outcome::Finished(decoder.finish()),
+        Fed::Fault { .. } => return Outcome::SinkFault,
     }
     for turn in 0..turns {
         if decoder.gathers() {
@@ -81,45 +73,11 @@ pub fn run<R: Source, S: Sink, A: Allocator>(
         if count == 0 {
             return Outcome::Finished(decoder.finish());
         }
-        match drain(decoder, &buffer[..count], sink) {
-            Drained::More => {}
-            Drained::Refused => return Outcome::Finished(decoder.finish()),
-            Drained::Fault => return Outcome::SinkFault,
+        match decoder.feed(&buffer[..count], sink) {
+            Fed::More => {}
+            Fed::Refused { .. } => return Outcome::Finished(decoder.finish()),
+            Fed::Fault { .. } => return Outcome::SinkFault,
         }
     }
     Outcome::Turns
-}
-
-/// Hands all events of the input to the sink.
-fn drain<S: Sink, A: Allocator>(decoder: &mut Decoder<A>, input: &[u8], sink: &mut S) -> Drained
-    ensures tells { S.tells sink.old → result ≡ Drained.More → S.tells sink.new }
-    ensures refusal { DrainsBy result (state decoder.new) }
-    ensures refused { (r : Refusal) → (state decoder.old).refusal ≡ Some r →
-        (result ≡ Drained.Refused) × (state decoder.new ≡ state decoder.old) × (sink.new ≡ sink.old) }
-    ensures drains { S.tells sink.old →
-        DrainsTo S.after S.faulted (state decoder.old) input.now result (state decoder.new)
-        (S.view sink.old) (S.view sink.new) }
-    ensures also { Passes S.also sink.old sink.new }
-    ensures rules { (state decoder.new).rules ≡ (state decoder.old).rules }
-    ensures given { (state decoder.new).given ≡ (state decoder.old).given }
-{
-    let mut used = 0;
-    'events: loop {
-        match decoder.hand_whole(&input[used..], sink) {
-            Ok(taken) => used += taken,
-            Err(_) => return Drained::Fault,
-        }
-        match decoder.next(&input[used..]) {
-            Step::More { .. } => return Drained::More,
-            Step::Refused(_) => return Drained::Refused,
-            Step::Event {
-                at,
-                used: taken,
-                event,
-            } => match sink.take(at, &event) {
-                Ok(()) => used += taken,
-                Err(SinkFault) => return Drained::Fault,
-            },
-        }
-    }
 }

@@ -18,6 +18,8 @@ pub mod NoParts
 pub mod AskedLimits
 pub mod OneAnswer
 pub mod OneRun
+pub mod PieceEnds
+pub mod OneFeed
 pub mod NoFrames
 pub mod RunsBack
 pub mod Due

@@ -1,9 +1,11 @@
 -- Laws of one answer: from the same history and the same input, two answers that both meet what a call promises are the
 -- same, given what only the outside decides.
-use Rattle.std.specs.Prelude.{◌≡◌, ℕ, Bool, true, false, ◌+◌, ◌++◌, List, [], ◌∷◌, length, Option, Some, None, ◌⊎◌}
+use Rattle.std.specs.Prelude.{◌≡◌, ℕ, Bool, true, false, ◌+◌, ◌≤◌, ◌++◌, List, [], ◌∷◌, length, Option, Some, None, ◌⊎◌}
 use Rattle.cqlp_note.specs.declared.limits.Limits.{Limits}
 use Rattle.cqlp_note.specs.declared.refusal.Refusal.{Refusal}
 use Rattle.cqlp_note.specs.Limits.{Rules, rules_of}
+use Rattle.cqlp_decode.specs.declared.feeding.Fed.{Fed}
+use Rattle.cqlp_decode.specs.declared.feeding.Fed.TheVariants as fed
 use Rattle.cqlp_decode.specs.declared.step.Step.{Step}
 use Rattle.cqlp_decode.specs.declared.step.Step.TheVariants as step
 use Rattle.cqlp_grammar.specs.declared.event.Finish.{Finish}
@@ -15,7 +17,7 @@ use Rattle.cqlp_decode.specs.Reading.{Event, Verdict, Waits, Refused, Gifts, Say
 use Rattle.cqlp_grammar.specs.Events.{event_of}
 use Rattle.cqlp_decode.specs.Progress.{StreamState, levels_of}
 use Rattle.cqlp_decode.specs.Streams.{Decoding, state, After, AfterGifts, Answers, Finishes, FinishesBy, given_nodes}
-use Rattle.cqlp_decode.specs.Draining.{Calls, MakesReads, RunsTo, WaitsAt, fold_events}
+use Rattle.cqlp_decode.specs.Draining.{Calls, DrainsBy, DrainsTo, MakesReads, RunsTo, WaitsAt, fold_events, used_of}
 use Rattle.cqlp_laws.specs.Reading.{BeginsWith}
 
 -- ---- the decoder
@@ -91,6 +93,33 @@ pub record IsHeld (d : Decoding) (h : Held) : Type 0 where
 
 abbrev pub IsOneAnswerOfHeld : Type 0
 IsOneAnswerOfHeld = (d : Decoding) (h h' : Held) → IsHeld d h → IsHeld d h' → h' ≡ h
+
+-- ---- pieces
+
+-- the sink did not fail
+abbrev pub TakesAll : Fed → Type 0
+TakesAll (fed.Fault used) = ⊥
+TakesAll x = Unit {0}
+
+module _ {V : Type 0} (f : V → ℕ → Event → V) (faulted : V → ℕ → Event → V → Type 0) where
+  -- what the clauses of `feed` say
+  pub record IsFed (x : Fed) (old new : StreamState) (input : List ℕ) (before after : V) : Type 0 where
+    pub within : used_of (length input) x ≤ length input
+    pub refusal : DrainsBy x new.refusal
+    pub refused :
+        (r : Refusal) → old.refusal ≡ Some r → (x ≡ fed.Refused 0 r) × (new ≡ old) × (after ≡ before)
+    pub drains : DrainsTo f faulted old input x new before after
+    pub rules : new.rules ≡ old.rules
+    pub given : new.given ≡ old.given
+
+  -- After the same gifts, bytes and events, over one piece, there is one answer, one view of a sink, and decoders are left
+  -- alike.
+  abbrev pub IsOneAnswerOfFeed : Type 0
+  IsOneAnswerOfFeed =
+      (gifts : Gifts) (old new new' : StreamState) (s input : List ℕ) (es : List (ℕ × Event)) (x x' : Fed)
+      (before after after' : V)
+      → AfterGifts gifts old s es → IsFed x old new input before after → IsFed x' old new' input before after'
+      → TakesAll x → TakesAll x' → (x' ≡ x) × (after' ≡ after) × AreAlike new new'
 
 -- ---- runs
 

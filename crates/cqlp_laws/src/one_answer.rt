@@ -1,7 +1,7 @@
 //! Laws of one answer: what a call of the decoder answers is decided by the history and the input, but for what only
 //! the outside decides.
 
-ghost use Rattle.cqlp_laws.specs.OneAnswer.{IsOneAnswerOfFinish, IsOneAnswerOfHeld, IsOneAnswerOfNew};
+ghost use Rattle.cqlp_laws.specs.OneAnswer.{IsOneAnswerOfFeed, IsOneAnswerOfFinish, IsOneAnswerOfHeld, IsOneAnswerOfNew};
 ghost use Rattle.cqlp_laws.specs.OneAnswer.{IsOneAnswerOfNext, IsOneAnswerOfRestart, IsOneAnswerOfRun, RunsRight};
 
 use cqlp_grammar::Sink;
@@ -33,6 +33,12 @@ pub fn one_answer_of_finish()
 /// Of one decoder there is one answer of what is held.
 pub fn one_answer_of_held()
     ensures { IsOneAnswerOfHeld }
+{}
+
+/// After the same bytes and events there is one answer of `feed` over the same piece: more is wanted, or the same refusal after
+/// the same bytes; two sinks that were seen alike, and neither failed, are seen alike; and the decoder is left alike.
+pub fn one_answer_of_feed<S: Sink>()
+    ensures { IsOneAnswerOfFeed S.after S.faulted }
 {}
 
 /// From the same decoder over the same bytes of a reader a run hands the same events to its sink, as far as it goes,

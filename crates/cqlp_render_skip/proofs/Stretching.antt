@@ -15,8 +15,8 @@ use Rattle.cqlp_skip.specs.declared.fed.Skipped.{Skipped}
 use Rattle.cqlp_skip.specs.declared.fed.NotSkippable.{NotSkippable}
 use Rattle.cqlp_skip.specs.declared.frame.OpenFrame.{OpenFrame}
 use Rattle.cqlp_skip.specs.Pieces.{refusal_from}
-use Rattle.cqlp_skip.specs.declared.fed.Fed.{Fed}
-use Rattle.cqlp_skip.specs.declared.fed.Fed.TheVariants as fed
+use Rattle.cqlp_decode.specs.declared.feeding.Fed.{Fed}
+use Rattle.cqlp_decode.specs.declared.feeding.Fed.TheVariants as fed
 use Rattle.cqlp_skip.specs.Skipping.{Skipping, AfterSkips, Feeds, Hands, BeginsAnew, RefusesBy, SkipsOn, rules_in, skip_by, skip_of, skip_to, stream, stretch_given_up}
 use Rattle.cqlp_skip.specs.Skipping as skipping
 use Rattle.cqlp_skip.specs.Stretches.{Stretch, base_after, end_within, told, told_at}

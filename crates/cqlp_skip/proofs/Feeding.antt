@@ -12,14 +12,13 @@ use Rattle.cqlp_note.specs.Limits.{Rules}
 use Rattle.cqlp_decode.specs.Reading.{Event, Place, Gifts, Ends, Reads, Refused, Waits, Says, start_with, step}
 use Rattle.cqlp_decode.specs.Progress.{StreamState}
 use Rattle.cqlp_decode.specs.Streams.{Decoding, state, AfterGifts}
-use Rattle.cqlp_decode.specs.Draining.{DrainsPiece, fold_events, verdict_of}
-use Rattle.cqlp_skip.specs.declared.fed.Fed.{Fed}
-use Rattle.cqlp_skip.specs.declared.fed.Fed.TheVariants as fed
+use Rattle.cqlp_decode.specs.Draining.{DrainsBy, DrainsPiece, DrainsTo, EndsAtEvent, fold_events, used_of, verdict_of}
+use Rattle.cqlp_decode.specs.declared.feeding.Fed.{Fed}
+use Rattle.cqlp_decode.specs.declared.feeding.Fed.TheVariants as fed
 use Rattle.cqlp_skip.specs.declared.frame.OpenFrame.{OpenFrame}
 use Rattle.cqlp_skip.specs.Stretches.{Stretch, GivenUp, frame_from, told}
 use Rattle.cqlp_skip.specs.Shifted.{Shifted, shifted, with_event, FailsAtEvent}
-use Rattle.cqlp_skip.specs.Draining.{DrainsTo, DrainsBy, EndsAtEvent}
-use Rattle.cqlp_skip.specs.Pieces.{fed_from, used_of}
+use Rattle.cqlp_skip.specs.Pieces.{fed_from}
 use Rattle.cqlp_skip.specs.Skipping.{Skipping, AfterSkips, Hands, HandsAll, HandsUpTo, Fails, FeedsTo}
 use Rattle.cqlp_skip.proofs.Passing.{behind_passed, behind_all, behind_piece}
 use Rattle.cqlp_skip.proofs.Folding.{frame-append, fold_shifted}
@@ -36,13 +35,6 @@ ends_still l q rest t k why ends = rw (stays_bad (k, why) (says_stays (step l q)
 pub still_refused : (l : Rules) (p : Place) (bytes t : List ℕ) (es : List (ℕ × Event)) (k : ℕ) (why : Reason) → Says l p bytes es (Refused k why) → Says l p (bytes ++ t) es (Refused k why)
 still_refused l p bytes t es k why a =
     (a.0, a.1 ++ t, runs_stay (step l) p bytes t es a.0 a.1 a.2, ends_still l a.0 a.1 t k why a.3)
-
-pub is_none : (o : Option Refusal) → ((r : Refusal) → o ≡ Some r → ⊥) → o ≡ None
-is_none None never = refl
-is_none (Some r) never = absurd (never r refl)
-
-pub refused_first : (used : ℕ) (q r : Refusal) → used ≡ 0 → q ≡ r → ◌≡◌ {A = Fed} (fed.Refused used q) (fed.Refused 0 r)
-refused_first used q r none same = rw (none, same) refl
 
 abbrev pub skipping : Decoding → (base used : ℕ) → Option OpenFrame → (last : ℕ) → Skipping
 skipping d base used frame last = record { decoder = d; base = base; used = used; frame = frame; last = last }
@@ -154,13 +146,13 @@ module _ (d d' : Decoding) (base used used' last : ℕ) (frame frame' : Option O
         let h = goes_on (s ++ take (p + 0) input) [] 0 refl (omega (arith, passed)) stands framed count (λ q is. subst (λ (z : StreamState). Says z.rules (start_with gifts) (drop base xs) (es ++ []) (Refused q.at q.why)) (sym same) (rw none (a.refused q (sym (ap (λ (z : StreamState). z.refusal) same) ∙ is)))) in
         (record { more = []; stands = h; got = seen }, inl (omega arith, refl), omega arith)
 
-    feeds_new : (x : Fed) → (state d).refusal ≡ None → p + used_of (length (drop p input)) x ≤ length input → DrainsBy x (state d).refusal (state d').refusal → DrainsTo (with_event f) (FailsAtEvent faulted) (state d) (drop p input) x (state d') (shifted v base frame) (shifted w base' frame')
+    feeds_new : (x : Fed) → (state d).refusal ≡ None → p + used_of (length (drop p input)) x ≤ length input → DrainsBy x (state d').refusal → DrainsTo (with_event f) (FailsAtEvent faulted) (state d) (drop p input) x (state d') (shifted v base frame) (shifted w base' frame')
         → used' ≡ min (used + used_of (length input) (fed_from base p x)) (2 ^ 64 - 1) → FeedsTo f faulted xs p new s stretches gifts es input (fed_from base p x) v w
     feeds_new fed.More none few by drains count = feeds_more none by drains count
     feeds_new (fed.Refused k r) none few by drains count = feeds_refused none k r few drains count
     feeds_new (fed.Fault k) none few by drains count = feeds_fault none k few by drains count
 
-    feeds_by : (o : Option Refusal) → (state d).refusal ≡ o → (x : Fed) → p + used_of (length (drop p input)) x ≤ length input → DrainsBy x (state d).refusal (state d').refusal
+    feeds_by : (o : Option Refusal) → (state d).refusal ≡ o → (x : Fed) → p + used_of (length (drop p input)) x ≤ length input → DrainsBy x (state d').refusal
         → ((r : Refusal) → (state d).refusal ≡ Some r → (x ≡ fed.Refused 0 r) × (state d' ≡ state d) × (w ≡ v) × (frame' ≡ frame))
         → DrainsTo (with_event f) (FailsAtEvent faulted) (state d) (drop p input) x (state d') (shifted v base frame) (shifted w base' frame')
         → used' ≡ min (used + used_of (length input) (fed_from base p x)) (2 ^ 64 - 1) → FeedsTo f faulted xs p new s stretches gifts es input (fed_from base p x) v w
@@ -170,7 +162,7 @@ module _ (d d' : Decoding) (base used used' last : ℕ) (frame frame' : Option O
         subst (λ (y : Fed). used' ≡ min (used + used_of (length input) (fed_from base p y)) (2 ^ 64 - 1) → FeedsTo f faulted xs p new s stretches gifts es input (fed_from base p y) v w) (sym e.0)
         (λ count. feeds_again r was e.1 e.2 e.3 count) count
 
-    pub feeds : (x : Fed) → p + used_of (length (drop p input)) x ≤ length input → DrainsBy x (state d).refusal (state d').refusal
+    pub feeds : (x : Fed) → p + used_of (length (drop p input)) x ≤ length input → DrainsBy x (state d').refusal
         → ((r : Refusal) → (state d).refusal ≡ Some r → (x ≡ fed.Refused 0 r) × (state d' ≡ state d) × (w ≡ v) × (frame' ≡ frame))
         → DrainsTo (with_event f) (FailsAtEvent faulted) (state d) (drop p input) x (state d') (shifted v base frame) (shifted w base' frame')
         → used' ≡ min (used + used_of (length input) (fed_from base p x)) (2 ^ 64 - 1) → FeedsTo f faulted xs p new s stretches gifts es input (fed_from base p x) v w

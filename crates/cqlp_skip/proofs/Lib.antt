@@ -1,6 +1,5 @@
 pub mod Passing
 pub mod Folding
-pub mod Ending
 pub mod Feeding
 pub mod Skips
 pub mod Giving

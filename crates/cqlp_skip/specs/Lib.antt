@@ -1,6 +1,5 @@
 pub mod Stretches
 pub mod Shifted
 pub mod Pieces
-pub mod Draining
 pub mod Skipping
 pub mod Giving

@@ -1,15 +1,9 @@
 -- How a piece ends.
 use Rattle.std.specs.Prelude.{ℕ, ◌+◌}
 use Rattle.cqlp_note.specs.declared.refusal.Refusal.{Refusal}
-use Rattle.cqlp_skip.specs.declared.fed.Fed.{Fed}
-use Rattle.cqlp_skip.specs.declared.fed.Fed.TheVariants as fed
+use Rattle.cqlp_decode.specs.declared.feeding.Fed.{Fed}
+use Rattle.cqlp_decode.specs.declared.feeding.Fed.TheVariants as fed
 use Rattle.cqlp_skip.specs.Stretches.{told_at}
-
--- how many bytes of a piece of this length were used
-abbrev pub used_of : (len : ℕ) → Fed → ℕ
-used_of len fed.More = len
-used_of len (fed.Refused used r) = used
-used_of len (fed.Fault used) = used
 
 -- a refusal, at its offset in the whole stream
 abbrev pub refusal_from : (base : ℕ) → Refusal → Refusal

@@ -8,8 +8,8 @@ use Rattle.cqlp_decode.specs.Reading.{Event, Gifts, Place, Reads, Waits, Refused
 use Rattle.cqlp_decode.specs.Progress.{StreamState}
 use Rattle.cqlp_decode.specs.Streams.{Decoding, state, AfterGifts, EndsAs, HoldsNothing, buffer_of}
 use Rattle.cqlp_decode.specs.Draining.{fold_events}
-use Rattle.cqlp_skip.specs.declared.fed.Fed.{Fed}
-use Rattle.cqlp_skip.specs.declared.fed.Fed.TheVariants as fed
+use Rattle.cqlp_decode.specs.declared.feeding.Fed.{Fed}
+use Rattle.cqlp_decode.specs.declared.feeding.Fed.TheVariants as fed
 use Rattle.cqlp_skip.specs.declared.fed.Skipped.{Skipped}
 use Rattle.cqlp_skip.specs.declared.fed.NotSkippable.{NotSkippable}
 use Rattle.cqlp_skip.specs.declared.fed.NotSkippable.TheVariants.{NotRefused, InHeader, TooFar}

@@ -1,23 +1,13 @@
 //! What calls of a decoder that skips tell.
 
 ghost use Rattle.std.specs.Prelude.{◌≡◌, ◌+◌, ◌-◌, ◌<◌, ◌^◌, min};
+ghost use Rattle.cqlp_decode.specs.Draining as draining;
 ghost use Rattle.cqlp_skip.specs.Pieces as pieces;
 
 use crate::frame::told_at;
+use cqlp_decode::Fed;
 use cqlp_note::{Header, Refusal};
 use thiserror::Error;
-
-/// How handing on a piece ends.
-#[derive(Clone, Copy, Debug, PartialEq, Eq)]
-pub enum Fed {
-    /// All of the piece was used, the sink has got all of its events, and more is wanted.
-    More,
-    /// The stream is refused after this many bytes of the piece, here and at every later call before a skip. The refusal's
-    /// offset is one in the whole stream.
-    Refused { used: usize, refusal: Refusal },
-    /// The sink failed at an event that ends after this many bytes of the piece.
-    Fault { used: usize },
-}
 
 /// A frame that was passed over.
 #[derive(Clone, Copy, Debug, PartialEq, Eq)]
@@ -67,7 +57,7 @@ pub(crate) fn refusal_from(base: u64, refusal: Refusal) -> Refusal
 
 /// How a piece ends whose first bytes were passed over, where the others end so.
 pub(crate) fn fed_from(base: u64, passed: usize, fed: Fed) -> Fed
-    requires { passed + pieces.used_of 0 fed < 2 ^ 64 }
+    requires { passed + draining.used_of 0 fed < 2 ^ 64 }
     ensures { result ≡ pieces.fed_from base passed fed }
 {
     match fed {
@@ -84,7 +74,7 @@ pub(crate) fn fed_from(base: u64, passed: usize, fed: Fed) -> Fed
 
 /// How many bytes of a piece of this length were used.
 pub(crate) fn used_of(fed: Fed, len: usize) -> usize
-    ensures { result ≡ pieces.used_of len fed }
+    ensures { result ≡ draining.used_of len fed }
 {
     match fed {
         Fed::More => len,

@@ -1,12 +1,12 @@
 //! A stream that is read on after a frame whose body is refused.
 #![tactic(auto)]
 
-mod draining;
 mod fed;
 mod frame;
 mod shifting;
 mod skipping;
 
-pub use fed::{Fed, NotSkippable, Skipped};
+pub use cqlp_decode::Fed;
+pub use fed::{NotSkippable, Skipped};
 pub use frame::OpenFrame;
 pub use skipping::SkippingDecoder;

@@ -6,11 +6,10 @@ ghost use Rattle.cqlp_note.specs.declared.limits.BadLimits.{BadLimits as Bad};
 ghost use Rattle.cqlp_decode.specs.Draining.{Passes};
 ghost use Rattle.cqlp_decode.specs.Streams.{HoldsNothing};
 
-use crate::draining::drain;
-use crate::fed::{Fed, NotSkippable, Skipped, fed_from, passed_of, refusal_from, used_of};
+use crate::fed::{NotSkippable, Skipped, fed_from, passed_of, refusal_from, used_of};
 use crate::frame::{OpenFrame, told_at};
 use crate::shifting::Shifting;
-use cqlp_decode::{Capacity, Decoder, Finish, GiveError, Held, NewError, Sink};
+use cqlp_decode::{Capacity, Decoder, Fed, Finish, GiveError, Held, NewError, Sink};
 use cqlp_note::Limits;
 use cqlp_type::TypeTable;
 use std::alloc::{Allocator, Global};
@@ -84,7 +83,7 @@ impl<A: Allocator + Clone> SkippingDecoder<A> {
 }
 
 impl<A: Allocator> SkippingDecoder<A> {
-    ghost use Rattle.cqlp_skip.specs.Pieces as pieces;
+    ghost use Rattle.cqlp_decode.specs.Draining as draining;
     ghost use Rattle.cqlp_skip.specs.Skipping.{BeginsAnew, Feeds, FinishesAs, RefusesBy, SkipsOn, rules_in, skip_of, stream};
     ghost use Rattle.cqlp_skip.specs.Giving.{GivesAlso, GivesBack, TakesAlso};
     ghost use Rattle.cqlp_decode.specs.Giving.{after_taking, free_table, last_types, once_given, reason_against};
@@ -111,13 +110,13 @@ impl<A: Allocator> SkippingDecoder<A> {
     /// sink. The bytes of a frame that was passed over are used without being looked at. The next call goes on after the
     /// bytes that were used. A refusal is said again until the frame is passed over.
     pub fn feed<S: Sink>(&mut self, input: &[u8], sink: S) -> (Fed, S)
-        ensures within { pieces.used_of (length input.now) result.0 ≤ length input.now }
+        ensures within { draining.used_of (length input.now) result.0 ≤ length input.now }
         ensures refusal { RefusesBy result.0 self.new }
         ensures feeds { S.tells sink →
             Feeds S.after S.faulted self.old self.new input.now result.0 (S.view sink) (S.view result.1) }
         ensures tells { S.tells sink → result.0 ≡ Fed.More → S.tells result.1 }
         ensures also { Passes S.also sink result.1 }
-        ensures used { self.new.used ≡ min (self.old.used + pieces.used_of (length input.now) result.0) (2 ^ 64 - 1) }
+        ensures used { self.new.used ≡ min (self.old.used + draining.used_of (length input.now) result.0) (2 ^ 64 - 1) }
         ensures place { (self.new.base ≡ self.old.base) × (self.new.last ≡ self.old.last) }
         ensures rules { rules_in self.new ≡ rules_in self.old }
         ensures given { (stream self.new).given ≡ (stream self.old).given }
@@ -128,7 +127,7 @@ impl<A: Allocator> SkippingDecoder<A> {
             base: self.base,
             frame: self.frame,
         };
-        let fed = drain(&mut self.decoder, &input[passed..], &mut shifting);
+        let fed = self.decoder.feed(&input[passed..], &mut shifting);
         let Shifting {
             sink,
             base: _,

@@ -6,17 +6,17 @@ use Rattle.cqlp_note.specs.declared.refusal.Refusal.{Refusal}
 use Rattle.cqlp_note.specs.Limits.{Rules}
 use Rattle.cqlp_decode.specs.Reading.{Event, Gifts, Place, Verdict, Waits, Reads, Refused, Says, start_with}
 use Rattle.cqlp_decode.specs.Streams.{AfterGifts}
-use Rattle.cqlp_decode.specs.Draining.{fold_events}
+use Rattle.cqlp_decode.specs.Draining.{fold_events, used_of}
 use Rattle.cqlp_laws.proofs.Whole.{says_once}
 use Rattle.cqlp_skip.specs.declared.frame.OpenFrame.{OpenFrame}
-use Rattle.cqlp_skip.specs.declared.fed.Fed.{Fed}
-use Rattle.cqlp_skip.specs.declared.fed.Fed.TheVariants as fed
+use Rattle.cqlp_decode.specs.declared.feeding.Fed.{Fed}
+use Rattle.cqlp_decode.specs.declared.feeding.Fed.TheVariants as fed
 use Rattle.cqlp_skip.specs.Stretches.{Stretch, IsGivenUp, base_after, frame_under_way, told}
 use Rattle.cqlp_skip.specs.Skipping.{Skipping, AfterSkips, FeedsTo, rules_in, stream}
-use Rattle.cqlp_skip.specs.Pieces.{refusal_from, used_of}
+use Rattle.cqlp_skip.specs.Pieces.{refusal_from}
 use Rattle.cqlp_skip.proofs.Feeding.{still_refused}
 use Rattle.cqlp_skip_laws.specs.Laws.{gifts_of, AreAlike, IsSound, Fed_on, GoesOn, IsGivenUpOnce, IsOneAnswerOfFeed, StandAlike}
-use Rattle.cqlp_skip_laws.proofs.Ends.{EndsUp, behind, has_read, stand_once, used_once}
+use Rattle.cqlp_laws.proofs.PieceEnds.{EndsUp, behind, has_read, stand_once, used_once}
 
 -- ---- one list
 

@@ -7,9 +7,9 @@ use Rattle.cqlp_decode.specs.Giving.{after_taking, free_table, once_given, reaso
 use Rattle.cqlp_decode.specs.Reading.{Event, Gifts}
 use Rattle.cqlp_decode.specs.Streams.{AfterGifts}
 use Rattle.cqlp_laws.specs.OneAnswer as one
-use Rattle.cqlp_skip.specs.declared.fed.Fed.{Fed}
-use Rattle.cqlp_skip.specs.declared.fed.Fed.TheVariants as fed
-use Rattle.cqlp_skip.specs.Pieces.{used_of}
+use Rattle.cqlp_decode.specs.declared.feeding.Fed.{Fed}
+use Rattle.cqlp_decode.specs.declared.feeding.Fed.TheVariants as fed
+use Rattle.cqlp_decode.specs.Draining.{used_of}
 use Rattle.cqlp_skip.specs.Stretches.{Stretch, GivenUp}
 use Rattle.cqlp_skip.specs.Skipping.{Skipping, AfterSkips, Feeds, RefusesBy, rules_in, stream}
 

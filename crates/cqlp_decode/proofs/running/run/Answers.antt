@@ -6,6 +6,7 @@ use Rattle.cqlp_decode.specs.Progress.{StreamState}
 use Rattle.cqlp_decode.specs.Streams.{state}
 use Rattle.cqlp_decode.proofs.Asking.{asks_none, asks_one, asks_still}
 use Rattle.cqlp_decode.proofs.Gets.{feeds_none, feeds_then, feeds_into, has_all, has_all_still, read_some, keeps_some, at_end, gives_none, gives_kept, gives_end, gives_more, idle_refused, idle_at_end, drains_waits}
+use Rattle.cqlp_decode.proofs.Pieces.{refused_piece, failed_piece, refused_now}
 use Rattle.cqlp_decode.proofs.InTime.{last_read}
 use Rattle.cqlp_decode.proofs.Taken.{passes_then}
 use Rattle.cqlp_decode.proofs.running.run.Goals as goal
@@ -14,23 +15,23 @@ use Rattle.cqlp_decode.proofs.running.run.Goals as goal
 
 pub returns-in-Refused-clause-runs : goal.returns-in-Refused-clause-runs
 returns-in-Refused-clause-runs g c = λ xs is tells.
-    let e = c.in-Refused.ensures.drains tells in
+    let e = refused_piece g.S.Sink.after g.S.Sink.faulted _ _ _ _ _ _ c.in-Refused.refusal (c.in-Refused.ensures.drains tells) in
     let d = state c.args.decoder.now in
     let v = g.S.Sink.view c.args.sink.now in
-    let refused = c.in-Refused.ensures.refusal in
+    let refused = refused_now (state c.feed.new.self) c.in-Refused.refusal c.in-Refused.ensures.refusal in
     let split = sym (take-append-drop e.0 []) in (
-      feeds_then g.S.Sink.after d d (state c.drain.new.decoder) xs [] xs v v _ (feeds_none g.S.Sink.after d xs v) refl (take e.0 []) (drop e.0 []) split (λ gifts s es a. (e.1 gifts s es a).drains),
+      feeds_then g.S.Sink.after d d (state c.feed.new.self) xs [] xs v v _ (feeds_none g.S.Sink.after d xs v) refl (take e.0 []) (drop e.0 []) split (λ gifts s es a. (e.1 gifts s es a).drains),
       inr refused,
       c.finish.ensures.ends,
-      has_all g.S.Sink.after d d (state c.drain.new.decoder) xs [] xs v v _ (feeds_none g.S.Sink.after d xs v) refl (take e.0 []) (drop e.0 []) split (omega arith) _ is (λ none. absurd (let some = refused.1 in cc)) (λ none. none) e.1,
+      has_all g.S.Sink.after d d (state c.feed.new.self) xs [] xs v v _ (feeds_none g.S.Sink.after d xs v) refl (take e.0 []) (drop e.0 []) split (omega arith) _ is (λ none. absurd (let some = refused.1 in cc)) (λ none. none) e.1,
     )
 
 pub returns-in-Fault-clause-runs : goal.returns-in-Fault-clause-runs
 returns-in-Fault-clause-runs g c = λ xs is tells.
-    let e = c.in-Fault.ensures.drains tells in
+    let e = failed_piece g.S.Sink.after g.S.Sink.faulted _ _ _ _ _ _ (c.in-Fault.ensures.drains tells) in
     let d = state c.args.decoder.now in
     let v = g.S.Sink.view c.args.sink.now in
-    feeds_into g.S.Sink.after d d (state c.drain.new.decoder) xs [] xs v v _ (feeds_none g.S.Sink.after d xs v) refl (take e.0 []) (drop e.0 []) (sym (take-append-drop e.0 [])) (omega arith) _ is g.S.Sink.faulted e.1
+    feeds_into g.S.Sink.after d d (state c.feed.new.self) xs [] xs v v _ (feeds_none g.S.Sink.after d xs v) refl (take e.0 []) (drop e.0 []) (sym (take-append-drop e.0 [])) (omega arith) _ is g.S.Sink.faulted e.1
 
 pub loop-turn-init : goal.loop-turn-init
 loop-turn-init g c = record {
@@ -50,10 +51,10 @@ loop-turn-init g c = record {
       let e = c.in-More.ensures.drains tells in
       let d = state c.args.decoder.now in
       let v = g.S.Sink.view c.args.sink.now in (
-        feeds_then g.S.Sink.after d d (state c.drain.new.decoder) xs [] xs v v _ (feeds_none g.S.Sink.after d xs v) refl [] [] refl (λ gifts s es a. (e gifts s es a).drains),
+        feeds_then g.S.Sink.after d d (state c.feed.new.self) xs [] xs v v _ (feeds_none g.S.Sink.after d xs v) refl [] [] refl (λ gifts s es a. (e gifts s es a).drains),
         is,
         omega arith,
-        has_all g.S.Sink.after d d (state c.drain.new.decoder) xs [] xs v v _ (feeds_none g.S.Sink.after d xs v) refl [] [] refl (omega arith) _ is (λ _. refl) (λ none. none) e,
+        has_all g.S.Sink.after d d (state c.feed.new.self) xs [] xs v v _ (feeds_none g.S.Sink.after d xs v) refl [] [] refl (omega arith) _ is (λ _. refl) (λ none. none) e,
       );
 }
 
@@ -74,67 +75,67 @@ returns-then-count-eq0-clause-runs g c = λ xs is tells.
     let same = d.1 ∙ ap (λ (z : List ℕ). Some z) (none ∙ sym (r.3 c.if-count-eq0.true long)) ∙ sym r.1 in
     (d.0, inl none, c.finish-then-count-eq0.ensures.ends, has_all_still g.S.Sink.after (state c.args.decoder.now) (state c.loop-turn.decoder) xs _ _ _ _ d.0 same d.3)
 
-pub returns-in-Refused-drain-clause-runs : goal.returns-in-Refused-drain-clause-runs
-returns-in-Refused-drain-clause-runs g c = λ xs is tells.
+pub returns-in-Refused-feed-clause-runs : goal.returns-in-Refused-feed-clause-runs
+returns-in-Refused-feed-clause-runs g c = λ xs is tells.
     let d = c.loop-turn.invariant.fed xs is tells in
     let r = read_some _ _ d.0.rest c.read.new.buffer c.in-Ok-read.count d.1 c.in-Ok-read.ensures.bytes.0 c.in-Ok-read.ensures.bytes.1 in
-    let e = c.in-Refused-drain.ensures.drains (c.loop-turn.invariant.tells tells) in
-    let refused = c.in-Refused-drain.ensures.refusal in
+    let e = refused_piece g.S.Sink.after g.S.Sink.faulted _ _ _ _ _ _ c.in-Refused-feed.refusal (c.in-Refused-feed.ensures.drains (c.loop-turn.invariant.tells tells)) in
+    let refused = refused_now (state c.feed-in-loop-turn.new.self) c.in-Refused-feed.refusal c.in-Refused-feed.ensures.refusal in
     let piece = take c.in-Ok-read.count c.read.new.buffer in
     let small : length piece ≤ 4096 = let a = c.read.auto.buffer in let b = c.loop-turn.invariant.long in omega (arith, length-take-le c.in-Ok-read.count c.read.new.buffer c.in-Ok-read.ensures.bound, c.in-Ok-read.ensures.bound) in
     let split = sym (take-append-drop e.0 piece) in (
-      feeds_then g.S.Sink.after (state c.args.decoder.now) (state c.loop-turn.decoder) (state c.drain-in-loop-turn.new.decoder) xs piece r.0 _ _ _ d.0 r.2 (take e.0 piece) (drop e.0 piece) split (λ gifts s es a. (e.1 gifts s es a).drains),
+      feeds_then g.S.Sink.after (state c.args.decoder.now) (state c.loop-turn.decoder) (state c.feed-in-loop-turn.new.self) xs piece r.0 _ _ _ d.0 r.2 (take e.0 piece) (drop e.0 piece) split (λ gifts s es a. (e.1 gifts s es a).drains),
       inr refused,
-      c.finish-in-Refused-drain.ensures.ends,
-      has_all g.S.Sink.after (state c.args.decoder.now) (state c.loop-turn.decoder) (state c.drain-in-loop-turn.new.decoder) xs piece r.0 _ _ _ d.0 r.2 (take e.0 piece) (drop e.0 piece) split small _ r.1 (λ none. absurd (let some = refused.1 in cc)) (λ none. c.loop-turn.invariant.waits) e.1,
+      c.finish-in-Refused-feed.ensures.ends,
+      has_all g.S.Sink.after (state c.args.decoder.now) (state c.loop-turn.decoder) (state c.feed-in-loop-turn.new.self) xs piece r.0 _ _ _ d.0 r.2 (take e.0 piece) (drop e.0 piece) split small _ r.1 (λ none. absurd (let some = refused.1 in cc)) (λ none. c.loop-turn.invariant.waits) e.1,
     )
 
-pub returns-in-Fault-drain-clause-runs : goal.returns-in-Fault-drain-clause-runs
-returns-in-Fault-drain-clause-runs g c = λ xs is tells.
+pub returns-in-Fault-feed-clause-runs : goal.returns-in-Fault-feed-clause-runs
+returns-in-Fault-feed-clause-runs g c = λ xs is tells.
     let d = c.loop-turn.invariant.fed xs is tells in
     let r = read_some _ _ d.0.rest c.read.new.buffer c.in-Ok-read.count d.1 c.in-Ok-read.ensures.bytes.0 c.in-Ok-read.ensures.bytes.1 in
-    let e = c.in-Fault-drain.ensures.drains (c.loop-turn.invariant.tells tells) in
+    let e = failed_piece g.S.Sink.after g.S.Sink.faulted _ _ _ _ _ _ (c.in-Fault-feed.ensures.drains (c.loop-turn.invariant.tells tells)) in
     let piece = take c.in-Ok-read.count c.read.new.buffer in
     let small : length piece ≤ 4096 = let a = c.read.auto.buffer in let b = c.loop-turn.invariant.long in omega (arith, length-take-le c.in-Ok-read.count c.read.new.buffer c.in-Ok-read.ensures.bound, c.in-Ok-read.ensures.bound) in
-    feeds_into g.S.Sink.after (state c.args.decoder.now) (state c.loop-turn.decoder) (state c.drain-in-loop-turn.new.decoder) xs piece r.0 _ _ _ d.0 r.2 (take e.0 piece) (drop e.0 piece) (sym (take-append-drop e.0 piece)) small _ r.1 g.S.Sink.faulted e.1
+    feeds_into g.S.Sink.after (state c.args.decoder.now) (state c.loop-turn.decoder) (state c.feed-in-loop-turn.new.self) xs piece r.0 _ _ _ d.0 r.2 (take e.0 piece) (drop e.0 piece) (sym (take-append-drop e.0 piece)) small _ r.1 g.S.Sink.faulted e.1
 
 pub loop-turn-preserved : goal.loop-turn-preserved
 loop-turn-preserved g c =
     let long : length c.read.new.buffer ≡ 4096 = let a = c.read.auto.buffer in let b = c.loop-turn.invariant.long in omega arith in
     record {
       long = long;
-      rules = c.in-More-drain.ensures.rules ∙ c.loop-turn.invariant.rules;
-      given = c.in-More-drain.ensures.given ∙ c.loop-turn.invariant.given;
+      rules = c.in-More-feed.ensures.rules ∙ c.loop-turn.invariant.rules;
+      given = c.in-More-feed.ensures.given ∙ c.loop-turn.invariant.given;
       counted = λ fits. let before = c.loop-turn.invariant.counted (omega arith) in let one = c.in-Ok-read.ensures.reads in omega arith;
       asked = asks_one c.loop-turn.turn 1 (g.R.Source.asked c.args.reader.now) (g.R.Source.asked c.loop-turn.reader) (g.R.Source.asked c.read.new.self) (length c.read.new.buffer) refl long c.loop-turn.invariant.asked c.in-Ok-read.ensures.asked;
       gives = λ xs is. let some = c.if-count-eq0.false in gives_more _ xs _ _ c.read.new.buffer c.in-Ok-read.count (omega arith) c.in-Ok-read.ensures.bound long (c.loop-turn.invariant.gives xs is) c.in-Ok-read.ensures.bytes;
       failures = let a = c.in-Ok-read.ensures.failures in let b = c.loop-turn.invariant.failures in cc;
-      tells = λ tells. c.in-More-drain.ensures.tells (c.loop-turn.invariant.tells tells) refl;
-      also = passes_then g.S.Sink.also _ _ _ c.loop-turn.invariant.also c.in-More-drain.ensures.also;
+      tells = λ tells. c.in-More-feed.ensures.tells (c.loop-turn.invariant.tells tells) refl;
+      also = passes_then g.S.Sink.also _ _ _ c.loop-turn.invariant.also c.in-More-feed.ensures.also;
       in_time = λ xs is tells.
           let d = c.loop-turn.invariant.fed xs is tells in
           let some = c.if-count-eq0.false in
           let r = read_some _ _ d.0.rest c.read.new.buffer c.in-Ok-read.count d.1 c.in-Ok-read.ensures.bytes.0 c.in-Ok-read.ensures.bytes.1 in
-          let e = c.in-More-drain.ensures.drains (c.loop-turn.invariant.tells tells) in
+          let e = c.in-More-feed.ensures.drains (c.loop-turn.invariant.tells tells) in
           let piece = take c.in-Ok-read.count c.read.new.buffer in
           let mid = state c.loop-turn.decoder in
-          last_read g.S.Sink.after g.S.Sink.faulted c.args.turns c.loop-turn.turn _ _ (state c.args.decoder.now) mid (state c.drain-in-loop-turn.new.decoder) xs _ _ _ _ _ d (c.loop-turn.invariant.gives xs is) c.loop-turn.invariant.waits c.loop-turn.invariant.rules outcome.Turns (λ fits. let before = c.loop-turn.invariant.counted (omega arith) in let one = c.in-Ok-read.ensures.reads in omega arith)
+          last_read g.S.Sink.after g.S.Sink.faulted c.args.turns c.loop-turn.turn _ _ (state c.args.decoder.now) mid (state c.feed-in-loop-turn.new.self) xs _ _ _ _ _ d (c.loop-turn.invariant.gives xs is) c.loop-turn.invariant.waits c.loop-turn.invariant.rules outcome.Turns (λ fits. let before = c.loop-turn.invariant.counted (omega arith) in let one = c.in-Ok-read.ensures.reads in omega arith)
           (let a = c.loop-turn-test.true in omega arith)
-          (feeds_then g.S.Sink.after mid mid (state c.drain-in-loop-turn.new.decoder) d.0.rest piece r.0 _ _ _ (feeds_none g.S.Sink.after mid d.0.rest _) r.2 piece [] (sym (append-nil piece)) (λ gifts s es a. (e gifts s es a).drains))
+          (feeds_then g.S.Sink.after mid mid (state c.feed-in-loop-turn.new.self) d.0.rest piece r.0 _ _ _ (feeds_none g.S.Sink.after mid d.0.rest _) r.2 piece [] (sym (append-nil piece)) (λ gifts s es a. (e gifts s es a).drains))
           (gives_more 0 d.0.rest _ _ c.read.new.buffer c.in-Ok-read.count (omega arith) c.in-Ok-read.ensures.bound long (gives_none d.0.rest _ d.1) c.in-Ok-read.ensures.bytes);
-      waits = c.in-More-drain.ensures.refusal;
+      waits = c.in-More-feed.ensures.refusal;
       unrefused = c.loop-turn.invariant.unrefused;
       fed = λ xs is tells.
           let d = c.loop-turn.invariant.fed xs is tells in
           let r = read_some _ _ d.0.rest c.read.new.buffer c.in-Ok-read.count d.1 c.in-Ok-read.ensures.bytes.0 c.in-Ok-read.ensures.bytes.1 in
-          let e = c.in-More-drain.ensures.drains (c.loop-turn.invariant.tells tells) in
+          let e = c.in-More-feed.ensures.drains (c.loop-turn.invariant.tells tells) in
           let piece = take c.in-Ok-read.count c.read.new.buffer in
           let size : length piece ≡ c.in-Ok-read.count = length-take-le c.in-Ok-read.count c.read.new.buffer c.in-Ok-read.ensures.bound in
           let some = c.if-count-eq0.false in (
-            feeds_then g.S.Sink.after (state c.args.decoder.now) (state c.loop-turn.decoder) (state c.drain-in-loop-turn.new.decoder) xs piece r.0 _ _ _ d.0 r.2 piece [] (sym (append-nil piece)) (λ gifts s es a. (e gifts s es a).drains),
+            feeds_then g.S.Sink.after (state c.args.decoder.now) (state c.loop-turn.decoder) (state c.feed-in-loop-turn.new.self) xs piece r.0 _ _ _ d.0 r.2 piece [] (sym (append-nil piece)) (λ gifts s es a. (e gifts s es a).drains),
             r.1,
             omega (arith, d.2, length-append d.0.bytes piece),
-            has_all g.S.Sink.after (state c.args.decoder.now) (state c.loop-turn.decoder) (state c.drain-in-loop-turn.new.decoder) xs piece r.0 _ _ _ d.0 r.2 piece [] (sym (append-nil piece)) (omega (arith, size, long, c.in-Ok-read.ensures.bound)) _ r.1 (λ _. refl) (λ none. c.loop-turn.invariant.waits) e,
+            has_all g.S.Sink.after (state c.args.decoder.now) (state c.loop-turn.decoder) (state c.feed-in-loop-turn.new.self) xs piece r.0 _ _ _ d.0 r.2 piece [] (sym (append-nil piece)) (omega (arith, size, long, c.in-Ok-read.ensures.bound)) _ r.1 (λ _. refl) (λ none. c.loop-turn.invariant.waits) e,
           );
     }
 
@@ -148,7 +149,7 @@ returns-clause-runs g c = λ xs is tells.
 pub returns-in-Refused-clause-refused : goal.returns-in-Refused-clause-refused
 returns-in-Refused-clause-refused g c = λ r is.
     let again = c.in-Refused.ensures.refused r is in
-    let still : (state c.drain.new.decoder).refusal ≡ Some r = ap (λ (z : StreamState). z.refusal) again.1 ∙ is in
+    let still : (state c.feed.new.self).refusal ≡ Some r = ap (λ (z : StreamState). z.refusal) again.1 ∙ is in
     (ap (λ (f : Finish). outcome.Finished f) (c.finish.ensures.refused r still), again.1, refl, again.2)
 
 pub returns-in-Fault-clause-refused : goal.returns-in-Fault-clause-refused
@@ -163,17 +164,17 @@ returns-in-Err-clause-refused g c = λ r is. absurd (c.loop-turn.invariant.unref
 pub returns-clause-refused : goal.returns-clause-refused
 returns-clause-refused g c = λ r is. absurd (c.loop-turn.invariant.unrefused r is)
 
-pub returns-in-Refused-drain-clause-refused : goal.returns-in-Refused-drain-clause-refused
-returns-in-Refused-drain-clause-refused g c = λ r is. absurd (c.loop-turn.invariant.unrefused r is)
+pub returns-in-Refused-feed-clause-refused : goal.returns-in-Refused-feed-clause-refused
+returns-in-Refused-feed-clause-refused g c = λ r is. absurd (c.loop-turn.invariant.unrefused r is)
 
-pub returns-in-Fault-drain-clause-refused : goal.returns-in-Fault-drain-clause-refused
-returns-in-Fault-drain-clause-refused g c = λ r is. absurd (c.loop-turn.invariant.unrefused r is)
+pub returns-in-Fault-feed-clause-refused : goal.returns-in-Fault-feed-clause-refused
+returns-in-Fault-feed-clause-refused g c = λ r is. absurd (c.loop-turn.invariant.unrefused r is)
 
 -- how many reads are made
 
 pub returns-in-Refused-clause-reads : goal.returns-in-Refused-clause-reads
 returns-in-Refused-clause-reads g c =
-    let refused = c.in-Refused.ensures.refusal in
+    let refused = refused_now (state c.feed.new.self) c.in-Refused.refusal c.in-Refused.ensures.refusal in
     let idle = idle_refused c.finish.result refused.0 (c.finish.ensures.refused refused.0 refused.1) in
     record { giving = 0; counted = λ fits. omega (arith, idle); asked = asks_none _ _ idle; within = omega (arith, idle); all = λ is. absurd (let e = is in cc); gives = λ xs is. gives_none xs _ is }
 
@@ -203,10 +204,10 @@ returns-then-count-eq0-clause-reads g c =
       gives = λ xs is. gives_end _ xs _ _ c.read.new.buffer c.in-Ok-read.count c.if-count-eq0.true long (c.loop-turn.invariant.gives xs is) c.in-Ok-read.ensures.bytes;
     }
 
-pub returns-in-Refused-drain-clause-reads : goal.returns-in-Refused-drain-clause-reads
-returns-in-Refused-drain-clause-reads g c =
-    let refused = c.in-Refused-drain.ensures.refusal in
-    let idle = idle_refused c.finish-in-Refused-drain.result refused.0 (c.finish-in-Refused-drain.ensures.refused refused.0 refused.1) in
+pub returns-in-Refused-feed-clause-reads : goal.returns-in-Refused-feed-clause-reads
+returns-in-Refused-feed-clause-reads g c =
+    let refused = refused_now (state c.feed-in-loop-turn.new.self) c.in-Refused-feed.refusal c.in-Refused-feed.ensures.refusal in
+    let idle = idle_refused c.finish-in-Refused-feed.result refused.0 (c.finish-in-Refused-feed.ensures.refused refused.0 refused.1) in
     let long : length c.read.new.buffer ≡ 4096 = let a = c.read.auto.buffer in let b = c.loop-turn.invariant.long in omega arith in
     record {
       giving = c.loop-turn.turn + 1;
@@ -217,8 +218,8 @@ returns-in-Refused-drain-clause-reads g c =
       gives = λ xs is. let some = c.if-count-eq0.false in gives_more _ xs _ _ c.read.new.buffer c.in-Ok-read.count (omega arith) c.in-Ok-read.ensures.bound long (c.loop-turn.invariant.gives xs is) c.in-Ok-read.ensures.bytes;
     }
 
-pub returns-in-Fault-drain-clause-reads : goal.returns-in-Fault-drain-clause-reads
-returns-in-Fault-drain-clause-reads g c =
+pub returns-in-Fault-feed-clause-reads : goal.returns-in-Fault-feed-clause-reads
+returns-in-Fault-feed-clause-reads g c =
     let long : length c.read.new.buffer ≡ 4096 = let a = c.read.auto.buffer in let b = c.loop-turn.invariant.long in omega arith in
     record {
       giving = c.loop-turn.turn + 1;
@@ -263,33 +264,33 @@ returns-then-count-eq0-clause-in_time g c = λ xs is tells.
     (feeds_none g.S.Sink.after mid d.0.rest _)
     (rw idle (gives_end 0 d.0.rest _ _ c.read.new.buffer c.in-Ok-read.count c.if-count-eq0.true long (gives_none d.0.rest _ d.1) c.in-Ok-read.ensures.bytes))
 
-pub returns-in-Refused-drain-clause-in_time : goal.returns-in-Refused-drain-clause-in_time
-returns-in-Refused-drain-clause-in_time g c = λ xs is tells.
+pub returns-in-Refused-feed-clause-in_time : goal.returns-in-Refused-feed-clause-in_time
+returns-in-Refused-feed-clause-in_time g c = λ xs is tells.
     let d = c.loop-turn.invariant.fed xs is tells in
     let some = c.if-count-eq0.false in
     let mid = state c.loop-turn.decoder in
-    let new = state c.drain-in-loop-turn.new.decoder in
-    let f = c.finish-in-Refused-drain.result in
-    let refused = c.in-Refused-drain.ensures.refusal in
-    let idle = idle_refused f refused.0 (c.finish-in-Refused-drain.ensures.refused refused.0 refused.1) in
+    let new = state c.feed-in-loop-turn.new.self in
+    let f = c.finish-in-Refused-feed.result in
+    let refused = refused_now (state c.feed-in-loop-turn.new.self) c.in-Refused-feed.refusal c.in-Refused-feed.ensures.refusal in
+    let idle = idle_refused f refused.0 (c.finish-in-Refused-feed.ensures.refused refused.0 refused.1) in
     let long : length c.read.new.buffer ≡ 4096 = let a = c.read.auto.buffer in let b = c.loop-turn.invariant.long in omega arith in
     let r = read_some _ _ d.0.rest c.read.new.buffer c.in-Ok-read.count d.1 c.in-Ok-read.ensures.bytes.0 c.in-Ok-read.ensures.bytes.1 in
-    let e = c.in-Refused-drain.ensures.drains (c.loop-turn.invariant.tells tells) in
+    let e = refused_piece g.S.Sink.after g.S.Sink.faulted _ _ _ _ _ _ c.in-Refused-feed.refusal (c.in-Refused-feed.ensures.drains (c.loop-turn.invariant.tells tells)) in
     let piece = take c.in-Ok-read.count c.read.new.buffer in
     last_read g.S.Sink.after g.S.Sink.faulted c.args.turns c.loop-turn.turn _ _ (state c.args.decoder.now) mid new xs _ _ _ _ _ d (c.loop-turn.invariant.gives xs is) c.loop-turn.invariant.waits c.loop-turn.invariant.rules (outcome.Finished f) (λ fits. let before = c.loop-turn.invariant.counted (omega arith) in let one = c.in-Ok-read.ensures.reads in omega arith)
     (let a = c.loop-turn-test.true in omega arith)
     (feeds_then g.S.Sink.after mid mid new d.0.rest piece r.0 _ _ _ (feeds_none g.S.Sink.after mid d.0.rest _) r.2 (take e.0 piece) (drop e.0 piece) (sym (take-append-drop e.0 piece)) (λ gifts s es a. (e.1 gifts s es a).drains))
     (rw idle (gives_more 0 d.0.rest _ _ c.read.new.buffer c.in-Ok-read.count (omega arith) c.in-Ok-read.ensures.bound long (gives_none d.0.rest _ d.1) c.in-Ok-read.ensures.bytes))
 
-pub returns-in-Fault-drain-clause-in_time : goal.returns-in-Fault-drain-clause-in_time
-returns-in-Fault-drain-clause-in_time g c = λ xs is tells.
+pub returns-in-Fault-feed-clause-in_time : goal.returns-in-Fault-feed-clause-in_time
+returns-in-Fault-feed-clause-in_time g c = λ xs is tells.
     let d = c.loop-turn.invariant.fed xs is tells in
     let some = c.if-count-eq0.false in
     let mid = state c.loop-turn.decoder in
-    let new = state c.drain-in-loop-turn.new.decoder in
+    let new = state c.feed-in-loop-turn.new.self in
     let long : length c.read.new.buffer ≡ 4096 = let a = c.read.auto.buffer in let b = c.loop-turn.invariant.long in omega arith in
     let r = read_some _ _ d.0.rest c.read.new.buffer c.in-Ok-read.count d.1 c.in-Ok-read.ensures.bytes.0 c.in-Ok-read.ensures.bytes.1 in
-    let e = c.in-Fault-drain.ensures.drains (c.loop-turn.invariant.tells tells) in
+    let e = failed_piece g.S.Sink.after g.S.Sink.faulted _ _ _ _ _ _ (c.in-Fault-feed.ensures.drains (c.loop-turn.invariant.tells tells)) in
     let piece = take c.in-Ok-read.count c.read.new.buffer in
     let small : length piece ≤ 4096 = omega (arith, length-take-le c.in-Ok-read.count c.read.new.buffer c.in-Ok-read.ensures.bound, c.in-Ok-read.ensures.bound) in
     last_read g.S.Sink.after g.S.Sink.faulted c.args.turns c.loop-turn.turn _ _ (state c.args.decoder.now) mid new xs _ _ _ _ _ d (c.loop-turn.invariant.gives xs is) c.loop-turn.invariant.waits c.loop-turn.invariant.rules outcome.SinkFault (λ fits. let before = c.loop-turn.invariant.counted (omega arith) in let one = c.in-Ok-read.ensures.reads in omega arith)
@@ -299,11 +300,11 @@ returns-in-Fault-drain-clause-in_time g c = λ xs is tells.
 
 -- what a sink passed through
 
-pub returns-in-Refused-drain-clause-also : goal.returns-in-Refused-drain-clause-also
-returns-in-Refused-drain-clause-also g c = passes_then g.S.Sink.also _ _ _ c.loop-turn.invariant.also c.in-Refused-drain.ensures.also
+pub returns-in-Refused-feed-clause-also : goal.returns-in-Refused-feed-clause-also
+returns-in-Refused-feed-clause-also g c = passes_then g.S.Sink.also _ _ _ c.loop-turn.invariant.also c.in-Refused-feed.ensures.also
 
-pub returns-in-Fault-drain-clause-also : goal.returns-in-Fault-drain-clause-also
-returns-in-Fault-drain-clause-also g c = passes_then g.S.Sink.also _ _ _ c.loop-turn.invariant.also c.in-Fault-drain.ensures.also
+pub returns-in-Fault-feed-clause-also : goal.returns-in-Fault-feed-clause-also
+returns-in-Fault-feed-clause-also g c = passes_then g.S.Sink.also _ _ _ c.loop-turn.invariant.also c.in-Fault-feed.ensures.also
 
 -- a content that is gathered: a read straight into the decoder
 

@@ -1,4 +1,4 @@
--- What is used ends with an event.
+-- What is used of a piece ends with an event.
 use Rattle.std.proofs.Common.{◌≡◌, ℕ, ◌+◌, List, [], ◌∷◌, ◌++◌, length, take, drop, refl, sym, ap, ◌∙◌, subst, append_assoc, inr, arith}
 use Rattle.std.specs.Prelude.{Option, Some, None}
 use Rattle.std.proofs.lemmas.List.{length-append, nil_from_length, take-append-drop}
@@ -6,16 +6,17 @@ use Rattle.cqlp_note.specs.declared.refusal.Refusal.{Refusal}
 use Rattle.cqlp_note.specs.Limits.{Rules}
 use Rattle.cqlp_cell.specs.Reading.{AreBytes, length_under, seen_under}
 use Rattle.cqlp_grammar.specs.declared.sink.Sink as sink
+use Rattle.cqlp_decode.specs.declared.feeding.Fed.{Fed}
+use Rattle.cqlp_decode.specs.declared.feeding.Fed.TheVariants as fed
 use Rattle.cqlp_decode.specs.declared.step.Step.TheVariants as steps
 use Rattle.cqlp_decode.specs.Reading.{Event, Gifts, Place, Reads, start_with}
 use Rattle.cqlp_decode.specs.Progress.{StreamState, Pending, Kept, Skipped, Valued, IsPending}
 use Rattle.cqlp_decode.specs.Streams.{AfterBy, AfterGifts, Stands, LeadsAfter, Goes}
 use Rattle.cqlp_decode.specs.Sinks.{Gets}
 use Rattle.cqlp_decode.specs.Cells.{Item, TakesItems, GetsAll, HandsOut, FailsAfter, bytes_of}
-use Rattle.cqlp_decode.specs.Draining.{Drains, DrainsAll}
+use Rattle.cqlp_decode.specs.Draining.{Drains, DrainsAll, DrainsPiece, DrainsTo, EndsAtEvent, FailsWithin, HasRefused}
 use Rattle.cqlp_decode.proofs.Gets.{drains_rest, refuses_new}
 use Rattle.cqlp_decode.proofs.Taken.{drained}
-use Rattle.cqlp_skip.specs.Draining.{EndsAtEvent}
 
 -- ---- nothing is under way
 
@@ -32,6 +33,13 @@ pub ends_there : (gifts : Gifts) (d : StreamState) (s : List ℕ) (es : List (�
 ends_there gifts d s es none begun a =
     let st : Stands gifts d s es = subst (λ (o : Option Refusal). AfterBy o gifts d s es) none a in
     (st.place, subst (λ (b : List ℕ). Reads d.rules (start_with gifts) s es st.place b) (nothing_pending d.pending st.bytes begun st.pending) st.read)
+
+pub is_none : (o : Option Refusal) → ((r : Refusal) → o ≡ Some r → ⊥) → o ≡ None
+is_none None never = refl
+is_none (Some r) never = absurd (never r refl)
+
+pub refused_first : (used : ℕ) (q r : Refusal) → used ≡ 0 → q ≡ r → ◌≡◌ {A = Fed} (fed.Refused used q) (fed.Refused 0 r)
+refused_first used q r none same = rw (none, same) refl
 
 -- ---- items
 
@@ -85,3 +93,15 @@ module _ {V : Type 0} (f : V → ℕ → Event → V) (gifts : Gifts) (free old 
     },
     subst (λ (l : Rules). EndsAtEvent l gifts (s ++ take used input) es d.more used) (sym goes.0) ends,
   )
+
+-- ---- how a piece ends
+
+module _ {V : Type 0} (f : V → ℕ → Event → V) (faulted : V → ℕ → Event → V → Type 0) (old new : StreamState) (input : List ℕ) (used : ℕ) (v w : V) where
+  pub refused_piece : (r : Refusal) → DrainsTo f faulted old input (fed.Refused used r) new v w → (n : ℕ) × DrainsPiece f old new input (take n input) v w
+  refused_piece r e = (used, λ gifts s es a. (e gifts s es a).0)
+
+  pub failed_piece : DrainsTo f faulted old input (fed.Fault used) new v w → (n : ℕ) × FailsWithin f faulted old new (take n input) v w
+  failed_piece e = (used, λ gifts s es a. (e gifts s es a).0)
+
+pub refused_now : (d : StreamState) (r : Refusal) → d.refusal ≡ Some r → HasRefused d
+refused_now d r is = (r, is)

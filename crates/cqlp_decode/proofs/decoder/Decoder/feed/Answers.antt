@@ -1,11 +1,13 @@
-use Rattle.std.proofs.Common.{◌+◌, ◌≤◌, length, drop, refl, sym, ap, ◌∙◌, arith}
-use Rattle.std.proofs.lemmas.List.{length-drop}
+use Rattle.std.proofs.Common.{[], refl, inl, ◌≡◌, ◌+◌, ◌≤◌, length, drop, sym, ap, ◌∙◌, inr, arith}
+use Rattle.std.proofs.lemmas.List.{append-nil, length-drop}
 use Rattle.cqlp_decode.specs.Progress.{StreamState}
 use Rattle.cqlp_decode.specs.Streams.{state}
 use Rattle.cqlp_decode.proofs.Leads.{repeated}
-use Rattle.cqlp_decode.proofs.Gets.{rest_is, drains_event, drains_all, drains_refused, drains_rest, fails_event, fails_rest}
-use Rattle.cqlp_decode.proofs.Taken.{drained, failed, still_tells, passes_handed, passes_failed, passes_one}
-use Rattle.cqlp_decode.proofs.running.drain.Goals as goal
+use Rattle.cqlp_decode.proofs.Gets.{rest_is, drains_event, drains_all, fails_event, fails_rest}
+use Rattle.cqlp_decode.proofs.Taken.{failed, still_tells, passes_handed, passes_failed, passes_none, passes_one}
+use Rattle.cqlp_decode.proofs.Pieces.{begun_at_fault, ends_refused, ends_there, hands_on}
+use Rattle.cqlp_decode.proofs.Pieces.{is_none, refused_first}
+use Rattle.cqlp_decode.proofs.decoder.Decoder.feed.Goals as goal
 
 -- what lies whole in the input
 
@@ -17,12 +19,15 @@ returns-in-Err-clause-refused g c = λ r is.
 pub returns-in-Err-clause-drains : goal.returns-in-Err-clause-drains
 returns-in-Err-clause-drains g c = λ tells.
     let cells = failed g.S.Sink _ _ _ _ _ _ (rw rest_is at c.in-Err.ensures.drains) (c.events.invariant.tells tells) in
-    let taken = c.in-Err.field-0.used in (
-      c.events.used + taken,
-      λ gifts s es a.
-          let d = c.events.invariant.drained tells gifts s es a in
-          fails_rest g.S.Sink.after g.S.Sink.faulted gifts (state c.events.decoder) (state c.hand_whole.new.self) s c.args.input.now c.events.used taken es _ _ _ d (cells gifts _ _ d.stands),
-    )
+    λ gifts s es a.
+    let d = (c.events.invariant.drained tells gifts s es a).0 in
+    let new = state c.hand_whole.new.self in
+    let r = fails_rest g.S.Sink.after g.S.Sink.faulted gifts (state c.events.self) new s c.args.input.now c.events.used c.in-Err.fault.used es _ _ _ d (cells gifts _ _ d.stands) in
+    let none = c.in-Err.ensures.stays.1 ∙ is_none (state c.events.self).refusal (λ r is. let cells = c.in-Err.ensures.refused r is in let e = cells.2 in cc) in
+    (r, ends_there gifts new _ _ none (begun_at_fault _ _ _ _ _ _ _ _ c.in-Err.ensures.drains) r.stands)
+
+pub returns-in-Err-clause-refusal : goal.returns-in-Err-clause-refusal
+returns-in-Err-clause-refusal g c = c.in-Err.ensures.stays.1 ∙ is_none (state c.events.self).refusal (λ r is. let cells = c.in-Err.ensures.refused r is in let e = cells.2 in cc)
 
 pub returns-in-Err-clause-also : goal.returns-in-Err-clause-also
 returns-in-Err-clause-also g c = passes_failed g.S.Sink _ _ _ _ _ _ _ c.events.invariant.also c.in-Err.ensures.drains
@@ -54,19 +59,21 @@ returns-in-More-clause-tells g c = λ tells more. still_tells g.S.Sink _ _ _ _ _
 
 pub returns-in-More-clause-drains : goal.returns-in-More-clause-drains
 returns-in-More-clause-drains g c = λ tells gifts s es a.
-    let old = state c.events.decoder in
+    let old = state c.events.self in
     let mid = state c.hand_whole.new.self in
     let used = c.events.used + c.in-Ok.taken in
     let input = c.args.input.now in
-    let cells = drained g.S.Sink _ _ _ _ _ _ (rw rest_is at c.in-Ok.ensures.drains) (c.events.invariant.tells tells) in
-    let d0 = c.events.invariant.drained tells gifts s es a in
-    let d = drains_rest g.S.Sink.after gifts old mid s input c.events.used c.in-Ok.taken es _ _ _ d0 (cells gifts _ _ d0.stands) in
+    let e = hands_on g.S.Sink gifts s input es _ old mid c.events.used c.in-Ok.taken _ _ (rw rest_is at c.in-Ok.ensures.drains) (c.events.invariant.tells tells) (c.events.invariant.drained tells gifts s es a) in
+    let d = e.0 in
     let leads = c.next.follows.holds-at-none.1 gifts _ _ d.stands in
     let goes = rw c.in-More.is at c.next.follows.holds-at-none.0 in
-    drains_all g.S.Sink.after gifts mid (state c.next.follows.lender-at-none) s input used es _ _ d (state c.args.decoder.now) (λ none. c.in-Ok.ensures.stays.1 ∙ c.events.invariant.clear none) c.in-More.used goes (rw (c.in-More.is, rest_is) at leads)
+    drains_all g.S.Sink.after gifts mid (state c.next.follows.lender-at-none) s input used es _ _ d (state c.args.self.now) (λ none. c.in-Ok.ensures.stays.1 ∙ c.events.invariant.clear none) c.in-More.used goes (rw (c.in-More.is, rest_is) at leads)
 
 pub returns-in-Refused-clause-refusal : goal.returns-in-Refused-clause-refusal
-returns-in-Refused-clause-refusal g c = (_, (rw c.in-Refused.is at c.next.follows.holds-at-none.0).1)
+returns-in-Refused-clause-refusal g c = (rw c.in-Refused.is at c.next.follows.holds-at-none.0).1
+
+pub returns-in-Err-take-clause-refusal : goal.returns-in-Err-take-clause-refusal
+returns-in-Err-take-clause-refusal g c = (rw c.in-Event.is at c.next.follows.holds-at-none.0).3
 
 pub returns-in-Refused-clause-refused : goal.returns-in-Refused-clause-refused
 returns-in-Refused-clause-refused g c = λ r is.
@@ -74,23 +81,22 @@ returns-in-Refused-clause-refused g c = λ r is.
     let cells = c.in-Ok.ensures.refused r (ap (λ (z : StreamState). z.refusal) before.0 ∙ is) in
     let same = cells.0 ∙ before.0 in
     let again = repeated (state c.hand_whole.new.self) (state c.next.follows.lender-at-none) _ (state c.hand_whole.new.self).refusal r (ap (λ (z : StreamState). z.refusal) same ∙ is) c.next.follows.holds-at-none.2 in
-    (refl, again.1 ∙ same, cells.1 ∙ before.1)
+    let none : c.in-Ok.taken ≡ 0 = let e = cells.2 in cc in
+    let own : c.in-Refused.refusal ≡ r = let e = sym c.in-Refused.is ∙ again.0 in cc in
+    (refused_first (c.events.used + c.in-Ok.taken) c.in-Refused.refusal r (omega (arith, before.2, none)) own, again.1 ∙ same, cells.1 ∙ before.1)
 
 pub returns-in-Refused-clause-drains : goal.returns-in-Refused-clause-drains
 returns-in-Refused-clause-drains g c = λ tells.
-    let old = state c.events.decoder in
+    let old = state c.events.self in
     let mid = state c.hand_whole.new.self in
     let used = c.events.used + c.in-Ok.taken in
     let input = c.args.input.now in
-    let cells = drained g.S.Sink _ _ _ _ _ _ (rw rest_is at c.in-Ok.ensures.drains) (c.events.invariant.tells tells) in (
-      used,
-      λ gifts s es a.
-          let d0 = c.events.invariant.drained tells gifts s es a in
-          let d = drains_rest g.S.Sink.after gifts old mid s input c.events.used c.in-Ok.taken es _ _ _ d0 (cells gifts _ _ d0.stands) in
-          let leads = c.next.follows.holds-at-none.1 gifts _ _ d.stands in
-          let goes = rw c.in-Refused.is at c.next.follows.holds-at-none.0 in
-          drains_refused g.S.Sink.after gifts mid (state c.next.follows.lender-at-none) s input used es _ _ d (state c.args.decoder.now) (λ none. c.in-Ok.ensures.stays.1 ∙ c.events.invariant.clear none) _ goes (rw (c.in-Refused.is, rest_is) at leads),
-    )
+    λ gifts s es a.
+    let e = hands_on g.S.Sink gifts s input es _ old mid c.events.used c.in-Ok.taken _ _ (rw rest_is at c.in-Ok.ensures.drains) (c.events.invariant.tells tells) (c.events.invariant.drained tells gifts s es a) in
+    let d = e.0 in
+    let leads = c.next.follows.holds-at-none.1 gifts _ _ d.stands in
+    let goes = rw c.in-Refused.is at c.next.follows.holds-at-none.0 in
+    ends_refused g.S.Sink.after gifts (state c.args.self.now) mid (state c.next.follows.lender-at-none) s input used es _ _ d (λ none. c.in-Ok.ensures.stays.1 ∙ c.events.invariant.clear none) _ goes (rw (c.in-Refused.is, rest_is) at leads) e.1
 
 pub returns-in-Err-take-clause-refused : goal.returns-in-Err-take-clause-refused
 returns-in-Err-take-clause-refused g c = λ r is.
@@ -102,18 +108,18 @@ returns-in-Err-take-clause-refused g c = λ r is.
 
 pub returns-in-Err-take-clause-drains : goal.returns-in-Err-take-clause-drains
 returns-in-Err-take-clause-drains g c = λ tells.
-    let old = state c.events.decoder in
+    let old = state c.events.self in
     let mid = state c.hand_whole.new.self in
     let used = c.events.used + c.in-Ok.taken in
     let input = c.args.input.now in
-    let cells = drained g.S.Sink _ _ _ _ _ _ (rw rest_is at c.in-Ok.ensures.drains) (c.events.invariant.tells tells) in (
-      used + c.in-Event.taken,
-      λ gifts s es a.
-          let d0 = c.events.invariant.drained tells gifts s es a in
-          let d = drains_rest g.S.Sink.after gifts old mid s input c.events.used c.in-Ok.taken es _ _ _ d0 (cells gifts _ _ d0.stands) in
-          let leads = c.next.follows.holds-at-none.1 gifts _ _ d.stands in
-          fails_event g.S.Sink.after gifts mid (state c.next.follows.lender-at-none) s input used es _ _ d g.S.Sink.faulted c.in-Event.at c.in-Event.taken c.in-Event.event _ (rw (c.in-Event.is, rest_is) at leads) (c.in-Err-take.ensures.err (still_tells g.S.Sink _ _ _ _ _ _ c.in-Ok.ensures.drains (c.events.invariant.tells tells))),
-    )
+    λ gifts s es a.
+    let e = hands_on g.S.Sink gifts s input es _ old mid c.events.used c.in-Ok.taken _ _ (rw rest_is at c.in-Ok.ensures.drains) (c.events.invariant.tells tells) (c.events.invariant.drained tells gifts s es a) in
+    let d = e.0 in
+    let leads = c.next.follows.holds-at-none.1 gifts _ _ d.stands in
+    let new = state c.next.follows.lender-at-none in
+    let led = rw (c.in-Event.is, rest_is) at leads in
+    let r = fails_event g.S.Sink.after gifts mid new s input used es _ _ d g.S.Sink.faulted c.in-Event.at c.in-Event.taken c.in-Event.event _ led (c.in-Err-take.ensures.err (still_tells g.S.Sink _ _ _ _ _ _ c.in-Ok.ensures.drains (c.events.invariant.tells tells))) in
+    (r, ends_there gifts new _ _ led.1 led.2 r.stands)
 
 pub events-smaller : goal.events-smaller
 events-smaller g c =
@@ -126,7 +132,7 @@ events-smaller g c =
 
 pub events-preserved : goal.events-preserved
 events-preserved g c =
-    let old = state c.events.decoder in
+    let old = state c.events.self in
     let mid = state c.hand_whole.new.self in
     let used = c.events.used + c.in-Ok.taken in
     let input = c.args.input.now in
@@ -149,9 +155,23 @@ events-preserved g c =
       also = passes_one g.S.Sink.also _ _ _ _ _ (passes_handed g.S.Sink _ _ _ _ _ _ _ c.events.invariant.also c.in-Ok.ensures.drains) c.in-Ok-take.ensures.also;
       tells = λ tells. (c.in-Ok-take.ensures.ok (still_tells g.S.Sink _ _ _ _ _ _ c.in-Ok.ensures.drains (c.events.invariant.tells tells))).0;
       drained = λ tells gifts s es a.
-          let cells = drained g.S.Sink _ _ _ _ _ _ (rw rest_is at c.in-Ok.ensures.drains) (c.events.invariant.tells tells) in
-          let d0 = c.events.invariant.drained tells gifts s es a in
-          let d = drains_rest g.S.Sink.after gifts old mid s input c.events.used c.in-Ok.taken es _ _ _ d0 (cells gifts _ _ d0.stands) in
+          let e = hands_on g.S.Sink gifts s input es _ old mid c.events.used c.in-Ok.taken _ _ (rw rest_is at c.in-Ok.ensures.drains) (c.events.invariant.tells tells) (c.events.invariant.drained tells gifts s es a) in
+          let d = e.0 in
           let leads = c.next.follows.holds-at-none.1 gifts _ _ d.stands in
-          drains_event g.S.Sink.after gifts mid (state c.next.follows.lender-at-none) s input used es _ _ d c.in-Event.at c.in-Event.taken c.in-Event.event _ (rw (c.in-Event.is, rest_is) at leads) (c.in-Ok-take.ensures.ok (still_tells g.S.Sink _ _ _ _ _ _ c.in-Ok.ensures.drains (c.events.invariant.tells tells))).1;
+          let new = state c.next.follows.lender-at-none in
+          let led = rw (c.in-Event.is, rest_is) at leads in
+          let r = drains_event g.S.Sink.after gifts mid new s input used es _ _ d c.in-Event.at c.in-Event.taken c.in-Event.event _ led (c.in-Ok-take.ensures.ok (still_tells g.S.Sink _ _ _ _ _ _ c.in-Ok.ensures.drains (c.events.invariant.tells tells))).1 in
+          (r, inr (ends_there gifts new _ _ led.1 led.2 r.stands));
     }
+
+pub events-init : goal.events-init
+events-init g c = record {
+  within = omega arith;
+  rules = refl;
+  given = refl;
+  refused = λ r is. (refl, refl, refl);
+  clear = λ none. none;
+  tells = λ tells. tells;
+  also = passes_none g.S.Sink.also c.args.sink.now;
+  drained = λ tells gifts s es a. (record { more = []; stands = rw (append-nil s, append-nil es) a; got = refl }, inl (refl, refl));
+}

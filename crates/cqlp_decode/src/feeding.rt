@@ -1,0 +1,71 @@
+//! A piece of a stream, handed to a sink as events.
+
+ghost use Rattle.std.specs.Prelude.{◌≡◌, ◌≤◌, Some, length};
+ghost use Rattle.cqlp_decode.specs.Draining.{DrainsBy, DrainsTo, Passes, used_of};
+ghost use Rattle.cqlp_decode.specs.Streams.{state};
+ghost use Rattle.cqlp_note.specs.declared.refusal.Refusal.{Refusal as Refused};
+
+use crate::decoder::Decoder;
+use crate::step::Step;
+use cqlp_grammar::{Sink, SinkFault};
+use cqlp_note::Refusal;
+use std::alloc::Allocator;
+
+/// How feeding a piece ends.
+#[derive(Clone, Copy, Debug, PartialEq, Eq)]
+pub enum Fed {
+    /// All of the piece was used, the sink has got all of its events, and more is wanted.
+    More,
+    /// The stream is refused after this many bytes of the piece, here and at every later call. The refusal's offset is one in the
+    /// whole stream.
+    Refused { used: usize, refusal: Refusal },
+    /// The sink failed at an event that ends after this many bytes of the piece. A later call goes on behind them.
+    Fault { used: usize },
+}
+
+impl<A: Allocator> Decoder<A> {
+    /// Hands all events that the input decides to the sink: the ends of frames and of values too, so that nothing waits for
+    /// another call. What `run` does with each piece that it reads, and as fast.
+    ///
+    /// Contents that lie whole in the input are lent from it. No memory is asked for. After `Fed::More` the next call takes the
+    /// bytes that come next; at the end of the stream `finish` says whether it ends between two frames.
+    pub fn feed<S: Sink>(&mut self, input: &[u8], sink: &mut S) -> Fed
+        ensures within { used_of (length input.now) result ≤ length input.now }
+        ensures refusal { DrainsBy result (state self.new).refusal }
+        ensures refused { (r : Refused) → (state self.old).refusal ≡ Some r →
+            (result ≡ Fed.Refused 0 r) × (state self.new ≡ state self.old) × (sink.new ≡ sink.old) }
+        ensures drains { S.tells sink.old →
+            DrainsTo S.after S.faulted (state self.old) input.now result (state self.new)
+            (S.view sink.old) (S.view sink.new) }
+        ensures tells { S.tells sink.old → result ≡ Fed.More → S.tells sink.new }
+        ensures also { Passes S.also sink.old sink.new }
+        ensures rules { (state self.new).rules ≡ (state self.old).rules }
+        ensures given { (state self.new).given ≡ (state self.old).given }
+    {
+        let mut used = 0;
+        'events: loop {
+            match self.hand_whole(&input[used..], sink) {
+                Ok(taken) => used += taken,
+                Err(fault) => {
+                    let used = used + fault.used;
+                    return Fed::Fault { used };
+                }
+            }
+            match self.next(&input[used..]) {
+                Step::More { .. } => return Fed::More,
+                Step::Refused(refusal) => return Fed::Refused { used, refusal },
+                Step::Event {
+                    at,
+                    used: taken,
+                    event,
+                } => match sink.take(at, &event) {
+                    Ok(()) => used += taken,
+                    Err(SinkFault) => {
+                        let used = used + taken;
+                        return Fed::Fault { used };
+                    }
+                },
+            }
+        }
+    }
+}
