@@ -10,7 +10,7 @@ import (
 	"cqlp.example.org/cqlp"
 )
 
-// pass passes on each frame once its end came.
+// pass reads events, and writes each frame at its end.
 func pass(in io.Reader, out io.Writer, old, new []byte) error {
 	reader, err := cqlp.NewReader(in, cqlp.DefaultLimits())
 	if err != nil {
