@@ -1,4 +1,4 @@
-// Says what the frames in a file are, and which of them cannot be read: go run ./examples/frames FILE
+// Prints the frames in a file, and why bad ones are passed over: go run ./examples/frames FILE
 package main
 
 import (
