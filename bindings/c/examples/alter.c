@@ -1,12 +1,12 @@
-/* Passes requests on from standard input to standard output. What asks for the consistency ONE asks for LOCAL_QUORUM there. */
+/* Passes requests on from standard input to standard output, with LOCAL_QUORUM in place of the consistency ONE. */
 #include <cqlp.h>
 #include <stdio.h>
 
-/* The last byte of what was read waits for the next piece: it may be the first of the two bytes of a consistency. */
+/* The last byte of a piece waits for the next piece: it may be the first of the two bytes of a consistency. */
 static uint8_t buffer[1 + 4096];
 static size_t kept;
 
-/* Gives a piece to the decoder, which lies after the byte that was kept, and changes what it says. Answers whether it goes on. */
+/* Decodes a piece, which lies after the kept byte, and alters its consistencies. Returns whether the stream goes on. */
 static int read_piece(cqlp_decoder *decoder, size_t length, uint64_t base) {
   static cqlp_event events[64];
   cqlp_batch batch = {0};
@@ -38,7 +38,7 @@ int main(void) {
   cqlp_finish(&decoder, &end);
   cqlp_free(&decoder);
   if (end.verdict == CQLP_END_REFUSED)
-    fprintf(stderr, "%s\n", cqlp_name(CQLP_GROUP_REASON, end.reason)); /* and nothing of its piece is passed on */
+    fprintf(stderr, "%s\n", cqlp_name(CQLP_GROUP_REASON, end.reason)); /* nothing of its piece is passed on */
   else
     fwrite(buffer, 1, kept, stdout);
   return end.verdict != CQLP_END_WHOLE;

@@ -1,4 +1,4 @@
-/* Says what the frames in a file are, and which of them cannot be read: frames FILE */
+/* Prints the frames in a file, and why bad ones are passed over: frames FILE */
 #include <cqlp.h>
 #include <inttypes.h>
 #include <stdio.h>
@@ -8,7 +8,7 @@ static void take(const cqlp_event *event) {
   if (event->field == CQLP_FIELD_QUERY) printf("  %.*s\n", (int)event->length, (const char *)event->content);
 }
 
-/* Passes over the frame that is refused. Answers whether the decoder goes on: it does not where a header is refused. */
+/* Passes over the refused frame. Returns whether the decoder goes on: not after a refused header. */
 static int pass_over(cqlp_decoder *decoder) {
   cqlp_skipped skipped = {0};
   if (cqlp_skip(decoder, &skipped) != CQLP_DONE) return 0;

@@ -12,7 +12,7 @@ static void print_scalar(const cqlp_event *event) {
   }
 }
 
-/* What a decoder says of a page, in the order of its bytes. */
+/* Prints an event of a page. */
 static void take(const cqlp_event *event) {
   int is_cell = CQLP_TAG_LEAF <= event->tag && event->tag <= CQLP_TAG_ENTER;
   if (is_cell && event->level == 0) printf(event->column ? " | " : "\n");

@@ -1,26 +1,25 @@
-/* A server of one table, for one connection: it answers the requests on standard input, to standard output, and the texts of statements go to
- * standard error. */
+/* A server with one table, for one connection: it reads requests on standard input, and writes the replies to standard output. */
 #include <cqlp.h>
 #include <stdio.h>
 #include <stdlib.h>
 #include <string.h>
 #include <unistd.h>
 
-/* A table of one row at most: its columns, and their cells. */
+/* A column, and its cell in the only row. */
 typedef struct {
   const char *name;
   uint8_t kind;
   const char *cell;
 } column;
 
-/* What drivers ask for first. Of the other tables of the system they are told that these are empty. */
+static const column ORDERS[] = {{"id", CQLP_KIND_VARCHAR, "1"}, {"item", CQLP_KIND_VARCHAR, "tea"}};
+/* What drivers ask for first. The other tables of the system are empty. */
 static const column LOCAL[] = {{"cluster_name", CQLP_KIND_VARCHAR, "one"}, {"data_center", CQLP_KIND_VARCHAR, "dc1"},
     {"rack", CQLP_KIND_VARCHAR, "r1"}, {"release_version", CQLP_KIND_VARCHAR, "3.11.4"},
     {"partitioner", CQLP_KIND_VARCHAR, "org.apache.cassandra.dht.Murmur3Partitioner"},
     {"host_id", CQLP_KIND_UUID, "one host's 16 b."}, {"schema_version", CQLP_KIND_UUID, "a schema's 16 b."}};
-static const column ORDERS[] = {{"id", CQLP_KIND_VARCHAR, "1"}, {"item", CQLP_KIND_VARCHAR, "tea"}};
 
-/* The events of the frame that is put together, and their contents one after the other. */
+/* The events of the reply, and their contents one after the other. */
 static cqlp_event events[64];
 static char contents[8192];
 static size_t count, length;
@@ -57,11 +56,11 @@ static void add_row(const column *columns, uint32_t width) {
   }
 }
 
-/* Adds what answers a statement, or that it is prepared: then it is its own id. Answers the opcode. */
-static uint8_t answer_statement(const char *statement, int prepares) {
-  int is_local = strstr(statement, "system.local") != NULL, is_system = strstr(statement, "system") != NULL;
+/* Adds a page, or that the statement is prepared: its text is its id then. Returns the opcode of the reply. */
+static uint8_t add_result(const char *statement, int prepares) {
+  int is_system = strstr(statement, "system") != NULL, has_row = !is_system || strstr(statement, "system.local");
   const column *columns = is_system ? LOCAL : ORDERS;
-  uint32_t width = is_system ? sizeof LOCAL / sizeof *LOCAL : sizeof ORDERS / sizeof *ORDERS, rows = is_local || !is_system;
+  uint32_t width = is_system ? sizeof LOCAL / sizeof *LOCAL : sizeof ORDERS / sizeof *ORDERS;
   if (!is_system && !strstr(statement, "shop.orders")) {
     add_number(CQLP_TAG_INT, CQLP_FIELD_ERROR_CODE, CQLP_ERROR_INVALID);
     add_text(CQLP_FIELD_MESSAGE, "no such table");
@@ -75,12 +74,12 @@ static uint8_t answer_statement(const char *statement, int prepares) {
     add_number(CQLP_TAG_COUNT, CQLP_FIELD_KEYS, 0);
   }
   add_metadata(columns, width);
-  if (!prepares) add_number(CQLP_TAG_COUNT, CQLP_FIELD_ROWS, rows);
-  if (!prepares && rows) add_row(columns, width);
+  if (!prepares) add_number(CQLP_TAG_COUNT, CQLP_FIELD_ROWS, has_row);
+  if (!prepares && has_row) add_row(columns, width);
   return CQLP_OPCODE_RESULT;
 }
 
-static uint8_t add_answer(uint8_t opcode, const char *statement) {
+static uint8_t add_reply(uint8_t opcode, const char *statement) {
   switch (opcode) {
     case CQLP_OPCODE_OPTIONS:
       add_number(CQLP_TAG_COUNT, CQLP_FIELD_OPTIONS, 2);
@@ -91,7 +90,7 @@ static uint8_t add_answer(uint8_t opcode, const char *statement) {
       add_text(CQLP_FIELD_OPTION_VALUE, "3.4.4");
       return CQLP_OPCODE_SUPPORTED;
     case CQLP_OPCODE_STARTUP: case CQLP_OPCODE_REGISTER: return CQLP_OPCODE_READY;
-    default: return answer_statement(statement, opcode == CQLP_OPCODE_PREPARE);
+    default: return add_result(statement, opcode == CQLP_OPCODE_PREPARE);
   }
 }
 
@@ -101,30 +100,25 @@ static void answer(cqlp_server *server, const cqlp_event *request, const char *s
   cqlp_answered answered = {0};
   count = length = 0;
   add((cqlp_event){.tag = CQLP_TAG_FRAME, .mark = CQLP_MARK_RESPONSE, .extra = request->extra}, "");
-  events[0].opcode = add_answer(request->opcode, statement);
+  events[0].opcode = add_reply(request->opcode, statement);
   if (cqlp_server_answer(server, (int16_t)request->extra, events[0].opcode, &answered) != CQLP_DONE) abort();
   if (cqlp_encode(events, count, (const uint8_t *)contents, length, bytes, sizeof bytes, &encoded) != CQLP_DONE) abort();
   fwrite(bytes, 1, encoded.length, stdout);
 }
 
-/* Takes an event of a request, and answers the request at its end. Answers whether it may come now. */
-static int take(cqlp_server *server, const cqlp_event *event) {
+/* Handles an event of a request, and answers the request at its end. Returns CQLP_DONE, or why the request may not come now. */
+static uint32_t take(cqlp_server *server, const cqlp_event *event) {
   static cqlp_event request;
   static char statement[1024];
   if (event->tag == CQLP_TAG_FRAME) {
     request = *event;
     statement[0] = 0;
-    uint32_t code = cqlp_server_accept(server, event, 0);
-    if (code == CQLP_DONE) return 1;
-    fprintf(stderr, "%s: %s\n", cqlp_name(CQLP_GROUP_OPCODE, event->opcode), cqlp_name(CQLP_GROUP_CODE, code));
-    return 0;
+    return cqlp_server_accept(server, event, 0);
   }
-  if (event->field == CQLP_FIELD_QUERY || event->field == CQLP_FIELD_STATEMENT_ID) {
+  if (event->field == CQLP_FIELD_QUERY || event->field == CQLP_FIELD_STATEMENT_ID)
     snprintf(statement, sizeof statement, "%.*s", (int)event->length, (const char *)event->content);
-    fprintf(stderr, "%s\n", statement);
-  }
   if (event->tag == CQLP_TAG_END) answer(server, &request, statement);
-  return 1;
+  return CQLP_DONE;
 }
 
 int main(void) {
@@ -134,24 +128,25 @@ int main(void) {
   cqlp_decoder decoder = CQLP_NO_DECODER_YET;
   cqlp_server server = CQLP_NO_SERVER_YET;
   cqlp_batch batch = {0};
-  int open = 1;
+  uint32_t code = CQLP_DONE;
   size_t seen = 0, put = 0;
   if (cqlp_new(&limits, &decoder) != CQLP_DONE || cqlp_server_new(32768, &server) != CQLP_DONE) return 2;
-  for (ssize_t got; open && (got = read(STDIN_FILENO, piece, sizeof piece)) > 0; fflush(stdout)) {
+  for (ssize_t got; code == CQLP_DONE && batch.stop != CQLP_STOP_REFUSED && (got = read(STDIN_FILENO, piece, sizeof piece)) > 0;) {
     size_t used = 0;
     for (ssize_t i = 0; i < got && seen < sizeof first; i++) first[seen++] = piece[i];
     do {
       cqlp_next(&decoder, piece + used, (size_t)got - used, taken, 64, &batch);
       used += batch.used;
-      for (size_t i = 0; open && i < batch.events; i++) open = take(&server, &taken[i]);
-    } while (open && batch.stop == CQLP_STOP_FULL);
-    open = open && batch.stop != CQLP_STOP_REFUSED;
+      for (size_t i = 0; code == CQLP_DONE && i < batch.events; i++) code = take(&server, &taken[i]);
+    } while (code == CQLP_DONE && batch.stop == CQLP_STOP_FULL);
+    fflush(stdout);
   }
-  /* of another version, which drivers try first: the answer is by which they try this one */
+  if (code != CQLP_DONE) fprintf(stderr, "%s\n", cqlp_name(CQLP_GROUP_CODE, code));
+  /* drivers try greater versions first, and after this reply version 4 */
   if (batch.stop == CQLP_STOP_REFUSED && batch.reason == CQLP_REASON_BAD_VERSION &&
       cqlp_version_error(first, error, sizeof error, &put) == CQLP_DONE)
     fwrite(error, 1, put, stdout);
   cqlp_server_free(&server);
   cqlp_free(&decoder);
-  return !open;
+  return code != CQLP_DONE || batch.stop == CQLP_STOP_REFUSED;
 }

@@ -1,4 +1,4 @@
-"""Passes requests on from standard input to standard output. What asks for the consistency ONE asks for LOCAL_QUORUM there."""
+"""Passes requests on from standard input to standard output, with LOCAL_QUORUM in place of the consistency ONE."""
 
 import os
 import sys
@@ -9,7 +9,7 @@ from cqlp import Consistency, Field
 
 
 def altered(pieces: Iterable[bytes]) -> Iterator[bytes]:
-    """The last byte of what was read waits for the next piece: it may be the first of the two bytes of a consistency."""
+    """The last byte of a piece waits for the next piece: it may be the first of the two bytes of a consistency."""
     buffer, base = bytearray(), 0
     with cqlp.Decoder() as decoder:
         for piece in pieces:
@@ -29,7 +29,7 @@ def main() -> None:
         for piece in altered(pieces):
             sys.stdout.buffer.write(piece)
     except cqlp.Refused as refused:
-        sys.exit(str(refused))  # and nothing of its piece is passed on
+        sys.exit(str(refused))  # nothing of its piece is passed on
 
 
 main()

@@ -1,4 +1,4 @@
-"""Says what the frames in a file are, and which of them cannot be read: python3 frames.py FILE"""
+"""Prints the frames in a file, and why bad ones are passed over: python3 frames.py FILE"""
 
 import sys
 

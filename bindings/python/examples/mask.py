@@ -8,7 +8,7 @@ from cqlp import Field, Kind, Tag
 
 
 def altered(events: Iterable[cqlp.Event]) -> Iterator[bytes]:
-    """The cells of a page as they come. They keep their lengths, so they have what is left of its body after the count of its rows."""
+    """The cells keep their lengths, so their size is that of the body after the count of the rows."""
     page, end = cqlp.PageWriter(), 0
     for event in events:
         if event.tag == Tag.FRAME:

@@ -1,4 +1,4 @@
-"""Says what the frames in a file are: python3 messages.py FILE"""
+"""Prints the frames in a file: python3 messages.py FILE"""
 
 import sys
 

@@ -1,4 +1,4 @@
-"""Passes requests on from standard input to standard output, with other words in the texts of their queries: python3 replace.py OLD NEW"""
+"""Passes requests on from standard input to standard output, with OLD replaced by NEW in the texts of queries: python3 replace.py OLD NEW"""
 
 import os
 import sys

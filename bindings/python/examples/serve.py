@@ -92,7 +92,7 @@ def answer(stream: int, message: messages.Message) -> bytes:
         return reply(stream, Opcode.RESULT, *result)
     if name.startswith("system"):  # the other nodes and the schema, which drivers ask for: no rows
         return reply(stream, Opcode.RESULT, *page("system.local", []))
-    words = text(Field.MESSAGE, "%s is not served" % type(message).__name__)
+    words = text(Field.MESSAGE, "%s is not served" % (name or type(message).__name__))
     return reply(stream, Opcode.ERROR, number(Field.ERROR_CODE, ErrorCode.INVALID), words)
 
 

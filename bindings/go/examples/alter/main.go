@@ -1,4 +1,4 @@
-// Passes requests on from standard input to standard output. What asks for the consistency ONE asks for LOCAL_QUORUM there.
+// Passes requests on from standard input to standard output, with LOCAL_QUORUM in place of the consistency ONE.
 package main
 
 import (
@@ -10,8 +10,8 @@ import (
 	"cqlp.example.org/cqlp"
 )
 
-// alter gives a piece to the decoder, which lies after this many bytes that were kept, and changes what it says. The first byte of the
-// buffer is at the offset base of the stream.
+// alter decodes a piece, which lies after this many kept bytes, and alters its consistencies. The first byte of the buffer is at the
+// offset base of the stream.
 func alter(decoder *cqlp.Decoder, buffer []byte, kept int, base uint64) error {
 	for rest := buffer[kept:]; ; {
 		event, n, err := decoder.Next(rest)
@@ -28,8 +28,7 @@ func alter(decoder *cqlp.Decoder, buffer []byte, kept int, base uint64) error {
 	}
 }
 
-// pass passes on all but the last byte of what was read, which waits for the next piece: it may be the first of the two bytes of a
-// consistency.
+// pass writes all but the last byte of a piece, which waits for the next one: it may be the first of the two bytes of a consistency.
 func pass(decoder *cqlp.Decoder, in io.Reader, out io.Writer) error {
 	buffer, kept, base := make([]byte, 1+4096), 0, uint64(0)
 	for {

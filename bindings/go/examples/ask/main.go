@@ -11,13 +11,12 @@ import (
 	"cqlp.example.org/cqlp"
 )
 
-// A connection asks one thing at a time; the core would have more of them open.
+// A connection has one open request at a time; the core allows more.
 type connection struct {
 	net.Conn
 	open   *cqlp.Client
 	frames *cqlp.Frames
-	// the types of the statement that was prepared
-	types *cqlp.Types
+	types  *cqlp.Types // of the prepared statement
 }
 
 func connect(address string) (*connection, error) {
@@ -81,7 +80,7 @@ func (c *connection) pages(request cqlp.Message, parameters *cqlp.Parameters) er
 		}
 		page, is := reply.(*cqlp.Rows)
 		if !is {
-			return fmt.Errorf("%T came, and no page", reply)
+			return fmt.Errorf("a page was expected, not %T", reply)
 		}
 		for _, row := range page.Rows {
 			fmt.Println(row...)
@@ -92,20 +91,20 @@ func (c *connection) pages(request cqlp.Message, parameters *cqlp.Parameters) er
 	}
 }
 
-// prepared asks for pages without metadata, which are typed by what the reply to PREPARE told.
+// prepared prints the pages of a prepared statement, which have no metadata: their types are those of the PREPARED.
 func (c *connection) prepared(statement string) error {
 	reply, err := c.ask(&cqlp.Prepare{Query: statement})
 	if err != nil {
 		return err
 	}
-	told, is := reply.(*cqlp.Prepared)
+	made, is := reply.(*cqlp.Prepared)
 	if !is {
-		return fmt.Errorf("%T came, and no statement", reply)
+		return fmt.Errorf("a statement was expected, not %T", reply)
 	}
 	if c.types, err = c.frames.TypesOf(); err != nil {
 		return err
 	}
-	execute := &cqlp.Execute{ID: told.ID, Parameters: cqlp.Parameters{SkipMetadata: true}}
+	execute := &cqlp.Execute{ID: made.ID, Parameters: cqlp.Parameters{SkipMetadata: true}}
 	return c.pages(execute, &execute.Parameters)
 }
 

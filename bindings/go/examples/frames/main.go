@@ -1,4 +1,4 @@
-// Says what the frames in a file are, and which of them cannot be read: go run ./examples/frames FILE
+// Prints the frames in a file, and why bad ones are passed over: go run ./examples/frames FILE
 package main
 
 import (
@@ -10,8 +10,8 @@ import (
 	"cqlp.example.org/cqlp"
 )
 
-// tell prints what a message says.
-func tell(frame *cqlp.Frame) {
+// show prints a message.
+func show(frame *cqlp.Frame) {
 	switch message := frame.Message.(type) {
 	case *cqlp.Query:
 		fmt.Println(frame.Stream, "asks:", message.Query, "with", message.Parameters.Consistency)
@@ -45,6 +45,6 @@ func main() {
 		if err != nil {
 			log.Fatal(err)
 		}
-		tell(frame)
+		show(frame)
 	}
 }

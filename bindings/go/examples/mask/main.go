@@ -10,7 +10,7 @@ import (
 	"cqlp.example.org/cqlp"
 )
 
-// pass passes on the cells of a page as they come. They keep their lengths, so they have what is left of its body after the count of its rows.
+// pass writes the cells of a page as they come. They keep their lengths, so their size is that of the body after the count of the rows.
 func pass(in io.Reader, out io.Writer) error {
 	reader, err := cqlp.NewReader(in, cqlp.DefaultLimits())
 	if err != nil {

@@ -1,4 +1,4 @@
-// Passes requests on from standard input to standard output, with other words in the texts of their queries: go run ./examples/replace OLD NEW
+// Passes requests on from standard input to standard output, with OLD replaced by NEW in the texts of queries: go run ./examples/replace OLD NEW
 package main
 
 import (
@@ -10,7 +10,7 @@ import (
 	"cqlp.example.org/cqlp"
 )
 
-// pass passes on each frame once its end came.
+// pass reads events, and writes each frame at its end.
 func pass(in io.Reader, out io.Writer, old, new []byte) error {
 	reader, err := cqlp.NewReader(in, cqlp.DefaultLimits())
 	if err != nil {

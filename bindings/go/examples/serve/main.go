@@ -1,5 +1,5 @@
-// A server with one table in memory, for drivers as they come: go run ./examples/serve ADDRESS listens there; go run ./examples/serve answers the requests on standard
-// input, to standard output.
+// A server with one table in memory, for drivers. go run ./examples/serve ADDRESS listens there; without an address it reads requests
+// on standard input, and writes the replies to standard output.
 package main
 
 import (
@@ -23,7 +23,7 @@ var (
 			Metadata: cqlp.Metadata{Columns: []cqlp.Column{{Name: "id", Type: integer}, {Name: "items", Type: items}}},
 			Rows:     [][]any{{1, map[string]int{"tea": 2}}, {2, map[string]int{"salt": 1}}, {3, nil}, {4, map[string]int{"bread": 1}}, {5, nil}},
 		},
-		// what drivers ask for first
+		// drivers ask for it first
 		"system.local": {
 			Metadata: cqlp.Metadata{Columns: []cqlp.Column{{Name: "cluster_name", Type: text}, {Name: "data_center", Type: text},
 				{Name: "rack", Type: text}, {Name: "release_version", Type: text}, {Name: "partitioner", Type: text},
@@ -33,7 +33,7 @@ var (
 	}
 )
 
-// find is the table that a statement names, or nil. The other tables of the system are empty.
+// find returns the table of a statement, or nil. The other tables of the system are empty.
 func find(statement string) *cqlp.Rows {
 	for name, table := range tables {
 		if strings.Contains(statement, name) {
@@ -46,7 +46,7 @@ func find(statement string) *cqlp.Rows {
 	return nil
 }
 
-// page has the rows of a table from the one on that the paging state says, no more than are asked for.
+// page returns the rows of a table from the paging state on, up to the page size.
 func page(table *cqlp.Rows, parameters *cqlp.Parameters) cqlp.Message {
 	if table == nil {
 		return &cqlp.ServerError{Code: cqlp.ErrorInvalid, Message: "no such table"}
@@ -67,7 +67,7 @@ func page(table *cqlp.Rows, parameters *cqlp.Parameters) cqlp.Message {
 	return found
 }
 
-// answer is the reply to a request. The id of a prepared statement is its text.
+// answer returns the reply to a request. The id of a prepared statement is its text.
 func answer(request cqlp.Message) cqlp.Message {
 	switch request := request.(type) {
 	case *cqlp.Options:
@@ -86,7 +86,7 @@ func answer(request cqlp.Message) cqlp.Message {
 	return &cqlp.ServerError{Code: cqlp.ErrorInvalid, Message: fmt.Sprintf("%v is not served", request.Opcode())}
 }
 
-// serve answers the requests of one connection until it ends, or something comes that may not.
+// serve answers the requests of one connection, up to its end or the first bad one.
 func serve(in io.Reader, out io.Writer) error {
 	frames, err := cqlp.NewFrames(in, cqlp.DefaultLimits())
 	if err != nil {
@@ -103,7 +103,7 @@ func serve(in io.Reader, out io.Writer) error {
 		frame, err := frames.Next()
 		var refusal *cqlp.Refusal
 		if errors.As(err, &refusal) && refusal.Reason == cqlp.ReasonBadVersion {
-			out.Write(cqlp.VersionError(frames.Header())) // by which drivers try this version
+			out.Write(cqlp.VersionError(frames.Header())) // drivers try version 4 after this reply
 		}
 		if err != nil {
 			return err
