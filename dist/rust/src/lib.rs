@@ -1,6 +1,6 @@
 //! A streaming codec of the CQL binary protocol, version 4 (`native_protocol_v4.spec` of Apache Cassandra), without compression.
 //!
-//! A [`Decoder`] reads frames from pieces of any size, one [`Event`] at a time, and holds no more than its [`Limits`] say,
+//! A [`Decoder`] reads frames from pieces of any size as [`Event`]s, and holds no more than its [`Limits`] say,
 //! whatever lengths and counts a peer sends. [`frame`] has values of frames, what builds them of events and what writes them,
 //! [`cells`] the same of the cells of pages, [`session`] the cores of a client and of a server, which pair replies with requests, [`text`]
 //! the text of events and of pages, [`watch`] an observer of both sides of a connection, as a proxy has it, and [`capture`] readers of packet
@@ -55,28 +55,22 @@
 //!
 //! # A socket
 //!
-//! Whoever has the bytes pulls the events out of each piece by [`Decoder::next`]. What an event lends lies in the piece, or in
-//! the decoder where a piece cut it:
+//! Whoever has the bytes feeds each piece to the decoder, and a sink gets all events that it decides, by [`Decoder::feed`]:
 //!
 //! ```
-//! use cqlp::{Decoder, Event, Global, Limits, Refusal, Step};
+//! use cqlp::{Decoder, Event, Fed, Global, Limits, Sink, SinkFault};
 //! use std::io::{Read, Write};
 //! use std::net::{TcpListener, TcpStream};
 //!
-//! /// Prints the opcode of each frame in a piece.
-//! fn pull(decoder: &mut Decoder, piece: &[u8], seen: &mut Vec<String>) -> Result<(), Refusal> {
-//!     let mut used = 0;
-//!     loop {
-//!         match decoder.next(&piece[used..]) {
-//!             Step::Event { used: taken, event, .. } => {
-//!                 if let Event::Frame(header) = event {
-//!                     seen.push(format!("{:?} under stream id {}", header.opcode, header.stream));
-//!                 }
-//!                 used += taken;
-//!             }
-//!             Step::More { .. } => return Ok(()),
-//!             Step::Refused(refusal) => return Err(refusal),
+//! /// The opcode of each frame.
+//! struct Opcodes(Vec<String>);
+//!
+//! impl Sink for Opcodes {
+//!     fn take(&mut self, _at: u64, event: &Event<'_>) -> Result<(), SinkFault> {
+//!         if let Event::Frame(header) = event {
+//!             self.0.push(format!("{:?} under stream id {}", header.opcode, header.stream));
 //!         }
+//!         Ok(())
 //!     }
 //! }
 //!
@@ -89,17 +83,25 @@
 //!
 //! let mut server = listener.accept()?.0;
 //! let mut decoder = Decoder::new(Global, Limits::DEFAULT)?;
-//! let (mut piece, mut seen) = ([0; 4096], Vec::new());
+//! let (mut piece, mut opcodes) = ([0; 4096], Opcodes(Vec::new()));
 //! loop {
 //!     let count = server.read(&mut piece)?;
 //!     if count == 0 {
 //!         break;
 //!     }
-//!     pull(&mut decoder, &piece[..count], &mut seen).expect("the bytes are a request");
+//!     match decoder.feed(&piece[..count], &mut opcodes) {
+//!         Fed::More => {}
+//!         Fed::Refused { refusal, .. } => return Err(refusal.into()),
+//!         Fed::Fault { .. } => unreachable!("this sink takes all"),
+//!     }
 //! }
-//! assert_eq!(seen, ["Options under stream id 1"]);
+//! assert_eq!(opcodes.0, ["Options under stream id 1"]);
 //! # Ok::<(), Box<dyn std::error::Error>>(())
 //! ```
+//!
+//! [`Decoder::next`] answers one event at a time, for whoever wants to stop between two. What an event lends lies in the piece, or
+//! in the decoder where a piece cut it. **A loop that ends when all bytes are used misses the end of the frame, which takes a call
+//! with no bytes: go on until [`Step::More`].**
 //!
 //! # A page
 //!
@@ -337,7 +339,7 @@ pub fn run_command() -> i32 {
 }
 
 pub use cqlp_decode::{
-    Capacity, Decoder, Event, FaultAfter, Finish, GiveError, GiveReason, Held, NewError, Outcome, Sink, SinkFault, Step, run,
+    Capacity, Decoder, Event, FaultAfter, Fed, Finish, GiveError, GiveReason, Held, NewError, Outcome, Sink, SinkFault, Step, run,
 };
 pub use cqlp_kind::{Kind, Node, Scalar};
 #[cfg(feature = "std")]
@@ -345,7 +347,7 @@ pub use cqlp_note::OfStd;
 pub use cqlp_note::{
     Address, BadLimits, BoundValue, Field, Header, IoFault, LimitRange, Limits, NoMemory, Opcode, Reason, Refusal, Source, Target,
 };
-pub use cqlp_skip::{Fed, NotSkippable, Skipped, SkippingDecoder};
+pub use cqlp_skip::{NotSkippable, Skipped, SkippingDecoder};
 #[cfg(feature = "std")]
 pub use cqlp_sockets::{Cause, OfSocket};
 pub use cqlp_type::TypeTable;

@@ -203,6 +203,13 @@ fn pulled(limits: &Limits, stream: &[u8], size: usize) {
     }
 }
 
+fn fed(limits: &Limits, stream: &[u8], size: usize) {
+    let mut decoder = Decoder::new(Global, *limits).unwrap();
+    for piece in stream.chunks(size) {
+        decoder.feed(piece, &mut Nowhere);
+    }
+}
+
 fn lenient(limits: &Limits, stream: &[u8], size: usize) {
     let mut decoder = Decoder::lenient(Global, *limits).unwrap();
     run(&mut decoder, &mut Pieces { rest: stream, size }, &mut Nowhere, u64::MAX);
@@ -236,7 +243,7 @@ fn decoders() {
             for limits in [SMALL, Limits { parts: true, ..SMALL }, Limits { types: false, ..SMALL }, Limits::DEFAULT, GREATEST] {
                 let wanted = Asked { requests: 4, bytes: room(&limits), held: 0 };
                 for size in [1, 7, 1 << 20] {
-                    for read in [pulled, lenient, rendered, skipped] as [Read; 4] {
+                    for read in [pulled, fed, lenient, rendered, skipped] as [Read; 5] {
                         assert_eq!(asked_amply(|| read(&limits, &stream, size)), wanted, "{stream:x?}");
                         assert_eq!(asked(4, || read(&limits, &stream, size)), wanted, "{stream:x?}");
                     }

@@ -1,13 +1,13 @@
 //! Each worked stream says its events in every way of reading it: in three pieces cut at each pair of places, up to each of its bytes, with
 //! a read that fails and a second run after it, in a run of each number of turns and a second one, and with a writer and a sink that have
-//! room for each number of bytes and events; the text of its pages too.
+//! room for each number of bytes and events, and fed in pieces, to a sink that fails at each event too; the text of its pages too.
 #![forbid(unsafe_code)]
 
 mod common;
 
 use common::{Stream, said, streams};
-use cqlp::text::{render_events, render_rows};
-use cqlp::{Decoder, Event, Finish, Global, IoFault, Outcome, Sink, SinkFault, Source, Target, run};
+use cqlp::text::{Ending, ending_line, event_line, render_events, render_rows};
+use cqlp::{Decoder, Event, Fed, Finish, Global, IoFault, OfStd, Outcome, Sink, SinkFault, Source, Target, run};
 
 /// How many bytes a read gives where a run stops between two reads.
 const PIECE: usize = 7;
@@ -122,6 +122,67 @@ fn in_three_pieces() {
             for first in 1..second {
                 let (one, two) = front.split_at(first);
                 assert_eq!(said(stream.limits, [one, two, third]), stream.said, "{} cut at {first} and {second}", stream.name);
+            }
+        }
+    }
+}
+
+/// Writes a line for each event but one, at which it fails once.
+struct Writes {
+    lines: OfStd<Vec<u8>>,
+    before: usize,
+}
+
+impl Sink for Writes {
+    fn take(&mut self, at: u64, event: &Event<'_>) -> Result<(), SinkFault> {
+        let fails = self.before == 0;
+        self.before = self.before.wrapping_sub(1);
+        event_line(at, event, &mut self.lines).map_err(|_| SinkFault)?;
+        if fails { Err(SinkFault) } else { Ok(()) }
+    }
+}
+
+/// What is said of a stream that is fed in pieces of this size, to a sink that fails after so many events, from where it goes on; and how often it
+/// failed.
+fn fed(stream: &Stream, size: usize, before: usize) -> (String, usize) {
+    let (mut decoder, mut sink) = (decoder(stream), Writes { lines: OfStd::new(Vec::new()), before });
+    let mut faults = 0;
+    'pieces: for piece in stream.bytes.chunks(size) {
+        let mut rest = piece;
+        loop {
+            match decoder.feed(rest, &mut sink) {
+                Fed::More => break,
+                Fed::Refused { used, refusal } => {
+                    assert!(used <= rest.len());
+                    assert_eq!(decoder.feed(&rest[used..], &mut sink), Fed::Refused { used: 0, refusal });
+                    break 'pieces;
+                }
+                Fed::Fault { used } => rest = &rest[used..],
+            }
+            faults += 1;
+        }
+    }
+    ending_line(Ending::Finished(decoder.finish()), &mut sink.lines).unwrap();
+    (String::from_utf8(sink.lines.into_inner()).unwrap(), faults)
+}
+
+#[test]
+fn fed_in_pieces() {
+    for (stream, _) in all() {
+        for size in [1, 2, 7, 4_096] {
+            assert_eq!(fed(&stream, size, usize::MAX), (stream.said.clone(), 0), "{} by {size}", stream.name);
+        }
+    }
+}
+
+/// A sink that fails at an event got it, and none is lost or comes twice.
+#[test]
+fn fed_to_a_sink_that_fails() {
+    for (stream, _) in all().iter().filter(|(stream, _)| stream.bytes.len() < 300) {
+        let events = stream.said.lines().count() - 1;
+        for before in 0..events {
+            for size in [7, 4_096] {
+                assert_eq!(fed(stream, size, before), (stream.said.clone(), 1), "{} after {before}", stream.name);
             }
         }
     }

@@ -3,6 +3,7 @@
 
 mod advance;
 mod decoder;
+mod feeding;
 mod field_loop;
 mod given;
 mod item_loop;
@@ -18,6 +19,7 @@ mod step;
 
 pub use crate::cqlp_grammar::{Event, Finish, Sink, SinkFault};
 pub use decoder::{Decoder, NewError};
+pub use feeding::Fed;
 pub use given::{GiveError, GiveReason};
 pub use running::{Outcome, run};
 pub use step::{Capacity, FaultAfter, Held, Step};

@@ -2,8 +2,8 @@
 //! A reader's stream, drained into a sink.
 
 use crate::cqlp_decode::decoder::Decoder;
-use crate::cqlp_decode::step::Step;
-use crate::cqlp_grammar::{Finish, Sink, SinkFault};
+use crate::cqlp_decode::feeding::Fed;
+use crate::cqlp_grammar::{Finish, Sink};
 use crate::cqlp_note::{IoFault, Source};
 use crate::kit_std::alloc::Allocator;
 
@@ -20,14 +20,6 @@ pub enum Outcome {
     Turns,
 }
 
-/// How draining a piece ends.
-#[derive(Clone, Copy, Debug, PartialEq, Eq)]
-enum Drained {
-    More,
-    Refused,
-    Fault,
-}
-
 /// Hands all events of a reader's bytes to the sink, from at most `turns` reads, each with room for 4,096 bytes and none
 /// tried again. The events of bytes that the decoder was given before come first. No read is made before the sink has got
 /// all events of the bytes read so far.
@@ -38,10 +30,10 @@ pub fn run<R: Source, S: Sink, A: Allocator>(
     turns: u64,
 ) -> Outcome {
     let mut buffer = [0; 4096];
-    match drain(decoder, &[], sink) {
-        Drained::More => {}
-        Drained::Refused => return Outcome::Finished(decoder.finish()),
-        Drained::Fault => return Outcome::SinkFault,
+    match decoder.feed(&[], sink) {
+        Fed::More => {}
+        Fed::Refused { .. } => return Outcome::Finished(decoder.finish()),
+        Fed::Fault { .. } => return Outcome::SinkFault,
     }
     for turn in 0..turns {
         if decoder.gathers() {
@@ -60,34 +52,11 @@ pub fn run<R: Source, S: Sink, A: Allocator>(
         if count == 0 {
             return Outcome::Finished(decoder.finish());
         }
-        match drain(decoder, &buffer[..count], sink) {
-            Drained::More => {}
-            Drained::Refused => return Outcome::Finished(decoder.finish()),
-            Drained::Fault => return Outcome::SinkFault,
+        match decoder.feed(&buffer[..count], sink) {
+            Fed::More => {}
+            Fed::Refused { .. } => return Outcome::Finished(decoder.finish()),
+            Fed::Fault { .. } => return Outcome::SinkFault,
         }
     }
     Outcome::Turns
-}
-
-/// Hands all events of the input to the sink.
-fn drain<S: Sink, A: Allocator>(decoder: &mut Decoder<A>, input: &[u8], sink: &mut S) -> Drained {
-    let mut used = 0;
-    loop {
-        match decoder.hand_whole(&input[used..], sink) {
-            Ok(taken) => used += taken,
-            Err(_) => return Drained::Fault,
-        }
-        match decoder.next(&input[used..]) {
-            Step::More { .. } => return Drained::More,
-            Step::Refused(_) => return Drained::Refused,
-            Step::Event {
-                at,
-                used: taken,
-                event,
-            } => match sink.take(at, &event) {
-                Ok(()) => used += taken,
-                Err(SinkFault) => return Drained::Fault,
-            },
-        }
-    }
 }

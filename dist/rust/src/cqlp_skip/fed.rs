@@ -2,19 +2,8 @@
 //! What calls of a decoder that skips tell.
 
 use crate::cqlp_skip::frame::told_at;
+use crate::cqlp_decode::Fed;
 use crate::cqlp_note::{Header, Refusal};
-
-/// How handing on a piece ends.
-#[derive(Clone, Copy, Debug, PartialEq, Eq)]
-pub enum Fed {
-    /// All of the piece was used, the sink has got all of its events, and more is wanted.
-    More,
-    /// The stream is refused after this many bytes of the piece, here and at every later call before a skip. The refusal's
-    /// offset is one in the whole stream.
-    Refused { used: usize, refusal: Refusal },
-    /// The sink failed at an event that ends after this many bytes of the piece.
-    Fault { used: usize },
-}
 
 /// A frame that was passed over.
 #[derive(Clone, Copy, Debug, PartialEq, Eq)]

@@ -2,11 +2,10 @@
 //! A decoder that goes on after a frame whose body is refused.
 
 use crate::kit_std::prelude::{Clone};
-use crate::cqlp_skip::draining::drain;
-use crate::cqlp_skip::fed::{Fed, NotSkippable, Skipped, fed_from, passed_of, refusal_from, used_of};
+use crate::cqlp_skip::fed::{NotSkippable, Skipped, fed_from, passed_of, refusal_from, used_of};
 use crate::cqlp_skip::frame::{OpenFrame, told_at};
 use crate::cqlp_skip::shifting::Shifting;
-use crate::cqlp_decode::{Capacity, Decoder, Finish, GiveError, Held, NewError, Sink};
+use crate::cqlp_decode::{Capacity, Decoder, Fed, Finish, GiveError, Held, NewError, Sink};
 use crate::cqlp_note::Limits;
 use crate::cqlp_type::TypeTable;
 use crate::kit_std::alloc::{Allocator, Global};
@@ -77,7 +76,7 @@ impl<A: Allocator> SkippingDecoder<A> {
             base: self.base,
             frame: self.frame,
         };
-        let fed = drain(&mut self.decoder, &input[passed..], &mut shifting);
+        let fed = self.decoder.feed(&input[passed..], &mut shifting);
         let Shifting {
             sink,
             base: _,
