@@ -228,6 +228,14 @@ fn statements_are_answered() {
             message => assert_eq!((error(&message), columns), (Some((0x2200, "undefined column name")), 0), "{text}"),
         }
     }
+    for (count, expected) in [(64, Ok(64)), (65, Err(0x2200)), (100_000, Err(0x2200))] {
+        let text = format!("SELECT k{} FROM ks.t WHERE k = 1", ",k".repeat(count - 1));
+        let columns = match ask(&node, query(&text, plain())).message {
+            Message::Rows(page) => Ok(page.meta.columns),
+            message => Err(error(&message).unwrap().0),
+        };
+        assert_eq!(columns, expected);
+    }
     for text in ["USE ks", "use \"ks\";"] {
         assert_eq!(ask(&node, query(text, plain())).message, Message::SetKeyspace("ks".to_string().into()));
     }

@@ -4,6 +4,9 @@ use crate::problem::Problem;
 use crate::table::{Column, Table};
 use cqlp::frame::{OwnedBound, Value};
 
+/// How many columns a `SELECT` may name.
+const MOST_COLUMNS: usize = 64;
+
 /// A statement.
 pub enum Statement<'a> {
     /// `USE` of the keyspace with this name.
@@ -129,7 +132,7 @@ impl<'s> Words<'s> {
     /// Names with commas between them, and `FROM` after them.
     fn names_before_from(&mut self) -> Result<Vec<&'s str>, Problem> {
         let mut names = Vec::new();
-        loop {
+        for _ in 0..MOST_COLUMNS {
             names.push(self.name()?);
             match self.word()? {
                 "," => {}
@@ -137,6 +140,7 @@ impl<'s> Words<'s> {
                 _ => return Err(Problem::syntax()),
             }
         }
+        Err(Problem::invalid("more than 64 columns"))
     }
 
     /// `WHERE column = value`, where the value is an int, a text or a marker.
