@@ -27,8 +27,9 @@ use cqlp::{Decoder, Global, Limits, OfStd, Step};
 use listening::{MOST_CONNECTIONS, listen};
 use node::Node;
 use std::io::{ErrorKind, Read, Write};
-use std::net::{Ipv4Addr, TcpListener, TcpStream};
+use std::net::{Ipv4Addr, Shutdown, SocketAddr, TcpListener, TcpStream};
 use std::sync::atomic::{AtomicBool, Ordering};
+use std::sync::mpsc::{Receiver, channel};
 use std::thread;
 use std::time::{Duration, Instant};
 
@@ -116,6 +117,11 @@ fn query(text: &str, params: QueryParams) -> Message {
     Message::Query { text: text.to_string().into(), params }
 }
 
+/// A statement with spaces after it, up to this many bytes.
+fn padded(text: &str, len: usize) -> String {
+    text.to_string() + &" ".repeat(len - text.len())
+}
+
 fn execute(id: &[u8], params: QueryParams) -> Message {
     Message::Execute { id: id.to_vec().into(), params }
 }
@@ -199,7 +205,8 @@ fn a_paging_state_that_it_did_not_make_is_refused() {
     let node = Node::new().unwrap();
     let of_row = |row: u64| row.to_be_bytes().to_vec();
     // No bytes, too few, too many; the first row of key 3, and rows of other keys; no row.
-    let states = [vec![], vec![0; 4], vec![0; 9], b"whatever".to_vec(), of_row(75), of_row(0), of_row(74), of_row(100), of_row(2_500)];
+    let long = [of_row(80), vec![0]].concat();
+    let states = [vec![], vec![0; 4], long, b"whatever".to_vec(), of_row(75), of_row(0), of_row(74), of_row(100), of_row(2_500)];
     for state in states {
         let reply = ask(&node, query("SELECT * FROM ks.t WHERE k = 3", params(Some(10), Some(state.clone()), None, 0)));
         assert_eq!(error(&reply.message), Some((0x000A, "invalid value for the paging state")), "{state:?}");
@@ -282,7 +289,9 @@ fn a_statement_is_prepared_and_executed() {
     }
     assert!(matches!(prepare("SELECT k FROM ks.t WHERE c = ?"), Message::Prepared(prepared) if prepared.keys.is_empty()));
     assert_eq!(error(&prepare("USE ks")).unwrap().0, 0x2200);
-    assert_eq!(error(&prepare(&format!("SELECT * FROM ks.t{}", " ".repeat(65_535)))).unwrap().0, 0x2200);
+    let as_long = |len| prepare(&padded("SELECT * FROM ks.t", len));
+    assert!(matches!(as_long(65_535), Message::Prepared(prepared) if prepared.id.len() == 65_535));
+    assert_eq!(error(&as_long(65_536)).unwrap().0, 0x2200);
     assert_eq!(error(&prepare("BAD")).unwrap().0, 0x2000);
     for id in [&b"none"[..], b"", b"\xff", b"USE ks"] {
         let message = ask(&node, execute(id, plain())).message;
@@ -301,6 +310,21 @@ fn a_batch_is_answered_with_a_warning() {
     let reply = ask(&Node::new().unwrap(), batch(3));
     assert_eq!(reply.message, Message::Void);
     assert_eq!(reply.warnings.unwrap()[0].as_str(), "statements that changed nothing: 3");
+}
+
+/// A QUERY of so many fields, of which all but four are values.
+fn with_fields(fields: u32) -> Message {
+    let values: Vec<_> = (4..fields).map(|_| (None, OwnedBound::Null)).collect();
+    query("SELECT * FROM ks.t WHERE k = 1", QueryParams { flags: 1, values: Some(values.into()), ..plain() })
+}
+
+#[test]
+fn the_longest_requests_are_answered() {
+    let node = Node::new().unwrap();
+    assert!(matches!(ask(&node, with_fields(MOST_FIELDS)).message, Message::Rows(rows) if rows.rows == 25));
+    // The body of a QUERY has four bytes before its text, and three after it.
+    let text = padded("SELECT * FROM ks.t WHERE k = 1", LONGEST_BODY as usize - 7);
+    assert!(matches!(ask(&node, query(&text, plain())).message, Message::Rows(rows) if rows.rows == 25));
 }
 
 /// The ERROR that these bytes are answered by, after which the connection ends.
@@ -334,7 +358,7 @@ fn what_is_no_request_ends_the_connection() {
         (started(header(4, 0, 7, LONGEST_BODY + 1)), "a request of more than 1048576 bytes"),
         (started(header(4, 0, 7, 1_000)), "BadCount at byte 40"),
         (started(header(4, 0, 5, 1_000)), "the connection ended within a request"),
-        (started(bytes(258, batch(MOST_FIELDS as usize))), "too many fields"),
+        (started(bytes(258, with_fields(MOST_FIELDS + 1))), "too many fields"),
     ] {
         let (id, code, text) = refused(&sent);
         assert_eq!((id, code, text.as_str()), (258, 0x000A, why));
@@ -382,92 +406,118 @@ fn garbage_is_answered_by_frames_or_not_at_all() {
     }
 }
 
-/// Has some clients connect to a server that serves this many connections, and waits for its end. Nothing is done where there is no loopback
-/// connection.
-fn with_server(connections: usize, clients: impl FnOnce(&dyn Fn() -> TcpStream)) {
-    let Ok(listener) = TcpListener::bind((Ipv4Addr::LOCALHOST, 0)) else {
-        return;
-    };
-    let address = listener.local_addr().unwrap();
-    let node = Node::new().unwrap();
-    thread::scope(|scope| {
-        scope.spawn(|| listen(&listener, connections, &node));
-        clients(&|| {
-            let stream = TcpStream::connect(address).unwrap();
-            stream.set_nodelay(true).unwrap();
-            stream.set_read_timeout(Some(Duration::from_secs(20))).unwrap();
-            stream
-        });
-    });
+/// A server in a thread of its own.
+struct Served {
+    address: SocketAddr,
+    ended: Receiver<()>,
 }
 
-/// Sends OPTIONS many times, and hears each reply within a second.
-fn is_answered_at_once(stream: &mut TcpStream) {
-    for _ in 0..100 {
-        let start = Instant::now();
-        stream.write_all(&REQUESTS[..9]).unwrap();
-        let mut reply = [0; 75];
-        stream.read_exact(&mut reply).unwrap();
-        assert!(reply == REPLIES[..75] && start.elapsed() < Duration::from_secs(1));
+impl Served {
+    /// One that serves this many connections; none where there is no loopback connection.
+    fn start(connections: usize) -> Option<Served> {
+        let listener = TcpListener::bind((Ipv4Addr::LOCALHOST, 0)).ok()?;
+        let address = listener.local_addr().ok()?;
+        let (sender, ended) = channel();
+        thread::spawn(move || {
+            listen(&listener, connections, &Node::new().unwrap());
+            sender.send(())
+        });
+        Some(Served { address, ended })
     }
+
+    fn connect(&self) -> TcpStream {
+        let stream = TcpStream::connect(self.address).unwrap();
+        stream.set_nodelay(true).unwrap();
+        stream.set_read_timeout(Some(Duration::from_secs(20))).unwrap();
+        stream
+    }
+
+    /// Waits until it has ended, all of its connections having come and ended.
+    fn finish(self) {
+        self.ended.recv_timeout(Duration::from_secs(20)).unwrap();
+    }
+}
+
+/// Sends OPTIONS many times. Whether each reply is there within a second.
+fn is_answered_at_once(stream: &mut TcpStream) -> bool {
+    (0..100).all(|_| {
+        let (start, mut reply) = (Instant::now(), [0; 75]);
+        let is_there = stream.write_all(&REQUESTS[..9]).and_then(|()| stream.read_exact(&mut reply)).is_ok();
+        is_there && reply == REPLIES[..75] && start.elapsed() < Duration::from_secs(1)
+    })
 }
 
 #[test]
 fn a_client_that_floods_stops_no_other() {
-    with_server(4, |connect| {
-        let sent = [startup(), bytes(1, query("SELECT * FROM ks.t", plain())).repeat(1_000)].concat();
-        let is_over = AtomicBool::new(false);
-        thread::scope(|scope| {
-            for mut writer in [connect(), connect(), connect()] {
-                let mut reader = writer.try_clone().unwrap();
-                let (sent, is_over) = (&sent, &is_over);
-                scope.spawn(move || while !is_over.load(Ordering::Relaxed) && writer.write_all(sent).is_ok() {});
-                scope.spawn(move || {
-                    let mut room = vec![0; 1 << 20];
-                    while !is_over.load(Ordering::Relaxed) && reader.read(&mut room).unwrap_or(0) > 0 {}
-                    let _ = reader.shutdown(std::net::Shutdown::Both);
-                });
-            }
-            thread::sleep(Duration::from_millis(300));
-            is_answered_at_once(&mut connect());
-            is_over.store(true, Ordering::Relaxed);
-        });
+    let Some(served) = Served::start(4) else {
+        return;
+    };
+    let sent = [startup(), bytes(1, query("SELECT * FROM ks.t", plain())).repeat(1_000)].concat();
+    let is_over = AtomicBool::new(false);
+    let is_answered = thread::scope(|scope| {
+        for mut writer in [served.connect(), served.connect(), served.connect()] {
+            let mut reader = writer.try_clone().unwrap();
+            let (sent, is_over) = (&sent, &is_over);
+            scope.spawn(move || while !is_over.load(Ordering::Relaxed) && writer.write_all(sent).is_ok() {});
+            scope.spawn(move || {
+                let mut room = vec![0; 1 << 20];
+                while !is_over.load(Ordering::Relaxed) && reader.read(&mut room).unwrap_or(0) > 0 {}
+                let _ = reader.shutdown(Shutdown::Both);
+            });
+        }
+        thread::sleep(Duration::from_millis(300));
+        let is_answered = is_answered_at_once(&mut served.connect());
+        is_over.store(true, Ordering::Relaxed);
+        is_answered
     });
+    assert!(is_answered);
+    served.finish();
 }
 
 #[test]
 fn a_client_that_does_not_read_is_not_read_either() {
-    with_server(2, |connect| {
-        let mut silent = connect();
-        silent.set_write_timeout(Some(Duration::from_millis(500))).unwrap();
-        silent.write_all(&startup()).unwrap();
-        let pages = bytes(1, query("SELECT * FROM ks.t", plain())).repeat(1_000);
-        // What the system holds for a socket is some megabytes at most.
-        let blocked = (0..2_000).find_map(|_| silent.write_all(&pages).err());
-        assert!(blocked.is_some_and(|fault| matches!(fault.kind(), ErrorKind::WouldBlock | ErrorKind::TimedOut)));
-        is_answered_at_once(&mut connect());
-    });
+    let Some(served) = Served::start(2) else {
+        return;
+    };
+    let mut silent = served.connect();
+    silent.set_write_timeout(Some(Duration::from_millis(500))).unwrap();
+    silent.write_all(&startup()).unwrap();
+    let queries = bytes(1, query("SELECT * FROM ks.t", plain())).repeat(1_000);
+    // The system holds some megabytes at most for a socket, and these are 68.
+    let fault = (0..2_000).find_map(|_| silent.write_all(&queries).err()).unwrap();
+    assert!(matches!(fault.kind(), ErrorKind::WouldBlock | ErrorKind::TimedOut));
+    assert!(is_answered_at_once(&mut served.connect()));
+    drop(silent);
+    served.finish();
 }
 
 #[test]
 fn a_client_that_is_refused_hears_why_though_it_sends_more() {
-    with_server(1, |connect| {
-        let mut stream = connect();
-        stream.write_all(&[REQUESTS, &[0xee; 300_000]].concat()).unwrap();
-        let mut replies = Vec::new();
-        stream.read_to_end(&mut replies).unwrap();
-        assert_eq!(replies, REPLIES);
-    });
+    let Some(served) = Served::start(1) else {
+        return;
+    };
+    let mut stream = served.connect();
+    stream.write_all(&[REQUESTS, &[0xee; 300_000]].concat()).unwrap();
+    let mut replies = Vec::new();
+    stream.read_to_end(&mut replies).unwrap();
+    assert_eq!(replies, REPLIES);
+    drop(stream);
+    served.finish();
 }
 
 #[test]
 fn one_connection_too_many_is_closed() {
-    with_server(MOST_CONNECTIONS + 2, |connect| {
-        let mut streams: Vec<_> = (0..MOST_CONNECTIONS).map(|_| connect()).collect();
-        is_answered_at_once(streams.last_mut().unwrap());
-        assert_eq!(connect().read(&mut [0]).unwrap(), 0);
-        drop(streams.swap_remove(0));
-        thread::sleep(Duration::from_millis(200));
-        is_answered_at_once(&mut connect());
-    });
+    let Some(served) = Served::start(MOST_CONNECTIONS + 2) else {
+        return;
+    };
+    let mut streams: Vec<_> = (0..MOST_CONNECTIONS).map(|_| served.connect()).collect();
+    assert!(is_answered_at_once(streams.last_mut().unwrap()));
+    assert_eq!(served.connect().read(&mut [0]).unwrap(), 0);
+    let mut first = streams.swap_remove(0);
+    first.shutdown(Shutdown::Write).unwrap();
+    assert_eq!(first.read(&mut [0]).unwrap(), 0);
+    thread::sleep(Duration::from_millis(200));
+    assert!(is_answered_at_once(&mut served.connect()));
+    drop(streams);
+    served.finish();
 }

@@ -75,7 +75,7 @@ fn first_row(rows: &[usize], params: &QueryParams) -> Result<usize, Problem> {
     let Some(Some(state)) = &params.paging else {
         return Ok(0);
     };
-    let named = state.first_chunk().filter(|_| state.len() == size_of::<usize>()).map(|state| usize::from_be_bytes(*state));
+    let named = state.as_slice().try_into().ok().map(usize::from_be_bytes);
     let place = named.and_then(|named| rows.binary_search(&named).ok()).filter(|place| *place > 0);
     place.ok_or_else(|| Problem::protocol("invalid value for the paging state"))
 }
