@@ -16,7 +16,7 @@ pub const LONGEST_BODY: u32 = 1_048_576;
 /// How many fields a request may have, such as bound values and statements of a batch.
 pub const MOST_FIELDS: u32 = 10_000;
 
-/// The stream ids that a client may use, which are those from 0 on.
+/// How many stream ids a client may use: those from 0 on.
 const STREAM_IDS: u16 = 32_768;
 
 /// The version of the protocol, in the first byte of a header.
@@ -52,7 +52,7 @@ impl<R: Read, W: Write> Connection<R, W> {
     ///
     /// # Errors
     ///
-    /// Why the client was refused, which an ERROR has said to it, or why no more could be read or written.
+    /// Why the server refused a request, after an ERROR that names the reason, or why a read or a write failed.
     pub fn serve(&mut self, node: &Node) -> Result<()> {
         while let Some(header) = self.read_header()? {
             match self.read_request(&header) {
@@ -70,7 +70,7 @@ impl<R: Read, W: Write> Connection<R, W> {
         Ok(())
     }
 
-    /// The bytes of the next header. None where the client has ended its direction.
+    /// Reads the next header. None where the client sends no more.
     fn read_header(&mut self) -> Result<Option<[u8; 9]>> {
         if self.input.fill_buf()?.is_empty() {
             return Ok(None);
@@ -80,7 +80,7 @@ impl<R: Read, W: Write> Connection<R, W> {
         Ok(Some(header))
     }
 
-    /// Reads the body of the request with this header, if that may come now.
+    /// Reads the body of the request with this header, if it may come now.
     fn read_request(&mut self, bytes: &[u8; 9]) -> Result<Frame> {
         let header = Header::from_bytes(bytes)?;
         self.core.accept(&header)?;
@@ -103,7 +103,7 @@ impl<R: Read, W: Write> Connection<R, W> {
         request.ok_or_else(|| "a request without its end".into())
     }
 
-    /// Writes a reply.
+    /// Writes a reply, which frees the stream id of its request.
     fn write(&mut self, reply: &Reply) -> Result<()> {
         let frame = reply.frame();
         self.core.answer(frame.stream, frame.message.opcode())?;
@@ -115,7 +115,7 @@ impl<R: Read, W: Write> Connection<R, W> {
     }
 }
 
-/// Reads a piece of a frame. The frame is the answer where it ends with this piece.
+/// Reads a piece of a frame, and returns the frame if the piece is its last.
 fn read_piece(decoder: &mut Decoder, builder: &mut FrameBuilder, piece: &[u8]) -> Result<Option<Frame>> {
     let (mut rest, mut built) = (piece, None);
     loop {
@@ -130,13 +130,13 @@ fn read_piece(decoder: &mut Decoder, builder: &mut FrameBuilder, piece: &[u8]) -
     }
 }
 
-/// Whether the next frame is all there, so that its bytes need not be waited for.
+/// Whether the buffer has the whole next frame, so that reading it does not wait for the client.
 fn has_whole_frame(buffer: &[u8]) -> bool {
     let header = buffer.first_chunk().and_then(|bytes| Header::from_bytes(bytes).ok());
     header.is_some_and(|header| buffer.len() - 9 >= header.length as usize)
 }
 
-/// The ERROR for a client whose request with this header is refused. That of another version names version 4.
+/// The ERROR for a refused request with this header. For a request of another version it names version 4.
 fn refusal(header: &[u8; 9], why: &str) -> Result<Frame> {
     if header[0] & 0x7f != VERSION {
         return Ok(Frame::version_error(Global, header)?);

@@ -8,10 +8,10 @@ use std::sync::Arc;
 use std::thread;
 use std::time::Duration;
 
-/// How many connections may be open at a time. One more is closed at once.
+/// How many connections may be open at a time. The server closes one more at once.
 pub const MOST_CONNECTIONS: usize = 256;
 
-/// How many bytes that come after a refused request are read and dropped, and how long they are waited for.
+/// How many bytes after a refused request the server reads and drops, and how long it waits for each of them.
 const DROPPED: u64 = 1_048_576;
 const DROPPING: Duration = Duration::from_secs(1);
 
@@ -38,14 +38,14 @@ pub fn listen(listener: &TcpListener, connections: usize, node: &Node) {
     });
 }
 
-/// Serves a connection until its client ends it, or is refused.
+/// Serves a connection until its client ends it, or sends what is refused.
 fn serve(stream: &TcpStream, node: &Node) -> Result<()> {
     stream.set_nodelay(true)?;
     Connection::new(stream, stream)?.serve(node).inspect_err(|_| finish(stream))
 }
 
-/// Ends a connection whose client is refused. The socket of a client that still sends is not closed at once, since the system would then drop
-/// the ERROR that is on its way to it.
+/// Ends a connection after the ERROR for a refused request. It does not close the socket of a client that still sends at once, since the system
+/// would then drop the ERROR on its way.
 fn finish(mut stream: &TcpStream) {
     let _ = stream.shutdown(Shutdown::Write);
     let _ = stream.set_read_timeout(Some(DROPPING));
