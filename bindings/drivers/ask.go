@@ -1,4 +1,5 @@
-// Asks a server for the orders by gocql as it comes: ask PORT. It looks for the version and for the nodes, and prepares each statement.
+// Asks a server for the rows of a table by gocql as it comes: ask PORT TABLE. It looks for the version and for the nodes, and prepares each
+// statement. The pages that it asks for have at most 1,000 rows.
 package main
 
 import (
@@ -18,16 +19,17 @@ func main() {
 	}
 	cluster := gocql.NewCluster("127.0.0.1")
 	cluster.Port = port
+	cluster.PageSize = 1000
 	session, err := cluster.CreateSession()
 	if err != nil {
 		log.Fatal(err)
 	}
 	defer session.Close()
-	rows, err := session.Query("SELECT * FROM shop.orders").Iter().SliceMap()
+	rows, err := session.Query("SELECT * FROM " + os.Args[2]).Iter().SliceMap()
 	if err != nil {
 		log.Fatal(err)
 	}
-	fmt.Println(len(rows), "orders")
+	fmt.Println(len(rows), "rows")
 	if err := session.Query("SELECT * FROM shop.nothing").Exec(); err != nil {
 		fmt.Println("refused")
 	}
