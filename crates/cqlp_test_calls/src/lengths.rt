@@ -7,12 +7,13 @@ use std::test::Fail;
 
 const INT: TypeTree = TypeTree::Plain(Kind::Int);
 
-fn list(alloc: Global) -> Result<TypeTree, Fail> {
+/// Of ints.
+pub fn list(alloc: Global) -> Result<TypeTree, Fail> {
     Ok(TypeTree::List(Box::new(alloc, INT)?))
 }
 
 /// Of three fields, the last of them a text.
-fn user_defined(alloc: Global) -> Result<TypeTree, Fail> {
+pub fn user_defined(alloc: Global) -> Result<TypeTree, Fail> {
     let mut fields = Vec::new(alloc);
     for (name, kind) in [("a", Kind::Int), ("b", Kind::Int), ("c", Kind::Varchar)] {
         fields.push((String::from_str(alloc, name)?, TypeTree::Plain(kind)))?;
@@ -34,7 +35,7 @@ fn tuple(alloc: Global) -> Result<TypeTree, Fail> {
 }
 
 /// A list of an int, null and an empty value.
-fn cell(alloc: Global) -> Result<Value, Fail> {
+pub fn cell(alloc: Global) -> Result<Value, Fail> {
     let mut items = Vec::new(alloc);
     items.push(Value::Leaf(Atom::Int(1)))?;
     items.push(Value::Null)?;

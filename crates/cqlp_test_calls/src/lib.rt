@@ -6,11 +6,15 @@ mod claims;
 #[cfg(test)]
 mod fields;
 #[cfg(test)]
+mod frames;
+#[cfg(test)]
 mod fronts;
 #[cfg(test)]
 mod lengths;
 #[cfg(test)]
 mod memory;
+#[cfg(test)]
+mod pages;
 #[cfg(test)]
 mod readers;
 #[cfg(test)]

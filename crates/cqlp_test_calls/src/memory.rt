@@ -1,13 +1,14 @@
 //! Memory that is refused, of each call that asks for it.
 
 use cqlp_capture::{CaptureLimits, CaptureReader, CaptureStep, NewReaderError};
-use cqlp_decode::{Decoder, NewError};
+use cqlp_decode::{Decoder, NewError, run};
+use cqlp_kind::{Kind, Node};
 use cqlp_message::Frame;
 use cqlp_note::{Limits, NoMemory, Partial};
 use cqlp_prepared::{NewPreparedError, PreparedTypes};
 use cqlp_round_trip::{RoundTripError, write_and_read};
 use cqlp_session::{Client, ClientOf, Server, ServerOf, SlotsOrMemory};
-use cqlp_test_fakes::Takes;
+use cqlp_test_fakes::{Pieces, Takes};
 use cqlp_test_heaps::{Rationed, Refusals};
 use cqlp_type::{TypeReader, TypeTable};
 use cqlp_value::CellReader;
@@ -29,7 +30,7 @@ const LIMITS: Limits = Limits {
 enum Call {
     Partial,
     TypeTable,
-    /// The second request is that of the copy.
+    /// A decoder reads the types of a page, and the fifth request is that of their copy.
     CloneTable,
     TypeReader,
     CellReader,
@@ -50,7 +51,7 @@ enum Call {
 static CALLS: [(Call, u64); 13] = [
     (Call::Partial, 1),
     (Call::TypeTable, 1),
-    (Call::CloneTable, 2),
+    (Call::CloneTable, 5),
     (Call::TypeReader, 1),
     (Call::CellReader, 1),
     (Call::Decoder, 4),
@@ -136,17 +137,47 @@ fn events_of<A: Allocator>(reader: &mut CaptureReader<A>) -> u32 {
     events
 }
 
-/// A table and its copy: without memory for the copy the table is what it was.
+/// A page up to its types: a list of ints.
+static LIST_TYPE: [u8; 34] =
+    *b"\x84\0\0\0\x08\0\0\0\x35\0\0\0\x02\0\0\0\x01\0\0\0\x01\0\x01k\0\x01t\0\x01c\0\x20\0\x09";
+
 fn copied_table<A: Allocator + Clone>(heap: A) -> Answer {
-    let Ok(table) = TypeTable::new(heap, LIMITS.entries) else {
-        return Answer::NoMemory;
+    match Decoder::new(heap, LIMITS) {
+        Ok(mut decoder) => copied_types(&mut decoder),
+        Err(NewError::NoMemory) => Answer::NoMemory,
+        Err(NewError::BadLimits(_)) => Answer::Other,
+    }
+}
+
+/// The types that a decoder has read, and their copy: without memory for the copy they are what they were.
+fn copied_types<A: Allocator + Clone>(decoder: &mut Decoder<A>) -> Answer {
+    let mut reader = Pieces::new(&LIST_TYPE, [LIST_TYPE.len(); 3]);
+    run(decoder, &mut reader, &mut Takes::new(100), u64::MAX);
+    let table = decoder.table();
+    let (copied, is_copy) = match table.clone_table() {
+        Ok(copy) => (Answer::Granted, is_list(&copy)),
+        Err(NoMemory) => (Answer::NoMemory, true),
     };
-    let copied = answer_of(table.clone_table());
-    if table.len() == 0 {
+    if is_copy && is_list(table) {
         copied
     } else {
         Answer::Other
     }
+}
+
+/// Whether these are the types of a list of ints.
+fn is_list<A: Allocator>(table: &TypeTable<A>) -> bool {
+    let list = Node {
+        kind: Kind::List,
+        arity: 1,
+        span: 2,
+    };
+    let int = Node {
+        kind: Kind::Int,
+        arity: 0,
+        span: 1,
+    };
+    table.len() == 2 && table.node(0) == Some(list) && table.node(1) == Some(int)
 }
 
 /// Memory for the lists, for a table, for the one that is kept, and for that of a page, in this order; without it for the one that is kept

@@ -2,7 +2,7 @@
 
 ghost use Rattle.cqlp_decode.specs.Streams.{IsWithin, state};
 
-use cqlp_decode::{Decoder, Held, Outcome, Sink, run};
+use cqlp_decode::{Decoder, Finish, Held, Outcome, Sink, run};
 use cqlp_note::{Limits, Source};
 use cqlp_test_fakes::{Adds, FailsOnce, Looks, Pieces, Takes};
 use std::alloc::Global;
@@ -49,30 +49,53 @@ const SEVEN: Held = Held {
 };
 
 /// A front of the frame, which comes in one read, and then a read fails; the events that the sink takes; the turns; how the run ends; the
-/// events taken; the bytes still to be read; and what is held.
-type Row = (usize, usize, u64, Outcome, usize, usize, Held);
+/// events taken; the bytes still to be read; what is held; and how many events a second run takes over all bytes that were not read, where
+/// none is lost.
+type Row = (
+    usize,
+    usize,
+    u64,
+    Outcome,
+    usize,
+    usize,
+    Held,
+    Option<usize>,
+);
 
 static ROWS: [Row; 6] = [
-    (8, 9, 9, Outcome::ReadFault, 0, 0, NOTHING),
-    (20, 9, 9, Outcome::ReadFault, 2, 0, SEVEN),
-    (33, 9, 9, Outcome::ReadFault, 6, 0, NOTHING),
-    (20, 1, 9, Outcome::SinkFault, 1, 0, NOTHING),
-    (20, 9, 0, Outcome::Turns, 0, 20, NOTHING),
-    (20, 9, 1, Outcome::Turns, 2, 0, SEVEN),
+    (8, 9, 9, Outcome::ReadFault, 0, 0, NOTHING, Some(6)),
+    (20, 9, 9, Outcome::ReadFault, 2, 0, SEVEN, Some(4)),
+    (33, 9, 9, Outcome::ReadFault, 6, 0, NOTHING, Some(0)),
+    (20, 1, 9, Outcome::SinkFault, 1, 0, NOTHING, None),
+    (20, 9, 0, Outcome::Turns, 0, 20, NOTHING, Some(6)),
+    (20, 9, 1, Outcome::Turns, 2, 0, SEVEN, Some(4)),
 ];
 
 fn is_ended(alloc: Global, row: &Row) -> Result<bool, Fail> {
     let mut decoder = Decoder::new(alloc, LIMITS)?;
-    Ok(ends_so(&mut decoder, row))
+    Ok(ends_so(&mut decoder, row) && goes_on_so(&mut decoder, row))
 }
 
 fn ends_so(decoder: &mut Decoder, row: &Row) -> bool {
-    let (front, room, turns, outcome, taken, left, held) = *row;
+    let (front, room, turns, outcome, taken, left, held, _) = *row;
     let bytes = SUPPORTED.get(..front).unwrap_or(&[]);
     let mut reader = FailsOnce::new(Pieces::new(bytes, [4_096; 3]), 1);
     let mut sink = Takes::new(room);
     let ended = held_after(decoder, &mut reader, &mut sink, turns);
     ended.0 == outcome && ended.1 == held && sink.taken() == taken && reader.left() == left
+}
+
+/// Whether a second run of the decoder takes the other events, and finds the whole frame.
+fn goes_on_so(decoder: &mut Decoder, row: &Row) -> bool {
+    let (front, _, _, _, _, left, _, later) = *row;
+    let Some(later) = later else {
+        return true;
+    };
+    let read = front.saturating_sub(left);
+    let mut reader = Pieces::new(SUPPORTED.get(read..).unwrap_or(&[]), [4_096; 3]);
+    let mut sink = Takes::new(9);
+    let ended = held_after(decoder, &mut reader, &mut sink, 9);
+    ended.0 == Outcome::Finished(Finish::Whole { bytes: 33 }) && sink.taken() == later
 }
 
 #[test]

@@ -10,21 +10,24 @@ mod memory;
 mod pipes;
 mod talks;
 mod ways;
+mod worked;
 
 use cqlp_test_fakes::bytes_of;
 use done::{Done, Invocation};
 use std::alloc::Global;
+use std::cell::Cell;
 use std::io;
 
 fn main(rt: HostRuntime) -> io::Result<()> {
+    let worked = Cell::new(0);
     for line in rt.lines(rt.alloc()) {
-        execute(&rt, line?.as_str())?;
+        execute(&rt, line?.as_str(), &worked)?;
     }
-    Ok(())
+    println!(rt; "{} worked streams, read in every way", worked.get())
 }
 
-/// Does what one line asks for.
-fn execute(rt: &HostRuntime, line: &str) -> io::Result<()> {
+/// Does what one line asks for, and counts worked streams.
+fn execute(rt: &HostRuntime, line: &str, worked: &Cell<u32>) -> io::Result<()> {
     if let Some((words, digits)) = line.split_once('|') {
         println!(rt; "== {}", words.trim_end())?;
         let bytes = bytes_of(rt.alloc(), digits)?;
@@ -34,7 +37,7 @@ fn execute(rt: &HostRuntime, line: &str) -> io::Result<()> {
         if let Some((line, _)) = words.split_once(" in one way") {
             return print_one_way(rt, line, &bytes);
         }
-        return print_done(rt, words, &bytes);
+        return print_done(rt, words, &bytes, worked);
     }
     if let Some((words, start)) = line.split_once('?') {
         return print_start(rt, words.trim_end(), start.trim());
@@ -55,7 +58,7 @@ fn words_of<'a>(alloc: Global, line: &'a str) -> io::Result<Vec<&'a str>> {
 }
 
 /// Prints what a command line writes, and between the two outputs its status.
-fn print_done(rt: &HostRuntime, line: &str, bytes: &[u8]) -> io::Result<()> {
+fn print_done(rt: &HostRuntime, line: &str, bytes: &[u8], worked: &Cell<u32>) -> io::Result<()> {
     let words = words_of(rt.alloc(), line)?;
     let call = Invocation {
         words: &words,
@@ -63,7 +66,11 @@ fn print_done(rt: &HostRuntime, line: &str, bytes: &[u8]) -> io::Result<()> {
     };
     let done = call.whole(rt);
     done.print(rt)?;
-    ways::all(rt, &call, &done)
+    ways::all(rt, &call, &done)?;
+    if worked::all(rt, line, &call, &done)? {
+        worked.set(worked.get().saturating_add(1));
+    }
+    Ok(())
 }
 
 /// Prints what a command line writes, and between the two outputs its status, with its standard input in one piece and room for all.
