@@ -14,6 +14,7 @@ use Rattle.cqlp_streams.specs.declared.files.FileFault.TheVariants as file
 use Rattle.cqlp_streams.specs.declared.files.StreamFile.{StreamFile}
 use Rattle.cqlp_streams.specs.declared.packets.WithoutCounts.{WithoutCounts}
 use Rattle.cqlp_streams.specs.declared.recorder.Sums.{Sums}
+use Rattle.cqlp_streams.specs.declared.skipped.SkippedCounts.{SkippedCounts}
 use Rattle.cqlp_streams.specs.Lines.{way_name}
 
 -- ---- the exit status
@@ -32,25 +33,23 @@ status_of (Err f) = 3
 -- ---- the line of a capture that was read to its end
 
 abbrev pub reason_name : CaptureReason → List ℕ
+reason_name reason.Gzip = codes "Gzip"
 reason_name reason.UnknownMagic = codes "UnknownMagic"
 reason_name reason.UnknownVersion = codes "UnknownVersion"
-reason_name reason.PacketTooLong = codes "PacketTooLong"
 reason_name reason.FileTooLong = codes "FileTooLong"
 reason_name reason.UnknownByteOrder = codes "UnknownByteOrder"
 reason_name reason.BadBlockLength = codes "BadBlockLength"
 reason_name reason.UnequalBlockLengths = codes "UnequalBlockLengths"
-reason_name reason.BadOptionLength = codes "BadOptionLength"
-reason_name reason.UnknownTimeUnit = codes "UnknownTimeUnit"
-reason_name reason.NegativeTimeOffset = codes "NegativeTimeOffset"
-reason_name reason.TooManyInterfaces = codes "TooManyInterfaces"
-reason_name reason.UnknownInterface = codes "UnknownInterface"
-reason_name reason.PacketBeyondBlock = codes "PacketBeyondBlock"
-reason_name reason.TimeTooLarge = codes "TimeTooLarge"
+
+-- a line before it, of what gzip compresses
+abbrev pub hint : CaptureReason → List ℕ
+hint reason.Gzip = codes "cqlp: compressed by gzip: gunzip -c FILE | cqlp capture -\n"
+hint why = []
 
 abbrev pub verdict : CaptureEnd → List ℕ
 verdict (end.Whole bytes) = codes "whole " ++ decimal bytes
 verdict (end.Cut at bytes) = codes "cut " ++ decimal at ++ codes " " ++ decimal bytes
-verdict (end.Refused r) = codes "refused " ++ decimal r.at ++ codes " " ++ reason_name r.why
+verdict (end.Refused r) = hint r.why ++ codes "refused " ++ decimal r.at ++ codes " " ++ reason_name r.why
 
 -- a name and a number
 abbrev pub named_words : (name : List ℕ) → ℕ → List ℕ
@@ -70,8 +69,17 @@ reason_words w =
     count_words (codes "UnknownLink") w.unknown_link ++ count_words (codes "CutInLink") w.cut_in_link
     ++ count_words (codes "NotIp") w.not_ip ++ count_words (codes "CutInIp") w.cut_in_ip
     ++ count_words (codes "BadIpLength") w.bad_ip_length ++ count_words (codes "Fragment") w.fragment
-    ++ count_words (codes "NotTcp") w.not_tcp ++ count_words (codes "CutInTcp") w.cut_in_tcp
+    ++ count_words (codes "NotTcp") w.not_tcp ++ count_words (codes "CutInTunnel") w.cut_in_tunnel
+    ++ count_words (codes "TooManyTunnels") w.too_many_tunnels ++ count_words (codes "CutInTcp") w.cut_in_tcp
     ++ count_words (codes "BadTcpLength") w.bad_tcp_length
+
+abbrev pub skip_words : SkippedCounts → List ℕ
+skip_words k =
+    count_words (codes "ShortBlock") k.short_block ++ count_words (codes "BadOptionLength") k.bad_option_length
+    ++ count_words (codes "UnknownTimeUnit") k.unknown_time_unit ++ count_words (codes "NegativeTimeOffset") k.negative_time_offset
+    ++ count_words (codes "TooManyInterfaces") k.too_many_interfaces ++ count_words (codes "UnknownInterface") k.unknown_interface
+    ++ count_words (codes "UnreadInterface") k.unread_interface ++ count_words (codes "TimeTooLarge") k.time_too_large
+    ++ count_words (codes "PacketBeyondBlock") k.packet_beyond_block ++ count_words (codes "PacketTooLong") k.packet_too_long
 
 abbrev pub head_words : CaptureRead → List ℕ
 head_words r =
@@ -84,7 +92,8 @@ own_words words = codes " " ++ words
 
 abbrev pub read_line : (words : List ℕ) → CaptureRead → List ℕ
 read_line words r =
-    verdict r.end ++ head_words r ++ own_words words ++ table_words r.connections ++ reason_words r.packets.without ++ codes "\n"
+    verdict r.end ++ head_words r ++ own_words words ++ table_words r.connections ++ reason_words r.packets.without
+    ++ skip_words r.packets.skipped ++ codes "\n"
 
 -- those of streams
 abbrev pub sums_words : Sums → List ℕ

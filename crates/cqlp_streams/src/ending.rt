@@ -4,12 +4,13 @@ ghost use Rattle.std.specs.Prelude.{◌≡◌, ◌++◌, IfOk, IsSome, string_by
 ghost use Rattle.cqlp_text.specs.Endings.{IsStatusOfTask};
 ghost use Rattle.cqlp_text.specs.Outputs.{written};
 ghost use Rattle.cqlp_streams.specs.Endings.{Concludes, ConcludesNoted, fault_line, file_line, line_of, noted_line, noted_status};
-ghost use Rattle.cqlp_streams.specs.Endings.{read_line, reason_name, status_of, verdict};
+ghost use Rattle.cqlp_streams.specs.Endings.{hint, read_line, reason_name, status_of, verdict};
 
 use crate::capturing::CaptureRead;
 use crate::fault::StreamsFault;
 use crate::files::{FileFault, StreamFile};
 use crate::lines::way_name;
+use crate::skipped::push_skipped;
 use crate::summary::{push_head, push_own, push_reasons, push_table};
 use cqlp_capture::{CaptureEnd, CaptureReason};
 use cqlp_grammar::SinkFault;
@@ -144,6 +145,7 @@ fn read_line<'a, A: Allocator>(
     push_own(&mut line, words)?;
     push_table(&mut line, &read.connections)?;
     push_reasons(&mut line, &read.packets.without)?;
+    push_skipped(&mut line, &read.packets.skipped)?;
     line.push_str("\n")?;
     Ok(line)
 }
@@ -157,7 +159,8 @@ fn verdict<A: Allocator>(alloc: A, end: &CaptureEnd) -> Result<String<A>, AllocE
         CaptureEnd::Refused(refusal) => {
             let at = refusal.at;
             let why = reason_name(refusal.why);
-            format!(in alloc; "refused {at} {why}")
+            let hint = hint(refusal.why);
+            format!(in alloc; "{hint}refused {at} {why}")
         }
     }
 }
@@ -166,20 +169,28 @@ fn reason_name(why: CaptureReason) -> &'static str
     ensures { result.now ≡ reason_name why }
 {
     match why {
+        CaptureReason::Gzip => "Gzip",
         CaptureReason::UnknownMagic => "UnknownMagic",
         CaptureReason::UnknownVersion => "UnknownVersion",
-        CaptureReason::PacketTooLong => "PacketTooLong",
         CaptureReason::FileTooLong => "FileTooLong",
         CaptureReason::UnknownByteOrder => "UnknownByteOrder",
         CaptureReason::BadBlockLength => "BadBlockLength",
         CaptureReason::UnequalBlockLengths => "UnequalBlockLengths",
-        CaptureReason::BadOptionLength => "BadOptionLength",
-        CaptureReason::UnknownTimeUnit => "UnknownTimeUnit",
-        CaptureReason::NegativeTimeOffset => "NegativeTimeOffset",
-        CaptureReason::TooManyInterfaces => "TooManyInterfaces",
-        CaptureReason::UnknownInterface => "UnknownInterface",
-        CaptureReason::PacketBeyondBlock => "PacketBeyondBlock",
-        CaptureReason::TimeTooLarge => "TimeTooLarge",
+    }
+}
+
+/// A line before the last one, where the file is compressed by gzip.
+fn hint(why: CaptureReason) -> &'static str
+    ensures { result.now ≡ hint why }
+{
+    match why {
+        CaptureReason::Gzip => "cqlp: compressed by gzip: gunzip -c FILE | cqlp capture -\n",
+        CaptureReason::UnknownMagic
+        | CaptureReason::UnknownVersion
+        | CaptureReason::FileTooLong
+        | CaptureReason::UnknownByteOrder
+        | CaptureReason::BadBlockLength
+        | CaptureReason::UnequalBlockLengths => "",
     }
 }
 

@@ -52,12 +52,18 @@ pub(crate) fn push_reasons<A: Allocator>(
     push_count(words, "BadIpLength", counts.bad_ip_length)?;
     push_count(words, "Fragment", counts.fragment)?;
     push_count(words, "NotTcp", counts.not_tcp)?;
+    push_count(words, "CutInTunnel", counts.cut_in_tunnel)?;
+    push_count(words, "TooManyTunnels", counts.too_many_tunnels)?;
     push_count(words, "CutInTcp", counts.cut_in_tcp)?;
     push_count(words, "BadTcpLength", counts.bad_tcp_length)
 }
 
 /// Appends a name and a number, each after a space, unless the number is 0.
-fn push_count<A: Allocator>(words: &mut String<A>, name: &str, count: u64) -> Result<(), AllocError>
+pub(crate) fn push_count<A: Allocator>(
+    words: &mut String<A>,
+    name: &str,
+    count: u64,
+) -> Result<(), AllocError>
     ensures { IfOk result (λ _. string_bytes words.new ≡ string_bytes words.old ++ count_words name.now count) }
 {
     if count == 0 {

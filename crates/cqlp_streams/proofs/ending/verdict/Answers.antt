@@ -6,4 +6,4 @@ pub returns-in-Cut : goal.returns-in-Cut
 returns-in-Cut g c = said c.format-in-Cut.result string_bytes _ _ c.format-in-Cut.ensures.ok (simp (append_assoc, c.in-Cut.is))
 
 pub returns-in-Refused : goal.returns-in-Refused
-returns-in-Refused g c = said c.format-in-Refused.result string_bytes _ _ c.format-in-Refused.ensures.ok (simp (append_assoc, c.in-Refused.is, c.reason_name-why.ensures))
+returns-in-Refused g c = said c.format-in-Refused.result string_bytes _ _ c.format-in-Refused.ensures.ok (simp (append_assoc, c.in-Refused.is, c.reason_name-why.ensures, c.hint-hint.ensures))
