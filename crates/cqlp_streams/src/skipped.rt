@@ -1,11 +1,13 @@
 //! What the reader of a capture passed over, in numbers.
 
-ghost use Rattle.std.specs.Prelude.{◌≡◌, ◌++◌, IfOk, string_bytes};
+ghost use Rattle.std.specs.Prelude.{◌≡◌};
+ghost use Rattle.cqlp_text.specs.Written.{Writes};
 ghost use Rattle.cqlp_streams.specs.Endings.{skip_words};
 
-use crate::summary::push_count;
+use crate::summary::put_count;
 use cqlp_capture::SkipReason;
-use std::alloc::{AllocError, Allocator};
+use cqlp_grammar::SinkFault;
+use cqlp_text::{Pen, TextWriter};
 
 /// Blocks, interfaces and packets that cannot be read, by the reason. A number stays at 2^64 - 1 once it is there.
 #[derive(Clone, Copy, Debug, PartialEq, Eq)]
@@ -73,21 +75,21 @@ impl SkippedCounts {
     }
 }
 
-/// Appends how many blocks, interfaces and packets cannot be read, by the reason.
-pub(crate) fn push_skipped<A: Allocator>(
-    words: &mut String<A>,
+/// Takes how many blocks, interfaces and packets cannot be read, by the reason.
+pub(crate) fn put_skipped<P: Pen>(
+    writer: &mut TextWriter<P>,
     counts: &SkippedCounts,
-) -> Result<(), AllocError>
-    ensures { IfOk result (λ _. string_bytes words.new ≡ string_bytes words.old ++ skip_words counts.now) }
+) -> Result<(), SinkFault>
+    ensures { Writes writer.old (skip_words counts.now) result writer.new }
 {
-    push_count(words, "ShortBlock", counts.short_block)?;
-    push_count(words, "BadOptionLength", counts.bad_option_length)?;
-    push_count(words, "UnknownTimeUnit", counts.unknown_time_unit)?;
-    push_count(words, "NegativeTimeOffset", counts.negative_time_offset)?;
-    push_count(words, "TooManyInterfaces", counts.too_many_interfaces)?;
-    push_count(words, "UnknownInterface", counts.unknown_interface)?;
-    push_count(words, "UnreadInterface", counts.unread_interface)?;
-    push_count(words, "TimeTooLarge", counts.time_too_large)?;
-    push_count(words, "PacketBeyondBlock", counts.packet_beyond_block)?;
-    push_count(words, "PacketTooLong", counts.packet_too_long)
+    put_count(writer, "ShortBlock", counts.short_block)?;
+    put_count(writer, "BadOptionLength", counts.bad_option_length)?;
+    put_count(writer, "UnknownTimeUnit", counts.unknown_time_unit)?;
+    put_count(writer, "NegativeTimeOffset", counts.negative_time_offset)?;
+    put_count(writer, "TooManyInterfaces", counts.too_many_interfaces)?;
+    put_count(writer, "UnknownInterface", counts.unknown_interface)?;
+    put_count(writer, "UnreadInterface", counts.unread_interface)?;
+    put_count(writer, "TimeTooLarge", counts.time_too_large)?;
+    put_count(writer, "PacketBeyondBlock", counts.packet_beyond_block)?;
+    put_count(writer, "PacketTooLong", counts.packet_too_long)
 }
