@@ -70,7 +70,7 @@ reason_words w =
     ∷ count_words (codes "TooManyTunnels") w.too_many_tunnels ∷ count_words (codes "CutInTcp") w.cut_in_tcp
     ∷ count_words (codes "BadTcpLength") w.bad_tcp_length ∷ [])
 
-abbrev pub skip_words : SkippedCounts → List ℕ
+unfoldable pub skip_words : SkippedCounts → List ℕ
 skip_words k =
     joined (count_words (codes "ShortBlock") k.short_block ∷ count_words (codes "BadOptionLength") k.bad_option_length
     ∷ count_words (codes "UnknownTimeUnit") k.unknown_time_unit ∷ count_words (codes "NegativeTimeOffset") k.negative_time_offset
