@@ -11,7 +11,7 @@ import re
 import struct
 import sys
 
-LIMIT = 262144
+LIMIT = 1048576
 INTERFACES = 256
 FORMS = {
     bytes.fromhex('a1b2c3d4'): ('>', 'BigEndian', 'Microseconds', 1000),
@@ -47,22 +47,62 @@ def ip_of(link, packet):
             found = found or families.get(struct.unpack_from('<I', packet)[0])
         want(found, 'NotIp')
         return found, packet[4:]
-    if link in (101, 228, 229):
-        if link != 101:
-            return 4 if link == 228 else 6, packet
-        want(packet, 'CutInIp')
-        want(packet[0] >> 4 in (4, 6), 'NotIp')
-        return packet[0] >> 4, packet
+    if link in (228, 229):
+        return 4 if link == 228 else 6, packet
+    if link in (12, 14, 101):
+        return with_version(packet)
     type_at, length = {1: (12, 14), 113: (14, 16), 276: (0, 20)}.get(link, (0, 0))
     want(length, 'UnknownLink')
+    return after_header(packet, type_at, length)
+
+
+def with_version(packet):
+    want(packet, 'CutInIp')
+    want(packet[0] >> 4 in (4, 6), 'NotIp')
+    return packet[0] >> 4, packet
+
+
+def after_header(packet, type_at, length):
     want(len(packet) >= length, 'CutInLink')
-    kind = struct.unpack_from('>H', packet, type_at)[0]
-    rest = packet[length:]
+    return after_type(struct.unpack_from('>H', packet, type_at)[0], packet[length:])
+
+
+def after_type(kind, rest):
+    """Tags, labels (RFC 3032), a session (RFC 2516)."""
     while kind in (0x8100, 0x88a8, 0x9100):
         want(len(rest) >= 4, 'CutInLink')
         kind, rest = struct.unpack_from('>H', rest, 2)[0], rest[4:]
+    if kind in (0x8847, 0x8848):
+        is_last = False
+        while not is_last:
+            want(len(rest) >= 4, 'CutInLink')
+            is_last, rest = rest[2] & 1, rest[4:]
+        return with_version(rest)
+    if kind == 0x8864:
+        want(len(rest) >= 8, 'CutInLink')
+        form, code, _, _, protocol = struct.unpack_from('>BBHHH', rest)
+        kind = {0x21: 0x800, 0x57: 0x86dd}.get(protocol, 0) if (form, code) == (0x11, 0) else 0
+        rest = rest[8:]
     want(kind in (0x800, 0x86dd), 'NotIp')
     return 4 if kind == 0x800 else 6, rest
+
+
+def inside(protocol, size, data):
+    """The packet of IP in a tunnel: IP, GRE (RFC 2784 and 2890), VXLAN (RFC 7348)."""
+    carried = min(size, len(data))
+    if protocol in (4, 41):
+        return 4 if protocol == 4 else 6, data
+    if protocol == 17 and carried >= 4 and struct.unpack_from('>H', data, 2)[0] == 4789:
+        want(carried >= 16, 'CutInTunnel')
+        want(data[8] & 8, 'NotTcp')
+        return after_header(data[16:], 12, 14)
+    want(protocol == 47, 'NotTcp')
+    want(carried >= 4, 'CutInTunnel')
+    flags, version, kind = struct.unpack_from('>BBH', data)
+    want(not flags & 0x40 and version & 7 == 0, 'NotTcp')
+    header = 4 + sum(4 for flag in (0x80, 0x20, 0x10) if flags & flag)
+    want(carried >= header, 'CutInTunnel')
+    return after_header(data[header:], 12, 14) if kind == 0x6558 else after_type(kind, data[header:])
 
 
 def content_4(ip, beyond):
@@ -73,9 +113,8 @@ def content_4(ip, beyond):
     total = total or len(ip) + beyond
     want(header >= 20 and total >= header, 'BadIpLength')
     want(fragment & 0x3fff == 0, 'Fragment')
-    want(ip[9] == 6, 'NotTcp')
     want(len(ip) >= header, 'CutInIp')
-    return ip[12:16], ip[16:20], total - header, ip[header:]
+    return ip[12:16], ip[16:20], ip[9], total - header, ip[header:]
 
 
 def content_6(ip, beyond):
@@ -91,15 +130,19 @@ def content_6(ip, beyond):
         want(length <= len(rest), 'CutInIp')
         want(kind != 44 or struct.unpack_from('>H', rest, 2)[0] & 0xfff9 == 0, 'Fragment')
         kind, size, rest = rest[0], size - length, rest[length:]
-    want(kind == 6, 'NotTcp')
-    return ip[8:24], ip[24:40], size, rest
+    return ip[8:24], ip[24:40], kind, size, rest
 
 
 def segment(link, packet, original):
     beyond = max(original - len(packet), 0)
     try:
         version, ip = ip_of(link, packet)
-        source, target, size, tcp = (content_4 if version == 4 else content_6)(ip, beyond)
+        for _ in range(5):
+            source, target, protocol, size, tcp = (content_4 if version == 4 else content_6)(ip, beyond)
+            if protocol == 6:
+                break
+            version, ip = inside(protocol, size, tcp)
+        want(protocol == 6, 'TooManyTunnels')
         want(size >= 20, 'BadTcpLength')
         want(len(tcp) >= 20, 'CutInTcp')
         header = (tcp[12] >> 4) * 4
@@ -119,27 +162,34 @@ def padded(size):
     return (size + 3) // 4 * 4
 
 
-def interface(order, body, at):
-    """The link type, the snap length, how many units a second has and how many seconds are added, or a refusal."""
+def interface(order, body, room):
+    """The link type, the snap length, how many units a second has and how many seconds are added; and why its times cannot be read, if so.
+    None where the file ends before that is known."""
+    if len(body) < 8:
+        return None
     link, _, snap = struct.unpack_from(order + 'HHI', body)
-    units, seconds, options = 10**6, 0, 8
-    while options < len(body):
-        code, size = struct.unpack_from(order + 'HH', body, options)
+    units, seconds, at = 10**6, 0, 8
+    while at + 4 <= room:
+        if len(body) < at + 4:
+            return None
+        code, size = struct.unpack_from(order + 'HH', body, at)
         if code == 0:
             break
-        if options + 4 + padded(size) > len(body) or size != {9: 1, 14: 8}.get(code, size):
-            return f'{at + options + 2} BadOptionLength'
-        value = body[options + 4:options + 4 + size]
+        if at + 4 + padded(size) > room or size != {9: 1, 14: 8}.get(code, size):
+            return link, snap, None, 0, 'BadOptionLength'
+        if len(body) < at + 4 + padded(size):
+            return None
+        value = body[at + 4:at + 4 + size]
         if code == 9:
             if value[0] > 9:
-                return f'{at + options + 4} UnknownTimeUnit'
+                return link, snap, None, 0, 'UnknownTimeUnit'
             units = 10**value[0]
         if code == 14:
             seconds, = struct.unpack(order + 'q', value)
             if seconds < 0:
-                return f'{at + options + 4} NegativeTimeOffset'
-        options += 4 + padded(size)
-    return link, snap, units, seconds
+                return link, snap, None, 0, 'NegativeTimeOffset'
+        at += 4 + padded(size)
+    return link, snap, units, seconds, None
 
 
 def said_of_blocks(file, limit, most):
@@ -156,8 +206,8 @@ def said_of_blocks(file, limit, most):
             if not order:
                 return lines + [f'{at + 8} UnknownByteOrder']
         kind, length = struct.unpack_from(order + 'II', file, at)
-        least = 28 if is_section else {1: 20, 3: 16, 6: 32}.get(kind, 12)
-        if length % 4 or length < least:
+        least = 28 if is_section else {1: 20, 2: 32, 3: 16, 6: 32}.get(kind, 12)
+        if length % 4 or length < (least if is_section or kind == 1 else 12):
             return lines + [f'{at + 4} BadBlockLength']
         body, end = file[at + 8:min(at + length - 4, len(file))], at + length - 4
         room = end - at - 8
@@ -166,48 +216,49 @@ def said_of_blocks(file, limit, most):
                 return lines + [f'{at + 12} UnknownVersion']
             lines.append(f"{at} section {'BigEndian' if order == '>' else 'LittleEndian'} pcapng")
             known = []
-        elif kind == 1 and len(body) == room:
-            found = interface(order, body, at + 8)
-            if isinstance(found, str):
-                return lines + [found]
-        elif kind in (3, 6):
-            start = 28 if kind == 6 else 12
+        elif kind == 1:
+            found = interface(order, body, room)
+            if found and found[4]:
+                lines.append(f'{at} skipped {found[4]}')
+        elif length < least:
+            lines.append(f'{at} skipped ShortBlock')
+        elif kind in (2, 3, 6):
+            start = 12 if kind == 3 else 28
             if left < start:
                 return cut
-            if kind == 6:
-                number, high, low, captured, original = struct.unpack_from(order + 'IIIII', body)
-            else:
-                number, (original,) = 0, struct.unpack_from(order + 'I', body)
-            if number >= len(known):
-                return lines + [f'{at + 8 if kind == 6 else at} UnknownInterface']
-            link, snap, units, seconds = known[number]
-            when = 'no time'
-            if kind == 6:
-                time = (high * 2**32 + low) * (10**9 // units) + seconds * 10**9
-                if time >= 2**64:
-                    return lines + [f'{at + 12} TimeTooLarge']
-                when = f'{time} ns'
-                if captured > room - 20:
-                    return lines + [f'{at + 20} PacketBeyondBlock']
-            else:
+            form = {2: 'HHIIII', 3: 'I', 6: 'IIIII'}[kind]
+            *numbers, original = struct.unpack_from(order + form, body)
+            number = numbers[0] if numbers else 0
+            link, snap, units, seconds, _ = known[number] if number < len(known) else (0, 0, 0, 0, None)
+            when, why = 'no time', None if number < len(known) else 'UnknownInterface'
+            if kind == 3:
                 captured = min(room - 4, original, snap or original)
-            if captured > limit:
-                return lines + [f'{at + 20 if kind == 6 else at + 8} PacketTooLong']
-            lines.append(f'{at} packet of {number} at {when} captured {captured} of {original}')
-            data = file[at + start:at + start + captured]
-            if len(data) < captured:
-                return lines + [f'cut at {at} after {len(file)}']
-            lines.append(f'{at + start} data {captured} sum {sum_of(data)}')
-            lines.append(segment(link, data, original))
+            else:
+                high, low, captured = numbers[-3:]
+                time = (high * 2**32 + low) * (10**9 // (units or 1)) + seconds * 10**9
+                when = f'{time} ns'
+                why = why or (units is None and 'UnreadInterface') or (time >= 2**64 and 'TimeTooLarge')
+                why = why or (captured > room - 20 and 'PacketBeyondBlock')
+            why = why or (captured > limit and 'PacketTooLong')
+            if why:
+                lines.append(f'{at} skipped {why}')
+            else:
+                lines.append(f'{at} packet of {number} at {when} captured {captured} of {original}')
+                data = file[at + start:at + start + captured]
+                if len(data) < captured:
+                    return lines + [f'cut at {at} after {len(file)}']
+                lines.append(f'{at + start} data {captured} sum {sum_of(data)}')
+                lines.append(segment(link, data, original))
         if left < length:
             return lines + [f'cut at {at} after {len(file)}']
         if struct.unpack_from(order + 'I', file, end)[0] != length:
             return lines + [f'{end} UnequalBlockLengths']
         if kind == 1 and not is_section:
             if len(known) == most:
-                return lines + [f'{at} TooManyInterfaces']
-            lines.append(f'{at} interface {len(known)} link {found[0]} snap {found[1]}')
-            known.append(found)
+                lines.append(f'{at} skipped TooManyInterfaces')
+            else:
+                lines.append(f'{at} interface {len(known)} link {found[0]} snap {found[1]}')
+                known.append(found)
         at += length
     return lines + [f'whole {len(file)}']
 
@@ -217,6 +268,8 @@ def said(file, limit=LIMIT, most=INTERFACES):
         return said_of_blocks(file, limit, most)
     if len(file) < 4:
         return [f'cut at 0 after {len(file)}']
+    if file[:2] == bytes.fromhex('1f8b'):
+        return ['0 Gzip']
     if file[:4] not in FORMS:
         return ['0 UnknownMagic']
     order, name, fraction, unit = FORMS[file[:4]]
@@ -233,7 +286,11 @@ def said(file, limit=LIMIT, most=INTERFACES):
             return lines + [f'cut at {at} after {len(file)}']
         seconds, part, captured, original = struct.unpack_from(order + 'IIII', file, at)
         if captured > limit:
-            return lines + [f'{at + 8} PacketTooLong']
+            lines.append(f'{at} skipped PacketTooLong')
+            if len(file) < at + 16 + captured:
+                return lines + [f'cut at {at} after {len(file)}']
+            at += 16 + captured
+            continue
         time = seconds * 10**9 + part * unit
         lines.append(f'{at} packet of 0 at {time} ns captured {captured} of {original}')
         data = file[at + 16:at + 16 + captured]

@@ -20,6 +20,10 @@ versions     three connections: one begins in version 5 on both sides, one is in
 tls          one connection, which begins with TLS on both sides
 pages        one connection, whose responses are five pages in pieces: of the third a cell has no lawful length, within the fourth three bytes are
              lost, and within the fifth the capture ends
+wraps        one connection, of which each request and its response is in another wrap: raw, tags, labels of MPLS, sessions of PPPoE, IP in IP,
+             GRE, VXLAN, and four tunnels; and of one request in five
+passed       a pcapng file with two connections: of one the packets are in packet blocks, and of the other there are an interface of an odd
+             resolution, a packet too long, one beyond its block, one of no interface and a block too short
 block        a pcapng file with as many interfaces as there may be, options and a packet of 262,144 bytes, and a block of 4 GiB that never comes
 
 captures/made.py long FILE [MB]: writes a capture of so many MB of zeros, of which the file system keeps next to nothing, 130 where it is not said.
@@ -237,6 +241,85 @@ def blocks():
     yield struct.pack("<II", 0x0BAD, 0xFFFFFFFC) + bytes(1_000_000)
 
 
+def ethernet(kind, content):
+    return bytes(12) + struct.pack(">H", kind) + content
+
+
+def over_ip(protocol, content):
+    return struct.pack(">BBHHHBBHII", 0x45, 0, 20 + len(content), 0, 0x4000, 64, protocol, 0, 7, 8) + content
+
+
+def over_gre(kind, content, fields=0):
+    flags = {0: 0, 1: 0x80, 2: 0xA0, 3: 0xB0}[fields]
+    return over_ip(47, struct.pack(">BBH", flags, 0, kind) + bytes(4 * fields) + content)
+
+
+def over_vxlan(packet):
+    frame = ethernet(0x0800, packet)
+    return over_ip(17, struct.pack(">HHHH", 50_000, 4_789, 16 + len(frame), 0) + struct.pack(">II", 0x08000000, 77 << 8) + frame)
+
+
+def over_pppoe(packet):
+    return ethernet(0x8864, struct.pack(">BBHHH", 0x11, 0, 5, 2 + len(packet), 0x0021) + packet)
+
+
+def four_times(packet):
+    return over_gre(0x0800, over_ip(4, over_vxlan(over_gre(0x6558, ethernet(0x0800, packet), 3))))
+
+
+# what a packet of IP may be in, on a link of Ethernet
+WRAPS = [
+    lambda packet: ethernet(0x0800, packet),
+    lambda packet: ethernet(0x8100, b"\0\5\x08\0" + packet),
+    lambda packet: ethernet(0x8847, struct.pack(">II", 16 << 12, 17 << 12 | 1 << 8) + packet),
+    lambda packet: ethernet(0x8848, struct.pack(">I", 16 << 12 | 1 << 8) + packet),
+    over_pppoe,
+    lambda packet: ethernet(0x0800, over_ip(4, packet)),
+    lambda packet: ethernet(0x0800, over_gre(0x0800, packet)),
+    lambda packet: ethernet(0x0800, over_gre(0x0800, packet, 2)),
+    lambda packet: ethernet(0x0800, over_gre(0x6558, ethernet(0x0800, packet), 1)),
+    lambda packet: ethernet(0x0800, over_vxlan(packet)),
+    lambda packet: ethernet(0x0800, four_times(packet)),
+]
+
+
+def exchange(port, stream, number):
+    """The packets of an OPTIONS and of the READY that answers it, each of nine bytes, the first of which has this number."""
+    yield segment(1, port, number, frame(0x04, 0, stream, 0x05, b""))
+    yield segment(1, port, number, frame(0x84, 0, stream, 0x02, b""), True)
+
+
+def wraps():
+    for i, wrap in enumerate(WRAPS):
+        yield from map(record, map(wrap, exchange(10_000, i, 9 * i)))
+    late = next(exchange(10_000, 0, 9 * len(WRAPS)))
+    yield record(ethernet(0x0800, over_ip(4, four_times(late))))
+
+
+def interface(link, *options):
+    return block(1, struct.pack("<HHI", link, 0, 0) + b"".join(options))
+
+
+def packet_block(packet, number, captured=None):
+    """The block of a packet as it was before enhanced packets."""
+    captured = len(packet) if captured is None else captured
+    return block(2, struct.pack("<HHIIII", number, 0, 0, 5, captured, captured) + packet + bytes(-len(packet) % 4))
+
+
+def enhanced(packet, number):
+    return block(6, struct.pack("<IIIII", number, 0, 5, len(packet), len(packet)) + packet + bytes(-len(packet) % 4))
+
+
+def passed():
+    yield block(0x0A0D0D0A, struct.pack("<IHHq", 0x1A2B3C4D, 1, 0, -1))
+    odd = struct.pack("<HHB3x", 9, 1, 0x8A)
+    yield from [interface(1, odd), interface(101), interface(12)]
+    asked, answered = exchange(10_000, 0, 0)
+    yield from [packet_block(asked, 1), enhanced(ethernet(0x0800, asked), 0), enhanced(bytes(1_048_577), 1), packet_block(answered, 2)]
+    asked, answered = exchange(10_001, 0, 0)
+    yield from [enhanced(asked, 2), packet_block(b"", 1, captured=1), block(6, bytes(12)), enhanced(asked, 3), enhanced(answered, 1)]
+
+
 def over_6(number, payload, *headers):
     """A record of a packet of IPv6, with each of these headers: its number, and its bytes after the number of the next."""
     kind, content = 6, segment(0, 10_000, number, payload)[20:]
@@ -283,14 +366,16 @@ def greatest_record():
     yield record(bytes(1_000), 0xFFFFFFFF, 0xFFFFFFFF)
 
 
-def of_pcap(records):
-    yield struct.pack("<IHHiIII", 0xA1B2C3D4, 2, 4, 0, 0, 0xFFFFFFFF, 101)
+def of_pcap(records, link=101):
+    yield struct.pack("<IHHiIII", 0xA1B2C3D4, 2, 4, 0, 0, 0xFFFFFFFF, link)
     yield from records
 
 
 def capture(kind, *count):
-    if kind == "block":
-        return blocks()
+    if kind in ("block", "passed"):
+        return {"block": blocks, "passed": passed}[kind]()
+    if kind == "wraps":
+        return of_pcap(wraps(), 1)
     made = {"connections": connections, "lost": lost, "requests": requests, "contents": contents, "pages": pages, "packets": packets,
             "prepared": lambda: in_turn(statements_in_turn()), "statements": lambda: in_turn(many_statements()),
             "headers": headers, "record": greatest_record, "batches": batches, "flight": flight, "versions": versions, "tls": tls}[kind]

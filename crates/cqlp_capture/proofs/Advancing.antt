@@ -11,7 +11,7 @@ use Rattle.cqlp_capture.specs.declared.limits.CaptureLimits.{CaptureLimits}
 use Rattle.cqlp_capture.specs.declared.place.Place.{Place}
 use Rattle.cqlp_capture.specs.declared.place.Stage.{Stage}
 use Rattle.cqlp_capture.specs.declared.interfaces.KnownInterface.{KnownInterface}
-use Rattle.cqlp_capture.specs.declared.place.Stage.TheVariants.{Magic, FileHead, RecordHead, Data, SectionLength, SectionBody, BlockHead, InterfaceBody, OptionHead, TimeUnit, TimeOffset, EnhancedBody, SimpleBody, BlockData, Pass, BlockEnd}
+use Rattle.cqlp_capture.specs.declared.place.Stage.TheVariants.{Magic, FileHead, RecordHead, Data, Rest, SectionLength, SectionBody, BlockHead, InterfaceBody, OptionHead, TimeUnit, TimeOffset, EnhancedBody, PacketBody, SimpleBody, BlockData, Pass, BlockEnd}
 use Rattle.cqlp_capture.specs.declared.reader.StepTaken.TheVariants as taken
 use Rattle.cqlp_capture.specs.declared.refusal.CaptureRefusal.{CaptureRefusal}
 use Rattle.cqlp_capture.specs.Blocks.{passing}
@@ -32,6 +32,7 @@ known_few l fits Magic known is = let some = fits.some in let none : length know
 known_few l fits (FileHead f) known is = let some = fits.some in let none : length known ≡ 0 = ap length is in omega arith
 known_few l fits (RecordHead r) known is = is
 known_few l fits (Data r n) known is = is
+known_few l fits (Rest r start left) known is = is
 known_few l fits SectionLength known is = is
 known_few l fits (SectionBody e) known is = is
 known_few l fits (BlockHead o) known is = is
@@ -40,6 +41,7 @@ known_few l fits (OptionHead b) known is = is
 known_few l fits (TimeUnit b) known is = is
 known_few l fits (TimeOffset b) known is = is
 known_few l fits (EnhancedBody b) known is = is
+known_few l fits (PacketBody b) known is = is
 known_few l fits (SimpleBody b) known is = is
 known_few l fits (BlockData b n) known is = is
 known_few l fits (Pass b until) known is = is

@@ -12,7 +12,7 @@ use Rattle.cqlp_capture.specs.declared.event.EventOutline.{EventOutline}
 use Rattle.cqlp_capture.specs.declared.gathered.BytesPlace.{BytesPlace}
 use Rattle.cqlp_capture.specs.declared.limits.CaptureLimits.{CaptureLimits}
 use Rattle.cqlp_capture.specs.declared.place.Stage.{Stage}
-use Rattle.cqlp_capture.specs.declared.place.Stage.TheVariants.{Magic, FileHead, RecordHead, Data, SectionLength, SectionBody, BlockHead, InterfaceBody, OptionHead, TimeUnit, TimeOffset, EnhancedBody, SimpleBody, BlockData, Pass, BlockEnd}
+use Rattle.cqlp_capture.specs.declared.place.Stage.TheVariants.{Magic, FileHead, RecordHead, Data, Rest, SectionLength, SectionBody, BlockHead, InterfaceBody, OptionHead, TimeUnit, TimeOffset, EnhancedBody, PacketBody, SimpleBody, BlockData, Pass, BlockEnd}
 use Rattle.cqlp_capture.specs.declared.reader.CaptureAdvance.TheVariants as advance
 use Rattle.cqlp_capture.specs.declared.refusal.CaptureRefusal.{CaptureRefusal}
 use Rattle.cqlp_capture.specs.Gathering.{bytes_at}
@@ -126,6 +126,7 @@ module _ (l : CaptureLimits) where
   began_before offset (FileHead f) here = omega arith
   began_before offset (RecordHead r) here = omega arith
   began_before offset (Data r n) here = omega arith
+  began_before offset (Rest r start left) here = let after = here.1 in omega arith
   began_before offset SectionLength here = omega arith
   began_before offset (SectionBody e) here = omega arith
   began_before offset (BlockHead o) here = omega arith
@@ -134,6 +135,7 @@ module _ (l : CaptureLimits) where
   began_before offset (TimeUnit b) here = let block = here.0 in let after = block.after in omega arith
   began_before offset (TimeOffset b) here = let block = here.0 in let after = block.after in omega arith
   began_before offset (EnhancedBody b) here = let body = here.0 in let after = body.block.after in omega arith
+  began_before offset (PacketBody b) here = let body = here.0 in let after = body.block.after in omega arith
   began_before offset (SimpleBody b) here = let body = here.0 in let after = body.block.after in omega arith
   began_before offset (BlockData b n) here = let packet = here.0 in let after = packet.block.after in omega arith
   began_before offset (Pass b until) here = let pass = here.0 in let after = pass.block.after in omega arith

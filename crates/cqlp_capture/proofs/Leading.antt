@@ -1,7 +1,7 @@
 -- Where a step leads.
-use Rattle.std.proofs.Common.{◌≡◌, ℕ, ◌+◌, ◌-◌, ◌^◌, ◌<◌, ◌≤◌, ltb, eqb, Bool, true, false, cond, List, [], ◌∷◌, ◌++◌, length, Result, Ok, Err, refl, sym, ap, subst, ◌∙◌, inl, inr, arith}
-use Rattle.std.specs.Prelude.{Option, Some, None, ◌⊎◌, slice_get, slice_index}
-use Rattle.std.proofs.lemmas.Bool.{eqb-true, ltb-true, ltb-false}
+use Rattle.std.proofs.Common.{◌≡◌, ℕ, ◌+◌, ◌-◌, ◌^◌, ◌<◌, ◌≤◌, ltb, leb, eqb, Bool, true, false, cond, List, [], ◌∷◌, ◌++◌, length, Result, Ok, Err, refl, sym, ap, subst, ◌∙◌, inl, inr, arith}
+use Rattle.std.specs.Prelude.{Option, Some, None, ◌⊎◌, min, slice_get, slice_index}
+use Rattle.std.proofs.lemmas.Bool.{eqb-true, eqb-false, ltb-true, ltb-false}
 use Rattle.std.proofs.lemmas.List.{length-append}
 use Rattle.cqlp_capture.specs.declared.block.Block.{Block}
 use Rattle.cqlp_capture.specs.declared.block.BlockKind.{BlockKind}
@@ -12,20 +12,24 @@ use Rattle.cqlp_capture.specs.declared.file.ByteOrder.TheVariants.{BigEndian}
 use Rattle.cqlp_capture.specs.declared.file.FileForm.{FileForm}
 use Rattle.cqlp_capture.specs.declared.event.InterfaceHead.{InterfaceHead}
 use Rattle.cqlp_capture.specs.declared.event.PacketHead.{PacketHead}
+use Rattle.cqlp_capture.specs.declared.event.SkipReason.{SkipReason}
+use Rattle.cqlp_capture.specs.declared.event.SkipReason.TheVariants.{ShortBlock, BadOptionLength, UnknownTimeUnit, NegativeTimeOffset, UnknownInterface, UnreadInterface, TimeTooLarge, PacketBeyondBlock, PacketTooLong, TooManyInterfaces}
+use Rattle.cqlp_capture.specs.declared.event.EventOutline.TheVariants as outline
+use Rattle.cqlp_capture.specs.declared.interfaces.TableChange.TheVariants.{Keep, Add}
 use Rattle.cqlp_capture.specs.declared.event.Told.{Told}
 use Rattle.cqlp_capture.specs.declared.interfaces.KnownInterface.{KnownInterface}
 use Rattle.cqlp_capture.specs.declared.limits.CaptureLimits.{CaptureLimits}
 use Rattle.cqlp_capture.specs.declared.place.RecordForm.{RecordForm}
 use Rattle.cqlp_capture.specs.declared.place.Stage.{Stage}
-use Rattle.cqlp_capture.specs.declared.place.Stage.TheVariants.{Magic, FileHead, RecordHead, Data, SectionLength, SectionBody, BlockHead, InterfaceBody, OptionHead, TimeUnit, TimeOffset, EnhancedBody, SimpleBody, BlockData, Pass, BlockEnd}
+use Rattle.cqlp_capture.specs.declared.place.Stage.TheVariants.{Magic, FileHead, RecordHead, Data, Rest, SectionLength, SectionBody, BlockHead, InterfaceBody, OptionHead, TimeUnit, TimeOffset, EnhancedBody, PacketBody, SimpleBody, BlockData, Pass, BlockEnd}
 use Rattle.cqlp_capture.specs.declared.refusal.CaptureRefusal.{CaptureRefusal}
 use Rattle.cqlp_capture.specs.Interfaces.{changed}
 use Rattle.cqlp_capture.specs.Telling.{goes_on}
-use Rattle.cqlp_capture.specs.Numbers.{form_of, is_block_length, is_section, number_16, number_32, number_64, order_of, padded, unit_of}
+use Rattle.cqlp_capture.specs.Numbers.{form_of, is_block_length, is_gzip, is_section, number_16, number_32, number_64, order_of, padded, unit_of}
 use Rattle.cqlp_capture.specs.Records as records
-use Rattle.cqlp_capture.specs.Blocks.{IsBlock, IsInBlock, block_at, block_end, captured_of, described, describing, either_length, kind_of, least_length, length_in, passing, redescribed, room_of, section_at, time_of, told_block_of, told_captured, told_enhanced, told_known, told_option, told_option_head, told_packet, told_section, told_section_in, told_simple, told_timed, told_unit, units_of, with_offset, with_unit}
+use Rattle.cqlp_capture.specs.Blocks.{IsBlock, IsInBlock, block_at, block_end, captured_of, described, describing, either_length, kind_of, lawful_length, least_length, length_in, passing, redescribed, room_of, section_at, skipped, skipped_option, time_of, told_block_of, told_by_unit, told_enhanced, told_known, told_option, told_option_head, told_packet, told_section, told_section_in, told_simple, told_timed, told_unit, units_of, untimed_block, with_offset, with_unit}
 use Rattle.cqlp_capture.specs.Blocks as blocks
-use Rattle.cqlp_capture.specs.Reading.{Event, Section, Interface, Bytes, Packet, Spot, event_if, after_told, wanted, told_at}
+use Rattle.cqlp_capture.specs.Reading.{Event, Interface, Bytes, Packet, Spot, event_if, after_told, wanted, told_at}
 use Rattle.cqlp_capture.specs.Places.{IsNear, IsKnownAt, IsSpot, ComesAfterHead, began_at, began, due, is_between}
 use Rattle.cqlp_capture.specs.Laws.{BeginsAfterHead, counted}
 use Rattle.cqlp_capture.proofs.Tests.{Fits, allowed, length_is, not_refused, ok_same}
@@ -53,7 +57,17 @@ pub record Leads (l : CaptureLimits) (known : List KnownInterface) (offset : ℕ
   pub head : (h : PacketHead) → event_if t.what b ≡ Some (Packet h) → BeginsAfterHead t.at t.place.offset h × IsDataOf t.place.stage h.captured
   pub numbered : (i : InterfaceHead) → event_if t.what b ≡ Some (Interface i) → i.number ≡ length known
 
+-- where the rest of a record is passed over, or the next one is read
+pub record RestsIn (l : CaptureLimits) (known : List KnownInterface) (start offset : ℕ) (s : Stage) : Type 0 where
+  pub near : IsNear l offset s × ComesAfterHead offset s
+  pub kept : IsKnownAt l s known
+  pub begins : (began_at offset s ≡ start) ⊎ ((is_between s ≡ true) × (began_at offset s ≡ offset))
+  pub free : due s ≡ 0
+
 module _ (l : CaptureLimits) (fits : Fits l) (known : List KnownInterface) (offset : ℕ) (bytes : List ℕ) (t : Told) where
+  abbrev Rests : (start o : ℕ) → Stage → Type 0
+  Rests start o s = RestsIn l known start o s
+
   -- a step that says no event
   silent : (s : Stage) (o : ℕ) (next : Stage) → goes_on o next ≡ Ok t → o ≡ offset + wanted s → 1 ≤ wanted s → IsNear l o next × ComesAfterHead o next → IsKnownAt l next known → began_at o next ≡ began_at offset s → due next ≡ 0 → Leads l known offset s bytes t
   silent s o next is far some near few begins free = subst (λ (u : Told). Leads l known offset s bytes u) (ok_same t _ is) (record {
@@ -70,6 +84,28 @@ module _ (l : CaptureLimits) (fits : Fits l) (known : List KnownInterface) (offs
   -- and that goes on in a block
   within : (s : Stage) (b : Block) (o : ℕ) (next : Stage) → goes_on o next ≡ Ok t → o ≡ offset + wanted s → 1 ≤ wanted s → Inside l b o next → length known ≤ l.interfaces → b.start ≡ began_at offset s → Leads l known offset s bytes t
   within s b o next is far some inside few begins = silent s o next is far some inside.near (inside.known known few) (inside.begins ∙ begins) inside.free
+
+  -- what is left of a block is passed over
+  skip_leads : (s : Stage) (b : Block) (n : ℕ) (why : SkipReason) → IsInBlock b (offset + n) 0 → n ≡ wanted s → 1 ≤ n → length known ≤ l.interfaces → b.start ≡ began_at offset s → skipped (offset + n) b why ≡ Ok t → Leads l known offset s bytes t
+  skip_leads s b n why here wants some few begins is =
+      let before = here.before in
+      let inside = passing_inside l b (offset + n) (block_end b) here (omega arith) (omega arith) in
+      subst (λ (u : Told). Leads l known offset s bytes u) (ok_same t _ is) (record {
+        near = record { place = inside.near; known = inside.known known few };
+        offset_is = omega arith;
+        pays = let free = inside.free in omega arith;
+        begins = inl (inside.begins ∙ begins);
+        counts = refl;
+        bytes = λ c e. absurd cc;
+        head = λ h e. absurd cc;
+        numbered = λ i e. absurd cc;
+      })
+
+  -- with an option that cannot be read
+  skip_option_leads : (s : Stage) (b : Block) (n : ℕ) (why : SkipReason) → IsInBlock b (offset + n) 0 → n ≡ wanted s → 1 ≤ n → length known ≤ l.interfaces → b.start ≡ began_at offset s → skipped_option (offset + n) b why ≡ Ok t → Leads l known offset s bytes t
+  skip_option_leads s b n why here wants some few begins is =
+      let block = here.block in
+      skip_leads s (untimed_block b) n why (record { block = record { near = block.near; least = block.least; most = block.most }; after = here.after; before = here.before }) wants some few begins is
 
   -- ---- pcap
 
@@ -113,13 +149,52 @@ module _ (l : CaptureLimits) (fits : Fits l) (known : List KnownInterface) (offs
             omega arith;
       }) is
 
+  rest_by : (r : RecordForm) (start left o : ℕ) (x : Bool) → (x ≡ true → left ≡ 0) → (x ≡ false → left ≡ 0 → ⊥) → o + left ≤ 2 ^ 63 + 2 ^ 33 → start + 16 ≤ o → length known ≤ l.interfaces
+      → Rests start o (cond x (RecordHead r) (Rest r start left))
+  rest_by r start left o true none some far after few = record { near = (omega arith, tt); kept = few; begins = inr (refl, refl); free = refl }
+  rest_by r start left o false none some far after few =
+      let apart : left ≡ 0 → ⊥ = some refl in
+      record { near = ((far, omega arith), after); kept = few; begins = inl refl; free = refl }
+
+  rest_leads : (r : RecordForm) (start left : ℕ) → offset + left ≤ 2 ^ 63 + 2 ^ 33 → 0 < left → start + 16 ≤ offset → length known ≤ l.interfaces → goes_on (offset + min left 64) (records.rest_of r start (left - min left 64)) ≡ Ok t → Leads l known offset (Rest r start left) bytes t
+  rest_leads r start left far some after few is =
+      let n = min left 64 in
+      let rests = rest_by r start (left - n) (offset + n) (eqb (left - n) 0) (eqb-true _ _) (eqb-false _ _) (omega arith) (omega arith) few in
+      let free = rests.free in
+      subst (λ (u : Told). Leads l known offset (Rest r start left) bytes u) (ok_same t _ is) (record {
+        near = record { place = rests.near; known = rests.kept };
+        offset_is = refl;
+        pays = omega arith;
+        begins = rests.begins;
+        counts = refl;
+        bytes = λ c e. absurd cc;
+        head = λ h e. absurd cc;
+        numbered = λ i e. absurd cc;
+      })
+
+  record_by : (r : RecordForm) (n : ℕ) (x : Bool) (u : Told) → offset ≤ 2 ^ 63 → length known ≤ l.interfaces → (x ≡ true → 0 < n) → (x ≡ false → Leads l known offset (RecordHead r) bytes u) → cond x (records.skipped_record offset n r) (Ok u) ≡ Ok t → Leads l known offset (RecordHead r) bytes t
+  record_by r n true u near few long read is =
+      let some : 0 < n = long refl in
+      subst (λ (u : Told). Leads l known offset (RecordHead r) bytes u) (ok_same t _ is) (record {
+        near = record { place = ((omega arith, omega arith), omega arith); known = few };
+        offset_is = refl;
+        pays = omega arith;
+        begins = inl refl;
+        counts = refl;
+        bytes = λ c e. absurd cc;
+        head = λ h e. absurd cc;
+        numbered = λ i e. absurd cc;
+      })
+  record_by r n false u near few long read is = subst (λ (u : Told). Leads l known offset (RecordHead r) bytes u) (ok_same t u is) (read refl)
+
   record_leads : (r : RecordForm) → length known ≤ l.interfaces → records.told_record_head l.packet offset r bytes ≡ Ok t → Leads l known offset (RecordHead r) bytes t
   record_leads r few is =
       let a = not_refused _ _ _ _ is in
-      let b = not_refused _ _ _ _ a.1 in
       let near : offset ≤ 2 ^ 63 = ltb-false _ _ a.0 in
-      let small = ltb-false l.packet (number_32 r.form.order 8 bytes) b.0 in
-      subst (λ (u : Told). Leads l known offset (RecordHead r) bytes u) (ok_same t _ b.1) (record {
+      let n = number_32 r.form.order 8 bytes in
+      record_by r n (ltb l.packet n) _ near few (λ e. let long = ltb-true l.packet n e in omega arith) (λ e.
+      let small = ltb-false l.packet n e in
+      record {
         near = record { place = ((omega arith, small), omega arith); known = few };
         offset_is = refl;
         pays = omega arith;
@@ -128,7 +203,7 @@ module _ (l : CaptureLimits) (fits : Fits l) (known : List KnownInterface) (offs
         bytes = λ c e. absurd cc;
         head = λ h e. (inl refl, cc);
         numbered = λ i e. absurd cc;
-      })
+      }) a.1
 
   data_leads : (r : RecordForm) (n : ℕ) → offset ≤ 2 ^ 63 + 16 → n ≤ l.packet → length known ≤ l.interfaces → length bytes ≡ n → blocks.told_data (offset + n) offset (RecordHead r) ≡ Ok t → Leads l known offset (Data r n) bytes t
   data_leads r n far small few long is =
@@ -187,16 +262,26 @@ module _ (l : CaptureLimits) (fits : Fits l) (known : List KnownInterface) (offs
         by : (k : BlockKind) → least_length k ≤ b.length → blocks.told_block k b ≡ Ok t → Leads l known offset (BlockHead o) bytes t
         by kind.Section least is = passed is
         by kind.Interface least is = silent (BlockHead o) (b.start + 8) (InterfaceBody b) is (omega arith) (omega arith) (in_block 8 (omega arith), tt) few start refl
+        by kind.Packet least is = silent (BlockHead o) (b.start + 8) (PacketBody b) is (omega arith) (omega arith) (record { block = in_block 20 (omega arith); here = refl }, tt) few start refl
         by kind.EnhancedPacket least is = silent (BlockHead o) (b.start + 8) (EnhancedBody b) is (omega arith) (omega arith) (record { block = in_block 20 (omega arith); here = refl }, tt) few start refl
         by kind.SimplePacket least is = silent (BlockHead o) (b.start + 8) (SimpleBody b) is (omega arith) (omega arith) (record { block = in_block 4 (omega arith); here = refl }, tt) few start refl
         by kind.Other least is = passed is
 
-    least_is : (k : BlockKind) → 12 ≤ least_length k
+    least_is : (k : BlockKind) → 12 ≤ lawful_length k
     least_is kind.Section = omega arith
     least_is kind.Interface = omega arith
+    least_is kind.Packet = omega arith
     least_is kind.EnhancedPacket = omega arith
     least_is kind.SimplePacket = omega arith
     least_is kind.Other = omega arith
+
+    -- a block that is long enough for its kind, or is passed over
+    long_by : (o : ByteOrder) (k : BlockKind) (b : Block) (x : Bool) → b.start ≡ offset → IsBlock b → (x ≡ false → least_length k ≤ b.length) → cond x (skipped (b.start + 8) b ShortBlock) (blocks.told_block k b) ≡ Ok t → Leads l known offset (BlockHead o) bytes t
+    long_by o k b true start block long is =
+        let least = block.least in
+        let same : skipped (offset + 8) b ShortBlock ≡ Ok t = ap (λ (n : ℕ). skipped (n + 8) b ShortBlock) (sym start) ∙ is in
+        skip_leads (BlockHead o) b 8 ShortBlock (record { block = block; after = omega arith; before = omega arith }) refl (omega arith) few start same
+    long_by o k b false start block long is = body_leads o k b start block (long refl) is
 
     head_by : (o : ByteOrder) (x : Bool) → offset ≤ 2 ^ 63 → cond x (goes_on (offset + 8) (SectionBody (either_length 4 bytes))) (told_block_of (kind_of (number_32 o 0 bytes)) (block_at offset o bytes)) ≡ Ok t → Leads l known offset (BlockHead o) bytes t
     head_by o true near is = silent (BlockHead o) (offset + 8) (SectionBody (either_length 4 bytes)) is refl (omega arith) (omega arith, omega arith) few (omega arith) refl
@@ -204,11 +289,11 @@ module _ (l : CaptureLimits) (fits : Fits l) (known : List KnownInterface) (offs
         let a = allowed _ _ _ _ is in
         let k = kind_of (number_32 o 0 bytes) in
         let b = block_at offset o bytes in
-        let long = length_is (least_length k) b.length a.0 in
+        let long = length_is (lawful_length k) b.length a.0 in
         let least = long.0 in
         let most = long.1 in
         let block : IsBlock b = record { near = near; least = omega (arith, least_is k); most = most } in
-        body_leads o k b refl block least a.1
+        long_by o k b (ltb b.length (least_length k)) refl block (λ e. ltb-false b.length (least_length k) e) a.1
 
     head_leads : (o : ByteOrder) → blocks.told_block_head offset o bytes ≡ Ok t → Leads l known offset (BlockHead o) bytes t
     head_leads o is =
@@ -229,59 +314,65 @@ module _ (l : CaptureLimits) (fits : Fits l) (known : List KnownInterface) (offs
         let there : IsInBlock b (offset + n) 0 = let before = here.before in let after = here.after in record { block = here.block; after = omega arith; before = omega arith } in
         within s b (offset + n) _ is (omega arith) (omega arith) (option_inside l b (offset + n) there) few begins
 
-    option_by : (b : Block) (size : ℕ) (x y z w : Bool) (r r' : CaptureRefusal) → IsInBlock b offset (4 + padded size) → (y ≡ true → size ≡ 1) → (w ≡ true → size ≡ 8)
-        → cond x (cond y (goes_on (offset + 4) (TimeUnit b)) (Err r)) (cond z (cond w (goes_on (offset + 4) (TimeOffset b)) (Err r')) (goes_on (offset + 4) (passing b (offset + 4) (offset + 4 + padded size)))) ≡ Ok t
+    -- after bytes that lie in a block
+    past : (b : Block) (n : ℕ) → IsInBlock b offset n → IsInBlock b (offset + n) 0
+    past b n here = let before = here.before in let after = here.after in record { block = here.block; after = omega arith; before = omega arith }
+
+    bad_option : (b : Block) → IsInBlock b offset 4 → skipped_option (offset + 4) b BadOptionLength ≡ Ok t → Leads l known offset (OptionHead b) bytes t
+    bad_option b here is = skip_option_leads (OptionHead b) b 4 BadOptionLength (past b 4 here) refl (omega arith) few refl is
+
+    option_by : (b : Block) (size : ℕ) (x y z w : Bool) → IsInBlock b offset 4 → IsInBlock b offset (4 + padded size) → (y ≡ true → size ≡ 1) → (w ≡ true → size ≡ 8)
+        → cond x (cond y (goes_on (offset + 4) (TimeUnit b)) (skipped_option (offset + 4) b BadOptionLength)) (cond z (cond w (goes_on (offset + 4) (TimeOffset b)) (skipped_option (offset + 4) b BadOptionLength)) (goes_on (offset + 4) (passing b (offset + 4) (offset + 4 + padded size)))) ≡ Ok t
         → Leads l known offset (OptionHead b) bytes t
-    option_by b size true y z w r r' here one eight is =
-        let a = allowed y _ _ _ is in
-        let size_is = one a.0 in
-        let four : padded size ≡ 4 = ap padded size_is in
+    option_by b size true true z w four here one eight is =
+        let size_is = one refl in
+        let length_is : padded size ≡ 4 = ap padded size_is in
         let before = here.before in
         let after = here.after in
-        silent (OptionHead b) (offset + 4) (TimeUnit b) a.1 refl (omega arith) (record { block = here.block; after = omega arith; before = omega arith }, tt) few refl refl
-    option_by b size false y true w r r' here one eight is =
-        let a = allowed w _ _ _ is in
-        let size_is = eight a.0 in
+        silent (OptionHead b) (offset + 4) (TimeUnit b) is refl (omega arith) (record { block = here.block; after = omega arith; before = omega arith }, tt) few refl refl
+    option_by b size true false z w four here one eight is = bad_option b four is
+    option_by b size false y true true four here one eight is =
+        let size_is = eight refl in
         let length_is : padded size ≡ 8 = ap padded size_is in
         let before = here.before in
         let after = here.after in
-        silent (OptionHead b) (offset + 4) (TimeOffset b) a.1 refl (omega arith) (record { block = here.block; after = omega arith; before = omega arith }, tt) few refl refl
-    option_by b size false y false w r r' here one eight is =
+        silent (OptionHead b) (offset + 4) (TimeOffset b) is refl (omega arith) (record { block = here.block; after = omega arith; before = omega arith }, tt) few refl refl
+    option_by b size false y true false four here one eight is = bad_option b four is
+    option_by b size false y false w four here one eight is =
         let before = here.before in
-        let after = here.after in
-        let there : IsInBlock b (offset + 4) 0 = record { block = here.block; after = omega arith; before = omega arith } in
-        within (OptionHead b) b (offset + 4) _ is refl (omega arith) (passing_inside l b (offset + 4) (offset + 4 + padded size) there (omega arith) (omega arith)) few refl
+        within (OptionHead b) b (offset + 4) _ is refl (omega arith) (passing_inside l b (offset + 4) (offset + 4 + padded size) (past b 4 four) (omega arith) (omega arith)) few refl
 
-    options_by : (b : Block) (x : Bool) → IsInBlock b offset 4 → (size : ℕ) → (o : Result Told CaptureRefusal) → (r : CaptureRefusal)
-        → cond x (goes_on (offset + 4) (passing b (offset + 4) (block_end b))) (cond (ltb (block_end b) (offset + 4 + padded size)) (Err r) o) ≡ Ok t
+    options_by : (b : Block) (x y : Bool) → IsInBlock b offset 4 → (size : ℕ) → (o : Result Told CaptureRefusal) → (y ≡ false → offset + 4 + padded size ≤ block_end b)
+        → cond x (goes_on (offset + 4) (passing b (offset + 4) (block_end b))) (cond y (skipped_option (offset + 4) b BadOptionLength) o) ≡ Ok t
         → (IsInBlock b offset (4 + padded size) → o ≡ Ok t → Leads l known offset (OptionHead b) bytes t)
         → Leads l known offset (OptionHead b) bytes t
-    options_by b true here size o r is later =
+    options_by b true y here size o fits is later =
         let before = here.before in
+        within (OptionHead b) b (offset + 4) _ is refl (omega arith) (passing_inside l b (offset + 4) (block_end b) (past b 4 here) (omega arith) (omega arith)) few refl
+    options_by b false true here size o fits is later = bad_option b here is
+    options_by b false false here size o fits is later =
+        let far = fits refl in
         let after = here.after in
-        let there : IsInBlock b (offset + 4) 0 = record { block = here.block; after = omega arith; before = omega arith } in
-        within (OptionHead b) b (offset + 4) _ is refl (omega arith) (passing_inside l b (offset + 4) (block_end b) there (omega arith) (omega arith)) few refl
-    options_by b false here size o r is later =
-        let a = not_refused (ltb (block_end b) (offset + 4 + padded size)) r o t is in
-        let far = ltb-false (block_end b) (offset + 4 + padded size) a.0 in
-        let after = here.after in
-        later (record { block = here.block; after = omega arith; before = omega arith }) a.1
+        later (record { block = here.block; after = omega arith; before = omega arith }) is
 
     option_leads : (b : Block) → IsInBlock b offset 4 → told_option_head offset b bytes ≡ Ok t → Leads l known offset (OptionHead b) bytes t
     option_leads b here is =
         let code = number_16 b.order 0 bytes in
         let size = number_16 b.order 2 bytes in
-        options_by b (eqb code 0) here size (told_option offset b code size) _ is
-        (λ inside told. option_by b size (eqb code 9) (eqb size 1) (eqb code 14) (eqb size 8) _ _ inside (eqb-true size 1) (eqb-true size 8) told)
+        options_by b (eqb code 0) (ltb (block_end b) (offset + 4 + padded size)) here size (told_option offset b code size) (λ e. ltb-false (block_end b) (offset + 4 + padded size) e) is
+        (λ inside told. option_by b size (eqb code 9) (eqb size 1) (eqb code 14) (eqb size 8) here inside (eqb-true size 1) (eqb-true size 8) told)
 
     unit_leads : (b : Block) → IsInBlock b offset 4 → (u : Option ℕ) → told_unit offset b u ≡ Ok t → Leads l known offset (TimeUnit b) bytes t
-    unit_leads b here None is = absurd cc
+    unit_leads b here None is = skip_option_leads (TimeUnit b) b 4 UnknownTimeUnit (past b 4 here) refl (omega arith) few refl is
     unit_leads b here (Some u) is = redescribed_leads (TimeUnit b) b (with_unit u) 4 here refl (omega arith) refl b.interface is
 
+    offset_by : (b : Block) (x : Bool) → IsInBlock b offset 8 → cond x (skipped_option (offset + 8) b NegativeTimeOffset) (redescribed (offset + 8) b b.interface (with_offset (number_64 b.order 0 bytes))) ≡ Ok t → Leads l known offset (TimeOffset b) bytes t
+    offset_by b true here is =
+        skip_option_leads (TimeOffset b) b 8 NegativeTimeOffset (past b 8 here) refl (omega arith) few refl is
+    offset_by b false here is = redescribed_leads (TimeOffset b) b (with_offset (number_64 b.order 0 bytes)) 8 here refl (omega arith) refl b.interface is
+
     offset_leads : (b : Block) → IsInBlock b offset 8 → blocks.told_time_offset offset b bytes ≡ Ok t → Leads l known offset (TimeOffset b) bytes t
-    offset_leads b here is =
-        let a = not_refused _ _ _ _ is in
-        redescribed_leads (TimeOffset b) b (with_offset (number_64 b.order 0 bytes)) 8 here refl (omega arith) refl b.interface a.1
+    offset_leads b here is = offset_by b (leb (2 ^ 63) (number_64 b.order 0 bytes)) here is
 
     -- ---- packets
 
@@ -299,39 +390,49 @@ module _ (l : CaptureLimits) (fits : Fits l) (known : List KnownInterface) (offs
       numbered = λ i e. absurd cc;
     })
 
-    timed_leads : (b : Block) (i : KnownInterface) → IsInBlock b offset 20 → offset ≡ b.start + 8 → (o : Option ℕ) → told_timed l.packet offset b bytes i o ≡ Ok t → Leads l known offset (EnhancedBody b) bytes t
-    timed_leads b i here first None is = absurd cc
-    timed_leads b i here first (Some time) is =
-        let a = not_refused _ _ _ _ is in
-        let c = not_refused _ _ _ _ a.1 in
-        let room = ltb-false (room_of b (offset + 20)) (number_32 b.order 12 bytes) a.0 in
-        let small = ltb-false l.packet (number_32 b.order 12 bytes) c.0 in
+    within_by : (s : Stage) (b : Block) (n : ℕ) (h : PacketHead) (x y : Bool) → IsInBlock b offset n → n ≡ wanted s → 2 ≤ n → b.start ≡ began_at offset s → BeginsAfterHead b.start (offset + n) h → (x ≡ false → h.captured ≤ room_of b (offset + n)) → (y ≡ false → h.captured ≤ l.packet)
+        → cond x (skipped (offset + n) b PacketBeyondBlock) (cond y (skipped (offset + n) b PacketTooLong) (told_packet (offset + n) b h)) ≡ Ok t → Leads l known offset s bytes t
+    within_by s b n h true y here wants some begins follows room small is = skip_leads s b n PacketBeyondBlock (past b n here) wants (omega arith) few begins is
+    within_by s b n h false true here wants some begins follows room small is = skip_leads s b n PacketTooLong (past b n here) wants (omega arith) few begins is
+    within_by s b n h false false here wants some begins follows room small is =
+        let fits = room refl in
         let before = here.before in
         let after = here.after in
-        packet_leads (EnhancedBody b) b 20 (blocks.enhanced_of b.order i time bytes) (record { block = here.block; after = omega arith; before = omega arith }) refl (omega arith) refl small (inr (inl (omega arith))) c.1
+        packet_leads s b n h (record { block = here.block; after = omega arith; before = omega arith }) wants some begins (small refl) follows is
 
-    enhanced_leads : (b : Block) → IsInBlock b offset 20 → offset ≡ b.start + 8 → (o : Option KnownInterface) → told_enhanced l.packet offset b bytes o ≡ Ok t → Leads l known offset (EnhancedBody b) bytes t
-    enhanced_leads b here first None is = absurd cc
-    enhanced_leads b here first (Some i) is = timed_leads b i here first (time_of i (units_of b.order bytes)) is
+    within_leads : (s : Stage) (b : Block) (n : ℕ) (h : PacketHead) → IsInBlock b offset n → n ≡ wanted s → 2 ≤ n → b.start ≡ began_at offset s → BeginsAfterHead b.start (offset + n) h → blocks.told_within l.packet (offset + n) b h ≡ Ok t → Leads l known offset s bytes t
+    within_leads s b n h here wants some begins follows is =
+        within_by s b n h (ltb (room_of b (offset + n)) h.captured) (ltb l.packet h.captured) here wants some begins follows (λ e. ltb-false (room_of b (offset + n)) h.captured e) (λ e. ltb-false l.packet h.captured e) is
 
-    captured_le : (x : Bool) (room snapped : ℕ) → (x ≡ false → snapped ≤ room) → cond x room snapped ≤ room
-    captured_le true room snapped le = omega arith
-    captured_le false room snapped le = le refl
+    -- the numbers of a packet in a block
+    pub record IsNumbers (s : Stage) (b : Block) : Type 0 where
+      pub block : IsInBlock b offset 20
+      pub here : offset ≡ b.start + 8
+      pub wants : 20 ≡ wanted s
+      pub begins : b.start ≡ began_at offset s
 
-    captured_leads : (b : Block) (i : KnownInterface) (original captured : ℕ) → IsInBlock b offset 4 → offset ≡ b.start + 8 → captured ≤ room_of b (offset + 4) → told_captured l.packet offset b i original captured ≡ Ok t → Leads l known offset (SimpleBody b) bytes t
-    captured_leads b i original captured here first room is =
-        let a = not_refused _ _ _ _ is in
-        let small = ltb-false l.packet captured a.0 in
-        let before = here.before in
-        let after = here.after in
-        packet_leads (SimpleBody b) b 4 (blocks.simple_of i original captured) (record { block = here.block; after = omega arith; before = omega arith }) refl (omega arith) refl small (inr (inr (omega arith, refl))) a.1
+    skip_packet : (s : Stage) (b : Block) (why : SkipReason) → IsNumbers s b → skipped (offset + 20) b why ≡ Ok t → Leads l known offset s bytes t
+    skip_packet s b why at is =
+        skip_leads s b 20 why (past b 20 at.block) at.wants (omega arith) few at.begins is
+
+    timed_leads : (s : Stage) (number : ℕ) (b : Block) (i : KnownInterface) → IsNumbers s b → (o : Option ℕ) → told_timed l.packet number offset b bytes i o ≡ Ok t → Leads l known offset s bytes t
+    timed_leads s number b i at None is = skip_packet s b TimeTooLarge at is
+    timed_leads s number b i at (Some time) is =
+        let first = at.here in
+        within_leads s b 20 (blocks.enhanced_of number b.order i time bytes) at.block at.wants (omega arith) at.begins (inr (inl (omega arith))) is
+
+    unit_by : (s : Stage) (number : ℕ) (b : Block) (i : KnownInterface) → IsNumbers s b → (u : Option ℕ) → told_by_unit l.packet number offset b bytes i u ≡ Ok t → Leads l known offset s bytes t
+    unit_by s number b i at None is = skip_packet s b UnreadInterface at is
+    unit_by s number b i at (Some unit) is = timed_leads s number b i at (time_of unit i.offset (units_of b.order bytes)) is
+
+    enhanced_leads : (s : Stage) (number : ℕ) (b : Block) → IsNumbers s b → (o : Option KnownInterface) → told_enhanced l.packet number offset b bytes o ≡ Ok t → Leads l known offset s bytes t
+    enhanced_leads s number b at None is = skip_packet s b UnknownInterface at is
+    enhanced_leads s number b at (Some i) is = unit_by s number b i at i.unit is
 
     simple_leads : (b : Block) (original : ℕ) → IsInBlock b offset 4 → offset ≡ b.start + 8 → (o : Option KnownInterface) → told_simple l.packet offset b original o ≡ Ok t → Leads l known offset (SimpleBody b) bytes t
-    simple_leads b original here first None is = absurd cc
+    simple_leads b original here first None is = skip_leads (SimpleBody b) b 4 UnknownInterface (past b 4 here) refl (omega arith) few refl is
     simple_leads b original here first (Some i) is =
-        let room = room_of b (offset + 4) in
-        let snapped = blocks.snapped i.snap_length original in
-        captured_leads b i original (captured_of i original room) here first (captured_le (ltb room snapped) room snapped (λ e. ltb-false room snapped e)) is
+        within_leads (SimpleBody b) b 4 (blocks.simple_of i original (captured_of i original (room_of b (offset + 4)))) here refl (omega arith) refl (inr (inr (omega arith, refl))) is
 
     content_leads : (b : Block) (n : ℕ) → IsInBlock b offset n → length bytes ≡ n → blocks.told_data (offset + n) offset (passing b (offset + n) (block_end b)) ≡ Ok t → Leads l known offset (BlockData b n) bytes t
     content_leads b n here long is =
@@ -358,6 +459,55 @@ module _ (l : CaptureLimits) (fits : Fits l) (known : List KnownInterface) (offs
         let there : IsInBlock b (offset + 1) 0 = record { block = here.block; after = omega arith; before = omega arith } in
         within (Pass b until) b (offset + 1) _ is refl (omega arith) (passing_inside l b (offset + 1) until there (omega arith) inside) few refl
 
+    -- an interface is known from here on, or it is one beyond the limit
+    abbrev added : Block → KnownInterface → Told
+    added b i = record {
+      at = b.start;
+      what = Some (outline.Interface (record { number = length known; link = i.link; snap_length = i.snap_length }));
+      place = record { offset = offset + 4; stage = BlockHead b.order };
+      change = Add i;
+    }
+
+    abbrev too_many : Block → Told
+    too_many b = record {
+      at = b.start;
+      what = Some (outline.Skipped TooManyInterfaces);
+      place = record { offset = offset + 4; stage = BlockHead b.order };
+      change = Keep;
+    }
+
+    known_by : (b : Block) → IsInBlock b offset 0 → offset ≡ block_end b → (k : KnownInterface) (x : Bool) → (x ≡ true → length known < l.interfaces) → ◌≡◌ {A = Result Told CaptureRefusal} (cond {A = Result Told CaptureRefusal} x (Ok (added b k)) (Ok (too_many b))) (Ok t) → Leads l known offset (BlockEnd b) bytes t
+    known_by b here end k true fits is =
+        let room = fits refl in
+        let near = here.block.near in
+        let most = here.block.most in
+        let more : length (known ++ k ∷ []) ≡ length known + 1 = length-append known (k ∷ []) in
+        subst (λ (u : Told). Leads l known offset (BlockEnd b) bytes u) (ok_same t _ is) (record {
+          near = record { place = (omega arith, tt); known = omega arith };
+          offset_is = refl;
+          pays = omega arith;
+          begins = inr (refl, refl);
+          counts = more;
+          bytes = λ c e. absurd cc;
+          head = λ h e. absurd cc;
+          numbered = λ i e.
+              let same : ◌≡◌ {A = InterfaceHead} (record { number = length known; link = k.link; snap_length = k.snap_length }) i = cc in
+              sym (ap (λ (x : InterfaceHead). x.number) same);
+        })
+    known_by b here end k false fits is =
+        let near = here.block.near in
+        let most = here.block.most in
+        subst (λ (u : Told). Leads l known offset (BlockEnd b) bytes u) (ok_same t _ is) (record {
+          near = record { place = (omega arith, tt); known = few };
+          offset_is = refl;
+          pays = omega arith;
+          begins = inr (refl, refl);
+          counts = refl;
+          bytes = λ c e. absurd cc;
+          head = λ h e. absurd cc;
+          numbered = λ i e. absurd cc;
+        })
+
     known_leads : (b : Block) → IsInBlock b offset 0 → offset ≡ block_end b → (o : Option KnownInterface) → told_known l.interfaces known offset b o ≡ Ok t → Leads l known offset (BlockEnd b) bytes t
     known_leads b here end None is =
         let near = here.block.near in
@@ -372,24 +522,7 @@ module _ (l : CaptureLimits) (fits : Fits l) (known : List KnownInterface) (offs
           head = λ h e. absurd cc;
           numbered = λ i e. absurd cc;
         })
-    known_leads b here end (Some k) is =
-        let a = allowed _ _ _ _ is in
-        let room = ltb-true (length known) l.interfaces a.0 in
-        let near = here.block.near in
-        let most = here.block.most in
-        let more : length (known ++ k ∷ []) ≡ length known + 1 = length-append known (k ∷ []) in
-        subst (λ (u : Told). Leads l known offset (BlockEnd b) bytes u) (ok_same t _ a.1) (record {
-          near = record { place = (omega arith, tt); known = omega arith };
-          offset_is = refl;
-          pays = omega arith;
-          begins = inr (refl, refl);
-          counts = more;
-          bytes = λ c e. absurd cc;
-          head = λ h e. absurd cc;
-          numbered = λ i e.
-              let same : ◌≡◌ {A = InterfaceHead} (record { number = length known; link = k.link; snap_length = k.snap_length }) i = cc in
-              sym (ap (λ (x : InterfaceHead). x.number) same);
-        })
+    known_leads b here end (Some k) is = known_by b here end k (ltb (length known) l.interfaces) (ltb-true (length known) l.interfaces) is
 
     end_leads : (b : Block) → IsInBlock b offset 0 → offset ≡ block_end b → blocks.told_block_end l.interfaces known offset b bytes ≡ Ok t → Leads l known offset (BlockEnd b) bytes t
     end_leads b here end is =
@@ -397,10 +530,13 @@ module _ (l : CaptureLimits) (fits : Fits l) (known : List KnownInterface) (offs
         known_leads b here end b.interface a.1
 
   pub leads_at : (s : Stage) → IsNear l offset s × ComesAfterHead offset s → IsKnownAt l s known → length bytes ≡ wanted s → told_at l known offset s bytes ≡ Ok t → Leads l known offset s bytes t
-  leads_at Magic here few long is = magic_leads (is_section (number_32 BigEndian 0 bytes)) (form_of (number_32 BigEndian 0 bytes)) here.0 few is
+  leads_at Magic here few long is =
+      let a = not_refused (is_gzip (number_32 BigEndian 0 bytes)) _ _ _ is in
+      magic_leads (is_section (number_32 BigEndian 0 bytes)) (form_of (number_32 BigEndian 0 bytes)) here.0 few a.1
   leads_at (FileHead f) here few long is = file_leads f here.0 few is
   leads_at (RecordHead r) here few long is = record_leads r few is
   leads_at (Data r n) here few long is = let near = here.0 in data_leads r n near.0 near.1 few long is
+  leads_at (Rest r start left) here few long is = let near = here.0 in rest_leads r start left near.0 near.1 here.1 few is
   leads_at SectionLength here few long is =
       let four = here.0 in
       silent SectionLength 8 (SectionBody (either_length 0 bytes)) is (omega arith) (omega arith) (omega arith, omega arith) few refl refl
@@ -410,7 +546,14 @@ module _ (l : CaptureLimits) (fits : Fits l) (known : List KnownInterface) (offs
   leads_at (OptionHead b) here few long is = option_leads few b here.0 is
   leads_at (TimeUnit b) here few long is = unit_leads few b here.0 (unit_of (slice_index bytes 0)) is
   leads_at (TimeOffset b) here few long is = offset_leads few b here.0 is
-  leads_at (EnhancedBody b) here few long is = let body = here.0 in enhanced_leads few b body.block body.here (slice_get known (number_32 b.order 0 bytes)) is
+  leads_at (EnhancedBody b) here few long is =
+      let body = here.0 in
+      let number = number_32 b.order 0 bytes in
+      enhanced_leads few (EnhancedBody b) number b (record { block = body.block; here = body.here; wants = refl; begins = refl }) (slice_get known number) is
+  leads_at (PacketBody b) here few long is =
+      let body = here.0 in
+      let number = number_16 b.order 0 bytes in
+      enhanced_leads few (PacketBody b) number b (record { block = body.block; here = body.here; wants = refl; begins = refl }) (slice_get known number) is
   leads_at (SimpleBody b) here few long is = let body = here.0 in simple_leads few b (number_32 b.order 0 bytes) body.block body.here (slice_get known 0) is
   leads_at (BlockData b n) here few long is = let packet = here.0 in content_leads few b n packet.block long is
   leads_at (Pass b until) here few long is = let pass = here.0 in pass_leads few b until pass.block pass.some pass.inside is
@@ -430,6 +573,7 @@ data_told l known offset k (BlockData c n) b t next long is =
 data_told l known offset k Magic b t next long is = absurd next
 data_told l known offset k (FileHead f) b t next long is = absurd next
 data_told l known offset k (RecordHead r) b t next long is = absurd next
+data_told l known offset k (Rest r start left) b t next long is = absurd next
 data_told l known offset k SectionLength b t next long is = absurd next
 data_told l known offset k (SectionBody e) b t next long is = absurd next
 data_told l known offset k (BlockHead o) b t next long is = absurd next
@@ -438,6 +582,7 @@ data_told l known offset k (OptionHead c) b t next long is = absurd next
 data_told l known offset k (TimeUnit c) b t next long is = absurd next
 data_told l known offset k (TimeOffset c) b t next long is = absurd next
 data_told l known offset k (EnhancedBody c) b t next long is = absurd next
+data_told l known offset k (PacketBody c) b t next long is = absurd next
 data_told l known offset k (SimpleBody c) b t next long is = absurd next
 data_told l known offset k (Pass c until) b t next long is = absurd next
 data_told l known offset k (BlockEnd c) b t next long is = absurd next

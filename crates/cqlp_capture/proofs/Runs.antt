@@ -10,7 +10,7 @@ use Rattle.cqlp_capture.specs.declared.event.Told.{Told}
 use Rattle.cqlp_capture.specs.declared.limits.CaptureLimits.{CaptureLimits}
 use Rattle.cqlp_capture.specs.declared.refusal.CaptureRefusal.{CaptureRefusal}
 use Rattle.cqlp_capture.specs.Places.{IsSpot, due}
-use Rattle.cqlp_capture.specs.Laws.{counted, count_from}
+use Rattle.cqlp_capture.specs.Laws.{count_from}
 use Rattle.cqlp_capture.specs.Reading.{Event, Emitted, Spot, after_told, event_if, wanted, told, step, heard, heard_first, Reads, Hears}
 use Rattle.cqlp_capture.proofs.Tests.{Fits}
 use Rattle.cqlp_capture.proofs.Steps.{said_of, step_waits, step_says}

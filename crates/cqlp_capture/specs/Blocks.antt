@@ -1,6 +1,6 @@
 -- What the blocks of a pcapng section say (draft-ietf-opsawg-pcapng).
 use Rattle.std.specs.Prelude.{ℕ, ◌+◌, ◌-◌, ◌*◌, ◌^◌, ◌<◌, ◌≤◌, ◌==◌, ◌&&◌, ◌||◌, Bool, List, length, Option, Some, None, Result, Ok}
-use Rattle.std.specs.Prelude.{nat_lt, nat_le, slice_get, slice_index, if◌then◌else◌}
+use Rattle.std.specs.Prelude.{nat_lt, nat_le, option_map, slice_get, slice_index, if◌then◌else◌}
 use Rattle.cqlp_capture.specs.declared.block.Block.{Block}
 use Rattle.cqlp_capture.specs.declared.block.BlockKind.{BlockKind}
 use Rattle.cqlp_capture.specs.declared.block.BlockKind.TheVariants as kind
@@ -10,12 +10,14 @@ use Rattle.cqlp_capture.specs.declared.file.ByteOrder.TheVariants.{BigEndian, Li
 use Rattle.cqlp_capture.specs.declared.file.SectionForm.TheVariants as form
 use Rattle.cqlp_capture.specs.declared.event.PacketHead.{PacketHead}
 use Rattle.cqlp_capture.specs.declared.event.EventOutline.TheVariants as outline
+use Rattle.cqlp_capture.specs.declared.event.SkipReason.{SkipReason}
+use Rattle.cqlp_capture.specs.declared.event.SkipReason.TheVariants.{ShortBlock, BadOptionLength, UnknownTimeUnit, NegativeTimeOffset, TooManyInterfaces, UnknownInterface, UnreadInterface, TimeTooLarge, PacketBeyondBlock, PacketTooLong}
 use Rattle.cqlp_capture.specs.declared.event.Told.{Told}
 use Rattle.cqlp_capture.specs.declared.interfaces.KnownInterface.{KnownInterface}
 use Rattle.cqlp_capture.specs.declared.interfaces.TableChange.TheVariants.{Keep, Forget, Add}
 use Rattle.cqlp_capture.specs.declared.place.Stage.{Stage}
-use Rattle.cqlp_capture.specs.declared.place.Stage.TheVariants.{SectionBody, BlockHead, InterfaceBody, OptionHead, TimeUnit, TimeOffset, EnhancedBody, SimpleBody, BlockData, Pass, BlockEnd}
-use Rattle.cqlp_capture.specs.declared.refusal.CaptureReason.TheVariants.{UnknownVersion, PacketTooLong, FileTooLong, UnknownByteOrder, BadBlockLength, UnequalBlockLengths, BadOptionLength, UnknownTimeUnit, NegativeTimeOffset, TooManyInterfaces, UnknownInterface, PacketBeyondBlock, TimeTooLarge}
+use Rattle.cqlp_capture.specs.declared.place.Stage.TheVariants.{SectionBody, BlockHead, InterfaceBody, OptionHead, TimeUnit, TimeOffset, EnhancedBody, PacketBody, SimpleBody, BlockData, Pass, BlockEnd}
+use Rattle.cqlp_capture.specs.declared.refusal.CaptureReason.TheVariants.{UnknownVersion, FileTooLong, UnknownByteOrder, BadBlockLength, UnequalBlockLengths}
 use Rattle.cqlp_capture.specs.declared.refusal.CaptureRefusal.{CaptureRefusal}
 use Rattle.cqlp_capture.specs.Numbers.{is_section, is_block_length, number_16, number_32, number_64, order_of, padded, unit_of}
 use Rattle.cqlp_capture.specs.Telling.{goes_on, refused}
@@ -27,17 +29,25 @@ abbrev pub kind_of : ℕ → BlockKind
 kind_of n =
     if is_section n then kind.Section
     else if n == 1 then kind.Interface
+    else if n == 2 then kind.Packet
     else if n == 3 then kind.SimplePacket
     else if n == 6 then kind.EnhancedPacket
     else kind.Other
 
--- how many bytes a block of this kind has at least
+-- how many bytes a block of this kind has at least, so that it can be read
 abbrev pub least_length : BlockKind → ℕ
 least_length kind.Section = 28
 least_length kind.Interface = 20
+least_length kind.Packet = 32
 least_length kind.EnhancedPacket = 32
 least_length kind.SimplePacket = 16
 least_length kind.Other = 12
+
+-- A block has both its lengths. What is left of a shorter one of an interface would not say its link type: the numbers of the
+-- interfaces after it would not be known.
+abbrev pub lawful_length : BlockKind → ℕ
+lawful_length kind.Interface = 20
+lawful_length k = 12
 
 -- a block that begins before offset 2^63, and has both lengths
 pub record IsBlock (b : Block) : Type 0 where
@@ -69,6 +79,16 @@ at_option b offset =
 -- the bytes from one offset to the other are passed over
 abbrev pub passing : Block → (offset until : ℕ) → Stage
 passing b offset until = if offset == until then at_option b until else Pass b until
+
+-- A block, an interface or a packet cannot be read for this reason: what is left of the block, from this offset on, is passed over.
+abbrev pub skipped : (offset : ℕ) → Block → SkipReason → Result Told CaptureRefusal
+skipped offset b why =
+    Ok (record {
+      at = b.start;
+      what = Some (outline.Skipped why);
+      place = record { offset = offset; stage = passing b offset (block_end b) };
+      change = Keep;
+    })
 
 -- ---- the section header block (section 4.1)
 
@@ -119,6 +139,7 @@ block_at offset o b = record { order = o; start = offset; length = number_32 o 4
 -- where the body of a block of this kind is read
 abbrev pub body_of : BlockKind → Block → Stage
 body_of kind.Interface b = InterfaceBody b
+body_of kind.Packet b = PacketBody b
 body_of kind.EnhancedPacket b = EnhancedBody b
 body_of kind.SimplePacket b = SimpleBody b
 body_of kind.Section b = passing b (b.start + 8) (block_end b)
@@ -129,7 +150,9 @@ told_block k b = goes_on (b.start + 8) (body_of k b)
 
 abbrev pub told_block_of : BlockKind → Block → Result Told CaptureRefusal
 told_block_of k b =
-    if is_block_length (least_length k) b.length then told_block k b else refused (b.start + 4) BadBlockLength
+    if is_block_length (lawful_length k) b.length
+    then (if nat_lt b.length (least_length k) then skipped (b.start + 8) b ShortBlock else told_block k b)
+    else refused (b.start + 4) BadBlockLength
 
 abbrev pub told_block_head : (offset : ℕ) → ByteOrder → List ℕ → Result Told CaptureRefusal
 told_block_head offset o b =
@@ -152,26 +175,37 @@ described offset b i = goes_on offset (at_option (describing b i) offset)
 abbrev pub told_interface_body : (offset : ℕ) → Block → List ℕ → Result Told CaptureRefusal
 told_interface_body offset b bytes =
     described (offset + 8) b
-    (record { link = number_16 b.order 0 bytes; snap_length = number_32 b.order 4 bytes; unit = 1000; offset = 0 })
+    (record { link = number_16 b.order 0 bytes; snap_length = number_32 b.order 4 bytes; unit = Some 1000; offset = 0 })
+
+-- No time of the block's interface can be read.
+abbrev pub untimed : KnownInterface → KnownInterface
+untimed i = record { link = i.link; snap_length = i.snap_length; unit = None; offset = i.offset }
+
+abbrev pub untimed_block : Block → Block
+untimed_block b = record { order = b.order; start = b.start; length = b.length; interface = option_map untimed b.interface }
+
+-- An option of the interface cannot be read.
+abbrev pub skipped_option : (offset : ℕ) → Block → SkipReason → Result Told CaptureRefusal
+skipped_option offset b why = skipped offset (untimed_block b) why
 
 -- An option (section 3.5) has a code and the length of its value. if_tsresol, 9, has one byte, and if_tsoffset, 14, eight.
 abbrev pub told_option : (offset : ℕ) → Block → (code size : ℕ) → Result Told CaptureRefusal
 told_option offset b code size =
     if code == 9
-    then (if size == 1 then goes_on (offset + 4) (TimeUnit b) else refused (offset + 2) BadOptionLength)
+    then (if size == 1 then goes_on (offset + 4) (TimeUnit b) else skipped_option (offset + 4) b BadOptionLength)
     else if code == 14
-    then (if size == 8 then goes_on (offset + 4) (TimeOffset b) else refused (offset + 2) BadOptionLength)
+    then (if size == 8 then goes_on (offset + 4) (TimeOffset b) else skipped_option (offset + 4) b BadOptionLength)
     else goes_on (offset + 4) (passing b (offset + 4) (offset + 4 + padded size))
 
 -- opt_endofopt, 0, is the last
 abbrev pub told_option_head : (offset : ℕ) → Block → List ℕ → Result Told CaptureRefusal
 told_option_head offset b bytes =
     if number_16 b.order 0 bytes == 0 then goes_on (offset + 4) (passing b (offset + 4) (block_end b))
-    else if nat_lt (block_end b) (offset + 4 + padded (number_16 b.order 2 bytes)) then refused (offset + 2) BadOptionLength
+    else if nat_lt (block_end b) (offset + 4 + padded (number_16 b.order 2 bytes)) then skipped_option (offset + 4) b BadOptionLength
     else told_option offset b (number_16 b.order 0 bytes) (number_16 b.order 2 bytes)
 
 abbrev pub with_unit : (unit : ℕ) → KnownInterface → KnownInterface
-with_unit unit i = record { link = i.link; snap_length = i.snap_length; unit = unit; offset = i.offset }
+with_unit unit i = record { link = i.link; snap_length = i.snap_length; unit = Some unit; offset = i.offset }
 
 abbrev pub with_offset : (seconds : ℕ) → KnownInterface → KnownInterface
 with_offset seconds i = record { link = i.link; snap_length = i.snap_length; unit = i.unit; offset = seconds }
@@ -182,7 +216,7 @@ redescribed offset b None f = goes_on offset (at_option b offset)
 redescribed offset b (Some i) f = described offset b (f i)
 
 abbrev pub told_unit : (offset : ℕ) → Block → Option ℕ → Result Told CaptureRefusal
-told_unit offset b None = refused offset UnknownTimeUnit
+told_unit offset b None = skipped_option (offset + 4) b UnknownTimeUnit
 told_unit offset b (Some unit) = redescribed (offset + 4) b b.interface (with_unit unit)
 
 -- if_tsresol
@@ -192,7 +226,7 @@ told_time_unit offset b bytes = told_unit offset b (unit_of (slice_index bytes 0
 -- if_tsoffset: a signed number of seconds
 abbrev pub told_time_offset : (offset : ℕ) → Block → List ℕ → Result Told CaptureRefusal
 told_time_offset offset b bytes =
-    if nat_le (2 ^ 63) (number_64 b.order 0 bytes) then refused offset NegativeTimeOffset
+    if nat_le (2 ^ 63) (number_64 b.order 0 bytes) then skipped_option (offset + 8) b NegativeTimeOffset
     else redescribed (offset + 8) b b.interface (with_offset (number_64 b.order 0 bytes))
 
 -- ---- the bytes of a packet, and the end of a block
@@ -205,6 +239,13 @@ told_packet offset b h =
       place = record { offset = offset; stage = BlockData b h.captured };
       change = Keep;
     })
+
+-- a packet whose bytes are at this offset, if they lie in the block and the limit allows as many
+abbrev pub told_within : (limit offset : ℕ) → Block → PacketHead → Result Told CaptureRefusal
+told_within limit offset b h =
+    if nat_lt (room_of b offset) h.captured then skipped offset b PacketBeyondBlock
+    else if nat_lt limit h.captured then skipped offset b PacketTooLong
+    else told_packet offset b h
 
 -- these bytes, up to this offset, are all of a packet
 abbrev pub told_data : (end offset : ℕ) → Stage → Result Told CaptureRefusal
@@ -221,7 +262,12 @@ told_known limit known offset b (Some i) =
       place = record { offset = offset + 4; stage = BlockHead b.order };
       change = Add i;
     })
-    else refused b.start TooManyInterfaces
+    else Ok (record {
+      at = b.start;
+      what = Some (outline.Skipped TooManyInterfaces);
+      place = record { offset = offset + 4; stage = BlockHead b.order };
+      change = Keep;
+    })
 
 -- Both lengths are the same, and where the block was about an interface, that is known from here on.
 abbrev pub told_block_end : (limit : ℕ) → List KnownInterface → (offset : ℕ) → Block → List ℕ → Result Told CaptureRefusal
@@ -229,43 +275,46 @@ told_block_end limit known offset b bytes =
     if number_32 b.order 0 bytes == b.length then told_known limit known offset b b.interface
     else refused offset UnequalBlockLengths
 
--- ---- the enhanced packet block (section 4.3)
+-- ---- the enhanced packet block (section 4.3), and the packet block before it (appendix A)
 
 -- a time in nanoseconds, if it is a number of 64 bits
-abbrev pub nanoseconds_of : KnownInterface → (units : ℕ) → ℕ
-nanoseconds_of i units = units * i.unit + i.offset * 1000000000
+abbrev pub nanoseconds_of : (unit offset units : ℕ) → ℕ
+nanoseconds_of unit offset units = units * unit + offset * 1000000000
 
-abbrev pub time_of : KnownInterface → (units : ℕ) → Option ℕ
-time_of i units = if nat_lt (nanoseconds_of i units) (2 ^ 64) then Some (nanoseconds_of i units) else None
+abbrev pub time_of : (unit offset units : ℕ) → Option ℕ
+time_of unit offset units =
+    if nat_lt (nanoseconds_of unit offset units) (2 ^ 64) then Some (nanoseconds_of unit offset units) else None
 
 -- the upper half of a time comes first, in both orders of bytes
 abbrev pub units_of : ByteOrder → List ℕ → ℕ
 units_of o b = number_32 o 4 b * 2 ^ 32 + number_32 o 8 b
 
-abbrev pub enhanced_of : ByteOrder → KnownInterface → (time : ℕ) → List ℕ → PacketHead
-enhanced_of o i time b = record {
-  interface = number_32 o 0 b;
+abbrev pub enhanced_of : (number : ℕ) → ByteOrder → KnownInterface → (time : ℕ) → List ℕ → PacketHead
+enhanced_of number o i time b = record {
+  interface = number;
   link = i.link;
   time = Some time;
   captured = number_32 o 12 b;
   original = number_32 o 16 b;
 }
 
-abbrev pub told_timed : (limit offset : ℕ) → Block → List ℕ → KnownInterface → Option ℕ → Result Told CaptureRefusal
-told_timed limit offset b bytes i None = refused (offset + 4) TimeTooLarge
-told_timed limit offset b bytes i (Some time) =
-    if nat_lt (room_of b (offset + 20)) (number_32 b.order 12 bytes) then refused (offset + 12) PacketBeyondBlock
-    else if nat_lt limit (number_32 b.order 12 bytes) then refused (offset + 12) PacketTooLong
-    else told_packet (offset + 20) b (enhanced_of b.order i time bytes)
+abbrev pub told_timed : (limit number offset : ℕ) → Block → List ℕ → KnownInterface → Option ℕ → Result Told CaptureRefusal
+told_timed limit number offset b bytes i None = skipped (offset + 20) b TimeTooLarge
+told_timed limit number offset b bytes i (Some time) =
+    told_within limit (offset + 20) b (enhanced_of number b.order i time bytes)
 
-abbrev pub told_enhanced : (limit offset : ℕ) → Block → List ℕ → Option KnownInterface → Result Told CaptureRefusal
-told_enhanced limit offset b bytes None = refused offset UnknownInterface
-told_enhanced limit offset b bytes (Some i) = told_timed limit offset b bytes i (time_of i (units_of b.order bytes))
+abbrev pub told_by_unit : (limit number offset : ℕ) → Block → List ℕ → KnownInterface → Option ℕ → Result Told CaptureRefusal
+told_by_unit limit number offset b bytes i None = skipped (offset + 20) b UnreadInterface
+told_by_unit limit number offset b bytes i (Some unit) =
+    told_timed limit number offset b bytes i (time_of unit i.offset (units_of b.order bytes))
+
+abbrev pub told_enhanced : (limit number offset : ℕ) → Block → List ℕ → Option KnownInterface → Result Told CaptureRefusal
+told_enhanced limit number offset b bytes None = skipped (offset + 20) b UnknownInterface
+told_enhanced limit number offset b bytes (Some i) = told_by_unit limit number offset b bytes i i.unit
 
 -- the number of its interface, its time, how many of its bytes were captured, and how many it had
-abbrev pub told_enhanced_body : (limit : ℕ) → List KnownInterface → (offset : ℕ) → Block → List ℕ → Result Told CaptureRefusal
-told_enhanced_body limit known offset b bytes =
-    told_enhanced limit offset b bytes (slice_get known (number_32 b.order 0 bytes))
+abbrev pub told_enhanced_body : (limit : ℕ) → List KnownInterface → (number offset : ℕ) → Block → List ℕ → Result Told CaptureRefusal
+told_enhanced_body limit known number offset b bytes = told_enhanced limit number offset b bytes (slice_get known number)
 
 -- ---- the simple packet block (section 4.4)
 
@@ -282,15 +331,10 @@ abbrev pub simple_of : KnownInterface → (original captured : ℕ) → PacketHe
 simple_of i original captured =
     record { interface = 0; link = i.link; time = None; captured = captured; original = original }
 
-abbrev pub told_captured : (limit offset : ℕ) → Block → KnownInterface → (original captured : ℕ) → Result Told CaptureRefusal
-told_captured limit offset b i original captured =
-    if nat_lt limit captured then refused offset PacketTooLong
-    else told_packet (offset + 4) b (simple_of i original captured)
-
 abbrev pub told_simple : (limit offset : ℕ) → Block → (original : ℕ) → Option KnownInterface → Result Told CaptureRefusal
-told_simple limit offset b original None = refused b.start UnknownInterface
+told_simple limit offset b original None = skipped (offset + 4) b UnknownInterface
 told_simple limit offset b original (Some i) =
-    told_captured limit offset b i original (captured_of i original (room_of b (offset + 4)))
+    told_within limit (offset + 4) b (simple_of i original (captured_of i original (room_of b (offset + 4))))
 
 -- how many bytes it had; it is one of the section's first interface
 abbrev pub told_simple_body : (limit : ℕ) → List KnownInterface → (offset : ℕ) → Block → List ℕ → Result Told CaptureRefusal

@@ -12,7 +12,7 @@ use Rattle.cqlp_capture.specs.declared.refusal.CaptureRefusal.{CaptureRefusal}
 use Rattle.cqlp_capture.specs.declared.refusal.NewReaderError.{NewReaderError}
 use Rattle.cqlp_capture.specs.declared.refusal.NewReaderError.TheVariants.{BadLimits, NoMemory}
 use Rattle.cqlp_capture.specs.Limits.{is_in_range}
-use Rattle.cqlp_capture.specs.Reading.{Event, Section, Interface, Bytes, Packet, Spot, Hears, Verdict, Refused, Says, start}
+use Rattle.cqlp_capture.specs.Reading.{Event, Section, Interface, Bytes, Packet, Skipped, Spot, Hears, Verdict, Refused, Says, start}
 use Rattle.cqlp_capture.specs.Progress.{CaptureState, After, Answers, IsWhole, ending, event_of, new_state}
 
 -- Any bytes say some list of events and some verdict.
@@ -74,6 +74,7 @@ counted n (Section f) = 0
 counted n (Interface i) = n + 1
 counted n (Packet h) = n
 counted n (Bytes b) = n
+counted n (Skipped why) = n
 
 -- and after these events
 abbrev pub count_from : ℕ → List (ℕ × Event) → ℕ

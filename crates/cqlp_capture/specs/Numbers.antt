@@ -42,6 +42,10 @@ form_of n =
     else if n == 0x4D3CB2A1 then Some (record { order = LittleEndian; fraction = Nanoseconds })
     else None
 
+-- the first two bytes of what gzip compresses (RFC 1952, section 2.3.1), the upper half of four
+abbrev pub is_gzip : ℕ → Bool
+is_gzip n = n / 65536 == 0x1F8B
+
 -- how many nanoseconds a fraction counts
 abbrev pub unit_of_fraction : Fraction → ℕ
 unit_of_fraction Microseconds = 1000

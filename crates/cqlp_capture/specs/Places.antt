@@ -4,7 +4,7 @@ use Rattle.cqlp_capture.specs.declared.block.Block.{Block}
 use Rattle.cqlp_capture.specs.declared.interfaces.KnownInterface.{KnownInterface}
 use Rattle.cqlp_capture.specs.declared.limits.CaptureLimits.{CaptureLimits}
 use Rattle.cqlp_capture.specs.declared.place.Stage.{Stage}
-use Rattle.cqlp_capture.specs.declared.place.Stage.TheVariants.{Magic, FileHead, RecordHead, Data, SectionLength, SectionBody, BlockHead, InterfaceBody, OptionHead, TimeUnit, TimeOffset, EnhancedBody, SimpleBody, BlockData, Pass, BlockEnd}
+use Rattle.cqlp_capture.specs.declared.place.Stage.TheVariants.{Magic, FileHead, RecordHead, Data, Rest, SectionLength, SectionBody, BlockHead, InterfaceBody, OptionHead, TimeUnit, TimeOffset, EnhancedBody, PacketBody, SimpleBody, BlockData, Pass, BlockEnd}
 use Rattle.cqlp_capture.specs.declared.place.Place.{Place}
 use Rattle.cqlp_capture.specs.Blocks.{IsInBlock, block_end}
 use Rattle.cqlp_capture.specs.Reading.{Spot}
@@ -12,6 +12,7 @@ use Rattle.cqlp_capture.specs.Reading.{Spot}
 -- a packet's bytes come after the header of its record, and the numbers of a section after its length
 abbrev pub ComesAfterHead : (offset : ℕ) → Stage → Type 0
 ComesAfterHead offset (Data r n) = 16 ≤ offset
+ComesAfterHead offset (Rest r start left) = start + 16 ≤ offset
 ComesAfterHead offset (SectionBody l) = 8 ≤ offset
 ComesAfterHead offset s = ⊤
 
@@ -44,6 +45,7 @@ IsNear l offset Magic = offset ≡ 0
 IsNear l offset (FileHead f) = offset ≡ 4
 IsNear l offset (RecordHead r) = offset ≤ 2 ^ 63 + 2 ^ 33
 IsNear l offset (Data r n) = (offset ≤ 2 ^ 63 + 16) × (n ≤ l.packet)
+IsNear l offset (Rest r start left) = (offset + left ≤ 2 ^ 63 + 2 ^ 33) × (0 < left)
 IsNear l offset SectionLength = offset ≡ 4
 IsNear l offset (SectionBody e) = offset ≤ 2 ^ 63 + 8
 IsNear l offset (BlockHead o) = offset ≤ 2 ^ 63 + 2 ^ 33
@@ -52,6 +54,7 @@ IsNear l offset (OptionHead b) = IsInBlock b offset 4
 IsNear l offset (TimeUnit b) = IsInBlock b offset 4
 IsNear l offset (TimeOffset b) = IsInBlock b offset 8
 IsNear l offset (EnhancedBody b) = IsBody b offset 20
+IsNear l offset (PacketBody b) = IsBody b offset 20
 IsNear l offset (SimpleBody b) = IsBody b offset 4
 IsNear l offset (BlockData b n) = IsPacket l.packet b offset n
 IsNear l offset (Pass b until) = IsPassing b offset until
@@ -82,6 +85,7 @@ began_at offset Magic = 0
 began_at offset (FileHead f) = 0
 began_at offset (RecordHead r) = offset
 began_at offset (Data r n) = offset - 16
+began_at offset (Rest r start left) = start
 began_at offset SectionLength = 0
 began_at offset (SectionBody e) = offset - 8
 began_at offset (BlockHead o) = offset
@@ -90,6 +94,7 @@ began_at offset (OptionHead b) = b.start
 began_at offset (TimeUnit b) = b.start
 began_at offset (TimeOffset b) = b.start
 began_at offset (EnhancedBody b) = b.start
+began_at offset (PacketBody b) = b.start
 began_at offset (SimpleBody b) = b.start
 began_at offset (BlockData b n) = b.start
 began_at offset (Pass b until) = b.start

@@ -17,7 +17,7 @@ use Rattle.cqlp_capture.specs.declared.reader.StepTaken.TheVariants as taken
 use Rattle.cqlp_capture.specs.declared.place.Place.{Place}
 use Rattle.cqlp_capture.specs.Limits.{is_in_range}
 use Rattle.cqlp_capture.specs.Interfaces.{Interfaces}
-use Rattle.cqlp_capture.specs.Reading.{Event, Section, Interface, Packet, Bytes, Spot, event_with, wanted, step, start, heard, Reads, Hears, Says}
+use Rattle.cqlp_capture.specs.Reading.{Event, Section, Interface, Packet, Bytes, Skipped, Spot, event_with, wanted, step, start, heard, Reads, Hears, Says}
 use Rattle.cqlp_capture.specs.Reading.{Waits, Refused}
 use Rattle.cqlp_capture.specs.Places.{IsSpot, is_between, began, due}
 use Rattle.cqlp_capture.specs.Gathering.{Gathered, LieThere, bytes_at}
@@ -58,6 +58,7 @@ event_of (event.Section f) = Section f
 event_of (event.Interface i) = Interface i
 event_of (event.Packet p) = Packet p
 event_of (event.Data b) = Bytes b.now
+event_of (event.Skipped why) = Skipped why
 
 -- All of the input was used, and more is wanted. Here and below the step begins at p, after the bytes that are pending.
 pub record Goes (l : CaptureLimits) (p : Spot) (pending input : List ℕ) (used : ℕ) (new : CaptureState) : Type 0 where

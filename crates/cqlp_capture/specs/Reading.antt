@@ -1,29 +1,33 @@
 -- What a capture file says, from left to right.
-use Rattle.std.specs.Prelude.{◌≡◌, ℕ, ◌+◌, List, [], ◌∷◌, drop, Option, Some, None, Result, Ok, Err}
+use Rattle.std.specs.Prelude.{◌≡◌, ℕ, ◌+◌, ◌-◌, min, List, [], ◌∷◌, drop, Option, Some, None, Result, Ok, Err}
 use Rattle.cqlp_note.specs.Reader.{Said, More, Bad, Got, Reader, Gives, Refuses, Takes, says}
 use Rattle.cqlp_capture.specs.declared.file.SectionForm.{SectionForm}
 use Rattle.cqlp_capture.specs.declared.event.InterfaceHead.{InterfaceHead}
 use Rattle.cqlp_capture.specs.declared.event.PacketHead.{PacketHead}
+use Rattle.cqlp_capture.specs.declared.event.SkipReason.{SkipReason}
 use Rattle.cqlp_capture.specs.declared.event.EventOutline.{EventOutline}
 use Rattle.cqlp_capture.specs.declared.event.EventOutline.TheVariants as outline
 use Rattle.cqlp_capture.specs.declared.event.Told.{Told}
 use Rattle.cqlp_capture.specs.declared.interfaces.KnownInterface.{KnownInterface}
 use Rattle.cqlp_capture.specs.declared.limits.CaptureLimits.{CaptureLimits}
 use Rattle.cqlp_capture.specs.declared.place.Stage.{Stage}
-use Rattle.cqlp_capture.specs.declared.place.Stage.TheVariants.{Magic, FileHead, RecordHead, Data, SectionLength, SectionBody, BlockHead, InterfaceBody, OptionHead, TimeUnit, TimeOffset, EnhancedBody, SimpleBody, BlockData, Pass, BlockEnd}
+use Rattle.cqlp_capture.specs.declared.place.Stage.TheVariants.{Magic, FileHead, RecordHead, Data, Rest, SectionLength, SectionBody, BlockHead, InterfaceBody, OptionHead, TimeUnit, TimeOffset, EnhancedBody, PacketBody, SimpleBody, BlockData, Pass, BlockEnd}
 use Rattle.cqlp_capture.specs.declared.place.Place.{Place}
 use Rattle.cqlp_capture.specs.declared.refusal.CaptureRefusal.{CaptureRefusal}
 use Rattle.cqlp_capture.specs.Interfaces.{changed}
 use Rattle.cqlp_capture.specs.Telling.{goes_on}
-use Rattle.cqlp_capture.specs.Records.{told_magic, told_file_head, told_record_head}
+use Rattle.cqlp_capture.specs.Numbers.{number_16, number_32}
+use Rattle.cqlp_capture.specs.Records.{rest_of, told_magic, told_file_head, told_record_head}
 use Rattle.cqlp_capture.specs.Blocks.{block_end, passing, told_data, told_section_length, told_section_body, told_block_head, told_interface_body, told_option_head, told_time_unit, told_time_offset, told_enhanced_body, told_simple_body, told_block_end}
 
--- An event: a section of this form begins, an interface, a packet, and the bytes that were captured of it.
+-- An event: a section of this form begins, an interface, a packet, the bytes that were captured of it, and what cannot be read and
+-- is passed over.
 pub data Event : Type 0 where
   Section : SectionForm → Event
   Interface : InterfaceHead → Event
   Packet : PacketHead → Event
   Bytes : List ℕ → Event
+  Skipped : SkipReason → Event
 
 -- the event of this kind over the bytes that were read
 abbrev pub event_with : EventOutline → List ℕ → Event
@@ -31,6 +35,7 @@ event_with (outline.Section f) b = Section f
 event_with (outline.Interface i) b = Interface i
 event_with (outline.Packet p) b = Packet p
 event_with outline.Data b = Bytes b
+event_with (outline.Skipped why) b = Skipped why
 
 -- and that of a step, if it has one
 abbrev pub event_if : Option EventOutline → List ℕ → Option Event
@@ -45,6 +50,7 @@ wanted Magic = 4
 wanted (FileHead f) = 20
 wanted (RecordHead r) = 16
 wanted (Data r n) = n
+wanted (Rest r start left) = min left 64
 wanted SectionLength = 4
 wanted (SectionBody l) = 16
 wanted (BlockHead o) = 8
@@ -53,18 +59,21 @@ wanted (OptionHead b) = 4
 wanted (TimeUnit b) = 4
 wanted (TimeOffset b) = 8
 wanted (EnhancedBody b) = 20
+wanted (PacketBody b) = 20
 wanted (SimpleBody b) = 4
 wanted (BlockData b n) = n
 wanted (Pass b until) = 1
 wanted (BlockEnd b) = 4
 
 -- What the bytes say that are read next, under these limits, where these are the section's interfaces so far. After a
--- packet of a block what is left of the block is passed over.
+-- packet of a block what is left of the block is passed over. A packet block has the number of its interface in two bytes, and
+-- then two that are not used; else it is as an enhanced packet block.
 abbrev pub told_at : CaptureLimits → List KnownInterface → (offset : ℕ) → Stage → List ℕ → Result Told CaptureRefusal
 told_at l known offset Magic bytes = told_magic bytes
 told_at l known offset (FileHead f) bytes = told_file_head f bytes
 told_at l known offset (RecordHead r) bytes = told_record_head l.packet offset r bytes
 told_at l known offset (Data r n) bytes = told_data (offset + n) offset (RecordHead r)
+told_at l known offset (Rest r start left) bytes = goes_on (offset + min left 64) (rest_of r start (left - min left 64))
 told_at l known offset SectionLength bytes = told_section_length bytes
 told_at l known offset (SectionBody e) bytes = told_section_body offset e bytes
 told_at l known offset (BlockHead o) bytes = told_block_head offset o bytes
@@ -72,7 +81,8 @@ told_at l known offset (InterfaceBody b) bytes = told_interface_body offset b by
 told_at l known offset (OptionHead b) bytes = told_option_head offset b bytes
 told_at l known offset (TimeUnit b) bytes = told_time_unit offset b bytes
 told_at l known offset (TimeOffset b) bytes = told_time_offset offset b bytes
-told_at l known offset (EnhancedBody b) bytes = told_enhanced_body l.packet known offset b bytes
+told_at l known offset (EnhancedBody b) bytes = told_enhanced_body l.packet known (number_32 b.order 0 bytes) offset b bytes
+told_at l known offset (PacketBody b) bytes = told_enhanced_body l.packet known (number_16 b.order 0 bytes) offset b bytes
 told_at l known offset (SimpleBody b) bytes = told_simple_body l.packet known offset b bytes
 told_at l known offset (BlockData b n) bytes = told_data (offset + n) offset (passing b (offset + n) (block_end b))
 told_at l known offset (Pass b until) bytes = goes_on (offset + 1) (passing b (offset + 1) until)

@@ -1,10 +1,11 @@
 //! What the bytes of a pcap file say.
 
-ghost use Rattle.std.specs.Prelude.{◌≡◌, ◌+◌, ◌≤◌, ◌^◌, length};
+ghost use Rattle.std.specs.Prelude.{◌≡◌, ◌+◌, ◌-◌, ◌≤◌, ◌^◌, length, min};
 ghost use Rattle.cqlp_capture.specs.Numbers.{nanoseconds, unit_of_fraction};
-ghost use Rattle.cqlp_capture.specs.Records.{told_file_head, told_magic, told_record_head};
+ghost use Rattle.cqlp_capture.specs.Records.{rest_of, skipped_record, told_file_head, told_magic, told_record_head};
+ghost use Rattle.cqlp_capture.specs.Telling.{goes_on};
 
-use crate::event::{EventOutline, InterfaceHead, PacketHead, Told};
+use crate::event::{EventOutline, InterfaceHead, PacketHead, SkipReason, Told};
 use crate::file::{ByteOrder, FileForm, Fraction, SectionForm};
 use crate::interfaces::{KnownInterface, TableChange};
 use crate::place::{FARTHEST, Place, RecordForm, Stage};
@@ -18,6 +19,9 @@ pub(crate) fn tell_magic(bytes: &[u8]) -> Result<Told, CaptureRefusal>
     ensures { result ≡ told_magic bytes.now }
 {
     let magic = ByteOrder::BigEndian.read_u32(bytes, 0);
+    if magic >> 16 == 0x1F8B {
+        return refuse(0, CaptureReason::Gzip);
+    }
     if magic == 0x0A0D_0D0A {
         return read_next(4, Stage::SectionLength);
     }
@@ -60,7 +64,7 @@ pub(crate) fn tell_file_head(form: FileForm, bytes: &[u8]) -> Result<Told, Captu
         change: TableChange::Add(KnownInterface {
             link,
             snap_length,
-            unit: unit_of(form.fraction),
+            unit: Some(unit_of(form.fraction)),
             offset: 0,
         }),
     })
@@ -84,7 +88,7 @@ pub(crate) fn tell_record_head(
     let order = form.order;
     let captured = order.read_u32(bytes, 8);
     if captured > limit {
-        return refuse(offset + 8, CaptureReason::PacketTooLong);
+        return skip_record(offset, captured, record_form);
     }
     let packet = PacketHead {
         interface: 0,
@@ -102,6 +106,40 @@ pub(crate) fn tell_record_head(
         },
         change: TableChange::Keep,
     })
+}
+
+/// That a packet is too long, of which so many bytes were captured.
+fn skip_record(offset: u64, captured: u32, record_form: RecordForm) -> Result<Told, CaptureRefusal>
+    requires { offset ≤ 2 ^ 63 }
+    ensures { result ≡ skipped_record offset captured record_form }
+{
+    Ok(Told {
+        at: offset,
+        what: Some(EventOutline::Skipped(SkipReason::PacketTooLong)),
+        place: Place {
+            offset: offset + 16,
+            stage: Stage::Rest(record_form, offset, captured),
+        },
+        change: TableChange::Keep,
+    })
+}
+
+/// What is read after the next bytes, at this offset, of a packet that is passed over.
+pub(crate) fn tell_rest(
+    offset: u64,
+    record_form: RecordForm,
+    start: u64,
+    left: u32,
+) -> Result<Told, CaptureRefusal>
+    requires { offset + left ≤ 2 ^ 63 + 2 ^ 33 }
+    ensures { result ≡ goes_on (offset + min left 64) (rest_of record_form start (left - min left 64)) }
+{
+    let count = left.min(64);
+    let stage = match left - count {
+        0 => Stage::RecordHead(record_form),
+        left => Stage::Rest(record_form, start, left),
+    };
+    read_next(offset + count as u64, stage)
 }
 
 /// So many seconds and fractions of one, in nanoseconds.

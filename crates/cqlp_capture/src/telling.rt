@@ -1,9 +1,11 @@
 //! Short forms of what bytes say.
 
 ghost use Rattle.std.specs.Prelude.{◌≡◌};
+ghost use Rattle.cqlp_capture.specs.Blocks.{IsInBlock, skipped};
 ghost use Rattle.cqlp_capture.specs.Telling.{goes_on, refused};
 
-use crate::event::Told;
+use crate::block::Block;
+use crate::event::{EventOutline, SkipReason, Told};
 use crate::interfaces::TableChange;
 use crate::place::{Place, Stage};
 use crate::refusal::{CaptureReason, CaptureRefusal};
@@ -16,6 +18,22 @@ pub(crate) fn read_next(offset: u64, stage: Stage) -> Result<Told, CaptureRefusa
         at: offset,
         what: None,
         place: Place { offset, stage },
+        change: TableChange::Keep,
+    })
+}
+
+/// That something in this block cannot be read, of which what is left from this offset on is passed over.
+pub(crate) fn skip(offset: u64, block: Block, why: SkipReason) -> Result<Told, CaptureRefusal>
+    requires { IsInBlock block offset 0 }
+    ensures { result ≡ skipped offset block why }
+{
+    Ok(Told {
+        at: block.start,
+        what: Some(EventOutline::Skipped(why)),
+        place: Place {
+            offset,
+            stage: block.passing(offset, block.end()),
+        },
         change: TableChange::Keep,
     })
 }

@@ -1,9 +1,9 @@
 -- Extension headers are passed over.
-use Rattle.std.proofs.Common.{◌≡◌, ℕ, zero, suc, ◌+◌, ◌-◌, ◌*◌, ◌<◌, ◌≤◌, true, false, List, [], ◌∷◌, length, drop, get_or, Err, refl, sym, ap, ◌∙◌, arith}
+use Rattle.std.proofs.Common.{◌≡◌, ℕ, zero, suc, ◌+◌, ◌-◌, ◌*◌, ◌<◌, ◌≤◌, true, false, List, [], ◌∷◌, length, drop, get_or, Ok, Err, refl, sym, ap, ◌∙◌, arith}
 use Rattle.std.proofs.lemmas.Bool.{lt-ltb, le-ltb}
 use Rattle.cqlp_segment.specs.declared.reason.NoSegment.TheVariants.{CutInIp, BadIpLength, Fragment}
 use Rattle.cqlp_segment.specs.Fields.{number_16}
-use Rattle.cqlp_segment.specs.Ip.{is_extension, is_part, past_extensions, unit, upper}
+use Rattle.cqlp_segment.specs.Ip.{above, is_extension, is_part, past_extensions, unit}
 
 -- what is left of a header is passed over, if it was captured
 pub extensions_left : (left kind size : ℕ) (b : List ℕ) → left ≤ length b → past_extensions left kind size b ≡ past_extensions 0 kind size (drop left b)
@@ -11,7 +11,7 @@ extensions_left zero kind size b le = refl
 extensions_left (suc left) kind size [] le = absurd (omega arith)
 extensions_left (suc left) kind size (x ∷ b) le = extensions_left left kind size b (omega arith)
 
-pub extensions_ends : (kind size : ℕ) (b : List ℕ) → is_extension kind ≡ false → past_extensions 0 kind size b ≡ upper kind size b
+pub extensions_ends : (kind size : ℕ) (b : List ℕ) → is_extension kind ≡ false → past_extensions 0 kind size b ≡ Ok (above kind size b)
 extensions_ends kind size [] differs = rw differs refl
 extensions_ends kind size (x ∷ []) differs = rw differs refl
 extensions_ends kind size (x ∷ y ∷ b) differs = rw differs refl

@@ -2,7 +2,7 @@
 use Rattle.std.proofs.Common.{◌≡◌, ℕ, ◌<◌, ◌≤◌, true, false, List, [], ◌∷◌, length, drop, Ok, Err, refl, arith}
 use Rattle.cqlp_segment.specs.declared.reason.NoSegment.TheVariants.{CutInLink}
 use Rattle.cqlp_segment.specs.Fields.{number_16}
-use Rattle.cqlp_segment.specs.Link.{is_tag, untagged}
+use Rattle.cqlp_segment.specs.EtherType.{is_tag, untagged}
 
 pub untagged_step : (n : ℕ) (b : List ℕ) → is_tag n ≡ true → 4 ≤ length b → untagged (number_16 2 b) (drop 4 b) ≡ untagged n b
 untagged_step n [] tag long = absurd (omega arith)

@@ -5,22 +5,24 @@ use Rattle.std.specs.Prelude.{nat_lt, slice_index, slice_range, if◌then◌else
 use Rattle.cqlp_segment.specs.declared.addresses.Address.{Address}
 use Rattle.cqlp_segment.specs.declared.addresses.Address.TheVariants as address
 use Rattle.cqlp_segment.specs.declared.ip.Carried.{Carried}
-use Rattle.cqlp_segment.specs.declared.link.IpVersion.{IpVersion}
-use Rattle.cqlp_segment.specs.declared.link.IpVersion.TheVariants.{V4, V6}
+use Rattle.cqlp_segment.specs.declared.ip.Upper.{Upper}
+use Rattle.cqlp_segment.specs.declared.ether_type.IpVersion.{IpVersion}
+use Rattle.cqlp_segment.specs.declared.ether_type.IpVersion.TheVariants.{V4, V6}
 use Rattle.cqlp_segment.specs.declared.reason.NoSegment.{NoSegment}
-use Rattle.cqlp_segment.specs.declared.reason.NoSegment.TheVariants.{NotIp, CutInIp, BadIpLength, Fragment, NotTcp}
+use Rattle.cqlp_segment.specs.declared.reason.NoSegment.TheVariants.{NotIp, CutInIp, BadIpLength, Fragment}
 use Rattle.cqlp_segment.specs.Fields.{number_16, ◌>>=◌}
 
--- What a packet of IP carries: how many bytes by its header's word, and what was captured from the first of them on, with
--- what pads the packet.
+-- What a packet of IP carries: its protocol, how many bytes by the word of IP's header, and what was captured from the first of
+-- them on, with what pads the packet.
 pub record Load : Type 0 where
   pub source : Address
   pub destination : Address
+  pub protocol : ℕ
   pub size : ℕ
   pub bytes : List ℕ
 
 abbrev pub view : Carried → Load
-view c = record { source = c.source; destination = c.destination; size = c.size; bytes = c.bytes.now }
+view c = record { source = c.source; destination = c.destination; protocol = c.protocol; size = c.size; bytes = c.bytes.now }
 
 -- A length of 0 is that of a packet which a network card is to cut into segments: it has all the bytes that there were,
 -- those that were captured and those beyond them.
@@ -45,10 +47,6 @@ total_4 beyond b = length_or_all (number_16 2 b) beyond b
 abbrev pub is_fragment_4 : List ℕ → Bool
 is_fragment_4 b = not (number_16 6 b % 0x4000 == 0)
 
--- the protocol is TCP
-abbrev pub is_tcp_4 : List ℕ → Bool
-is_tcp_4 b = slice_index b 9 == 6
-
 -- the addresses
 abbrev pub address_4 : (i : ℕ) → List ℕ → Address
 address_4 i b = address.V4 (slice_index b i ∷ slice_index b (i + 1) ∷ slice_index b (i + 2) ∷ slice_index b (i + 3) ∷ [])
@@ -57,6 +55,7 @@ abbrev pub load_4 : (beyond : ℕ) → List ℕ → Load
 load_4 beyond b = record {
   source = address_4 12 b;
   destination = address_4 16 b;
+  protocol = slice_index b 9;
   size = total_4 beyond b - header_4 b;
   bytes = drop (header_4 b) b;
 }
@@ -67,13 +66,12 @@ carried_by_4 beyond b =
     else if not (version b == 4) then Err NotIp
     else if nat_lt (header_4 b) 20 || nat_lt (total_4 beyond b) (header_4 b) then Err BadIpLength
     else if is_fragment_4 b then Err Fragment
-    else if not (is_tcp_4 b) then Err NotTcp
     else if nat_lt (length b) (header_4 b) then Err CutInIp
     else Ok (load_4 beyond b)
 
 -- ---- IPv6 (RFC 8200, sections 3 and 4)
 
--- Extension headers after which TCP may come: options for each hop, routing, fragment, authentication (RFC 4302, section 2),
+-- Extension headers that are passed over: options for each hop, routing, fragment, authentication (RFC 4302, section 2),
 -- options for the destination.
 abbrev pub is_extension : ℕ → Bool
 is_extension kind = (kind == 0) || (kind == 43) || (kind == 44) || (kind == 51) || (kind == 60)
@@ -87,13 +85,21 @@ unit kind = if kind == 44 then 0 else if kind == 51 then 4 else 8
 abbrev pub is_part : (kind number : ℕ) → Bool
 is_part kind number = (kind == 44) && not ((number / 8 == 0) && (number % 2 == 0))
 
--- What a header of this kind, which is no such extension, says of the bytes that are left
-abbrev pub upper : (kind size : ℕ) → List ℕ → Result (ℕ × List ℕ) NoSegment
-upper kind size b = if kind == 6 then Ok (size, b) else Err NotTcp
+-- what comes after them: its protocol, how many bytes it has, and what was captured from the first of them on
+pub record Above : Type 0 where
+  pub protocol : ℕ
+  pub size : ℕ
+  pub bytes : List ℕ
+
+abbrev pub above : (kind size : ℕ) → List ℕ → Above
+above kind size b = record { protocol = kind; size = size; bytes = b }
+
+abbrev pub upper_view : Upper → Above
+upper_view u = above u.protocol u.size u.bytes.now
 
 -- An extension header begins with the kind of the header after it, and with its length. This many bytes are left of the one
 -- before; then come, with `size` bytes in all, a header of this kind and the others after it.
-abbrev pub past_extensions : (left kind size : ℕ) → List ℕ → Result (ℕ × List ℕ) NoSegment
+abbrev pub past_extensions : (left kind size : ℕ) → List ℕ → Result Above NoSegment
 past_extensions (suc left) kind size (b ∷ bytes) = past_extensions left kind size bytes
 past_extensions (suc left) kind size [] = Err CutInIp
 past_extensions zero kind size (next ∷ units ∷ bytes) =
@@ -102,20 +108,21 @@ past_extensions zero kind size (next ∷ units ∷ bytes) =
     else if nat_lt (length bytes) (6 + unit kind * units) then Err CutInIp
     else if is_part kind (number_16 0 bytes) then Err Fragment
     else past_extensions (6 + unit kind * units) next (size - (8 + unit kind * units)) bytes
-    else upper kind size (next ∷ units ∷ bytes)
-past_extensions zero kind size b = if is_extension kind then Err CutInIp else upper kind size b
+    else Ok (above kind size (next ∷ units ∷ bytes))
+past_extensions zero kind size b = if is_extension kind then Err CutInIp else Ok (above kind size b)
 
 -- the length of what comes after the 40 bytes of the header
 abbrev pub size_6 : (beyond : ℕ) → List ℕ → ℕ
 size_6 beyond b = length_or_all (number_16 4 b) beyond (drop 40 b)
 
--- with how many bytes are left after the extension headers, and those bytes
-abbrev pub load_6 : List ℕ → ℕ × List ℕ → Load
+-- with what comes after the extension headers
+abbrev pub load_6 : List ℕ → Above → Load
 load_6 b x = record {
   source = address.V6 (slice_range b 8 24);
   destination = address.V6 (slice_range b 24 40);
-  size = x.0;
-  bytes = x.1;
+  protocol = x.protocol;
+  size = x.size;
+  bytes = x.bytes;
 }
 
 unfoldable pub carried_by_6 : (beyond : ℕ) → List ℕ → Result Load NoSegment

@@ -6,7 +6,8 @@ use Rattle.cqlp_segment.specs.declared.segments.Segment.{Segment}
 use Rattle.cqlp_segment.specs.declared.segments.SegmentHead.{SegmentHead}
 use Rattle.cqlp_segment.specs.Fields.{number_16, number_32, ◌>>=◌}
 use Rattle.cqlp_segment.specs.Link.{ip_packet}
-use Rattle.cqlp_segment.specs.Ip.{Load, carried_by}
+use Rattle.cqlp_segment.specs.Ip.{Load}
+use Rattle.cqlp_segment.specs.Tunnels.{innermost}
 use Rattle.cqlp_segment.specs.Tcp.{flags_of, header_length}
 
 -- a segment without where its payload lies in memory
@@ -47,10 +48,11 @@ segment_with header l packet = record {
 abbrev pub beyond : (original : ℕ) → List ℕ → ℕ
 beyond original packet = original - length packet
 
--- The segment, or the first reason why there is none, from the outer header to the inner.
+-- The segment, in the packet of IP or in one that tunnels carry in it, of which there are four at most; or the first reason why
+-- there is none, from the outer header to the inner.
 unfoldable pub segment_of : LinkType → List ℕ → (original : ℕ) → Result Seen NoSegment
 segment_of link packet original = do
   ip ← ip_packet link packet
-  load ← carried_by ip.0 (beyond original packet) ip.1
+  load ← innermost 5 (beyond original packet) ip
   header ← header_length load
   Ok (segment_with header load packet)

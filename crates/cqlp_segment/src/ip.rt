@@ -4,15 +4,12 @@ ghost use Rattle.std.specs.Prelude.{◌≡◌, ◌+◌, ◌<◌, ◌≤◌, ◌^
 ghost use Rattle.cqlp_segment.specs.declared.addresses.Address.TheVariants as address;
 ghost use Rattle.cqlp_segment.specs.Fields.{Gives};
 ghost use Rattle.cqlp_segment.specs.Ip.{carried_by, carried_by_4, carried_by_6, view};
-ghost use Rattle.cqlp_segment.specs.Ip.{is_extension, is_part, length_or_all, past_extensions, unit, upper};
+ghost use Rattle.cqlp_segment.specs.Ip.{is_extension, is_part, length_or_all, past_extensions, unit, upper_view};
 
 use crate::addresses::Address;
+use crate::ether_type::{IpPacket, IpVersion};
 use crate::fields::number_16;
-use crate::link::{IpPacket, IpVersion};
 use crate::reason::NoSegment;
-
-/// The number of TCP among the protocols that IP carries.
-const TCP: u8 = 6;
 
 /// The number of IPv6's header of a fragment.
 const FRAGMENT: u8 = 44;
@@ -25,9 +22,22 @@ const AUTHENTICATION: u8 = 51;
 pub(crate) struct Carried<'a> {
     pub source: Address,
     pub destination: Address,
+    /// The number of the protocol of what it carries.
+    pub protocol: u8,
     /// How many bytes it carries, by the word of IP's header.
     pub size: usize,
     /// What was captured from the first of them on; past `size` it is padding.
+    pub bytes: &'a [u8],
+}
+
+/// What comes after the extension headers of a packet of IPv6.
+#[derive(Clone, Copy)]
+pub(crate) struct Upper<'a> {
+    /// The number of its protocol.
+    pub protocol: u8,
+    /// How many bytes it has, by the word of IPv6's header.
+    pub size: usize,
+    /// What was captured from the first of them on.
     pub bytes: &'a [u8],
 }
 
@@ -73,15 +83,13 @@ fn carried_by_4(bytes: &[u8], beyond: usize) -> Result<Carried<'_>, NoSegment>
     if number_16(bytes, 6) % 0x4000 != 0 {
         return Err(NoSegment::Fragment);
     }
-    if bytes[9] != TCP {
-        return Err(NoSegment::NotTcp);
-    }
     if bytes.len() < header {
         return Err(NoSegment::CutInIp);
     }
     Ok(Carried {
         source: Address::V4([bytes[12], bytes[13], bytes[14], bytes[15]]),
         destination: Address::V4([bytes[16], bytes[17], bytes[18], bytes[19]]),
+        protocol: bytes[9],
         size: total - header,
         bytes: &bytes[header..],
     })
@@ -101,12 +109,13 @@ fn carried_by_6(bytes: &[u8], beyond: usize) -> Result<Carried<'_>, NoSegment>
     }
     let (_, rest) = bytes.split_at(40);
     let size = length_or_all(number_16(bytes, 4), rest, beyond);
-    let (size, rest) = past_extensions(bytes[6], size, rest)?;
+    let upper = past_extensions(bytes[6], size, rest)?;
     Ok(Carried {
         source: address_6(&bytes[8..24]),
         destination: address_6(&bytes[24..40]),
-        size,
-        bytes: rest,
+        protocol: upper.protocol,
+        size: upper.size,
+        bytes: upper.bytes,
     })
 }
 
@@ -121,10 +130,9 @@ fn address_6(octets: &[u8]) -> Address
     }
 }
 
-/// Passes over the extension headers, of which the first is of this kind. How many bytes are left of those that IP
-/// carries, and the bytes from the header of TCP on.
-fn past_extensions(kind: u8, size: usize, bytes: &[u8]) -> Result<(usize, &[u8]), NoSegment>
-    ensures { Gives (λ x. (x.0, x.1.now)) result (past_extensions 0 kind size bytes.now) }
+/// What comes after the extension headers, of which the first is of this kind; they and it have `size` bytes.
+fn past_extensions(kind: u8, size: usize, bytes: &[u8]) -> Result<Upper<'_>, NoSegment>
+    ensures { Gives upper_view result (past_extensions 0 kind size bytes.now) }
 {
     let mut kind = kind;
     let mut size = size;
@@ -147,17 +155,11 @@ fn past_extensions(kind: u8, size: usize, bytes: &[u8]) -> Result<(usize, &[u8])
         size -= header;
         bytes = &bytes[header..];
     }
-    upper(kind, size, bytes)
-}
-
-/// What a header of this kind, which is no extension header that may be passed over, says of the bytes that are left.
-fn upper(kind: u8, size: usize, bytes: &[u8]) -> Result<(usize, &[u8]), NoSegment>
-    ensures { Gives (λ x. (x.0, x.1.now)) result (upper kind size bytes.now) }
-{
-    match kind {
-        TCP => Ok((size, bytes)),
-        _ => Err(NoSegment::NotTcp),
-    }
+    Ok(Upper {
+        protocol: kind,
+        size,
+        bytes,
+    })
 }
 
 /// Whether an extension header may be passed over: options for each hop, routing, that of a fragment which is the whole packet,

@@ -2,6 +2,7 @@
 #![tactic(auto)]
 
 mod addresses;
+mod ether_type;
 mod fields;
 mod ip;
 pub mod laws;
@@ -9,6 +10,7 @@ mod link;
 mod reason;
 mod segments;
 mod tcp;
+mod tunnels;
 
 pub use addresses::{Address, Endpoint};
 pub use link::LinkType;

@@ -1,10 +1,11 @@
 //! Headers of links, which stand before the header of IP.
 
-ghost use Rattle.std.specs.Prelude.{◌≡◌, ◌+◌, ◌<◌, ◌≤◌, length};
+ghost use Rattle.std.specs.Prelude.{◌≡◌, ◌+◌, ◌≤◌};
+ghost use Rattle.cqlp_segment.specs.EtherType.{view};
 ghost use Rattle.cqlp_segment.specs.Fields.{Gives};
-ghost use Rattle.cqlp_segment.specs.Link.{after_family, after_type, ip_packet, link_of, view};
-ghost use Rattle.cqlp_segment.specs.Link.{is_tag, raw_version, untagged, version_of_family};
+ghost use Rattle.cqlp_segment.specs.Link.{after_family, after_type, ip_packet, link_of, version_of_family};
 
+use crate::ether_type::{IpPacket, IpVersion, after_ether_type, with_version};
 use crate::fields::number_16;
 use crate::reason::NoSegment;
 
@@ -15,7 +16,7 @@ pub enum LinkType {
     Null,
     /// 1: Ethernet, with any number of tags of virtual networks.
     Ethernet,
-    /// 101: the header of IP comes first, of either version.
+    /// 101, and 12 and 14, which BSDs write for it: the header of IP comes first, of either version.
     Raw,
     /// 108: OpenBSD's loopback, whose family of addresses has its highest byte first.
     Loop,
@@ -27,21 +28,6 @@ pub enum LinkType {
     Ipv6,
     /// 276: what Linux captures on all interfaces, with the interface.
     LinuxSll2,
-}
-
-/// A version of IP.
-#[derive(Clone, Copy, Debug, PartialEq, Eq)]
-pub(crate) enum IpVersion {
-    V4,
-    V6,
-}
-
-/// A packet of IP in a captured packet.
-#[derive(Clone, Copy)]
-pub(crate) struct IpPacket<'a> {
-    pub version: IpVersion,
-    /// The bytes from the header of IP on, with what pads the packet.
-    pub bytes: &'a [u8],
 }
 
 impl LinkType {
@@ -56,7 +42,7 @@ impl LinkType {
         match number {
             0 => Ok(LinkType::Null),
             1 => Ok(LinkType::Ethernet),
-            101 => Ok(LinkType::Raw),
+            12 | 14 | 101 => Ok(LinkType::Raw),
             108 => Ok(LinkType::Loop),
             113 => Ok(LinkType::LinuxSll),
             228 => Ok(LinkType::Ipv4),
@@ -78,13 +64,7 @@ pub(crate) fn ip_packet(link: LinkType, packet: &[u8]) -> Result<IpPacket<'_>, N
         LinkType::Ethernet => after_type(packet, 12, 14),
         LinkType::LinuxSll => after_type(packet, 14, 16),
         LinkType::LinuxSll2 => after_type(packet, 0, 20),
-        LinkType::Raw => {
-            let version = raw_version(packet)?;
-            Ok(IpPacket {
-                version,
-                bytes: packet,
-            })
-        }
+        LinkType::Raw => with_version(packet),
         LinkType::Ipv4 => Ok(IpPacket {
             version: IpVersion::V4,
             bytes: packet,
@@ -128,9 +108,13 @@ fn version_of_family(family: u32) -> Option<IpVersion>
     }
 }
 
-/// What follows a header of this many bytes, which has an EtherType at this index, and the tags after it.
+/// What follows a header of this many bytes, which has an EtherType at this index.
 #[tactic(auto, unfolding(crate::specs::Link::after_type))]
-fn after_type(packet: &[u8], index: usize, header: usize) -> Result<IpPacket<'_>, NoSegment>
+pub(crate) fn after_type(
+    packet: &[u8],
+    index: usize,
+    header: usize,
+) -> Result<IpPacket<'_>, NoSegment>
     requires { index + 2 ≤ header }
     ensures { Gives view result (after_type index header packet.now) }
 {
@@ -138,48 +122,5 @@ fn after_type(packet: &[u8], index: usize, header: usize) -> Result<IpPacket<'_>
         return Err(NoSegment::CutInLink);
     }
     let (_, bytes) = packet.split_at(header);
-    let (ether_type, bytes) = untagged(number_16(packet, index), bytes)?;
-    let version = match ether_type {
-        0x0800 => IpVersion::V4,
-        0x86DD => IpVersion::V6,
-        _ => return Err(NoSegment::NotIp),
-    };
-    Ok(IpPacket { version, bytes })
-}
-
-/// The EtherType after all tags, and the bytes after it.
-fn untagged(ether_type: u16, bytes: &[u8]) -> Result<(u16, &[u8]), NoSegment>
-    ensures { Gives (λ x. (x.0, x.1.now)) result (untagged ether_type bytes.now) }
-{
-    let mut ether_type = ether_type;
-    let mut bytes = bytes;
-    while is_tag(ether_type) {
-        if bytes.len() < 4 {
-            return Err(NoSegment::CutInLink);
-        }
-        ether_type = number_16(bytes, 2);
-        bytes = &bytes[4..];
-    }
-    Ok((ether_type, bytes))
-}
-
-/// Whether an EtherType is that of a tag of a virtual network.
-fn is_tag(ether_type: u16) -> bool
-    ensures { result ≡ is_tag ether_type }
-{
-    matches!(ether_type, 0x8100 | 0x88A8 | 0x9100)
-}
-
-/// The version of IP that the first byte says.
-fn raw_version(packet: &[u8]) -> Result<IpVersion, NoSegment>
-    ensures { result ≡ raw_version packet.now }
-{
-    match packet {
-        [] => Err(NoSegment::CutInIp),
-        [first, ..] => match first >> 4 {
-            4 => Ok(IpVersion::V4),
-            6 => Ok(IpVersion::V6),
-            _ => Err(NoSegment::NotIp),
-        },
-    }
+    after_ether_type(number_16(packet, index), bytes)
 }

@@ -7,10 +7,11 @@ ghost use Rattle.cqlp_segment.specs.Segment.{head_of, payload_of, seen, segment_
 
 use crate::addresses::Endpoint;
 use crate::fields::{number_16, number_32};
-use crate::ip::{Carried, carried_by};
+use crate::ip::Carried;
 use crate::link::{LinkType, ip_packet};
 use crate::reason::NoSegment;
 use crate::tcp::{Flags, header_length};
+use crate::tunnels::innermost;
 
 /// What the headers say of a segment.
 #[derive(Clone, Copy, Debug, PartialEq, Eq)]
@@ -39,6 +40,8 @@ pub struct Segment<'a> {
 /// The segment of TCP in a packet that was captured on a link of this type, of which the packet had `original` bytes; or the
 /// first reason, from the outer header to the inner, why there is none.
 ///
+/// Tunnels are opened, up to four in one another: IP in IP, GRE, and VXLAN.
+///
 /// Checksums are not looked at, since network cards make them after a sender's packet was captured. Where a header of IP says
 /// the length 0, as it does of what a network card is to cut into segments, IP carries all that the packet had.
 ///
@@ -51,7 +54,7 @@ pub fn read_segment(link: LinkType, packet: &[u8], original: u32) -> Result<Segm
 {
     let beyond = (original as usize).saturating_sub(packet.len());
     let ip = ip_packet(link, packet)?;
-    let carried = carried_by(ip, beyond)?;
+    let carried = innermost(ip, beyond)?;
     let header = header_length(&carried)?;
     Ok(Segment {
         head: head_of(&carried),

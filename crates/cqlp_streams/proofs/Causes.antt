@@ -12,7 +12,7 @@ use Rattle.cqlp_streams.specs.Sayings.{Saying}
 use Rattle.cqlp_streams.specs.Listening.{FailsAtLast, after_all}
 use Rattle.cqlp_streams.specs.Packets.{SplitState}
 use Rattle.cqlp_streams.specs.Captures.{IsOfReads, ReadsMade, SplitsTo}
-use Rattle.cqlp_streams.specs.Endings.{Concludes, ConcludesNoted, end_status, fault_line, least_status, line_of, status_of, with_note}
+use Rattle.cqlp_streams.specs.Endings.{Concludes, ConcludesNoted, end_status, fault_line}
 use Rattle.cqlp_streams.specs.Streams.{ReadsCapture, default_limits, no_connections, turns}
 use Rattle.cqlp_streams.specs.Causes.{HasCause}
 
@@ -100,21 +100,15 @@ EndedIfFault m (Ok x) n n' = Unit {0}
 EndedIfFault m (Err e) n n' = EndedBy m e n n'
 
 -- with a note or without
-ok_never : (b : Bool) (x : CaptureRead) → (if b then status_of (Ok x) else least_status (Ok x)) ≢ 3
+ok_never : (b : Bool) (x : CaptureRead) → (if b then end_status x.end else 1) ≢ 3
 ok_never true x is = never_fault x.end is
 ok_never false x is = cc
 
-fault_text : (b : Bool) (note words : List ℕ) (e : StreamsFault) → (if b then line_of words (Err e) else with_note note words (Err e)) ≡ fault_line e
-fault_text true note words e = refl
-fault_text false note words e = refl
-
 -- The status of a fault has its cause.
 pub ended_noted : (note words : List ℕ) (m : ReadsMade) (r : Result CaptureRead StreamsFault) (out err out' err' : Output) → EndedIfFault m r out.failures out'.failures → ConcludesNoted note words r err 3 err' → HasCause m out err out' err'
-ended_noted note words m (Ok x) out err out' err' a (inl (inl (is, line))) = absurd (ok_never (length note == 0) x (sym is))
-ended_noted note words m (Err e) out err out' err' a (inl (inl (is, line))) = told_cause m e out err out' err' a (line ∙ ap (λ z. with_text err z) (fault_text (length note == 0) note words e))
-ended_noted note words m r out err out' err' a (inl (inr (is, stops))) = inr (inr (inl stops.failures))
-ended_noted note words m r out err out' err' a (inr (inl (is, line))) = inr (inr (inr (inl line)))
-ended_noted note words m r out err out' err' a (inr (inr (is, stops))) = inr (inr (inl stops.failures))
+ended_noted note words m (Ok x) out err out' err' a (inl (is, line)) = absurd (ok_never (length note == 0) x (sym is))
+ended_noted note words m (Err e) out err out' err' a (inl (is, line)) = told_cause m e out err out' err' a line
+ended_noted note words m r out err out' err' a (inr (is, stops)) = inr (inr (inl stops.failures))
 
 pub ended_by : (words : List ℕ) (m : ReadsMade) (r : Result CaptureRead StreamsFault) (out err out' err' : Output) → EndedIfFault m r out.failures out'.failures → Concludes words r err 3 err' → HasCause m out err out' err'
 ended_by words = ended_noted [] words

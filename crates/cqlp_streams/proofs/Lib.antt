@@ -1,5 +1,6 @@
 pub mod Paths
 pub mod Getting
+pub mod Parts
 pub mod Written
 pub mod Told
 pub mod Events
@@ -8,5 +9,4 @@ pub mod Splitting
 pub mod Once
 pub mod Gotten
 pub mod OneAnswer
-pub mod Pushed
 pub mod Causes

@@ -2,7 +2,7 @@
 use Rattle.std.proofs.Common.{◌≡◌, ◌∙◌, ℕ, true, List, [], ◌∷◌, ◌++◌, map, Option, Some, None, Result, Ok, Err, refl, sym, ap, subst}
 use Rattle.cqlp_reassembly.specs.declared.stream.StreamStep.{StreamStep}
 use Rattle.cqlp_reassembly.specs.declared.stream.StreamStep.TheVariants as step
-use Rattle.cqlp_capture.specs.Reading.{Event, Section, Interface, Packet, Bytes}
+use Rattle.cqlp_capture.specs.Reading.{Event, Section, Interface, Packet, Bytes, Skipped}
 use Rattle.cqlp_segment.specs.declared.reason.NoSegment.{NoSegment}
 use Rattle.cqlp_segment.specs.Segment.{Seen}
 use Rattle.cqlp_connections.specs.declared.ends.Way.{Way}
@@ -238,6 +238,7 @@ event_once s u u' (Section f) ss ss' a a' = (a'.0 ∙ sym a.0, a'.1 ∙ sym a.1)
 event_once s u u' (Interface h) ss ss' a a' = (a'.0 ∙ sym a.0, a'.1 ∙ sym a.1)
 event_once s u u' (Packet h) ss ss' a a' = (a'.0 ∙ sym a.0, a'.1 ∙ sym a.1)
 event_once s u u' (Bytes packet) ss ss' a a' = read_once (segment_in s packet) s u u' ss ss' a a'
+event_once s u u' (Skipped why) ss ss' a a' = (a'.0 ∙ sym a.0, a'.1 ∙ sym a.1)
 
 pub events_once : (s u u' : SplitState) (es : List (ℕ × Event)) (ss ss' : List Saying) → TellsEvents s es ss u → TellsEvents s es ss' u' → (ss' ≡ ss) × (u' ≡ u)
 events_once s u u' [] ss ss' a a' = (a'.0 ∙ sym a.0, a'.1 ∙ sym a.1)

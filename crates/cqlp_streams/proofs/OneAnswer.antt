@@ -1,5 +1,5 @@
 -- Two answers are the same.
-use Rattle.std.proofs.Common.{◌≡◌, ◌≢◌, ◌∙◌, ◌&&◌, ◌==◌, ◌≤◌, if◌then◌else◌, ℕ, Bool, true, false, List, [], ◌∷◌, ◌++◌, length, Option, Result, Ok, Err, refl, sym, ap, subst, inl, inr, append-nil, arith}
+use Rattle.std.proofs.Common.{◌≡◌, ◌≢◌, ◌∙◌, ◌&&◌, ◌≤◌, ℕ, Bool, true, false, List, [], ◌∷◌, ◌++◌, length, Option, Result, Ok, Err, refl, sym, ap, subst, inl, inr, append-nil, arith}
 use Rattle.std.proofs.lemmas.Bool.{cases_lt}
 use Rattle.cqlp_text.specs.Outputs.{Output, with_text}
 use Rattle.cqlp_note.specs.Reader.{Said, More, Got, says}
@@ -22,7 +22,7 @@ use Rattle.cqlp_streams.specs.Listening.{after_all}
 use Rattle.cqlp_streams.specs.Recordings.{Recording, StopsAt, no_sums, recording, with_saying}
 use Rattle.cqlp_streams.specs.Packets.{Finishes, SplitState, TellsEvents, new_split}
 use Rattle.cqlp_streams.specs.Captures.{EndsSo, HearsAll, IsAll, ReadsMade, SplitsTo}
-use Rattle.cqlp_streams.specs.Endings.{Concludes, ConcludesNoted, least_status, noted_line, noted_status, status_of, sums_words}
+use Rattle.cqlp_streams.specs.Endings.{Concludes, ConcludesNoted, last_line, last_status, sums_words}
 use Rattle.cqlp_streams.specs.Streams.{ReadsCapture, default_limits, no_connections, read_of, streams_limits}
 use Rattle.cqlp_streams.specs.Laws.{OneAnswerOfReadCapture, OneAnswerOfWriteStreams}
 use Rattle.cqlp_streams.proofs.Once.{events_once, finishes_once}
@@ -132,20 +132,13 @@ module _ {V : Type 0} (after : V → Saying → V) (faulted : V → Saying → S
       (ok_same r' r same, one.2)
 
 -- the lines were written, where nothing failed
-pub concluded : (note words : List ℕ) (r : Result CaptureRead StreamsFault) (err err' : Output) (status : ℕ) → ConcludesNoted note words r err status err' → status ≢ 3 → (status ≡ noted_status note r) × (err' ≡ with_text err (noted_line note words r))
-concluded note words r err err' status (inl (inl a)) well = a
-concluded note words r err err' status (inl (inr (is, x))) well = absurd (well is)
-concluded note words r err err' status (inr (inl (is, x))) well = absurd (well is)
-concluded note words r err err' status (inr (inr (is, x))) well = absurd (well is)
+pub concluded : (note words : List ℕ) (r : Result CaptureRead StreamsFault) (err err' : Output) (status : ℕ) → ConcludesNoted note words r err status err' → status ≢ 3 → (status ≡ last_status note r) × (err' ≡ with_text err (last_line note words r))
+concluded note words r err err' status (inl a) well = a
+concluded note words r err err' status (inr (is, x)) well = absurd (well is)
 
--- a fault's status is the same with a note
-fault_either : (b : Bool) (f : StreamsFault) → (if b then status_of (Err f) else least_status (Err f)) ≡ 3
-fault_either true f = refl
-fault_either false f = refl
-
-pub well_read : (note : List ℕ) (r : Result CaptureRead StreamsFault) → noted_status note r ≢ 3 → (x : CaptureRead) × (r ≡ Ok x)
+pub well_read : (note : List ℕ) (r : Result CaptureRead StreamsFault) → last_status note r ≢ 3 → (x : CaptureRead) × (r ≡ Ok x)
 well_read note (Ok x) well = (x, refl)
-well_read note (Err f) well = absurd (well (fault_either (length note == 0) f))
+well_read note (Err f) well = absurd (well refl)
 
 -- Two runs that end with a note and words of the view, and no fault.
 module _ {V : Type 0} (after : V → Saying → V) (faulted : V → Saying → StreamsFault → V → Type 0) (note words : V → Result CaptureRead StreamsFault → List ℕ) (limits : ConnectionLimits) (ports xs : List ℕ) (before v w : V) (made made' : ReadsMade) (left left' : Option (List ℕ)) (r r' : Result CaptureRead StreamsFault) (err err' err'' : Output) (status status' : ℕ) where
@@ -159,9 +152,9 @@ module _ {V : Type 0} (after : V → Saying → V) (faulted : V → Saying → S
       let b = subst (λ (z : Result CaptureRead StreamsFault). ReadsCapture after faulted limits ports xs made' z left' before w) x'.1 reads' in
       let one = read_once after faulted limits ports xs before v w made made' left left' x.0 x'.0 a b in
       let same : r' ≡ r = x'.1 ∙ ap (λ z. Ok z) one.0 ∙ sym x.1 in (
-        c'.0 ∙ (λ i. noted_status (note (one.1 i) (same i)) (same i)) ∙ sym c.0,
+        c'.0 ∙ (λ i. last_status (note (one.1 i) (same i)) (same i)) ∙ sym c.0,
         one.1,
-        c'.1 ∙ (λ i. with_text err (noted_line (note (one.1 i) (same i)) (words (one.1 i) (same i)) (same i))) ∙ sym c.1,
+        c'.1 ∙ (λ i. with_text err (last_line (note (one.1 i) (same i)) (words (one.1 i) (same i)) (same i))) ∙ sym c.1,
       )
 
 -- without a note

@@ -1,7 +1,8 @@
 -- What a listener has got of an input after some reads.
-use Rattle.std.proofs.Common.{◌≡◌, ◌∙◌, ℕ, ◌<◌, ◌≤◌, true, false, List, [], ◌++◌, length, take, Option, Some, None, Result, Ok, Err, IfOk, OnOk, refl, sym, ap, subst, inl, inr, append_assoc, append-nil, arith}
+use Rattle.std.proofs.Common.{◌≡◌, ◌∙◌, ℕ, ◌+◌, ◌*◌, ◌<◌, ◌≤◌, true, false, List, [], ◌++◌, length, take, Option, Some, None, Result, Ok, Err, IfOk, OnOk, refl, sym, ap, subst, inl, inr, append_assoc, append-nil, arith}
 use Rattle.std.specs.Io.KnownBytes.{Consumes, IsAtEnd, Keeps}
 use Rattle.cqlp_note.specs.Reader.{More, says}
+use Rattle.cqlp_note.specs.Streams.{CountsUp, counted_up}
 use Rattle.cqlp_capture.specs.declared.event.CaptureEnd.{CaptureEnd}
 use Rattle.cqlp_capture.specs.declared.event.CaptureEnd.TheVariants as end
 use Rattle.cqlp_capture.specs.declared.limits.CaptureLimits.{CaptureLimits}
@@ -18,6 +19,10 @@ use Rattle.cqlp_streams.specs.Packets.{SplitState, new_split}
 use Rattle.cqlp_streams.specs.Captures.{DrainsTo, EndsTo, Has, HearsAll, IsAll, IsAtEndBy, IsRefused, ReadsMade, ReadsOn, SplitsTo, TellsSoFar, most_read}
 use Rattle.cqlp_streams.specs.Streams.{read_of}
 use Rattle.cqlp_streams.proofs.Events.{hears_here}
+
+-- one more read, with the whole room
+pub room_again : (before was now room turn : ℕ) → CountsUp (most_read * turn) before was → now ≡ counted_up room was → room ≡ most_read → CountsUp (most_read * (turn + 1)) before now
+room_again before was now room turn so_far one whole = λ fits. let mid = so_far (omega arith) in omega (arith, mid, one, whole)
 
 -- so many reads, of which none failed, or the last one
 abbrev pub well_made : ℕ → ReadsMade

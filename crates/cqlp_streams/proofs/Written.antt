@@ -23,7 +23,7 @@ said (Err x) text a b h e = tt
 -- the files of a connection were kept, and its line was put, or not
 keeps : (r : Recording) (c : ConnectionTotals) (res : Result (Unit {0}) StreamsFault) (line : List ℕ) (new : Output) → line ≡ connection_line c → Puts line r.output res new → Records r (Left c) res (recording (with_call r.calls (Kept c.number)) new (sums_with (Left c) r.sums))
 keeps r c (Ok u) line new e p = ap (λ o. recording (with_call r.calls (Kept c.number)) o (sums_with (Left c) r.sums)) (p ∙ ap (λ z. with_text r.output z) e)
-keeps r c (Err fault.NoMemory) line new e p = (refl, ap (λ o. recording (with_call r.calls (Kept c.number)) o (sums_with (Left c) r.sums)) p)
+keeps r c (Err fault.NoMemory) line new e p = absurd p
 keeps r c (Err fault.Write) line new e p = (refl, subst (λ z. StopsWithin r.output z new) e p)
 keeps r c (Err fault.Read) line new e p = absurd p
 keeps r c (Err (fault.File f)) line new e p = absurd p

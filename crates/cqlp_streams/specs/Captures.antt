@@ -1,6 +1,7 @@
 -- What a whole capture tells, and what a listener has got of it.
-use Rattle.std.specs.Prelude.{◌≡◌, ℕ, ◌≤◌, Bool, ◌&&◌, true, false, List, [], ◌∷◌, ◌++◌, length, Option, Some, None, Result, Ok, Err, ◌⊎◌, ⊤}
+use Rattle.std.specs.Prelude.{◌≡◌, ℕ, ◌*◌, ◌≤◌, Bool, ◌&&◌, true, false, List, [], ◌∷◌, ◌++◌, length, Option, Some, None, Result, Ok, Err, ◌⊎◌, ⊤}
 use Rattle.cqlp_note.specs.Reader.{More, says}
+use Rattle.cqlp_note.specs.declared.streams.Source as source
 use Rattle.cqlp_note.specs.Streams.{CountsUp, counted}
 use Rattle.cqlp_capture.specs.declared.event.CaptureEnd.{CaptureEnd}
 use Rattle.cqlp_capture.specs.declared.event.CaptureEnd.TheVariants as end
@@ -98,13 +99,25 @@ pub record ReadsMade : Type 0 where
 abbrev pub no_reads : ReadsMade
 no_reads = record { made = 0; failed = false }
 
--- An input counts that many calls more, and a failed one more if one failed.
-abbrev pub AreCounted : ReadsMade → (calls calls' failures failures' : ℕ) → Type 0
-AreCounted m calls calls' failures failures' = CountsUp m.made calls calls' × (failures' ≡ counted m.failed failures)
-
 -- how many bytes a read asks for
 abbrev pub most_read : ℕ
 most_read = 65536
+
+-- how often an input was called, how often that failed, and how many bytes of room all calls had
+pub record ReadCounts : Type 0 where
+  pub reads : ℕ
+  pub failures : ℕ
+  pub asked : ℕ
+
+abbrev pub read_counts : {R : Type 0} → source.Ghosts R → R → ReadCounts
+read_counts members input =
+    record { reads = members.reads input; failures = members.failures input; asked = members.asked input }
+
+-- An input counts that many calls more, each of which asked for the whole room, and a failed one more if one failed.
+abbrev pub AreCounted : ReadsMade → (old new : ReadCounts) → Type 0
+AreCounted m old new =
+    CountsUp m.made old.reads new.reads × (new.failures ≡ counted m.failed old.failures)
+    × CountsUp (most_read * m.made) old.asked new.asked
 
 -- The bytes read but the last, no more than one read asks for, had said all their events, and more were wanted: nothing was refused.
 pub record ReadsOn (l : CaptureLimits) (read : List ℕ) : Type 0 where

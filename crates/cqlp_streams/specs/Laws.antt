@@ -9,7 +9,7 @@ use Rattle.cqlp_connections.specs.declared.ends.Way.TheVariants.{Requests, Respo
 use Rattle.cqlp_streams.specs.declared.capturing.CaptureRead.{CaptureRead}
 use Rattle.cqlp_streams.specs.declared.fault.StreamsFault.{StreamsFault}
 use Rattle.cqlp_streams.specs.declared.files.StreamFile.{StreamFile}
-use Rattle.cqlp_streams.specs.Files.{Call, Made, Appended, Kept}
+use Rattle.cqlp_streams.specs.Files.{Call, Made, Appended, Kept, Failed}
 use Rattle.cqlp_streams.specs.Sayings.{Saying, Packet, New, Of, Left}
 use Rattle.cqlp_streams.specs.Recordings.{Recording, file_of, with_sayings}
 use Rattle.cqlp_streams.specs.Captures.{ReadsMade}
@@ -51,6 +51,7 @@ abbrev pub appended_by : StreamFile → Call → List ℕ
 appended_by f (Made n) = []
 appended_by f (Appended g bytes) = if is_same_file f g then bytes else []
 appended_by f (Kept n) = []
+appended_by f (Failed e) = []
 
 abbrev pub bytes_in : StreamFile → List Call → List ℕ
 bytes_in f [] = []

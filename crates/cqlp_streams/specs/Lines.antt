@@ -1,5 +1,5 @@
 -- The lines of connections.
-use Rattle.std.specs.Prelude.{ℕ, List, ◌++◌, codes, decimal}
+use Rattle.std.specs.Prelude.{ℕ, List, [], ◌∷◌, ◌++◌, codes, decimal}
 use Rattle.std.specs.Net.Addr.{segments_of}
 use Rattle.std.specs.Net.Text.{ipv4_text, ipv6_text}
 use Rattle.cqlp_segment.specs.declared.addresses.Address.{Address}
@@ -15,6 +15,10 @@ use Rattle.cqlp_connections.specs.declared.totals.ConnectionTotals.{ConnectionTo
 use Rattle.cqlp_connections.specs.declared.totals.DirectionTotals.{DirectionTotals}
 use Rattle.cqlp_streams.specs.declared.files.StreamFile.{StreamFile}
 
+abbrev pub joined : List (List ℕ) → List ℕ
+joined [] = []
+joined (x ∷ xs) = x ++ joined xs
+
 abbrev pub way_name : Way → List ℕ
 way_name Requests = codes "requests"
 way_name Responses = codes "responses"
@@ -22,7 +26,12 @@ way_name Responses = codes "responses"
 -- a gap: its connection and direction, how many bytes were told before it, and how many are missing
 abbrev pub gap_line : StreamFile → (at length : ℕ) → List ℕ
 gap_line f at n =
-    codes "gap " ++ decimal f.number ++ codes " " ++ way_name f.way ++ codes " " ++ decimal at ++ codes " " ++ decimal n ++ codes "\n"
+    joined (codes "gap " ∷ decimal f.number ∷ codes " " ∷ way_name f.way ∷ codes " " ∷ decimal at ∷ codes " " ∷ decimal n ∷ codes "\n" ∷ [])
+
+-- a file with which that cannot be done
+abbrev pub file_line : (deed : List ℕ) → StreamFile → List ℕ
+file_line deed f =
+    joined (codes "cqlp: cannot " ∷ deed ∷ codes " " ∷ decimal f.number ∷ codes "." ∷ way_name f.way ∷ codes ".bin\n" ∷ [])
 
 -- an end of a connection: an IPv6 address stands in brackets (RFC 5952, section 6)
 abbrev pub address_text : Address → List ℕ

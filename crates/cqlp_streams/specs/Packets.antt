@@ -1,6 +1,8 @@
 -- What the packets of a capture tell.
 use Rattle.std.specs.Prelude.{◌≡◌, ℕ, Bool, true, ◌&&◌, nat_lt, is_some, if◌then◌else◌, List, [], ◌∷◌, ◌++◌, Option, None, Result, Ok, Err}
-use Rattle.cqlp_capture.specs.Reading.{Event, Section, Interface, Packet, Bytes}
+use Rattle.cqlp_capture.specs.declared.event.SkipReason.{SkipReason}
+use Rattle.cqlp_capture.specs.declared.event.SkipReason.TheVariants as skip
+use Rattle.cqlp_capture.specs.Reading.{Event, Section, Interface, Packet, Bytes, Skipped}
 use Rattle.cqlp_segment.specs.declared.link.LinkType.{LinkType}
 use Rattle.cqlp_segment.specs.declared.reason.NoSegment.{NoSegment}
 use Rattle.cqlp_segment.specs.declared.reason.NoSegment.TheVariants as reason
@@ -11,6 +13,7 @@ use Rattle.cqlp_connections.specs.Totals.{counted}
 use Rattle.cqlp_connections.specs.Tables.{Table}
 use Rattle.cqlp_streams.specs.declared.packets.PacketCounts.{PacketCounts}
 use Rattle.cqlp_streams.specs.declared.packets.WithoutCounts.{WithoutCounts}
+use Rattle.cqlp_streams.specs.declared.skipped.SkippedCounts.{SkippedCounts}
 use Rattle.cqlp_streams.specs.Sayings.{Saying}
 use Rattle.cqlp_streams.specs.Tellings.{FinishesAll, TellsTimed}
 
@@ -35,12 +38,28 @@ none_without = record {
   bad_ip_length = 0;
   fragment = 0;
   not_tcp = 0;
+  cut_in_tunnel = 0;
+  too_many_tunnels = 0;
   cut_in_tcp = 0;
   bad_tcp_length = 0;
 }
 
+abbrev pub none_skipped : SkippedCounts
+none_skipped = record {
+  short_block = 0;
+  bad_option_length = 0;
+  unknown_time_unit = 0;
+  negative_time_offset = 0;
+  too_many_interfaces = 0;
+  unknown_interface = 0;
+  unread_interface = 0;
+  time_too_large = 0;
+  packet_beyond_block = 0;
+  packet_too_long = 0;
+}
+
 abbrev pub none_counted : PacketCounts
-none_counted = record { packets = 0; segments = 0; snapped = 0; without = none_without }
+none_counted = record { packets = 0; segments = 0; snapped = 0; without = none_without; skipped = none_skipped }
 
 abbrev pub new_split : Table → SplitState
 new_split t = split_state t 0 None 0 none_counted
@@ -64,11 +83,29 @@ with_reason reason.CutInIp w = record w { cut_in_ip = counted w.cut_in_ip 1 }
 with_reason reason.BadIpLength w = record w { bad_ip_length = counted w.bad_ip_length 1 }
 with_reason reason.Fragment w = record w { fragment = counted w.fragment 1 }
 with_reason reason.NotTcp w = record w { not_tcp = counted w.not_tcp 1 }
+with_reason reason.CutInTunnel w = record w { cut_in_tunnel = counted w.cut_in_tunnel 1 }
+with_reason reason.TooManyTunnels w = record w { too_many_tunnels = counted w.too_many_tunnels 1 }
 with_reason reason.CutInTcp w = record w { cut_in_tcp = counted w.cut_in_tcp 1 }
 with_reason reason.BadTcpLength w = record w { bad_tcp_length = counted w.bad_tcp_length 1 }
 
 abbrev pub without_segment : NoSegment → PacketCounts → PacketCounts
 without_segment why c = record c { packets = counted c.packets 1; without = with_reason why c.without }
+
+-- What the reader of the capture passes over is counted by the reason too.
+abbrev pub with_skip : SkipReason → SkippedCounts → SkippedCounts
+with_skip skip.ShortBlock k = record k { short_block = counted k.short_block 1 }
+with_skip skip.BadOptionLength k = record k { bad_option_length = counted k.bad_option_length 1 }
+with_skip skip.UnknownTimeUnit k = record k { unknown_time_unit = counted k.unknown_time_unit 1 }
+with_skip skip.NegativeTimeOffset k = record k { negative_time_offset = counted k.negative_time_offset 1 }
+with_skip skip.TooManyInterfaces k = record k { too_many_interfaces = counted k.too_many_interfaces 1 }
+with_skip skip.UnknownInterface k = record k { unknown_interface = counted k.unknown_interface 1 }
+with_skip skip.UnreadInterface k = record k { unread_interface = counted k.unread_interface 1 }
+with_skip skip.TimeTooLarge k = record k { time_too_large = counted k.time_too_large 1 }
+with_skip skip.PacketBeyondBlock k = record k { packet_beyond_block = counted k.packet_beyond_block 1 }
+with_skip skip.PacketTooLong k = record k { packet_too_long = counted k.packet_too_long 1 }
+
+abbrev pub with_skipped : SkipReason → PacketCounts → PacketCounts
+with_skipped why c = record c { skipped = with_skip why c.skipped }
 
 -- ---- a packet
 
@@ -97,6 +134,7 @@ TellsEvent all s (Section form) ss u = (ss ≡ []) × (u ≡ s)
 TellsEvent all s (Interface head) ss u = (ss ≡ []) × (u ≡ s)
 TellsEvent all s (Packet head) ss u = (ss ≡ []) × (u ≡ record s { link = head.link; time = head.time; original = head.original })
 TellsEvent all s (Bytes packet) ss u = TellsRead (segment_in s packet) all s ss u
+TellsEvent all s (Skipped why) ss u = (ss ≡ []) × (u ≡ record s { counts = with_skipped why s.counts })
 
 -- events, in order
 abbrev pub TellsEvents : SplitState → List (ℕ × Event) → List Saying → SplitState → Type 0

@@ -8,9 +8,10 @@ use Rattle.cqlp_connections.specs.declared.totals.DirectionTotals.{DirectionTota
 use Rattle.cqlp_connections.specs.Totals.{counted}
 use Rattle.cqlp_streams.specs.declared.fault.StreamsFault.{StreamsFault}
 use Rattle.cqlp_streams.specs.declared.fault.StreamsFault.TheVariants as fault
+use Rattle.cqlp_streams.specs.declared.files.FileFault.{FileFault}
 use Rattle.cqlp_streams.specs.declared.files.StreamFile.{StreamFile}
 use Rattle.cqlp_streams.specs.declared.recorder.Sums.{Sums}
-use Rattle.cqlp_streams.specs.Files.{Call, Made, Appended, Kept, with_call}
+use Rattle.cqlp_streams.specs.Files.{Call, Made, Appended, Kept, Failed, with_call}
 use Rattle.cqlp_streams.specs.Lines.{connection_line, gap_line}
 use Rattle.cqlp_streams.specs.Sayings.{Saying, Packet, New, Of, Left}
 use Rattle.cqlp_streams.specs.Listening.{after_all}
@@ -29,10 +30,9 @@ no_sums = record { gaps = 0; bytes = 0 }
 abbrev pub with_output : Output → Recording → Recording
 with_output o r = recording r.calls o r.sums
 
--- A line was put; or there was no memory for it, or the output failed within it.
+-- A line was put, or the output failed within it.
 abbrev pub Puts : (line : List ℕ) → Output → Result (Unit {0}) StreamsFault → Output → Type 0
 Puts line old (Ok u) new = new ≡ with_text old line
-Puts line old (Err fault.NoMemory) new = new ≡ old
 Puts line old (Err fault.Write) new = StopsWithin old line new
 Puts line old (Err e) new = ⊥
 
@@ -96,11 +96,20 @@ abbrev pub StopsWithinLine : Option (List ℕ) → (old new : Output) → Type 0
 StopsWithinLine None old new = ⊥
 StopsWithinLine (Some line) old new = StopsWithin old line new
 
--- Files failed at the call, and nothing was recorded; or the call was made, and there was no memory for the line, or the output
--- failed within it.
+-- The line is made in memory: that of a connection that has left.
+abbrev pub NeedsMemory : Saying → Type 0
+NeedsMemory (Left totals) = Unit {0}
+NeedsMemory s = ⊥
+
+-- one call failed
+abbrev pub with_failure : FileFault → Recording → Recording
+with_failure e r = recording (with_call r.calls (Failed e)) r.output r.sums
+
+-- The call failed, no other call was made, and nothing else was recorded; or the call was made, and there was no memory for a line that is
+-- made in memory, or the output failed within the line.
 abbrev pub StopsAt : Recording → Saying → StreamsFault → Recording → Type 0
-StopsAt old s (fault.File e) new = IsSome (call_of s) × (new ≡ old)
-StopsAt old s fault.NoMemory new = IsSome (line_of s) × (new ≡ with_call_of old s)
+StopsAt old s (fault.File e) new = IsSome (call_of s) × (new ≡ with_failure e old)
+StopsAt old s fault.NoMemory new = NeedsMemory s × (new ≡ with_call_of old s)
 StopsAt old s fault.Write new =
     (new ≡ with_output new.output (with_call_of old s)) × StopsWithinLine (line_of s) old.output new.output
 StopsAt old s e new = ⊥

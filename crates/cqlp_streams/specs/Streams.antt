@@ -18,7 +18,7 @@ use Rattle.cqlp_streams.specs.Endings.{Concludes, sums_words}
 
 -- the limits on a capture where none are given
 abbrev pub default_limits : CaptureLimits
-default_limits = record { packet = 262144; interfaces = 256 }
+default_limits = record { packet = 1048576; interfaces = 256 }
 
 -- the limits on connections where streams are written
 abbrev pub streams_limits : ConnectionLimits

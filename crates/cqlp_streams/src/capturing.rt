@@ -2,7 +2,7 @@
 
 ghost use Rattle.std.specs.Prelude.{◌≡◌, ℕ, true, List, OnOk, Some};
 ghost use Rattle.cqlp_connections.specs.Limits.{is_in_range};
-ghost use Rattle.cqlp_streams.specs.Captures.{AreCounted, ReadsMade};
+ghost use Rattle.cqlp_streams.specs.Captures.{AreCounted, ReadsMade, read_counts};
 ghost use Rattle.cqlp_streams.specs.Streams.{ReadsCapture, read_of};
 
 use crate::fault::StreamsFault;
@@ -50,7 +50,7 @@ pub fn read_capture<R: Source, L: Listener>(
     requires { is_in_range limits ≡ true }
     ensures tells { L.tells listener.old → OnOk result (L.tells listener.new) }
     ensures reads { (xs : List ℕ) → R.left input.old ≡ Some xs → L.tells listener.old →
-        (m : ReadsMade) × AreCounted m (R.reads input.old) (R.reads input.new) (R.failures input.old) (R.failures input.new)
+        (m : ReadsMade) × AreCounted m (read_counts R.Source input.old) (read_counts R.Source input.new)
         × ReadsCapture L.after L.faulted limits ports.now xs m result (R.left input.new) (L.view listener.old) (L.view listener.new) }
 {
     let Ok(mut reader) = CaptureReader::new(alloc, CaptureLimits::DEFAULT) else {

@@ -1,208 +1,215 @@
 //! How the reading of a capture ends: its line, and its exit status.
 
-ghost use Rattle.std.specs.Prelude.{◌≡◌, ◌++◌, IfOk, IsSome, string_bytes};
+ghost use Rattle.std.specs.Prelude.{◌≡◌, ◌++◌, IsSome};
 ghost use Rattle.cqlp_text.specs.Endings.{IsStatusOfTask};
-ghost use Rattle.cqlp_text.specs.Outputs.{written};
-ghost use Rattle.cqlp_streams.specs.Endings.{Concludes, ConcludesNoted, fault_line, file_line, line_of, noted_line, noted_status};
-ghost use Rattle.cqlp_streams.specs.Endings.{read_line, reason_name, status_of, verdict};
+ghost use Rattle.cqlp_text.specs.Outputs.{AppendsText, written};
+ghost use Rattle.cqlp_text.specs.Written.{Writes};
+ghost use Rattle.cqlp_capture.specs.declared.event.CaptureEnd.TheVariants.{Whole, Cut, Refused};
+ghost use Rattle.cqlp_streams.specs.Endings.{ConcludesNoted, Reports, end_status, fault_line, hint, read_line, read_status, reason_name, verdict};
 
 use crate::capturing::CaptureRead;
 use crate::fault::StreamsFault;
-use crate::files::{FileFault, StreamFile};
-use crate::lines::way_name;
-use crate::summary::{push_head, push_own, push_reasons, push_table};
-use cqlp_capture::{CaptureEnd, CaptureReason};
+use crate::files::FileFault;
+use crate::last_words::LastWords;
+use crate::lines::file_line;
+use crate::skipped::put_skipped;
+use crate::summary::{put_head, put_reasons, put_table};
+use cqlp_capture::{CaptureEnd, CaptureReason, CaptureRefusal};
 use cqlp_grammar::SinkFault;
 use cqlp_note::Target;
 use cqlp_text::exit_status::{DONE, FAULT, NOT_WHOLE};
-use cqlp_text::put_text;
-use std::alloc::{AllocError, Allocator, Global};
+use cqlp_text::{Pen, TextWriter, put_text};
 
-/// The exit status where the reading of a capture ends so: 0 of a whole one, 1 of one that is cut or refused, and 3 after a fault.
-pub fn capture_status(answer: &Result<CaptureRead, StreamsFault>) -> u8
-    ensures value { result ≡ status_of answer.now }
-    ensures task { IsStatusOfTask result }
-{
-    match answer {
-        Ok(read) => match read.end {
-            CaptureEnd::Whole { .. } => DONE,
-            CaptureEnd::Cut { .. } | CaptureEnd::Refused(_) => NOT_WHOLE,
-        },
-        Err(_) => FAULT,
-    }
-}
-
-/// The last line where the reading of a capture ends so: how it ends, its packets, segments and connections, then a caller's own words,
-/// and then the counts that are not 0. After a fault it is that of the fault.
-pub fn capture_line<'a, A: Allocator>(
-    alloc: &'a A,
+/// Writes the last line where the reading of a capture ends so: how it ends, its packets, segments and connections, then a caller's own
+/// words, and then the counts that are not 0; and before it a caller's note, where there is one. After a fault it writes the line of that.
+/// Answers the exit status, which is that of a fault where the target fails, and with a note not that of a whole capture. No memory is asked
+/// for.
+pub fn conclude_capture<W: LastWords, E: Target>(
     answer: &Result<CaptureRead, StreamsFault>,
-    words: &str,
-) -> Result<String<&'a A>, AllocError>
-    ensures { IfOk result (λ line. string_bytes line ≡ line_of words.now answer.now) }
-{
-    match answer {
-        Ok(read) => read_line(alloc, read, words),
-        Err(fault) => fault_line(alloc, fault),
-    }
-}
-
-/// Writes the last line where the reading of a capture ends so, with a caller's own words. Answers the exit status, which is that of a
-/// fault where the target fails. Where there is no memory for the line, that is said in its place.
-pub fn conclude_capture<E: Target>(
-    alloc: Global,
-    answer: &Result<CaptureRead, StreamsFault>,
-    words: &str,
+    last: &W,
     err: E,
 ) -> (u8, E)
     ensures task { IsStatusOfTask result.0 }
     ensures concludes { IsSome (E.contents err) →
-        Concludes words.now answer.now (written E.Target err) result.0 (written E.Target result.1) }
+        ConcludesNoted (W.note last.now) (W.words last.now) answer.now (written E.Target err) result.0 (written E.Target result.1) }
 {
-    conclude_noted(alloc, answer, "", words, err)
+    match answer {
+        Ok(read) => conclude_read(read, last, err),
+        Err(fault) => conclude_fault(fault, err),
+    }
 }
 
-/// Writes the last line where the reading of a capture ends so, with a caller's own words; and before it, where the capture was read to its end, a
-/// note on what was not seen, which ends with a line break. Answers the exit status: with a note it is not that of a whole capture.
-pub fn conclude_noted<E: Target>(
-    alloc: Global,
-    answer: &Result<CaptureRead, StreamsFault>,
-    note: &str,
-    words: &str,
-    mut err: E,
-) -> (u8, E)
+/// Writes the line of a fault. Answers the exit status of a fault.
+fn conclude_fault<E: Target>(fault: &StreamsFault, mut err: E) -> (u8, E)
     ensures task { IsStatusOfTask result.0 }
-    ensures concludes { IsSome (E.contents err) →
-        ConcludesNoted note.now words.now answer.now (written E.Target err) result.0 (written E.Target result.1) }
+    ensures reports { IsSome (E.contents err) →
+        Reports (fault_line fault.now) 3 (written E.Target err) result.0 (written E.Target result.1) }
 {
-    let Ok(line) = noted_line(&alloc, answer, note, words) else {
-        return match put_text("cqlp: no memory\n", &mut err) {
-            Ok(()) | Err(SinkFault) => (FAULT, err),
-        };
-    };
-    match put_text(&line, &mut err) {
-        Ok(()) => (noted_status(answer, note), err),
+    match fault_line(fault, &mut err) {
+        Ok(()) | Err(SinkFault) => (FAULT, err),
+    }
+}
+
+/// Writes a note, where there is one, and the line of a capture that was read to its end.
+fn conclude_read<W: LastWords, E: Target>(read: &CaptureRead, last: &W, mut err: E) -> (u8, E)
+    ensures task { IsStatusOfTask result.0 }
+    ensures reports { IsSome (E.contents err) →
+        Reports (W.note last.now ++ read_line (W.words last.now) read.now) (read_status (W.note last.now) read.now)
+        (written E.Target err) result.0 (written E.Target result.1) }
+{
+    match read_line(read, last, &mut err) {
+        Ok(()) => (noted_status(read, last), err),
         Err(SinkFault) => (FAULT, err),
     }
 }
 
-/// The exit status with a note, where there is one.
-fn noted_status(answer: &Result<CaptureRead, StreamsFault>, note: &str) -> u8
-    ensures value { result ≡ noted_status note.now answer.now }
+/// The exit status of a capture that was read to its end, or to where it is refused. With a note it is not that of a whole one.
+fn noted_status<W: LastWords>(read: &CaptureRead, last: &W) -> u8
+    ensures value { result ≡ read_status (W.note last.now) read.now }
     ensures task { IsStatusOfTask result }
 {
-    if note.is_empty() {
-        return capture_status(answer);
-    }
-    match answer {
-        Ok(_) => NOT_WHOLE,
-        Err(_) => FAULT,
+    if last.has_note() {
+        NOT_WHOLE
+    } else {
+        end_status(&read.end)
     }
 }
 
-/// The last line, and a note before it, where there is one.
-fn noted_line<'a, A: Allocator>(
-    alloc: &'a A,
-    answer: &Result<CaptureRead, StreamsFault>,
-    note: &str,
-    words: &str,
-) -> Result<String<&'a A>, AllocError>
-    ensures { IfOk result (λ line. string_bytes line ≡ noted_line note.now words.now answer.now) }
-{
-    if note.is_empty() {
-        return capture_line(alloc, answer, words);
-    }
-    match answer {
-        Ok(read) => noted_read_line(alloc, read, note, words),
-        Err(fault) => fault_line(alloc, fault),
-    }
-}
-
-/// A note, and the line of a capture that was read to its end.
-fn noted_read_line<'a, A: Allocator>(
-    alloc: &'a A,
-    read: &CaptureRead,
-    note: &str,
-    words: &str,
-) -> Result<String<&'a A>, AllocError>
-    ensures { IfOk result (λ line. string_bytes line ≡ note.now ++ read_line words.now read.now) }
-{
-    let line = read_line(alloc, read, words)?;
-    format!(in alloc; "{note}{line}")
-}
-
-/// The line of a capture that was read to its end.
-fn read_line<'a, A: Allocator>(
-    alloc: &'a A,
-    read: &CaptureRead,
-    words: &str,
-) -> Result<String<&'a A>, AllocError>
-    ensures { IfOk result (λ line. string_bytes line ≡ read_line words.now read.now) }
-{
-    let mut line = verdict(alloc, &read.end)?;
-    push_head(&mut line, read)?;
-    push_own(&mut line, words)?;
-    push_table(&mut line, &read.connections)?;
-    push_reasons(&mut line, &read.packets.without)?;
-    line.push_str("\n")?;
-    Ok(line)
-}
-
-fn verdict<A: Allocator>(alloc: A, end: &CaptureEnd) -> Result<String<A>, AllocError>
-    ensures { IfOk result (λ text. string_bytes text ≡ verdict end.now) }
+fn end_status(end: &CaptureEnd) -> u8
+    ensures value { result ≡ end_status end.now }
+    ensures task { IsStatusOfTask result }
 {
     match end {
-        CaptureEnd::Whole { bytes } => format!(in alloc; "whole {bytes}"),
-        CaptureEnd::Cut { at, bytes } => format!(in alloc; "cut {at} {bytes}"),
-        CaptureEnd::Refused(refusal) => {
-            let at = refusal.at;
-            let why = reason_name(refusal.why);
-            format!(in alloc; "refused {at} {why}")
-        }
+        CaptureEnd::Whole { .. } => DONE,
+        CaptureEnd::Cut { .. } | CaptureEnd::Refused(_) => NOT_WHOLE,
     }
+}
+
+/// Appends a note, where there is one, and the line of a capture that was read to its end.
+fn read_line<W: LastWords, E: Target>(
+    read: &CaptureRead,
+    last: &W,
+    target: &mut E,
+) -> Result<(), SinkFault>
+    ensures { AppendsText (written E.Target target.old) (W.note last.now ++ read_line (W.words last.now) read.now) result
+        (written E.Target target.new) }
+{
+    let mut writer = TextWriter::over(target);
+    let Ok(()) = put_noted(&mut writer, read, last) else {
+        let _ = writer.into_target();
+        return Err(SinkFault);
+    };
+    let passed_on = writer.flush();
+    let _ = writer.into_target();
+    passed_on
+}
+
+fn put_noted<P: Pen, W: LastWords>(
+    writer: &mut TextWriter<P>,
+    read: &CaptureRead,
+    last: &W,
+) -> Result<(), SinkFault>
+    ensures { Writes writer.old (W.note last.now ++ read_line (W.words last.now) read.now) result writer.new }
+{
+    last.put_note(writer)?;
+    put_read(writer, read, last)
+}
+
+/// Takes the line of a capture that was read to its end.
+fn put_read<P: Pen, W: LastWords>(
+    writer: &mut TextWriter<P>,
+    read: &CaptureRead,
+    last: &W,
+) -> Result<(), SinkFault>
+    ensures { Writes writer.old (read_line (W.words last.now) read.now) result writer.new }
+{
+    put_verdict(writer, &read.end)?;
+    put_head(writer, read)?;
+    writer.put(b" ")?;
+    last.put_words(writer)?;
+    put_table(writer, &read.connections)?;
+    put_reasons(writer, &read.packets.without)?;
+    put_skipped(writer, &read.packets.skipped)?;
+    writer.put(b"\n")
+}
+
+fn put_verdict<P: Pen>(writer: &mut TextWriter<P>, end: &CaptureEnd) -> Result<(), SinkFault>
+    ensures { Writes writer.old (verdict end.now) result writer.new }
+{
+    match end {
+        CaptureEnd::Whole { bytes } => put_whole(writer, *bytes),
+        CaptureEnd::Cut { at, bytes } => put_cut(writer, *at, *bytes),
+        CaptureEnd::Refused(refusal) => put_refused(writer, *refusal),
+    }
+}
+
+fn put_whole<P: Pen>(writer: &mut TextWriter<P>, bytes: u64) -> Result<(), SinkFault>
+    ensures { Writes writer.old (verdict (Whole bytes)) result writer.new }
+{
+    writer.put(b"whole ")?;
+    writer.put_number(bytes)
+}
+
+fn put_cut<P: Pen>(writer: &mut TextWriter<P>, at: u64, bytes: u64) -> Result<(), SinkFault>
+    ensures { Writes writer.old (verdict (Cut at bytes)) result writer.new }
+{
+    writer.put(b"cut ")?;
+    writer.put_number(at)?;
+    writer.put(b" ")?;
+    writer.put_number(bytes)
+}
+
+fn put_refused<P: Pen>(writer: &mut TextWriter<P>, refusal: CaptureRefusal) -> Result<(), SinkFault>
+    ensures { Writes writer.old (verdict (Refused refusal)) result writer.new }
+{
+    writer.put_str(hint(refusal.why))?;
+    writer.put(b"refused ")?;
+    writer.put_number(refusal.at)?;
+    writer.put(b" ")?;
+    writer.put_str(reason_name(refusal.why))
 }
 
 fn reason_name(why: CaptureReason) -> &'static str
     ensures { result.now ≡ reason_name why }
 {
     match why {
+        CaptureReason::Gzip => "Gzip",
         CaptureReason::UnknownMagic => "UnknownMagic",
         CaptureReason::UnknownVersion => "UnknownVersion",
-        CaptureReason::PacketTooLong => "PacketTooLong",
         CaptureReason::FileTooLong => "FileTooLong",
         CaptureReason::UnknownByteOrder => "UnknownByteOrder",
         CaptureReason::BadBlockLength => "BadBlockLength",
         CaptureReason::UnequalBlockLengths => "UnequalBlockLengths",
-        CaptureReason::BadOptionLength => "BadOptionLength",
-        CaptureReason::UnknownTimeUnit => "UnknownTimeUnit",
-        CaptureReason::NegativeTimeOffset => "NegativeTimeOffset",
-        CaptureReason::TooManyInterfaces => "TooManyInterfaces",
-        CaptureReason::UnknownInterface => "UnknownInterface",
-        CaptureReason::PacketBeyondBlock => "PacketBeyondBlock",
-        CaptureReason::TimeTooLarge => "TimeTooLarge",
     }
 }
 
-fn fault_line<A: Allocator>(alloc: A, fault: &StreamsFault) -> Result<String<A>, AllocError>
-    ensures { IfOk result (λ line. string_bytes line ≡ fault_line fault.now) }
+/// A line before the last one, where the file is compressed by gzip.
+fn hint(why: CaptureReason) -> &'static str
+    ensures { result.now ≡ hint why }
+{
+    match why {
+        CaptureReason::Gzip => "cqlp: compressed by gzip: gunzip -c FILE | cqlp capture -\n",
+        CaptureReason::UnknownMagic
+        | CaptureReason::UnknownVersion
+        | CaptureReason::FileTooLong
+        | CaptureReason::UnknownByteOrder
+        | CaptureReason::BadBlockLength
+        | CaptureReason::UnequalBlockLengths => "",
+    }
+}
+
+/// Appends the line of a fault. Takes no memory.
+fn fault_line<E: Target>(fault: &StreamsFault, err: &mut E) -> Result<(), SinkFault>
+    ensures { AppendsText (written E.Target err.old) (fault_line fault.now) result (written E.Target err.new) }
 {
     match fault {
-        StreamsFault::Read => String::from_str(alloc, "cqlp: read fault\n"),
-        StreamsFault::Write => String::from_str(alloc, "cqlp: write fault\n"),
-        StreamsFault::TooManyTurns => String::from_str(alloc, "cqlp: too many turns\n"),
-        StreamsFault::NoMemory => String::from_str(alloc, "cqlp: no memory\n"),
-        StreamsFault::File(FileFault::NoMemory) => String::from_str(alloc, "cqlp: no memory\n"),
-        StreamsFault::File(FileFault::CannotMake(file)) => file_line(alloc, "make", file),
-        StreamsFault::File(FileFault::CannotWrite(file)) => file_line(alloc, "write", file),
-        StreamsFault::File(FileFault::CannotKeep(file)) => file_line(alloc, "keep", file),
+        StreamsFault::Read => put_text("cqlp: read fault\n", err),
+        StreamsFault::Write => put_text("cqlp: write fault\n", err),
+        StreamsFault::TooManyTurns => put_text("cqlp: too many turns\n", err),
+        StreamsFault::NoMemory => put_text("cqlp: no memory\n", err),
+        StreamsFault::File(FileFault::NoMemory) => put_text("cqlp: no memory\n", err),
+        StreamsFault::File(FileFault::CannotMake(file)) => file_line("make", *file, err),
+        StreamsFault::File(FileFault::CannotWrite(file)) => file_line("write", *file, err),
+        StreamsFault::File(FileFault::CannotKeep(file)) => file_line("keep", *file, err),
     }
-}
-
-/// The line of a file with which that cannot be done.
-fn file_line<A: Allocator>(alloc: A, deed: &str, file: &StreamFile) -> Result<String<A>, AllocError>
-    ensures { IfOk result (λ line. string_bytes line ≡ file_line deed.now file.now) }
-{
-    let number = file.number;
-    let way = way_name(file.way);
-    format!(in alloc; "cqlp: cannot {deed} {number}.{way}.bin\n")
 }

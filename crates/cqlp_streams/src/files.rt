@@ -26,7 +26,7 @@ pub trait StreamFiles {
     ghost use Rattle.std.specs.Prelude.{List, Option, None};
     ghost use Rattle.cqlp_streams.specs.Files.{Calls, Call, Made, Appended, Kept};
 
-    /// The calls that were made, in order, where they are known.
+    /// The calls that were made, in order, where they are known: also those that failed, each with its fault.
     ghost calls: { Self → Option (List Call) } = { λ _. None };
 
     /// Makes the two files of the connection with this number, which are empty.

@@ -2,6 +2,8 @@
 
 ghost use Rattle.std.specs.Prelude.{◌≡◌};
 
+use crate::skipped::SkippedCounts;
+use cqlp_capture::SkipReason;
 use cqlp_segment::NoSegment;
 
 /// Packets without a segment of TCP, by the reason. A number stays at 2^64 - 1 once it is there.
@@ -14,6 +16,8 @@ pub struct WithoutCounts {
     pub bad_ip_length: u64,
     pub fragment: u64,
     pub not_tcp: u64,
+    pub cut_in_tunnel: u64,
+    pub too_many_tunnels: u64,
     pub cut_in_tcp: u64,
     pub bad_tcp_length: u64,
 }
@@ -27,6 +31,7 @@ pub struct PacketCounts {
     /// Those of connections of which not all of the payload was captured, since the packet was cut.
     pub snapped: u64,
     pub without: WithoutCounts,
+    pub skipped: SkippedCounts,
 }
 
 impl WithoutCounts {
@@ -44,6 +49,10 @@ impl WithoutCounts {
             NoSegment::BadIpLength => self.bad_ip_length = self.bad_ip_length.saturating_add(1),
             NoSegment::Fragment => self.fragment = self.fragment.saturating_add(1),
             NoSegment::NotTcp => self.not_tcp = self.not_tcp.saturating_add(1),
+            NoSegment::CutInTunnel => self.cut_in_tunnel = self.cut_in_tunnel.saturating_add(1),
+            NoSegment::TooManyTunnels => {
+                self.too_many_tunnels = self.too_many_tunnels.saturating_add(1)
+            }
             NoSegment::CutInTcp => self.cut_in_tcp = self.cut_in_tcp.saturating_add(1),
             NoSegment::BadTcpLength => self.bad_tcp_length = self.bad_tcp_length.saturating_add(1),
         }
@@ -51,7 +60,7 @@ impl WithoutCounts {
 }
 
 impl PacketCounts {
-    ghost use Rattle.cqlp_streams.specs.Packets.{with_segment, without_segment};
+    ghost use Rattle.cqlp_streams.specs.Packets.{with_segment, with_skipped, without_segment};
 
     pub(crate) const NONE: PacketCounts = PacketCounts {
         packets: 0,
@@ -65,9 +74,12 @@ impl PacketCounts {
             bad_ip_length: 0,
             fragment: 0,
             not_tcp: 0,
+            cut_in_tunnel: 0,
+            too_many_tunnels: 0,
             cut_in_tcp: 0,
             bad_tcp_length: 0,
         },
+        skipped: SkippedCounts::NONE,
     };
 
     /// Counts a packet with a segment, of a connection and cut or not.
@@ -87,5 +99,12 @@ impl PacketCounts {
     {
         self.packets = self.packets.saturating_add(1);
         self.without.count(why);
+    }
+
+    /// Counts a block, an interface or a packet that cannot be read.
+    pub(crate) fn count_skipped(&mut self, why: SkipReason)
+        ensures { self.new ≡ with_skipped why self.old }
+    {
+        self.skipped.count(why);
     }
 }

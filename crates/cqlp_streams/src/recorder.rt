@@ -1,20 +1,22 @@
 //! What is told of connections, on its way to files and to lines.
 
-ghost use Rattle.std.specs.Prelude.{◌≡◌, ◌++◌, IfOk, IsSome, Some, string_bytes};
+ghost use Rattle.std.specs.Prelude.{◌≡◌, ◌++◌, [], IsSome, Some};
 ghost use Rattle.cqlp_text.specs.Outputs.{written};
+ghost use Rattle.cqlp_text.specs.Written.{Writes};
 ghost use Rattle.cqlp_streams.specs.Recordings.{Puts};
 ghost use Rattle.cqlp_streams.specs.Endings.{sums_words};
 
 use crate::fault::StreamsFault;
 use crate::files::{StreamFile, StreamFiles};
-use crate::lines::{connection_line, gap_line};
+use crate::last_words::LastWords;
+use crate::lines::{ConnectionLines, gap_line};
 use crate::listener::Listener;
 use crate::saying::Saying;
 use cqlp_connections::{ConnectionTotals, DirectionTotals, Told};
 use cqlp_grammar::SinkFault;
 use cqlp_note::Target;
 use cqlp_reassembly::StreamStep;
-use cqlp_text::put_text;
+use cqlp_text::{Pen, TextWriter, put_text};
 use std::alloc::{AllocError, Allocator};
 use std::marker::Model;
 
@@ -29,7 +31,7 @@ pub(crate) struct Sums {
 /// Has files keep the bytes of connections, and writes a line for each gap and for each connection that has left.
 #[derive(Drop)]
 pub(crate) struct Recorder<F: StreamFiles, O: Target, A: Allocator> {
-    alloc: A,
+    lines: ConnectionLines<A>,
     files: F,
     out: O,
     sums: Sums,
@@ -54,12 +56,32 @@ impl Sums {
         self.bytes = self.bytes.saturating_add(totals.bytes);
     }
 
-    /// Their words in the last line.
-    pub fn words<A: Allocator>(&self, alloc: A) -> Result<String<A>, AllocError>
-        ensures { IfOk result (λ words. string_bytes words ≡ sums_words self.now) }
+    /// Takes their words in the last line.
+    fn put<P: Pen>(&self, writer: &mut TextWriter<P>) -> Result<(), SinkFault>
+        ensures { Writes writer.old (sums_words self.now) result writer.new }
     {
-        let Sums { gaps, bytes } = *self;
-        format!(in alloc; "gaps {gaps} bytes {bytes}")
+        writer.put(b"gaps ")?;
+        writer.put_number(self.gaps)?;
+        writer.put(b" bytes ")?;
+        writer.put_number(self.bytes)
+    }
+}
+
+impl LastWords for Sums {
+    ghost note = { λ _. [] };
+
+    ghost words = { sums_words };
+
+    fn has_note(&self) -> bool {
+        false
+    }
+
+    fn put_note<P: Pen>(&self, writer: &mut TextWriter<P>) -> Result<(), SinkFault> {
+        writer.put(b"")
+    }
+
+    fn put_words<P: Pen>(&self, writer: &mut TextWriter<P>) -> Result<(), SinkFault> {
+        self.put(writer)
     }
 }
 
@@ -71,7 +93,7 @@ impl<F: StreamFiles, O: Target, A: Allocator + Drop> Recorder<F, O, A> {
         ensures { result ≡ recording (F.calls files) (written O.Target out) no_sums }
     {
         Recorder {
-            alloc,
+            lines: ConnectionLines::new(alloc),
             files,
             out,
             sums: Sums { gaps: 0, bytes: 0 },
@@ -83,7 +105,7 @@ impl<F: StreamFiles, O: Target, A: Allocator + Drop> Recorder<F, O, A> {
         ensures { recording (F.calls result.0) (written O.Target result.1) result.2 ≡ self }
     {
         let Recorder {
-            alloc: _,
+            lines: _,
             files,
             out,
             sums,
@@ -129,14 +151,14 @@ impl<F: StreamFiles, O: Target, A: Allocator> Recorder<F, O, A> {
         }
     }
 
-    /// Writes the line of a gap.
+    /// Writes the line of a gap, for which there is no memory to take.
     fn put_gap(&mut self, file: StreamFile, at: u64, length: usize) -> Result<(), StreamsFault>
         ensures put { IsSome self.old.output.given → Puts (gap_line file at length) self.old.output result self.new.output }
         ensures rest { self.new ≡ with_output self.new.output self.old }
     {
-        match gap_line(&self.alloc, file, at, length) {
-            Ok(line) => put_line(&line, &mut self.out),
-            Err(AllocError) => Err(StreamsFault::NoMemory),
+        match gap_line(file, at, length, &mut self.out) {
+            Ok(()) => Ok(()),
+            Err(SinkFault) => Err(StreamsFault::Write),
         }
     }
 
@@ -147,7 +169,7 @@ impl<F: StreamFiles, O: Target, A: Allocator> Recorder<F, O, A> {
         self.files.keep(totals.number)?;
         self.sums.add(&totals.requests);
         self.sums.add(&totals.responses);
-        match connection_line(&self.alloc, totals) {
+        match self.lines.line(totals) {
             Ok(line) => put_line(&line, &mut self.out),
             Err(AllocError) => Err(StreamsFault::NoMemory),
         }

@@ -4,7 +4,7 @@ ghost use Rattle.std.specs.Prelude.{◌≡◌, IfOk, OnOk, List, ℕ, None, Some
 ghost use Rattle.cqlp_capture.specs.Progress.{ending, new_state};
 ghost use Rattle.cqlp_connections.specs.Tables.{Table};
 ghost use Rattle.cqlp_streams.specs.Packets.{new_split};
-ghost use Rattle.cqlp_streams.specs.Captures.{AreCounted, DrainsTo, EndsTo, Has, IsAtEndOf, ReadsMade, SplitsTo, most_read};
+ghost use Rattle.cqlp_streams.specs.Captures.{AreCounted, DrainsTo, EndsTo, Has, IsAtEndOf, ReadsMade, SplitsTo, most_read, read_counts};
 
 use crate::fault::StreamsFault;
 use crate::listener::Listener;
@@ -36,7 +36,7 @@ pub(crate) fn split<R: Source, L: Listener, A: Allocator, B: Allocator>(
     requires splitter { splitter.old ≡ new_split splitter.old.table }
     ensures tells { L.tells listener.old → OnOk result (L.tells listener.new) }
     ensures splits { (xs : List ℕ) → R.left input.old ≡ Some xs → L.tells listener.old →
-        (m : ReadsMade) × AreCounted m (R.reads input.old) (R.reads input.new) (R.failures input.old) (R.failures input.new)
+        (m : ReadsMade) × AreCounted m (read_counts R.Source input.old) (read_counts R.Source input.new)
         × SplitsTo L.after L.faulted reader.old.limits splitter.old.table turns m (L.view listener.old) xs result
         (R.left input.new) splitter.new (L.view listener.new) }
 {

@@ -1,74 +1,79 @@
 //! What a capture was, in numbers.
 
-ghost use Rattle.std.specs.Prelude.{◌≡◌, ◌++◌, IfOk, string_bytes};
-ghost use Rattle.cqlp_streams.specs.Endings.{count_words, head_words, named_words, own_words, reason_words, table_words};
+ghost use Rattle.std.specs.Prelude.{◌≡◌};
+ghost use Rattle.cqlp_text.specs.Written.{Writes};
+ghost use Rattle.cqlp_streams.specs.Endings.{count_words, head_words, named_words, reason_words, table_words};
 
 use crate::capturing::CaptureRead;
 use crate::packets::WithoutCounts;
 use cqlp_connections::ConnectionCounts;
-use std::alloc::{AllocError, Allocator};
+use cqlp_grammar::SinkFault;
+use cqlp_text::{Pen, TextWriter};
 
-/// Appends how many packets, segments and connections there were.
-pub(crate) fn push_head<A: Allocator>(
-    words: &mut String<A>,
+/// Takes how many packets, segments and connections there were.
+pub(crate) fn put_head<P: Pen>(
+    writer: &mut TextWriter<P>,
     read: &CaptureRead,
-) -> Result<(), AllocError>
-    ensures { IfOk result (λ _. string_bytes words.new ≡ string_bytes words.old ++ head_words read.now) }
+) -> Result<(), SinkFault>
+    ensures { Writes writer.old (head_words read.now) result writer.new }
 {
-    push_named(words, "packets", read.packets.packets)?;
-    push_named(words, "segments", read.packets.segments)?;
-    push_named(words, "connections", read.connections.connections)
+    put_named(writer, "packets", read.packets.packets)?;
+    put_named(writer, "segments", read.packets.segments)?;
+    put_named(writer, "connections", read.connections.connections)
 }
 
-/// Appends a caller's own words, after a space.
-pub(crate) fn push_own<A: Allocator>(words: &mut String<A>, own: &str) -> Result<(), AllocError>
-    ensures { IfOk result (λ _. string_bytes words.new ≡ string_bytes words.old ++ own_words own.now) }
-{
-    write!(words, " {own}")
-}
-
-/// Appends what connections did not take.
-pub(crate) fn push_table<A: Allocator>(
-    words: &mut String<A>,
+/// Takes what connections did not take.
+pub(crate) fn put_table<P: Pen>(
+    writer: &mut TextWriter<P>,
     counts: &ConnectionCounts,
-) -> Result<(), AllocError>
-    ensures { IfOk result (λ _. string_bytes words.new ≡ string_bytes words.old ++ table_words counts.now) }
+) -> Result<(), SinkFault>
+    ensures { Writes writer.old (table_words counts.now) result writer.new }
 {
-    push_count(words, "Crowded", counts.crowded)?;
-    push_count(words, "OtherPorts", counts.foreign)
+    put_count(writer, "Crowded", counts.crowded)?;
+    put_count(writer, "OtherPorts", counts.foreign)
 }
 
-/// Appends how many packets had no segment, by the reason.
-pub(crate) fn push_reasons<A: Allocator>(
-    words: &mut String<A>,
+/// Takes how many packets had no segment, by the reason.
+pub(crate) fn put_reasons<P: Pen>(
+    writer: &mut TextWriter<P>,
     counts: &WithoutCounts,
-) -> Result<(), AllocError>
-    ensures { IfOk result (λ _. string_bytes words.new ≡ string_bytes words.old ++ reason_words counts.now) }
+) -> Result<(), SinkFault>
+    ensures { Writes writer.old (reason_words counts.now) result writer.new }
 {
-    push_count(words, "UnknownLink", counts.unknown_link)?;
-    push_count(words, "CutInLink", counts.cut_in_link)?;
-    push_count(words, "NotIp", counts.not_ip)?;
-    push_count(words, "CutInIp", counts.cut_in_ip)?;
-    push_count(words, "BadIpLength", counts.bad_ip_length)?;
-    push_count(words, "Fragment", counts.fragment)?;
-    push_count(words, "NotTcp", counts.not_tcp)?;
-    push_count(words, "CutInTcp", counts.cut_in_tcp)?;
-    push_count(words, "BadTcpLength", counts.bad_tcp_length)
+    put_count(writer, "UnknownLink", counts.unknown_link)?;
+    put_count(writer, "CutInLink", counts.cut_in_link)?;
+    put_count(writer, "NotIp", counts.not_ip)?;
+    put_count(writer, "CutInIp", counts.cut_in_ip)?;
+    put_count(writer, "BadIpLength", counts.bad_ip_length)?;
+    put_count(writer, "Fragment", counts.fragment)?;
+    put_count(writer, "NotTcp", counts.not_tcp)?;
+    put_count(writer, "CutInTunnel", counts.cut_in_tunnel)?;
+    put_count(writer, "TooManyTunnels", counts.too_many_tunnels)?;
+    put_count(writer, "CutInTcp", counts.cut_in_tcp)?;
+    put_count(writer, "BadTcpLength", counts.bad_tcp_length)
 }
 
-/// Appends a name and a number, each after a space, unless the number is 0.
-fn push_count<A: Allocator>(words: &mut String<A>, name: &str, count: u64) -> Result<(), AllocError>
-    ensures { IfOk result (λ _. string_bytes words.new ≡ string_bytes words.old ++ count_words name.now count) }
+/// Takes a name and a number, each after a space, unless the number is 0.
+pub fn put_count<P: Pen>(
+    writer: &mut TextWriter<P>,
+    name: &str,
+    count: u64,
+) -> Result<(), SinkFault>
+    ensures { Writes writer.old (count_words name.now count) result writer.new }
 {
     if count == 0 {
-        return Ok(());
+        writer.put(b"")
+    } else {
+        put_named(writer, name, count)
     }
-    push_named(words, name, count)
 }
 
-/// Appends a name and a number, each after a space.
-fn push_named<A: Allocator>(words: &mut String<A>, name: &str, count: u64) -> Result<(), AllocError>
-    ensures { IfOk result (λ _. string_bytes words.new ≡ string_bytes words.old ++ named_words name.now count) }
+/// Takes a name and a number, each after a space.
+fn put_named<P: Pen>(writer: &mut TextWriter<P>, name: &str, count: u64) -> Result<(), SinkFault>
+    ensures { Writes writer.old (named_words name.now count) result writer.new }
 {
-    write!(words, " {name} {count}")
+    writer.put(b" ")?;
+    writer.put_str(name)?;
+    writer.put(b" ")?;
+    writer.put_number(count)
 }

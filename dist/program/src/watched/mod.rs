@@ -108,7 +108,7 @@ fn packets_of(file: &[u8]) -> Vec<Packet> {
     let (mut packets, mut rest): (Vec<Packet>, _) = (Vec::new(), file);
     while let CaptureStep::Event { used, event, .. } = reader.next(rest) {
         match event {
-            CaptureEvent::Section(_) | CaptureEvent::Interface(_) => {}
+            CaptureEvent::Section(_) | CaptureEvent::Interface(_) | CaptureEvent::Skipped(_) => {}
             CaptureEvent::Packet(head) => {
                 packets.push(Packet { link: head.link, original: head.original, time: head.time, bytes: Vec::new() });
             }

@@ -1,6 +1,5 @@
-use Rattle.std.proofs.Common.{ℕ, ◌+◌, ◌-◌, ◌*◌, List, get_or, sym, ap, subst, ◌∙◌, arith}
+use Rattle.std.proofs.Common.{ℕ, ◌+◌, ◌-◌, ◌*◌, List, get_or, sym, ap, ◌∙◌, arith}
 use Rattle.std.proofs.lemmas.List.{take_rest}
-use Rattle.cqlp_segment.specs.Fields.{Gives}
 use Rattle.cqlp_segment.specs.Ip.{past_extensions, unit}
 use Rattle.cqlp_segment.proofs.Extensions.{extensions_cut, extensions_ends, extensions_long, extensions_part, extensions_step, extensions_step_cut}
 use Rattle.cqlp_segment.proofs.ip.past_extensions.Goals as goal
@@ -41,4 +40,4 @@ loop-bytes-preserved c =
 
 pub returns : goal.returns
 returns c =
-    subst (Gives (λ x. (x.0, x.1.now)) c.upper.result) (sym (extensions_ends c.loop-bytes.kind c.loop-bytes.size c.loop-bytes.bytes.now (sym c.is_extension.ensures ∙ c.loop-bytes-test.false)) ∙ c.loop-bytes.invariant) c.upper.ensures
+    sym c.loop-bytes.invariant ∙ extensions_ends c.loop-bytes.kind c.loop-bytes.size c.loop-bytes.bytes.now (sym c.is_extension.ensures ∙ c.loop-bytes-test.false)

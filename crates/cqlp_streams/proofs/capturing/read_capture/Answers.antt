@@ -9,13 +9,13 @@ use Rattle.cqlp_streams.proofs.Splitting.{read_on, splits_as}
 use Rattle.cqlp_streams.proofs.capturing.read_capture.Goals as goal
 
 pub returns-in_default-clause-reads : goal.returns-in_default-clause-reads
-returns-in_default-clause-reads g c = λ xs is k. (no_reads, (λ fits. omega arith, refl), inr (refl, refl, is, refl))
+returns-in_default-clause-reads g c = λ xs is k. (no_reads, (λ fits. omega arith, refl, λ fits. omega arith), inr (refl, refl, is, refl))
 
 pub returns-in_default-new-clause-reads : goal.returns-in_default-new-clause-reads
-returns-in_default-new-clause-reads g c = λ xs is k. (no_reads, (λ fits. omega arith, refl), inr (refl, refl, is, refl))
+returns-in_default-new-clause-reads g c = λ xs is k. (no_reads, (λ fits. omega arith, refl, λ fits. omega arith), inr (refl, refl, is, refl))
 
 pub returns-in_default-vec-clause-reads : goal.returns-in_default-vec-clause-reads
-returns-in_default-vec-clause-reads g c = λ xs is k. (no_reads, (λ fits. omega arith, refl), inr (refl, refl, is, refl))
+returns-in_default-vec-clause-reads g c = λ xs is k. (no_reads, (λ fits. omega arith, refl, λ fits. omega arith), inr (refl, refl, is, refl))
 
 pub returns-clause-tells : goal.returns-clause-tells
 returns-clause-tells g c = λ tells. subst (λ (z : Result CaptureRead StreamsFault). OnOk z (g.L.Listener.tells c.split-answer.new.listener)) (sym c.read_of.ensures) (read_on _ c.split-answer.result c.split-answer.new.splitter (c.split-answer.ensures.tells tells))

@@ -1,12 +1,11 @@
-use Rattle.std.proofs.Common.{◌∙◌, ◌++◌, ap, codes}
-use Rattle.cqlp_streams.specs.Endings.{head_words, own_words, reason_words, table_words}
+use Rattle.std.proofs.Common.{[], ◌++◌, arith, append-nil, sym}
+use Rattle.cqlp_text.proofs.Writing.{progress_starts, progress_goes_on, progress_writes, writes_text}
+use Rattle.cqlp_streams.specs.Endings.{read_line}
 use Rattle.cqlp_streams.proofs.ending.read_line.Goals as goal
 
 pub returns : goal.returns
 returns g c =
-    let r = c.args.read.now in
-    let head = c.in_ok-push_head.ensures ∙ ap (λ z. z ++ head_words r) c.in_ok-line.ensures in
-    let own = c.in_ok-push_own.ensures ∙ ap (λ z. z ++ own_words c.args.words.now) head in
-    let table = c.in_ok-push_table.ensures ∙ ap (λ z. z ++ table_words r.connections) own in
-    let reasons = c.in_ok-push_reasons.ensures ∙ ap (λ z. z ++ reason_words r.packets.without) table in
-    c.in_ok-push_str.ensures.bytes ∙ ap (λ z. z ++ codes "\n") reasons
+    let line = g.W.LastWords.note c.args.last.now ++ read_line (g.W.LastWords.words c.args.last.now) c.args.read.now in
+    let put = progress_goes_on [] (progress_starts _ line) (sym (append-nil line)) c.in-Ok.ensures in
+    let writes = progress_writes _ c.flush-passed_on.result put c.flush-passed_on.ensures.writes in
+    writes_text g.E.Target.contents g.E.Target.failures c.args.target.now c.into_target-2.result.now _ _ c.flush-passed_on.new.self _ _ c.flush-passed_on.result c.over-writer.ensures c.into_target-2.ensures.given c.flush-passed_on.ensures.empty writes (λ e. grind arith)

@@ -1,8 +1,8 @@
 use Rattle.std.proofs.Common.{ℕ, List, drop, sym, ap, ◌∙◌, arith}
 use Rattle.std.proofs.lemmas.List.{take_rest}
-use Rattle.cqlp_segment.specs.Link.{untagged}
+use Rattle.cqlp_segment.specs.EtherType.{untagged}
 use Rattle.cqlp_segment.proofs.Tags.{untagged_cut, untagged_ends, untagged_step}
-use Rattle.cqlp_segment.proofs.link.untagged.Goals as goal
+use Rattle.cqlp_segment.proofs.ether_type.untagged.Goals as goal
 
 pub returns-then-bytes-lt4 : goal.returns-then-bytes-lt4
 returns-then-bytes-lt4 c =

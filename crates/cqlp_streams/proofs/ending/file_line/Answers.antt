@@ -1,6 +1,0 @@
-use Rattle.std.proofs.Common.{append_assoc, string_bytes}
-use Rattle.cqlp_streams.proofs.Written.{said}
-use Rattle.cqlp_streams.proofs.ending.file_line.Goals as goal
-
-pub returns : goal.returns
-returns g c = said c.format.result string_bytes _ _ c.format.ensures.ok (simp (append_assoc, c.way_name-way.ensures))
