@@ -1,5 +1,6 @@
 -- Nothing is missed of connections of which nothing was seen, and what was missed is said.
-use Rattle.std.proofs.Common.{◌≡◌, ◌∙◌, ◌++◌, ℕ, zero, suc, List, Result, replicate, refl, sym, ap, subst}
+use Rattle.std.proofs.Common.{◌≡◌, ◌∙◌, ◌==◌, ℕ, zero, suc, Bool, true, false, not, if◌then◌else◌, List, [], ◌∷◌, length, Result, replicate, refl, sym, ap, subst}
+use Rattle.std.proofs.Math.Dec.{eqb-suc-zero}
 use Rattle.cqlp_text.specs.Outputs.{Output}
 use Rattle.cqlp_watch.specs.declared.missed.Missed.{Missed}
 use Rattle.cqlp_watch.specs.Misses.{none_missed}
@@ -9,8 +10,8 @@ use Rattle.cqlp_streams.specs.Endings.{ConcludesNoted}
 use Rattle.cqlp_exchanges.specs.declared.losses.Losses.{Losses}
 use Rattle.cqlp_exchanges.specs.declared.sums.ExchangeSums.{ExchangeSums}
 use Rattle.cqlp_exchanges.specs.Tables.{unused}
-use Rattle.cqlp_exchanges.specs.Capturing.{ConcludesSums, last_words, sums_words}
-use Rattle.cqlp_exchanges.specs.Losses.{loss_words, losses_of, missed_after, missed_in, note_text}
+use Rattle.cqlp_exchanges.specs.Capturing.{ConcludesSums, words_of}
+use Rattle.cqlp_exchanges.specs.Losses.{has_losses, losses_of, missed_after, missed_in, note_text}
 
 missed_unused : (n limit : ℕ) → missed_after none_missed (replicate n (unused limit)) ≡ none_missed
 missed_unused zero limit = refl
@@ -19,8 +20,14 @@ missed_unused (suc n) limit = missed_unused n limit
 pub missed_none : (m : Missed) → m ≡ none_missed → (n limit : ℕ) → m ≡ missed_in (replicate n (unused limit))
 missed_none m is n limit = is ∙ sym (missed_unused n limit)
 
--- by a note and words of what was missed
-pub noted : (n w : List ℕ) (l : Losses) (sums : ExchangeSums) (missed : Missed) (r : Result CaptureRead StreamsFault) (before : Output) (status : ℕ) (after : Output) → l ≡ losses_of r missed → n ≡ note_text l → w ≡ sums_words sums ++ loss_words l → ConcludesNoted n w r before status after → ConcludesSums sums missed r before status after
-noted n w l sums missed r before status after is note words ends =
-    subst (λ (z : List ℕ). ConcludesNoted z (last_words sums missed r) r before status after) (note ∙ ap note_text is)
-    (subst (λ (z : List ℕ). ConcludesNoted n z r before status after) (words ∙ ap (λ (k : Losses). sums_words sums ++ loss_words k) is) ends)
+-- there is a note where something was missed
+noted_if : (b : Bool) (x : ℕ) (xs : List ℕ) → b ≡ not (length (if b then x ∷ xs else []) == 0)
+noted_if true x xs = sym (ap not (eqb-suc-zero (length xs)))
+noted_if false x xs = refl
+
+pub some_noted : (l : Losses) → has_losses l ≡ not (length (note_text l) == 0)
+some_noted l = noted_if (has_losses l) _ _
+
+-- by what was missed
+pub noted : (l : Losses) (sums : ExchangeSums) (missed : Missed) (r : Result CaptureRead StreamsFault) (before : Output) (status : ℕ) (after : Output) → l ≡ losses_of r missed → ConcludesNoted (note_text l) (words_of sums l) r before status after → ConcludesSums sums missed r before status after
+noted l sums missed r before status after is ends = subst (λ (z : Losses). ConcludesNoted (note_text z) (words_of sums z) r before status after) is ends

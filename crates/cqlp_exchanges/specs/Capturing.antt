@@ -1,5 +1,5 @@
 -- What becomes of a capture whose exchanges are written.
-use Rattle.std.specs.Prelude.{◌≡◌, ◌≢◌, ℕ, List, ◌++◌, codes, decimal, Option, Result, Ok, Err}
+use Rattle.std.specs.Prelude.{◌≡◌, ◌≢◌, ℕ, List, [], ◌∷◌, codes, decimal, Option, Result, Ok, Err}
 use Rattle.cqlp_text.specs.Outputs.{Output, StopsWithin, with_text}
 use Rattle.cqlp_connections.specs.declared.limits.ConnectionLimits.{ConnectionLimits}
 use Rattle.cqlp_streams.specs.declared.capturing.CaptureRead.{CaptureRead}
@@ -15,6 +15,8 @@ use Rattle.cqlp_exchanges.specs.declared.filter.ExchangeFilter.{ExchangeFilter}
 use Rattle.cqlp_exchanges.specs.declared.form.ExchangeForm.{ExchangeForm}
 use Rattle.cqlp_exchanges.specs.declared.sums.ExchangeSums.{ExchangeSums}
 use Rattle.cqlp_exchanges.specs.Accounts.{Account, ending}
+use Rattle.cqlp_exchanges.specs.declared.losses.Losses.{Losses}
+use Rattle.cqlp_exchanges.specs.Times.{joined}
 use Rattle.cqlp_exchanges.specs.Losses.{loss_words, losses_of, missed_in, note_text}
 use Rattle.cqlp_exchanges.specs.Listening.{Listening, StopsAt, new_listening, with_saying}
 
@@ -29,12 +31,15 @@ connection_limits = record { connections = 1024; early = 4096 }
 -- what was told of requests and responses, in the last line
 abbrev pub sums_words : ExchangeSums → List ℕ
 sums_words s =
-    codes "exchanges " ++ decimal s.exchanges ++ codes " unanswered " ++ decimal s.unanswered ++ codes " unasked " ++ decimal s.unasked
-    ++ codes " events " ++ decimal s.events ++ codes " cut " ++ decimal s.cut
+    joined (codes "exchanges " ∷ decimal s.exchanges ∷ codes " unanswered " ∷ decimal s.unanswered ∷ codes " unasked " ∷ decimal s.unasked
+    ∷ codes " events " ∷ decimal s.events ∷ codes " cut " ∷ decimal s.cut ∷ [])
 
 -- with what was missed
+abbrev pub words_of : ExchangeSums → Losses → List ℕ
+words_of s l = joined (sums_words s ∷ loss_words l ∷ [])
+
 abbrev pub last_words : ExchangeSums → Missed → Result CaptureRead StreamsFault → List ℕ
-last_words s m r = sums_words s ++ loss_words (losses_of r m)
+last_words s m r = words_of s (losses_of r m)
 
 -- So ends what was told: before the last line is the reason not to trust its numbers, where something was missed.
 abbrev pub ConcludesSums : ExchangeSums → Missed → Result CaptureRead StreamsFault → (before : Output) → (status : ℕ) → (after : Output) → Type 0

@@ -1,25 +1,27 @@
 //! A capture whose exchanges are written.
 
-ghost use Rattle.std.specs.Prelude.{◌≡◌, ℕ, ◌++◌, List, IfOk, IsSome, OnOk, Some, string_bytes};
+ghost use Rattle.std.specs.Prelude.{◌≡◌, ℕ, List, IsSome, OnOk, Some};
 ghost use Rattle.cqlp_text.specs.Endings.{IsStatusOfTask};
 ghost use Rattle.cqlp_text.specs.Outputs.{written};
-ghost use Rattle.cqlp_streams.specs.Captures.{AreCounted, ReadsMade};
+ghost use Rattle.cqlp_text.specs.Written.{Writes};
+ghost use Rattle.cqlp_streams.specs.Captures.{AreCounted, ReadsMade, read_counts};
 ghost use Rattle.cqlp_watch.specs.Misses.{none_missed};
 ghost use Rattle.cqlp_exchanges.specs.Accounts.{no_sums};
-ghost use Rattle.cqlp_exchanges.specs.Capturing.{Closes, ConcludesSums, Listens, WritesExchanges, sums_words};
-ghost use Rattle.cqlp_exchanges.specs.Losses.{loss_words, note_text};
+ghost use Rattle.cqlp_exchanges.specs.Capturing.{Closes, ConcludesSums, Listens, WritesExchanges, sums_words, words_of};
+ghost use Rattle.cqlp_exchanges.specs.Losses.{note_text};
 
 use crate::exchanges::{ExchangeLimits, Exchanges};
 use crate::filter::ExchangeFilter;
 use crate::form::ExchangeForm;
-use crate::losses::{Losses, losses_of, note_of, push_losses};
+use crate::losses::{Losses, losses_of, put_losses};
 use crate::sums::ExchangeSums;
 use cqlp_connections::ConnectionLimits;
 use cqlp_grammar::SinkFault;
 use cqlp_note::{Source, Target};
-use cqlp_streams::{CaptureRead, StreamsFault, conclude_noted, read_capture};
+use cqlp_streams::{CaptureRead, LastWords, StreamsFault, conclude_capture, read_capture};
+use cqlp_text::{Pen, TextWriter};
 use cqlp_watch::Missed;
-use std::alloc::{AllocError, Allocator, Global};
+use std::alloc::Global;
 
 /// How many connections there are at one time, and how many bytes that came early each direction holds: as many connections as `ExchangeLimits::DEFAULT` has.
 const LIMITS: ConnectionLimits = ConnectionLimits {
@@ -42,12 +44,12 @@ pub fn write_exchanges<R: Source, O: Target, E: Target>(
 ) -> (u8, O, E)
     ensures task { IsStatusOfTask result.0 }
     ensures exchanges { (xs : List ℕ) → R.left input.old ≡ Some xs → IsSome (O.contents out) → IsSome (E.contents err) →
-        (m : ReadsMade) × AreCounted m (R.reads input.old) (R.reads input.new) (R.failures input.old) (R.failures input.new)
+        (m : ReadsMade) × AreCounted m (read_counts R.Source input.old) (read_counts R.Source input.new)
         × WritesExchanges filter form ports.now xs m (R.left input.new) (written O.Target out) (written E.Target err)
         result.0 (written O.Target result.1) (written E.Target result.2) }
 {
     let (answer, counts, out) = listen(alloc, ports, filter, form, input, out);
-    let (status, err) = conclude(alloc, &answer, &counts, err);
+    let (status, err) = conclude(&answer, &counts, err);
     (status, out, err)
 }
 
@@ -81,7 +83,7 @@ fn listen<R: Source, O: Target>(
     out: O,
 ) -> (Result<CaptureRead, StreamsFault>, Counts, O)
     ensures { (xs : List ℕ) → R.left input.old ≡ Some xs → IsSome (O.contents out) →
-        (m : ReadsMade) × AreCounted m (R.reads input.old) (R.reads input.new) (R.failures input.old) (R.failures input.new)
+        (m : ReadsMade) × AreCounted m (read_counts R.Source input.old) (read_counts R.Source input.new)
         × Listens filter form ports.now xs m result.0 (R.left input.new) (written O.Target out) result.1.sums result.1.missed
         (written O.Target result.2) }
 {
@@ -117,7 +119,6 @@ fn finish<O: Target>(
 
 /// Writes the lines of how the reading ended. Answers the exit status.
 fn conclude<E: Target>(
-    alloc: Global,
     answer: &Result<CaptureRead, StreamsFault>,
     counts: &Counts,
     err: E,
@@ -126,46 +127,62 @@ fn conclude<E: Target>(
     ensures concludes { IsSome (E.contents err) →
         ConcludesSums counts.now.sums counts.now.missed answer.now (written E.Target err) result.0 (written E.Target result.1) }
 {
-    let losses = losses_of(answer, &counts.missed);
-    match texts_of(alloc, &counts.sums, &losses) {
-        Ok(Texts { note, words }) => conclude_noted(alloc, answer, &note, &words, err),
-        Err(AllocError) => conclude_noted(alloc, &Err(StreamsFault::NoMemory), "", "", err),
+    let last = LastCounts {
+        sums: counts.sums,
+        losses: losses_of(answer, &counts.missed),
+    };
+    conclude_capture(answer, &last, err)
+}
+
+/// What the last line says of the connections: the sums, and what was missed.
+#[derive(Clone, Copy, Debug, PartialEq, Eq)]
+struct LastCounts {
+    sums: ExchangeSums,
+    losses: Losses,
+}
+
+impl LastWords for LastCounts {
+    ghost note = { λ last. note_text last.losses };
+
+    ghost words = { λ last. words_of last.sums last.losses };
+
+    #[tactic(auto, using(crate::proofs::Missing::some_noted))]
+    fn has_note(&self) -> bool {
+        self.losses.are_some()
+    }
+
+    fn put_note<P: Pen>(&self, writer: &mut TextWriter<P>) -> Result<(), SinkFault> {
+        self.losses.put_note(writer)
+    }
+
+    fn put_words<P: Pen>(&self, writer: &mut TextWriter<P>) -> Result<(), SinkFault> {
+        put_words(writer, &self.sums, &self.losses)
     }
 }
 
-/// The note before the last line, and its words.
-#[derive(Drop)]
-struct Texts<A: Allocator> {
-    note: String<A>,
-    words: String<A>,
-}
-
-fn texts_of<A: Allocator + Clone>(
-    alloc: A,
+fn put_words<P: Pen>(
+    writer: &mut TextWriter<P>,
     sums: &ExchangeSums,
     losses: &Losses,
-) -> Result<Texts<A>, AllocError>
-    ensures note { IfOk result (λ t. string_bytes t.note ≡ note_text losses.now) }
-    ensures words { IfOk result (λ t. string_bytes t.words ≡ sums_words sums.now ++ loss_words losses.now) }
+) -> Result<(), SinkFault>
+    ensures { Writes writer.old (words_of sums.now losses.now) result writer.new }
 {
-    let note = note_of(alloc.clone()?, losses)?;
-    let mut text = words(alloc, sums)?;
-    push_losses(&mut text, losses)?;
-    Ok(Texts { note, words: text })
+    put_sums(writer, sums)?;
+    put_losses(writer, losses)
 }
 
-/// The words of what was told, in the last line.
-fn words<A: Allocator>(alloc: A, sums: &ExchangeSums) -> Result<String<A>, AllocError>
-    ensures { IfOk result (λ words. string_bytes words ≡ sums_words sums.now) }
+/// Takes the words of the sums.
+fn put_sums<P: Pen>(writer: &mut TextWriter<P>, sums: &ExchangeSums) -> Result<(), SinkFault>
+    ensures { Writes writer.old (sums_words sums.now) result writer.new }
 {
-    let ExchangeSums {
-        exchanges,
-        unanswered,
-        unasked,
-        events,
-        cut,
-    } = *sums;
-    format!(in alloc;
-        "exchanges {exchanges} unanswered {unanswered} unasked {unasked} events {events} cut {cut}"
-    )
+    writer.put(b"exchanges ")?;
+    writer.put_number(sums.exchanges)?;
+    writer.put(b" unanswered ")?;
+    writer.put_number(sums.unanswered)?;
+    writer.put(b" unasked ")?;
+    writer.put_number(sums.unasked)?;
+    writer.put(b" events ")?;
+    writer.put_number(sums.events)?;
+    writer.put(b" cut ")?;
+    writer.put_number(sums.cut)
 }

@@ -10,7 +10,7 @@ use Rattle.cqlp_exchanges.proofs.capturing.listen.Goals as goal
 
 pub returns-in-Err : goal.returns-in-Err
 returns-in-Err g c = λ xs is known.
-    (no_reads, (λ fits. omega arith, refl), (new_listening default_limits c.args.filter c.args.form (written g.O.Target c.args.out), _, inr (refl, refl, is, refl), c.none.ensures.sums, missed_none c.none.result.missed c.none.ensures.missed 1024 80, (refl, c.in-Err.ensures.err)))
+    (no_reads, (λ fits. omega arith, refl, λ fits. omega arith), (new_listening default_limits c.args.filter c.args.form (written g.O.Target c.args.out), _, inr (refl, refl, is, refl), c.none.ensures.sums, missed_none c.none.result.missed c.none.ensures.missed 1024 80, (refl, c.in-Err.ensures.err)))
 
 pub returns : goal.returns
 returns g c = λ xs is known.

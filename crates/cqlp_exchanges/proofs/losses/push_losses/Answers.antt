@@ -1,5 +1,0 @@
-use Rattle.cqlp_streams.proofs.Pushed.{at_last, then}
-use Rattle.cqlp_exchanges.proofs.losses.push_losses.Goals as goal
-
-pub returns : goal.returns
-returns g c = at_last c.push_count-5.result _ _ _ _ _ (then _ _ _ _ _ (then _ _ _ _ _ (then _ _ _ _ _ c.in_ok-push_count.ensures c.in_ok-push_count-2.ensures) c.in_ok-push_count-3.ensures) c.in_ok-push_count-4.ensures) c.push_count-5.ensures
