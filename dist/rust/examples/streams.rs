@@ -157,7 +157,7 @@ pub fn follow(mut capture: impl Read, tell: impl FnMut(u64, Told<'_>) -> io::Res
             match reader.next(rest) {
                 CaptureStep::Event { used, event, .. } => {
                     match event {
-                        CaptureEvent::Section(_) | CaptureEvent::Interface(_) => {}
+                        CaptureEvent::Section(_) | CaptureEvent::Interface(_) | CaptureEvent::Skipped(_) => {}
                         CaptureEvent::Packet(head) => (link, original) = (head.link, head.original),
                         CaptureEvent::Data(packet) => {
                             if let Ok(segment) = LinkType::from_number(link).and_then(|link| read_segment(link, packet, original)) {

@@ -509,7 +509,7 @@ pub mod session {
 pub mod capture {
     pub use crate::cqlp_capture::{
         ByteOrder, CaptureEnd, CaptureEvent, CaptureLimits, CaptureReader, CaptureReason, CaptureRefusal, CaptureStep, FileForm, Fraction,
-        InterfaceHead, NewReaderError, PacketHead, SectionForm,
+        InterfaceHead, NewReaderError, PacketHead, SectionForm, SkipReason,
     };
     pub use crate::cqlp_reassembly::{Control, Distance, Stream, StreamStep, distance_to};
     pub use crate::cqlp_segment::{Address, Endpoint, Flags, LinkType, NoSegment, Segment, SegmentHead, read_segment};

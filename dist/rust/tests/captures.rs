@@ -209,7 +209,7 @@ impl Report {
 
     fn event(&mut self, at: u64, event: &CaptureEvent<'_>) {
         match event {
-            CaptureEvent::Section(_) | CaptureEvent::Interface(_) => {}
+            CaptureEvent::Section(_) | CaptureEvent::Interface(_) | CaptureEvent::Skipped(_) => {}
             CaptureEvent::Packet(head) => self.packet = Some(*head),
             CaptureEvent::Data(packet) => {
                 let head = self.packet.take().unwrap();

@@ -62,7 +62,7 @@ fn captures_and_their_segments() {
         }
         count += 1;
     }
-    assert_eq!(count, 184);
+    assert_eq!(count, 214);
 }
 
 #[test]
@@ -111,6 +111,7 @@ fn put_event(at: u64, event: &CaptureEvent<'_>, under_way: &mut Option<PacketHea
             writeln!(said, "{at} data {} sum {}", bytes.len(), fold(0, bytes))?;
             put_segment(segment_of(under_way.as_ref().unwrap(), bytes), said)
         }
+        CaptureEvent::Skipped(why) => writeln!(said, "{at} skipped {why:?}"),
     }
 }
 
@@ -186,7 +187,7 @@ fn packets_of(file: &[u8]) -> Vec<(PacketHead, Vec<u8>)> {
     let mut rest = file;
     while let CaptureStep::Event { used, event, .. } = reader.next(rest) {
         match event {
-            CaptureEvent::Section(_) | CaptureEvent::Interface(_) => {}
+            CaptureEvent::Section(_) | CaptureEvent::Interface(_) | CaptureEvent::Skipped(_) => {}
             CaptureEvent::Packet(head) => packets.push((head, Vec::new())),
             CaptureEvent::Data(bytes) => packets.last_mut().unwrap().1.extend_from_slice(bytes),
         }

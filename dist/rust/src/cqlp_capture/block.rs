@@ -22,6 +22,8 @@ pub(crate) struct Block {
 pub(crate) enum BlockKind {
     Section,
     Interface,
+    /// Of a packet, as it was before enhanced packets.
+    Packet,
     EnhancedPacket,
     SimplePacket,
     /// It is passed over.
@@ -41,20 +43,33 @@ impl BlockKind {
         match number {
             0x0A0D_0D0A => BlockKind::Section,
             1 => BlockKind::Interface,
+            2 => BlockKind::Packet,
             3 => BlockKind::SimplePacket,
             6 => BlockKind::EnhancedPacket,
             _ => BlockKind::Other,
         }
     }
 
-    /// How many bytes a block of this kind has at least.
+    /// How many bytes a block of this kind has at least, so that it can be read.
     pub fn least_length(self) -> u32 {
         match self {
             BlockKind::Section => 28,
             BlockKind::Interface => 20,
-            BlockKind::EnhancedPacket => 32,
+            BlockKind::Packet | BlockKind::EnhancedPacket => 32,
             BlockKind::SimplePacket => 16,
             BlockKind::Other => 12,
+        }
+    }
+
+    /// How many bytes a block of this kind has at least, so that the blocks after it can be read.
+    pub fn lawful_length(self) -> u32 {
+        match self {
+            BlockKind::Interface => 20,
+            BlockKind::Section
+            | BlockKind::Packet
+            | BlockKind::EnhancedPacket
+            | BlockKind::SimplePacket
+            | BlockKind::Other => 12,
         }
     }
 }
@@ -70,6 +85,20 @@ impl EitherLength {
 }
 
 impl Block {
+    /// The block, if no time of its interface can be read.
+    pub fn untimed(self) -> Block {
+        let interface = match self.interface {
+            Some(interface) => Some(interface.untimed()),
+            None => None,
+        };
+        Block {
+            order: self.order,
+            start: self.start,
+            length: self.length,
+            interface,
+        }
+    }
+
     /// The offset of its second length.
     pub(crate) fn end(self) -> u64 {
         self.start + self.length as u64 - 4

@@ -33,6 +33,32 @@ pub struct PacketHead {
     pub original: u32,
 }
 
+/// Why a block, an interface or a packet cannot be read. It is passed over, and the reading goes on after it.
+#[derive(Clone, Copy, Debug, PartialEq, Eq, PartialOrd, Ord, Hash)]
+pub enum SkipReason {
+    /// A block of a packet that has fewer bytes than its kind has to have.
+    ShortBlock,
+    /// An option of an interface that would reach beyond its block, or whose length is not the one that its kind has. No time of the
+    /// interface's packets can be read.
+    BadOptionLength,
+    /// The times of an interface are in units other than a second over a power of ten from 0 to 9.
+    UnknownTimeUnit,
+    /// Times of an interface that would begin before 1970.
+    NegativeTimeOffset,
+    /// An interface beyond the caller's limit.
+    TooManyInterfaces,
+    /// A packet of an interface that the section does not have, or that is beyond the caller's limit.
+    UnknownInterface,
+    /// A packet of an interface whose times cannot be read.
+    UnreadInterface,
+    /// A packet whose time is 2^64 nanoseconds or more.
+    TimeTooLarge,
+    /// A packet of which more bytes were captured than its block has.
+    PacketBeyondBlock,
+    /// A packet of which more bytes were captured than the caller's limit.
+    PacketTooLong,
+}
+
 /// An event of a capture.
 #[derive(Clone, Copy, Debug, PartialEq, Eq)]
 pub enum CaptureEvent<'a> {
@@ -43,6 +69,8 @@ pub enum CaptureEvent<'a> {
     Packet(PacketHead),
     /// All captured bytes of the packet that began, which ends here.
     Data(&'a [u8]),
+    /// Something cannot be read, and is passed over.
+    Skipped(SkipReason),
 }
 
 /// An event without its bytes.
@@ -53,6 +81,7 @@ pub(crate) enum EventOutline {
     Packet(PacketHead),
     /// The bytes that were wanted.
     Data,
+    Skipped(SkipReason),
 }
 
 /// What the bytes that were wanted say: an event at an offset, or none; where the reading stands after it, and what becomes

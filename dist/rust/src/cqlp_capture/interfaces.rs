@@ -11,10 +11,22 @@ pub(crate) struct KnownInterface {
     pub link: u16,
     /// How many bytes of a packet were captured at most, or 0.
     pub snap_length: u32,
-    /// How many nanoseconds a unit of its packets' times is.
-    pub unit: u32,
+    /// How many nanoseconds a unit of its packets' times is; `None` where the times cannot be read.
+    pub unit: Option<u32>,
     /// How many seconds are added to its packets' times.
     pub offset: u64,
+}
+
+impl KnownInterface {
+    /// The interface, if its times cannot be read.
+    pub fn untimed(self) -> KnownInterface {
+        KnownInterface {
+            link: self.link,
+            snap_length: self.snap_length,
+            unit: None,
+            offset: self.offset,
+        }
+    }
 }
 
 /// What becomes of the interfaces of a section.

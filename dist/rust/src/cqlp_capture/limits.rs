@@ -20,9 +20,10 @@ impl CaptureLimits {
     /// The greatest limit on interfaces. The least is 1.
     pub const GREATEST_INTERFACES: u32 = 65_536;
 
-    /// The limits where none are given: as many bytes as a capture of whole packets takes of one, and 256 interfaces.
+    /// The limits where none are given: 1 MiB of a packet, four times as much as a capture of whole packets takes of one, and 256
+    /// interfaces.
     pub const DEFAULT: CaptureLimits = CaptureLimits {
-        packet: 262_144,
+        packet: 1_048_576,
         interfaces: 256,
     };
 

@@ -14,7 +14,7 @@ mod reader;
 mod refusal;
 mod telling;
 
-pub use event::{CaptureEnd, CaptureEvent, CaptureStep, InterfaceHead, PacketHead};
+pub use event::{CaptureEnd, CaptureEvent, CaptureStep, InterfaceHead, PacketHead, SkipReason};
 pub use file::{ByteOrder, FileForm, Fraction, SectionForm};
 pub use limits::CaptureLimits;
 pub use reader::CaptureReader;

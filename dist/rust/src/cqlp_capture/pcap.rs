@@ -1,7 +1,7 @@
 // Written by dist/erase from crates/cqlp_capture/src/pcap.rt.
 //! What the bytes of a pcap file say.
 
-use crate::cqlp_capture::event::{EventOutline, InterfaceHead, PacketHead, Told};
+use crate::cqlp_capture::event::{EventOutline, InterfaceHead, PacketHead, SkipReason, Told};
 use crate::cqlp_capture::file::{ByteOrder, FileForm, Fraction, SectionForm};
 use crate::cqlp_capture::interfaces::{KnownInterface, TableChange};
 use crate::cqlp_capture::place::{FARTHEST, Place, RecordForm, Stage};
@@ -12,6 +12,9 @@ use crate::cqlp_capture::telling::{read_next, refuse};
 /// draft-ietf-opsawg-pcapng.
 pub(crate) fn tell_magic(bytes: &[u8]) -> Result<Told, CaptureRefusal> {
     let magic = ByteOrder::BigEndian.read_u32(bytes, 0);
+    if magic >> 16 == 0x1F8B {
+        return refuse(0, CaptureReason::Gzip);
+    }
     if magic == 0x0A0D_0D0A {
         return read_next(4, Stage::SectionLength);
     }
@@ -51,7 +54,7 @@ pub(crate) fn tell_file_head(form: FileForm, bytes: &[u8]) -> Result<Told, Captu
         change: TableChange::Add(KnownInterface {
             link,
             snap_length,
-            unit: unit_of(form.fraction),
+            unit: Some(unit_of(form.fraction)),
             offset: 0,
         }),
     })
@@ -71,7 +74,7 @@ pub(crate) fn tell_record_head(
     let order = form.order;
     let captured = order.read_u32(bytes, 8);
     if captured > limit {
-        return refuse(offset + 8, CaptureReason::PacketTooLong);
+        return skip_record(offset, captured, record_form);
     }
     let packet = PacketHead {
         interface: 0,
@@ -89,6 +92,34 @@ pub(crate) fn tell_record_head(
         },
         change: TableChange::Keep,
     })
+}
+
+/// That a packet is too long, of which so many bytes were captured.
+fn skip_record(offset: u64, captured: u32, record_form: RecordForm) -> Result<Told, CaptureRefusal> {
+    Ok(Told {
+        at: offset,
+        what: Some(EventOutline::Skipped(SkipReason::PacketTooLong)),
+        place: Place {
+            offset: offset + 16,
+            stage: Stage::Rest(record_form, offset, captured),
+        },
+        change: TableChange::Keep,
+    })
+}
+
+/// What is read after the next bytes, at this offset, of a packet that is passed over.
+pub(crate) fn tell_rest(
+    offset: u64,
+    record_form: RecordForm,
+    start: u64,
+    left: u32,
+) -> Result<Told, CaptureRefusal> {
+    let count = left.min(64);
+    let stage = match left - count {
+        0 => Stage::RecordHead(record_form),
+        left => Stage::Rest(record_form, start, left),
+    };
+    read_next(offset + count as u64, stage)
 }
 
 /// So many seconds and fractions of one, in nanoseconds.

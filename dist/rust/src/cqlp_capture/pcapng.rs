@@ -2,12 +2,12 @@
 //! What the bytes of a pcapng file say.
 
 use crate::cqlp_capture::block::{Block, BlockKind, EitherLength, may_have_length};
-use crate::cqlp_capture::event::{EventOutline, InterfaceHead, PacketHead, Told};
+use crate::cqlp_capture::event::{EventOutline, InterfaceHead, PacketHead, SkipReason, Told};
 use crate::cqlp_capture::file::{ByteOrder, SectionForm};
 use crate::cqlp_capture::interfaces::{KnownInterface, TableChange};
 use crate::cqlp_capture::place::{FARTHEST, Place, Stage};
 use crate::cqlp_capture::refusal::{CaptureReason, CaptureRefusal};
-use crate::cqlp_capture::telling::{read_next, refuse};
+use crate::cqlp_capture::telling::{read_next, refuse, skip};
 
 /// That these bytes, up to this offset, are all of a packet.
 pub(crate) fn tell_data(end: u64, offset: u64, stage: Stage) -> Result<Told, CaptureRefusal> {
@@ -90,11 +90,13 @@ pub(crate) fn tell_block_head(
         length: order.read_u32(bytes, 4),
         interface: None,
     };
-    if may_have_length(kind.least_length(), block.length) {
-        tell_block(kind, block)
-    } else {
-        refuse(offset + 4, CaptureReason::BadBlockLength)
+    if !may_have_length(kind.lawful_length(), block.length) {
+        return refuse(offset + 4, CaptureReason::BadBlockLength);
     }
+    if block.length < kind.least_length() {
+        return skip(offset + 8, block, SkipReason::ShortBlock);
+    }
+    tell_block(kind, block)
 }
 
 /// What is read in a block of this kind.
@@ -102,6 +104,7 @@ fn tell_block(kind: BlockKind, block: Block) -> Result<Told, CaptureRefusal> {
     let offset = block.start + 8;
     let stage = match kind {
         BlockKind::Interface => Stage::InterfaceBody(block),
+        BlockKind::Packet => Stage::PacketBody(block),
         BlockKind::EnhancedPacket => Stage::EnhancedBody(block),
         BlockKind::SimplePacket => Stage::SimpleBody(block),
         BlockKind::Section | BlockKind::Other => block.passing(offset, block.end()),
@@ -119,7 +122,7 @@ pub(crate) fn tell_interface_body(
     let interface = KnownInterface {
         link: order.read_u16(bytes, 0),
         snap_length: order.read_u32(bytes, 4),
-        unit: 1_000,
+        unit: Some(1_000),
         offset: 0,
     };
     tell_description(offset + 8, block, interface)
@@ -153,7 +156,7 @@ pub(crate) fn tell_option_head(
         return read_next(offset + 4, block.passing(offset + 4, end));
     }
     if offset + 4 + filled_up(size) > end {
-        return refuse(offset + 2, CaptureReason::BadOptionLength);
+        return skip_option(offset + 4, block, SkipReason::BadOptionLength);
     }
     tell_option(offset, block, code, size)
 }
@@ -163,12 +166,18 @@ fn tell_option(offset: u64, block: Block, code: u16, size: u16) -> Result<Told, 
     match (code, size) {
         (9, 1) => read_next(offset + 4, Stage::TimeUnit(block)),
         (14, 8) => read_next(offset + 4, Stage::TimeOffset(block)),
-        (9 | 14, _) => refuse(offset + 2, CaptureReason::BadOptionLength),
+        (9 | 14, _) => skip_option(offset + 4, block, SkipReason::BadOptionLength),
         _ => read_next(
             offset + 4,
             block.passing(offset + 4, offset + 4 + filled_up(size)),
         ),
     }
+}
+
+/// That an option of this block's interface cannot be read, so that no time of its packets can be; what is left from this offset on
+/// is passed over.
+fn skip_option(offset: u64, block: Block, why: SkipReason) -> Result<Told, CaptureRefusal> {
+    skip(offset, block.untimed(), why)
 }
 
 /// How many bytes are taken by a number of them that are filled up to 32 bits.
@@ -183,7 +192,7 @@ pub(crate) fn tell_time_unit(
     bytes: &[u8],
 ) -> Result<Told, CaptureRefusal> {
     let Some(unit) = read_unit(bytes[0]) else {
-        return refuse(offset, CaptureReason::UnknownTimeUnit);
+        return skip_option(offset + 4, block, SkipReason::UnknownTimeUnit);
     };
     match block.interface {
         Some(interface) => tell_description(
@@ -192,7 +201,7 @@ pub(crate) fn tell_time_unit(
             KnownInterface {
                 link: interface.link,
                 snap_length: interface.snap_length,
-                unit,
+                unit: Some(unit),
                 offset: interface.offset,
             },
         ),
@@ -225,7 +234,7 @@ pub(crate) fn tell_time_offset(
 ) -> Result<Told, CaptureRefusal> {
     let seconds = block.order.read_u64(bytes, 0);
     if seconds >= 0x8000_0000_0000_0000 {
-        return refuse(offset, CaptureReason::NegativeTimeOffset);
+        return skip_option(offset + 8, block, SkipReason::NegativeTimeOffset);
     }
     match block.interface {
         Some(interface) => tell_description(
@@ -242,38 +251,50 @@ pub(crate) fn tell_time_offset(
     }
 }
 
-/// What the numbers of an enhanced packet say. Section 4.3.
+/// What the numbers of a packet say, whose interface has this number. Section 4.3 and appendix A.
 pub(crate) fn tell_enhanced_body(
     limit: u32,
     known: &[KnownInterface],
+    number: u32,
     offset: u64,
     block: Block,
     bytes: &[u8],
 ) -> Result<Told, CaptureRefusal> {
     let order = block.order;
-    let number = order.read_u32(bytes, 0);
     let Some(interface) = known.get(number as usize).copied() else {
-        return refuse(offset, CaptureReason::UnknownInterface);
+        return skip(offset + 20, block, SkipReason::UnknownInterface);
+    };
+    let Some(unit) = interface.unit else {
+        return skip(offset + 20, block, SkipReason::UnreadInterface);
     };
     let units = order.read_u32(bytes, 4) as u64 * 0x1_0000_0000 + order.read_u32(bytes, 8) as u64;
-    let Some(time) = captured_time(interface, units) else {
-        return refuse(offset + 4, CaptureReason::TimeTooLarge);
+    let Some(time) = captured_time(unit, interface.offset, units) else {
+        return skip(offset + 20, block, SkipReason::TimeTooLarge);
     };
-    let captured = order.read_u32(bytes, 12);
-    if captured as u64 > room_after(block, offset + 20) {
-        return refuse(offset + 12, CaptureReason::PacketBeyondBlock);
-    }
-    if captured > limit {
-        return refuse(offset + 12, CaptureReason::PacketTooLong);
-    }
     let packet = PacketHead {
         interface: number,
         link: interface.link,
         time: Some(time),
-        captured,
+        captured: order.read_u32(bytes, 12),
         original: order.read_u32(bytes, 16),
     };
-    tell_packet(offset + 20, block, packet)
+    tell_within(limit, offset + 20, block, packet)
+}
+
+/// That a packet begins, whose bytes are at this offset, if they lie in the block and the limit allows as many.
+fn tell_within(
+    limit: u32,
+    offset: u64,
+    block: Block,
+    packet: PacketHead,
+) -> Result<Told, CaptureRefusal> {
+    if packet.captured as u64 > room_after(block, offset) {
+        return skip(offset, block, SkipReason::PacketBeyondBlock);
+    }
+    if packet.captured > limit {
+        return skip(offset, block, SkipReason::PacketTooLong);
+    }
+    tell_packet(offset, block, packet)
 }
 
 /// How many bytes a block has from this offset on to its second length.
@@ -281,10 +302,10 @@ fn room_after(block: Block, offset: u64) -> u64 {
     block.end() - offset
 }
 
-/// When a packet of this interface was captured, in nanoseconds, if that is less than 2^64.
-fn captured_time(interface: KnownInterface, units: u64) -> Option<u64> {
-    let since = units.checked_mul(interface.unit as u64)?;
-    let begin = interface.offset.checked_mul(1_000_000_000)?;
+/// A time of so many units, each of so many nanoseconds, after this many seconds, in nanoseconds, if that is less than 2^64.
+fn captured_time(unit: u32, seconds: u64, units: u64) -> Option<u64> {
+    let since = units.checked_mul(unit as u64)?;
+    let begin = seconds.checked_mul(1_000_000_000)?;
     since.checked_add(begin)
 }
 
@@ -310,13 +331,10 @@ pub(crate) fn tell_simple_body(
     bytes: &[u8],
 ) -> Result<Told, CaptureRefusal> {
     let Some(interface) = known.get(0).copied() else {
-        return refuse(block.start, CaptureReason::UnknownInterface);
+        return skip(offset + 4, block, SkipReason::UnknownInterface);
     };
     let original = block.order.read_u32(bytes, 0);
     let captured = captured_size(interface, original, room_after(block, offset + 4));
-    if captured > limit {
-        return refuse(offset, CaptureReason::PacketTooLong);
-    }
     let packet = PacketHead {
         interface: 0,
         link: interface.link,
@@ -324,7 +342,7 @@ pub(crate) fn tell_simple_body(
         captured,
         original,
     };
-    tell_packet(offset + 4, block, packet)
+    tell_within(limit, offset + 4, block, packet)
 }
 
 /// How many bytes of a simple packet were captured that had so many, where its block has room for so many.
@@ -357,8 +375,17 @@ pub(crate) fn tell_block_end(
         return read_next(offset + 4, stage);
     };
     let number = known.len() as u32;
+    let place = Place {
+        offset: offset + 4,
+        stage,
+    };
     if number >= limit {
-        return refuse(block.start, CaptureReason::TooManyInterfaces);
+        return Ok(Told {
+            at: block.start,
+            what: Some(EventOutline::Skipped(SkipReason::TooManyInterfaces)),
+            place,
+            change: TableChange::Keep,
+        });
     }
     Ok(Told {
         at: block.start,
@@ -367,10 +394,7 @@ pub(crate) fn tell_block_end(
             link: interface.link,
             snap_length: interface.snap_length,
         })),
-        place: Place {
-            offset: offset + 4,
-            stage,
-        },
+        place,
         change: TableChange::Add(interface),
     })
 }

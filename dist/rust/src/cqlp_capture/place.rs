@@ -29,6 +29,8 @@ pub(crate) enum Stage {
     RecordHead(RecordForm),
     /// This many bytes of a record's packet.
     Data(RecordForm, u32),
+    /// This many bytes that are left of a packet which is passed over, whose record began at this offset.
+    Rest(RecordForm, u64, u32),
     /// The length of the first block.
     SectionLength,
     /// The numbers of a section's header, which has this length.
@@ -45,6 +47,8 @@ pub(crate) enum Stage {
     TimeOffset(Block),
     /// The numbers of an enhanced packet.
     EnhancedBody(Block),
+    /// The numbers of a packet, as they were before enhanced packets.
+    PacketBody(Block),
     /// The number of a simple packet.
     SimpleBody(Block),
     /// This many bytes of a block's packet.
@@ -77,8 +81,9 @@ impl Stage {
             | Stage::BlockEnd(_) => 4,
             Stage::BlockHead(_) | Stage::InterfaceBody(_) | Stage::TimeOffset(_) => 8,
             Stage::RecordHead(_) | Stage::SectionBody(_) => 16,
-            Stage::FileHead(_) | Stage::EnhancedBody(_) => 20,
+            Stage::FileHead(_) | Stage::EnhancedBody(_) | Stage::PacketBody(_) => 20,
             Stage::Data(_, size) | Stage::BlockData(_, size) => size as usize,
+            Stage::Rest(_, _, left) => left.min(64) as usize,
             Stage::Pass(..) => 1,
         }
     }
@@ -100,6 +105,7 @@ impl Place {
             Stage::Data(form, size) => {
                 pcapng::tell_data(offset + size as u64, offset, Stage::RecordHead(form))
             }
+            Stage::Rest(form, start, left) => pcap::tell_rest(offset, form, start, left),
             Stage::SectionLength => pcapng::tell_section_length(bytes),
             Stage::SectionBody(lengths) => pcapng::tell_section_body(offset, lengths, bytes),
             Stage::BlockHead(order) => pcapng::tell_block_head(offset, order, bytes),
@@ -108,7 +114,12 @@ impl Place {
             Stage::TimeUnit(block) => pcapng::tell_time_unit(offset, block, bytes),
             Stage::TimeOffset(block) => pcapng::tell_time_offset(offset, block, bytes),
             Stage::EnhancedBody(block) => {
-                pcapng::tell_enhanced_body(limits.packet, known, offset, block, bytes)
+                let number = block.order.read_u32(bytes, 0);
+                pcapng::tell_enhanced_body(limits.packet, known, number, offset, block, bytes)
+            }
+            Stage::PacketBody(block) => {
+                let number = block.order.read_u16(bytes, 0) as u32;
+                pcapng::tell_enhanced_body(limits.packet, known, number, offset, block, bytes)
             }
             Stage::SimpleBody(block) => {
                 pcapng::tell_simple_body(limits.packet, known, offset, block, bytes)
@@ -135,12 +146,14 @@ impl Place {
             Stage::Magic | Stage::FileHead(_) | Stage::SectionLength => 0,
             Stage::RecordHead(_) | Stage::BlockHead(_) => self.offset,
             Stage::Data(..) => self.offset - 16,
+            Stage::Rest(_, start, _) => start,
             Stage::SectionBody(_) => self.offset - 8,
             Stage::InterfaceBody(block)
             | Stage::OptionHead(block)
             | Stage::TimeUnit(block)
             | Stage::TimeOffset(block)
             | Stage::EnhancedBody(block)
+            | Stage::PacketBody(block)
             | Stage::SimpleBody(block)
             | Stage::BlockData(block, _)
             | Stage::Pass(block, _)

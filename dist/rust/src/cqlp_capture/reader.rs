@@ -230,6 +230,7 @@ impl<A: Allocator> CaptureReader<A> {
             EventOutline::Interface(interface) => CaptureEvent::Interface(interface),
             EventOutline::Packet(packet) => CaptureEvent::Packet(packet),
             EventOutline::Data => CaptureEvent::Data(self.gathered.lend(input, lies)),
+            EventOutline::Skipped(why) => CaptureEvent::Skipped(why),
         }
     }
 }

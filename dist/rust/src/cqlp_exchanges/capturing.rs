@@ -1,18 +1,19 @@
 // Written by dist/erase from crates/cqlp_exchanges/src/capturing.rt.
 //! A capture whose exchanges are written.
 
-use crate::kit_host::prelude::{AllocGlobal, Clone, String, ToCopy, format};
+use crate::kit_host::prelude::{AllocGlobal};
 use crate::cqlp_exchanges::exchanges::{ExchangeLimits, Exchanges};
 use crate::cqlp_exchanges::filter::ExchangeFilter;
 use crate::cqlp_exchanges::form::ExchangeForm;
-use crate::cqlp_exchanges::losses::{Losses, losses_of, note_of, push_losses};
+use crate::cqlp_exchanges::losses::{Losses, losses_of, put_losses};
 use crate::cqlp_exchanges::sums::ExchangeSums;
 use crate::cqlp_connections::ConnectionLimits;
 use crate::cqlp_grammar::SinkFault;
 use crate::cqlp_note::{Source, Target};
-use crate::cqlp_streams::{CaptureRead, StreamsFault, conclude_noted, read_capture};
+use crate::cqlp_streams::{CaptureRead, LastWords, StreamsFault, conclude_capture, read_capture};
+use crate::cqlp_text::{Pen, TextWriter};
 use crate::cqlp_watch::Missed;
-use crate::kit_std::alloc::{AllocError, Allocator, Global};
+use crate::kit_std::alloc::Global;
 
 /// How many connections there are at one time, and how many bytes that came early each direction holds: as many connections as `ExchangeLimits::DEFAULT` has.
 const LIMITS: ConnectionLimits = ConnectionLimits {
@@ -34,7 +35,7 @@ pub fn write_exchanges<R: Source, O: Target, E: Target>(
     err: E,
 ) -> (u8, O, E) {
     let (answer, counts, out) = listen(alloc, ports, filter, form, input, out);
-    let (status, err) = conclude(alloc, &answer, &counts, err);
+    let (status, err) = conclude(&answer, &counts, err);
     (status, out, err)
 }
 
@@ -91,45 +92,57 @@ fn finish<O: Target>(
 
 /// Writes the lines of how the reading ended. Answers the exit status.
 fn conclude<E: Target>(
-    alloc: Global,
     answer: &Result<CaptureRead, StreamsFault>,
     counts: &Counts,
     err: E,
 ) -> (u8, E) {
-    let losses = losses_of(answer, &counts.missed);
-    match texts_of(alloc, &counts.sums, &losses) {
-        Ok(Texts { note, words }) => conclude_noted(alloc, answer, &note, &words, err),
-        Err(AllocError) => conclude_noted(alloc, &Err(StreamsFault::NoMemory), "", "", err),
+    let last = LastCounts {
+        sums: counts.sums,
+        losses: losses_of(answer, &counts.missed),
+    };
+    conclude_capture(answer, &last, err)
+}
+
+/// What the last line says of the connections: the sums, and what was missed.
+#[derive(Clone, Copy, Debug, PartialEq, Eq)]
+struct LastCounts {
+    sums: ExchangeSums,
+    losses: Losses,
+}
+
+impl LastWords for LastCounts {
+    fn has_note(&self) -> bool {
+        self.losses.are_some()
+    }
+
+    fn put_note<P: Pen>(&self, writer: &mut TextWriter<P>) -> Result<(), SinkFault> {
+        self.losses.put_note(writer)
+    }
+
+    fn put_words<P: Pen>(&self, writer: &mut TextWriter<P>) -> Result<(), SinkFault> {
+        put_words(writer, &self.sums, &self.losses)
     }
 }
 
-/// The note before the last line, and its words.
-struct Texts<A: Allocator> {
-    note: String<A>,
-    words: String<A>,
-}
-
-fn texts_of<A: Allocator + Clone>(
-    alloc: A,
+fn put_words<P: Pen>(
+    writer: &mut TextWriter<P>,
     sums: &ExchangeSums,
     losses: &Losses,
-) -> Result<Texts<A>, AllocError> {
-    let note = note_of(alloc.to_copy()?, losses)?;
-    let mut text = words(alloc, sums)?;
-    push_losses(&mut text, losses)?;
-    Ok(Texts { note, words: text })
+) -> Result<(), SinkFault> {
+    put_sums(writer, sums)?;
+    put_losses(writer, losses)
 }
 
-/// The words of what was told, in the last line.
-fn words<A: Allocator>(alloc: A, sums: &ExchangeSums) -> Result<String<A>, AllocError> {
-    let ExchangeSums {
-        exchanges,
-        unanswered,
-        unasked,
-        events,
-        cut,
-    } = *sums;
-    format!(in alloc;
-        "exchanges {exchanges} unanswered {unanswered} unasked {unasked} events {events} cut {cut}"
-    )
+/// Takes the words of the sums.
+fn put_sums<P: Pen>(writer: &mut TextWriter<P>, sums: &ExchangeSums) -> Result<(), SinkFault> {
+    writer.put(b"exchanges ")?;
+    writer.put_number(sums.exchanges)?;
+    writer.put(b" unanswered ")?;
+    writer.put_number(sums.unanswered)?;
+    writer.put(b" unasked ")?;
+    writer.put_number(sums.unasked)?;
+    writer.put(b" events ")?;
+    writer.put_number(sums.events)?;
+    writer.put(b" cut ")?;
+    writer.put_number(sums.cut)
 }

@@ -1,10 +1,10 @@
 // Written by dist/erase from crates/cqlp_exchanges/src/losses.rt.
 //! What a capture did not have, or was given up, in words.
 
-use crate::kit_host::prelude::{AllocGlobal, Clone, String, ToCopy, format};
-use crate::cqlp_streams::{CaptureRead, StreamsFault};
+use crate::cqlp_grammar::SinkFault;
+use crate::cqlp_streams::{CaptureRead, StreamsFault, put_count};
+use crate::cqlp_text::{Pen, TextWriter};
 use crate::cqlp_watch::Missed;
-use crate::kit_std::alloc::{AllocError, Allocator};
 
 /// What a capture did not have of its connections, or was given up. A number stays at 2^64 - 1 once it is there.
 #[derive(Clone, Copy, Debug, PartialEq, Eq)]
@@ -33,80 +33,79 @@ pub(crate) fn losses_of(answer: &Result<CaptureRead, StreamsFault>, missed: &Mis
     }
 }
 
-/// A line that says why the numbers of a capture are not to be trusted. Empty, where nothing was missed.
-pub(crate) fn note_of<A: Allocator + Clone>(
-    alloc: A,
-    losses: &Losses,
-) -> Result<String<A>, AllocError> {
-    let reasons = reasons_of(alloc.to_copy()?, losses)?;
-    if reasons.is_empty() {
-        return Ok(reasons);
+impl Losses {
+    /// Whether something was missed, so that the numbers of a capture are not to be trusted.
+    pub(crate) fn are_some(&self) -> bool {
+        let missed = &self.missed;
+        missed.overtaken > 0
+            || self.snapped > 0
+            || missed.gaps > 0
+            || self.crowded > 0
+            || missed.other_versions > 0
+            || missed.tls > 0
     }
-    format!(in alloc; "cqlp: these numbers are not to be trusted{reasons}\n")
+
+    /// Takes a line that says why the numbers of a capture are not to be trusted. Where nothing was missed, that is nothing.
+    pub(crate) fn put_note<P: Pen>(&self, writer: &mut TextWriter<P>) -> Result<(), SinkFault> {
+        if self.are_some() {
+            put_reasons_line(writer, self)
+        } else {
+            writer.put(b"")
+        }
+    }
 }
 
-fn reasons_of<A: Allocator>(alloc: A, losses: &Losses) -> Result<String<A>, AllocError> {
-    let mut reasons = String::from_str(alloc, "")?;
-    push_reasons(&mut reasons, losses)?;
-    Ok(reasons)
+fn put_reasons_line<P: Pen>(writer: &mut TextWriter<P>, losses: &Losses) -> Result<(), SinkFault> {
+    writer.put(b"cqlp: these numbers are not to be trusted")?;
+    put_reasons(writer, losses)?;
+    writer.put(b"\n")
 }
 
-/// Appends the reasons that there are, each after a semicolon.
-fn push_reasons<A: Allocator>(text: &mut String<A>, losses: &Losses) -> Result<(), AllocError> {
+/// Takes the reasons that there are, each after a semicolon.
+fn put_reasons<P: Pen>(writer: &mut TextWriter<P>, losses: &Losses) -> Result<(), SinkFault> {
     let missed = &losses.missed;
-    push_reason(
-        text,
+    put_reason(
+        writer,
         missed.overtaken,
         "; more than 80 messages waited on a connection",
     )?;
-    push_reason(
-        text,
+    put_reason(
+        writer,
         losses.snapped,
         "; packets were cut by the snap length",
     )?;
-    push_reason(text, missed.gaps, "; bytes were not captured")?;
-    push_reason(
-        text,
+    put_reason(writer, missed.gaps, "; bytes were not captured")?;
+    put_reason(
+        writer,
         losses.crowded,
         "; more than 1024 connections at one time",
     )?;
-    push_reason(
-        text,
+    put_reason(
+        writer,
         missed.other_versions,
         "; a version of the protocol other than 4",
     )?;
-    push_reason(text, missed.tls, "; TLS")
+    put_reason(writer, missed.tls, "; TLS")
 }
 
-/// Appends a reason, unless its number is 0.
-fn push_reason<A: Allocator>(
-    text: &mut String<A>,
-    count: u64,
-    reason: &str,
-) -> Result<(), AllocError> {
+/// Takes a reason, unless its number is 0.
+fn put_reason<P: Pen>(writer: &mut TextWriter<P>, count: u64, reason: &str) -> Result<(), SinkFault> {
     if count == 0 {
-        return Ok(());
+        writer.put(b"")
+    } else {
+        writer.put_str(reason)
     }
-    text.push_str(reason)
 }
 
-/// Appends the numbers of what was missed that are not 0, each after its name.
-pub(crate) fn push_losses<A: Allocator>(
-    words: &mut String<A>,
+/// Takes the numbers of what was missed that are not 0, each after its name.
+pub(crate) fn put_losses<P: Pen>(
+    writer: &mut TextWriter<P>,
     losses: &Losses,
-) -> Result<(), AllocError> {
+) -> Result<(), SinkFault> {
     let missed = &losses.missed;
-    push_count(words, "Overtaken", missed.overtaken)?;
-    push_count(words, "Snapped", losses.snapped)?;
-    push_count(words, "Gaps", missed.gaps)?;
-    push_count(words, "OtherVersions", missed.other_versions)?;
-    push_count(words, "Tls", missed.tls)
-}
-
-/// Appends a name and a number, each after a space, unless the number is 0.
-fn push_count<A: Allocator>(words: &mut String<A>, name: &str, count: u64) -> Result<(), AllocError> {
-    if count == 0 {
-        return Ok(());
-    }
-    write!(words, " {name} {count}")
+    put_count(writer, "Overtaken", missed.overtaken)?;
+    put_count(writer, "Snapped", losses.snapped)?;
+    put_count(writer, "Gaps", missed.gaps)?;
+    put_count(writer, "OtherVersions", missed.other_versions)?;
+    put_count(writer, "Tls", missed.tls)
 }

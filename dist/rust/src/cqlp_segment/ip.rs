@@ -2,12 +2,9 @@
 //! Headers of IP.
 
 use crate::cqlp_segment::addresses::Address;
+use crate::cqlp_segment::ether_type::{IpPacket, IpVersion};
 use crate::cqlp_segment::fields::number_16;
-use crate::cqlp_segment::link::{IpPacket, IpVersion};
 use crate::cqlp_segment::reason::NoSegment;
-
-/// The number of TCP among the protocols that IP carries.
-const TCP: u8 = 6;
 
 /// The number of IPv6's header of a fragment.
 const FRAGMENT: u8 = 44;
@@ -20,9 +17,22 @@ const AUTHENTICATION: u8 = 51;
 pub(crate) struct Carried<'a> {
     pub source: Address,
     pub destination: Address,
+    /// The number of the protocol of what it carries.
+    pub protocol: u8,
     /// How many bytes it carries, by the word of IP's header.
     pub size: usize,
     /// What was captured from the first of them on; past `size` it is padding.
+    pub bytes: &'a [u8],
+}
+
+/// What comes after the extension headers of a packet of IPv6.
+#[derive(Clone, Copy)]
+pub(crate) struct Upper<'a> {
+    /// The number of its protocol.
+    pub protocol: u8,
+    /// How many bytes it has, by the word of IPv6's header.
+    pub size: usize,
+    /// What was captured from the first of them on.
     pub bytes: &'a [u8],
 }
 
@@ -58,15 +68,13 @@ fn carried_by_4(bytes: &[u8], beyond: usize) -> Result<Carried<'_>, NoSegment> {
     if number_16(bytes, 6) % 0x4000 != 0 {
         return Err(NoSegment::Fragment);
     }
-    if bytes[9] != TCP {
-        return Err(NoSegment::NotTcp);
-    }
     if bytes.len() < header {
         return Err(NoSegment::CutInIp);
     }
     Ok(Carried {
         source: Address::V4([bytes[12], bytes[13], bytes[14], bytes[15]]),
         destination: Address::V4([bytes[16], bytes[17], bytes[18], bytes[19]]),
+        protocol: bytes[9],
         size: total - header,
         bytes: &bytes[header..],
     })
@@ -82,12 +90,13 @@ fn carried_by_6(bytes: &[u8], beyond: usize) -> Result<Carried<'_>, NoSegment> {
     }
     let (_, rest) = bytes.split_at(40);
     let size = length_or_all(number_16(bytes, 4), rest, beyond);
-    let (size, rest) = past_extensions(bytes[6], size, rest)?;
+    let upper = past_extensions(bytes[6], size, rest)?;
     Ok(Carried {
         source: address_6(&bytes[8..24]),
         destination: address_6(&bytes[24..40]),
-        size,
-        bytes: rest,
+        protocol: upper.protocol,
+        size: upper.size,
+        bytes: upper.bytes,
     })
 }
 
@@ -99,9 +108,8 @@ fn address_6(octets: &[u8]) -> Address {
     }
 }
 
-/// Passes over the extension headers, of which the first is of this kind. How many bytes are left of those that IP
-/// carries, and the bytes from the header of TCP on.
-fn past_extensions(kind: u8, size: usize, bytes: &[u8]) -> Result<(usize, &[u8]), NoSegment> {
+/// What comes after the extension headers, of which the first is of this kind; they and it have `size` bytes.
+fn past_extensions(kind: u8, size: usize, bytes: &[u8]) -> Result<Upper<'_>, NoSegment> {
     let mut kind = kind;
     let mut size = size;
     let mut bytes = bytes;
@@ -123,15 +131,11 @@ fn past_extensions(kind: u8, size: usize, bytes: &[u8]) -> Result<(usize, &[u8])
         size -= header;
         bytes = &bytes[header..];
     }
-    upper(kind, size, bytes)
-}
-
-/// What a header of this kind, which is no extension header that may be passed over, says of the bytes that are left.
-fn upper(kind: u8, size: usize, bytes: &[u8]) -> Result<(usize, &[u8]), NoSegment> {
-    match kind {
-        TCP => Ok((size, bytes)),
-        _ => Err(NoSegment::NotTcp),
-    }
+    Ok(Upper {
+        protocol: kind,
+        size,
+        bytes,
+    })
 }
 
 /// Whether an extension header may be passed over: options for each hop, routing, that of a fragment which is the whole packet,

@@ -1,6 +1,7 @@
 // Written by dist/erase from crates/cqlp_segment/src/link.rt.
 //! Headers of links, which stand before the header of IP.
 
+use crate::cqlp_segment::ether_type::{IpPacket, IpVersion, after_ether_type, with_version};
 use crate::cqlp_segment::fields::number_16;
 use crate::cqlp_segment::reason::NoSegment;
 
@@ -11,7 +12,7 @@ pub enum LinkType {
     Null,
     /// 1: Ethernet, with any number of tags of virtual networks.
     Ethernet,
-    /// 101: the header of IP comes first, of either version.
+    /// 101, and 12 and 14, which BSDs write for it: the header of IP comes first, of either version.
     Raw,
     /// 108: OpenBSD's loopback, whose family of addresses has its highest byte first.
     Loop,
@@ -25,21 +26,6 @@ pub enum LinkType {
     LinuxSll2,
 }
 
-/// A version of IP.
-#[derive(Clone, Copy, Debug, PartialEq, Eq)]
-pub(crate) enum IpVersion {
-    V4,
-    V6,
-}
-
-/// A packet of IP in a captured packet.
-#[derive(Clone, Copy)]
-pub(crate) struct IpPacket<'a> {
-    pub version: IpVersion,
-    /// The bytes from the header of IP on, with what pads the packet.
-    pub bytes: &'a [u8],
-}
-
 impl LinkType {
     /// The link type of this number; of any other, `UnknownLink`.
     ///
@@ -50,7 +36,7 @@ impl LinkType {
         match number {
             0 => Ok(LinkType::Null),
             1 => Ok(LinkType::Ethernet),
-            101 => Ok(LinkType::Raw),
+            12 | 14 | 101 => Ok(LinkType::Raw),
             108 => Ok(LinkType::Loop),
             113 => Ok(LinkType::LinuxSll),
             228 => Ok(LinkType::Ipv4),
@@ -69,13 +55,7 @@ pub(crate) fn ip_packet(link: LinkType, packet: &[u8]) -> Result<IpPacket<'_>, N
         LinkType::Ethernet => after_type(packet, 12, 14),
         LinkType::LinuxSll => after_type(packet, 14, 16),
         LinkType::LinuxSll2 => after_type(packet, 0, 20),
-        LinkType::Raw => {
-            let version = raw_version(packet)?;
-            Ok(IpPacket {
-                version,
-                bytes: packet,
-            })
-        }
+        LinkType::Raw => with_version(packet),
         LinkType::Ipv4 => Ok(IpPacket {
             version: IpVersion::V4,
             bytes: packet,
@@ -115,48 +95,15 @@ fn version_of_family(family: u32) -> Option<IpVersion> {
     }
 }
 
-/// What follows a header of this many bytes, which has an EtherType at this index, and the tags after it.
-fn after_type(packet: &[u8], index: usize, header: usize) -> Result<IpPacket<'_>, NoSegment> {
+/// What follows a header of this many bytes, which has an EtherType at this index.
+pub(crate) fn after_type(
+    packet: &[u8],
+    index: usize,
+    header: usize,
+) -> Result<IpPacket<'_>, NoSegment> {
     if packet.len() < header {
         return Err(NoSegment::CutInLink);
     }
     let (_, bytes) = packet.split_at(header);
-    let (ether_type, bytes) = untagged(number_16(packet, index), bytes)?;
-    let version = match ether_type {
-        0x0800 => IpVersion::V4,
-        0x86DD => IpVersion::V6,
-        _ => return Err(NoSegment::NotIp),
-    };
-    Ok(IpPacket { version, bytes })
-}
-
-/// The EtherType after all tags, and the bytes after it.
-fn untagged(ether_type: u16, bytes: &[u8]) -> Result<(u16, &[u8]), NoSegment> {
-    let mut ether_type = ether_type;
-    let mut bytes = bytes;
-    while is_tag(ether_type) {
-        if bytes.len() < 4 {
-            return Err(NoSegment::CutInLink);
-        }
-        ether_type = number_16(bytes, 2);
-        bytes = &bytes[4..];
-    }
-    Ok((ether_type, bytes))
-}
-
-/// Whether an EtherType is that of a tag of a virtual network.
-fn is_tag(ether_type: u16) -> bool {
-    matches!(ether_type, 0x8100 | 0x88A8 | 0x9100)
-}
-
-/// The version of IP that the first byte says.
-fn raw_version(packet: &[u8]) -> Result<IpVersion, NoSegment> {
-    match packet {
-        [] => Err(NoSegment::CutInIp),
-        [first, ..] => match first >> 4 {
-            4 => Ok(IpVersion::V4),
-            6 => Ok(IpVersion::V6),
-            _ => Err(NoSegment::NotIp),
-        },
-    }
+    after_ether_type(number_16(packet, index), bytes)
 }

@@ -2,12 +2,14 @@
 //! TCP segments out of captured packets.
 
 mod addresses;
+mod ether_type;
 mod fields;
 mod ip;
 mod link;
 mod reason;
 mod segments;
 mod tcp;
+mod tunnels;
 
 pub use addresses::{Address, Endpoint};
 pub use link::LinkType;

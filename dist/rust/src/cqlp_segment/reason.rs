@@ -6,9 +6,9 @@
 pub enum NoSegment {
     /// The link type is none of those that are known.
     UnknownLink,
-    /// The capture ends within the header of the link, or within its tags.
+    /// The capture ends within the header of a link, within tags or labels, or within the header of a session of PPPoE.
     CutInLink,
-    /// The link carries something else than IP, or the packet's version of IP is not the one that the link says.
+    /// A link or a tunnel carries something else than IP, or the packet's version of IP is not the one that it says.
     NotIp,
     /// The capture ends within the header of IP, or within an extension header of IPv6.
     CutInIp,
@@ -16,8 +16,12 @@ pub enum NoSegment {
     BadIpLength,
     /// A fragment that is not the whole packet: its bytes are no whole segment.
     Fragment,
-    /// IP carries something else than TCP.
+    /// IP carries something else than TCP, and no tunnel that is opened.
     NotTcp,
+    /// The capture, or what IP carries, ends within the header of a tunnel.
+    CutInTunnel,
+    /// A tunnel in four others.
+    TooManyTunnels,
     /// The capture ends within the header of TCP.
     CutInTcp,
     /// The header of TCP is shorter than 20 bytes, or longer than what IP carries.

@@ -3,10 +3,11 @@
 
 use crate::cqlp_segment::addresses::Endpoint;
 use crate::cqlp_segment::fields::{number_16, number_32};
-use crate::cqlp_segment::ip::{Carried, carried_by};
+use crate::cqlp_segment::ip::Carried;
 use crate::cqlp_segment::link::{LinkType, ip_packet};
 use crate::cqlp_segment::reason::NoSegment;
 use crate::cqlp_segment::tcp::{Flags, header_length};
+use crate::cqlp_segment::tunnels::innermost;
 
 /// What the headers say of a segment.
 #[derive(Clone, Copy, Debug, PartialEq, Eq)]
@@ -35,6 +36,8 @@ pub struct Segment<'a> {
 /// The segment of TCP in a packet that was captured on a link of this type, of which the packet had `original` bytes; or the
 /// first reason, from the outer header to the inner, why there is none.
 ///
+/// Tunnels are opened, up to four in one another: IP in IP, GRE, and VXLAN.
+///
 /// Checksums are not looked at, since network cards make them after a sender's packet was captured. Where a header of IP says
 /// the length 0, as it does of what a network card is to cut into segments, IP carries all that the packet had.
 ///
@@ -44,7 +47,7 @@ pub struct Segment<'a> {
 pub fn read_segment(link: LinkType, packet: &[u8], original: u32) -> Result<Segment<'_>, NoSegment> {
     let beyond = (original as usize).saturating_sub(packet.len());
     let ip = ip_packet(link, packet)?;
-    let carried = carried_by(ip, beyond)?;
+    let carried = innermost(ip, beyond)?;
     let header = header_length(&carried)?;
     Ok(Segment {
         head: head_of(&carried),

@@ -1,174 +1,169 @@
 // Written by dist/erase from crates/cqlp_streams/src/ending.rt.
 //! How the reading of a capture ends: its line, and its exit status.
 
-use crate::kit_host::prelude::{AllocGlobal, String, format};
 use crate::cqlp_streams::capturing::CaptureRead;
 use crate::cqlp_streams::fault::StreamsFault;
-use crate::cqlp_streams::files::{FileFault, StreamFile};
-use crate::cqlp_streams::lines::way_name;
-use crate::cqlp_streams::summary::{push_head, push_own, push_reasons, push_table};
-use crate::cqlp_capture::{CaptureEnd, CaptureReason};
+use crate::cqlp_streams::files::FileFault;
+use crate::cqlp_streams::last_words::LastWords;
+use crate::cqlp_streams::lines::file_line;
+use crate::cqlp_streams::skipped::put_skipped;
+use crate::cqlp_streams::summary::{put_head, put_reasons, put_table};
+use crate::cqlp_capture::{CaptureEnd, CaptureReason, CaptureRefusal};
 use crate::cqlp_grammar::SinkFault;
 use crate::cqlp_note::Target;
 use crate::cqlp_text::exit_status::{DONE, FAULT, NOT_WHOLE};
-use crate::cqlp_text::put_text;
-use crate::kit_std::alloc::{AllocError, Allocator, Global};
+use crate::cqlp_text::{Pen, TextWriter, put_text};
 
-/// The exit status where the reading of a capture ends so: 0 of a whole one, 1 of one that is cut or refused, and 3 after a fault.
-pub fn capture_status(answer: &Result<CaptureRead, StreamsFault>) -> u8 {
-    match answer {
-        Ok(read) => match read.end {
-            CaptureEnd::Whole { .. } => DONE,
-            CaptureEnd::Cut { .. } | CaptureEnd::Refused(_) => NOT_WHOLE,
-        },
-        Err(_) => FAULT,
-    }
-}
-
-/// The last line where the reading of a capture ends so: how it ends, its packets, segments and connections, then a caller's own words,
-/// and then the counts that are not 0. After a fault it is that of the fault.
-pub fn capture_line<'a, A: Allocator>(
-    alloc: &'a A,
+/// Writes the last line where the reading of a capture ends so: how it ends, its packets, segments and connections, then a caller's own
+/// words, and then the counts that are not 0; and before it a caller's note, where there is one. After a fault it writes the line of that.
+/// Answers the exit status, which is that of a fault where the target fails, and with a note not that of a whole capture. No memory is asked
+/// for.
+pub fn conclude_capture<W: LastWords, E: Target>(
     answer: &Result<CaptureRead, StreamsFault>,
-    words: &str,
-) -> Result<String<&'a A>, AllocError> {
-    match answer {
-        Ok(read) => read_line(alloc, read, words),
-        Err(fault) => fault_line(alloc, fault),
-    }
-}
-
-/// Writes the last line where the reading of a capture ends so, with a caller's own words. Answers the exit status, which is that of a
-/// fault where the target fails. Where there is no memory for the line, that is said in its place.
-pub fn conclude_capture<E: Target>(
-    alloc: Global,
-    answer: &Result<CaptureRead, StreamsFault>,
-    words: &str,
+    last: &W,
     err: E,
 ) -> (u8, E) {
-    conclude_noted(alloc, answer, "", words, err)
+    match answer {
+        Ok(read) => conclude_read(read, last, err),
+        Err(fault) => conclude_fault(fault, err),
+    }
 }
 
-/// Writes the last line where the reading of a capture ends so, with a caller's own words; and before it, where the capture was read to its end, a
-/// note on what was not seen, which ends with a line break. Answers the exit status: with a note it is not that of a whole capture.
-pub fn conclude_noted<E: Target>(
-    alloc: Global,
-    answer: &Result<CaptureRead, StreamsFault>,
-    note: &str,
-    words: &str,
-    mut err: E,
-) -> (u8, E) {
-    let Ok(line) = noted_line(&alloc, answer, note, words) else {
-        return match put_text("cqlp: no memory\n", &mut err) {
-            Ok(()) | Err(SinkFault) => (FAULT, err),
-        };
-    };
-    match put_text(&line, &mut err) {
-        Ok(()) => (noted_status(answer, note), err),
+/// Writes the line of a fault. Answers the exit status of a fault.
+fn conclude_fault<E: Target>(fault: &StreamsFault, mut err: E) -> (u8, E) {
+    match fault_line(fault, &mut err) {
+        Ok(()) | Err(SinkFault) => (FAULT, err),
+    }
+}
+
+/// Writes a note, where there is one, and the line of a capture that was read to its end.
+fn conclude_read<W: LastWords, E: Target>(read: &CaptureRead, last: &W, mut err: E) -> (u8, E) {
+    match read_line(read, last, &mut err) {
+        Ok(()) => (noted_status(read, last), err),
         Err(SinkFault) => (FAULT, err),
     }
 }
 
-/// The exit status with a note, where there is one.
-fn noted_status(answer: &Result<CaptureRead, StreamsFault>, note: &str) -> u8 {
-    if note.is_empty() {
-        return capture_status(answer);
-    }
-    match answer {
-        Ok(_) => NOT_WHOLE,
-        Err(_) => FAULT,
+/// The exit status of a capture that was read to its end, or to where it is refused. With a note it is not that of a whole one.
+fn noted_status<W: LastWords>(read: &CaptureRead, last: &W) -> u8 {
+    if last.has_note() {
+        NOT_WHOLE
+    } else {
+        end_status(&read.end)
     }
 }
 
-/// The last line, and a note before it, where there is one.
-fn noted_line<'a, A: Allocator>(
-    alloc: &'a A,
-    answer: &Result<CaptureRead, StreamsFault>,
-    note: &str,
-    words: &str,
-) -> Result<String<&'a A>, AllocError> {
-    if note.is_empty() {
-        return capture_line(alloc, answer, words);
-    }
-    match answer {
-        Ok(read) => noted_read_line(alloc, read, note, words),
-        Err(fault) => fault_line(alloc, fault),
-    }
-}
-
-/// A note, and the line of a capture that was read to its end.
-fn noted_read_line<'a, A: Allocator>(
-    alloc: &'a A,
-    read: &CaptureRead,
-    note: &str,
-    words: &str,
-) -> Result<String<&'a A>, AllocError> {
-    let line = read_line(alloc, read, words)?;
-    format!(in alloc; "{note}{line}")
-}
-
-/// The line of a capture that was read to its end.
-fn read_line<'a, A: Allocator>(
-    alloc: &'a A,
-    read: &CaptureRead,
-    words: &str,
-) -> Result<String<&'a A>, AllocError> {
-    let mut line = verdict(alloc, &read.end)?;
-    push_head(&mut line, read)?;
-    push_own(&mut line, words)?;
-    push_table(&mut line, &read.connections)?;
-    push_reasons(&mut line, &read.packets.without)?;
-    line.push_str("\n")?;
-    Ok(line)
-}
-
-fn verdict<A: Allocator>(alloc: A, end: &CaptureEnd) -> Result<String<A>, AllocError> {
+fn end_status(end: &CaptureEnd) -> u8 {
     match end {
-        CaptureEnd::Whole { bytes } => format!(in alloc; "whole {bytes}"),
-        CaptureEnd::Cut { at, bytes } => format!(in alloc; "cut {at} {bytes}"),
-        CaptureEnd::Refused(refusal) => {
-            let at = refusal.at;
-            let why = reason_name(refusal.why);
-            format!(in alloc; "refused {at} {why}")
-        }
+        CaptureEnd::Whole { .. } => DONE,
+        CaptureEnd::Cut { .. } | CaptureEnd::Refused(_) => NOT_WHOLE,
     }
+}
+
+/// Appends a note, where there is one, and the line of a capture that was read to its end.
+fn read_line<W: LastWords, E: Target>(
+    read: &CaptureRead,
+    last: &W,
+    target: &mut E,
+) -> Result<(), SinkFault> {
+    let mut writer = TextWriter::over(target);
+    let Ok(()) = put_noted(&mut writer, read, last) else {
+        let _ = writer.into_target();
+        return Err(SinkFault);
+    };
+    let passed_on = writer.flush();
+    let _ = writer.into_target();
+    passed_on
+}
+
+fn put_noted<P: Pen, W: LastWords>(
+    writer: &mut TextWriter<P>,
+    read: &CaptureRead,
+    last: &W,
+) -> Result<(), SinkFault> {
+    last.put_note(writer)?;
+    put_read(writer, read, last)
+}
+
+/// Takes the line of a capture that was read to its end.
+fn put_read<P: Pen, W: LastWords>(
+    writer: &mut TextWriter<P>,
+    read: &CaptureRead,
+    last: &W,
+) -> Result<(), SinkFault> {
+    put_verdict(writer, &read.end)?;
+    put_head(writer, read)?;
+    writer.put(b" ")?;
+    last.put_words(writer)?;
+    put_table(writer, &read.connections)?;
+    put_reasons(writer, &read.packets.without)?;
+    put_skipped(writer, &read.packets.skipped)?;
+    writer.put(b"\n")
+}
+
+fn put_verdict<P: Pen>(writer: &mut TextWriter<P>, end: &CaptureEnd) -> Result<(), SinkFault> {
+    match end {
+        CaptureEnd::Whole { bytes } => put_whole(writer, *bytes),
+        CaptureEnd::Cut { at, bytes } => put_cut(writer, *at, *bytes),
+        CaptureEnd::Refused(refusal) => put_refused(writer, *refusal),
+    }
+}
+
+fn put_whole<P: Pen>(writer: &mut TextWriter<P>, bytes: u64) -> Result<(), SinkFault> {
+    writer.put(b"whole ")?;
+    writer.put_number(bytes)
+}
+
+fn put_cut<P: Pen>(writer: &mut TextWriter<P>, at: u64, bytes: u64) -> Result<(), SinkFault> {
+    writer.put(b"cut ")?;
+    writer.put_number(at)?;
+    writer.put(b" ")?;
+    writer.put_number(bytes)
+}
+
+fn put_refused<P: Pen>(writer: &mut TextWriter<P>, refusal: CaptureRefusal) -> Result<(), SinkFault> {
+    writer.put_str(hint(refusal.why))?;
+    writer.put(b"refused ")?;
+    writer.put_number(refusal.at)?;
+    writer.put(b" ")?;
+    writer.put_str(reason_name(refusal.why))
 }
 
 fn reason_name(why: CaptureReason) -> &'static str {
     match why {
+        CaptureReason::Gzip => "Gzip",
         CaptureReason::UnknownMagic => "UnknownMagic",
         CaptureReason::UnknownVersion => "UnknownVersion",
-        CaptureReason::PacketTooLong => "PacketTooLong",
         CaptureReason::FileTooLong => "FileTooLong",
         CaptureReason::UnknownByteOrder => "UnknownByteOrder",
         CaptureReason::BadBlockLength => "BadBlockLength",
         CaptureReason::UnequalBlockLengths => "UnequalBlockLengths",
-        CaptureReason::BadOptionLength => "BadOptionLength",
-        CaptureReason::UnknownTimeUnit => "UnknownTimeUnit",
-        CaptureReason::NegativeTimeOffset => "NegativeTimeOffset",
-        CaptureReason::TooManyInterfaces => "TooManyInterfaces",
-        CaptureReason::UnknownInterface => "UnknownInterface",
-        CaptureReason::PacketBeyondBlock => "PacketBeyondBlock",
-        CaptureReason::TimeTooLarge => "TimeTooLarge",
     }
 }
 
-fn fault_line<A: Allocator>(alloc: A, fault: &StreamsFault) -> Result<String<A>, AllocError> {
+/// A line before the last one, where the file is compressed by gzip.
+fn hint(why: CaptureReason) -> &'static str {
+    match why {
+        CaptureReason::Gzip => "cqlp: compressed by gzip: gunzip -c FILE | cqlp capture -\n",
+        CaptureReason::UnknownMagic
+        | CaptureReason::UnknownVersion
+        | CaptureReason::FileTooLong
+        | CaptureReason::UnknownByteOrder
+        | CaptureReason::BadBlockLength
+        | CaptureReason::UnequalBlockLengths => "",
+    }
+}
+
+/// Appends the line of a fault. Takes no memory.
+fn fault_line<E: Target>(fault: &StreamsFault, err: &mut E) -> Result<(), SinkFault> {
     match fault {
-        StreamsFault::Read => String::from_str(alloc, "cqlp: read fault\n"),
-        StreamsFault::Write => String::from_str(alloc, "cqlp: write fault\n"),
-        StreamsFault::TooManyTurns => String::from_str(alloc, "cqlp: too many turns\n"),
-        StreamsFault::NoMemory => String::from_str(alloc, "cqlp: no memory\n"),
-        StreamsFault::File(FileFault::NoMemory) => String::from_str(alloc, "cqlp: no memory\n"),
-        StreamsFault::File(FileFault::CannotMake(file)) => file_line(alloc, "make", file),
-        StreamsFault::File(FileFault::CannotWrite(file)) => file_line(alloc, "write", file),
-        StreamsFault::File(FileFault::CannotKeep(file)) => file_line(alloc, "keep", file),
+        StreamsFault::Read => put_text("cqlp: read fault\n", err),
+        StreamsFault::Write => put_text("cqlp: write fault\n", err),
+        StreamsFault::TooManyTurns => put_text("cqlp: too many turns\n", err),
+        StreamsFault::NoMemory => put_text("cqlp: no memory\n", err),
+        StreamsFault::File(FileFault::NoMemory) => put_text("cqlp: no memory\n", err),
+        StreamsFault::File(FileFault::CannotMake(file)) => file_line("make", *file, err),
+        StreamsFault::File(FileFault::CannotWrite(file)) => file_line("write", *file, err),
+        StreamsFault::File(FileFault::CannotKeep(file)) => file_line("keep", *file, err),
     }
-}
-
-/// The line of a file with which that cannot be done.
-fn file_line<A: Allocator>(alloc: A, deed: &str, file: &StreamFile) -> Result<String<A>, AllocError> {
-    let number = file.number;
-    let way = way_name(file.way);
-    format!(in alloc; "cqlp: cannot {deed} {number}.{way}.bin\n")
 }

@@ -4,32 +4,108 @@
 use crate::kit_host::prelude::{AllocGlobal, String, format};
 use crate::cqlp_streams::files::StreamFile;
 use crate::cqlp_connections::{Begin, ConnectionTotals, DirectionTotals, End, Way};
+use crate::cqlp_grammar::SinkFault;
+use crate::cqlp_note::Target;
 use crate::cqlp_segment::{Address, Endpoint};
+use crate::cqlp_text::{Pen, TextWriter};
 use crate::kit_std::alloc::{AllocError, Allocator};
 use crate::kit_host::net::{Ipv4Addr, Ipv6Addr};
 
 /// The name of a way, as it is in names of files.
-pub(crate) fn way_name(way: Way) -> &'static str {
+fn way_name(way: Way) -> &'static str {
     match way {
         Way::Requests => "requests",
         Way::Responses => "responses",
     }
 }
 
-/// The line of a gap: its connection and direction, how many bytes were told before it, and how many are missing.
-pub(crate) fn gap_line<A: Allocator>(
-    alloc: A,
+/// Appends the line of a gap: its connection and direction, how many bytes were told before it, and how many are missing. Takes no memory.
+pub(crate) fn gap_line<W: Target>(
     file: StreamFile,
     at: u64,
     length: usize,
-) -> Result<String<A>, AllocError> {
-    let StreamFile { number, way } = file;
-    let way = way_name(way);
-    format!(in alloc; "gap {number} {way} {at} {length}\n")
+    target: &mut W,
+) -> Result<(), SinkFault> {
+    let mut writer = TextWriter::over(target);
+    let Ok(()) = put_gap(&mut writer, file, at, length) else {
+        let _ = writer.into_target();
+        return Err(SinkFault);
+    };
+    let passed_on = writer.flush();
+    let _ = writer.into_target();
+    passed_on
+}
+
+/// Takes the line of a gap.
+fn put_gap<P: Pen>(
+    writer: &mut TextWriter<P>,
+    file: StreamFile,
+    at: u64,
+    length: usize,
+) -> Result<(), SinkFault> {
+    writer.put(b"gap ")?;
+    writer.put_number(file.number)?;
+    writer.put(b" ")?;
+    writer.put_str(way_name(file.way))?;
+    writer.put(b" ")?;
+    writer.put_number(at)?;
+    writer.put(b" ")?;
+    writer.put_number(length as u64)?;
+    writer.put(b"\n")
+}
+
+/// Appends the line of a file with which that cannot be done. Takes no memory.
+pub(crate) fn file_line<W: Target>(
+    deed: &str,
+    file: StreamFile,
+    target: &mut W,
+) -> Result<(), SinkFault> {
+    let mut writer = TextWriter::over(target);
+    let Ok(()) = put_file(&mut writer, deed, file) else {
+        let _ = writer.into_target();
+        return Err(SinkFault);
+    };
+    let passed_on = writer.flush();
+    let _ = writer.into_target();
+    passed_on
+}
+
+/// Takes the line of a file with which that cannot be done.
+fn put_file<P: Pen>(
+    writer: &mut TextWriter<P>,
+    deed: &str,
+    file: StreamFile,
+) -> Result<(), SinkFault> {
+    writer.put(b"cqlp: cannot ")?;
+    writer.put_str(deed)?;
+    writer.put(b" ")?;
+    writer.put_number(file.number)?;
+    writer.put(b".")?;
+    writer.put_str(way_name(file.way))?;
+    writer.put(b".bin\n")
+}
+
+/// Makes the lines of connections in memory, and has it for nothing else.
+pub(crate) struct ConnectionLines<A: Allocator> {
+    alloc: A,
+}
+
+impl<A: Allocator> ConnectionLines<A> {
+    /// In this memory.
+    pub(crate) fn new(alloc: A) -> Self {
+        ConnectionLines { alloc }
+    }
+}
+
+impl<A: Allocator> ConnectionLines<A> {
+    /// The line of a connection that has left.
+    pub(crate) fn line(&self, totals: &ConnectionTotals) -> Result<String<&A>, AllocError> {
+        connection_line(&self.alloc, totals)
+    }
 }
 
 /// The line of a connection that has left.
-pub(crate) fn connection_line<'a, A: Allocator>(
+fn connection_line<'a, A: Allocator>(
     alloc: &'a A,
     totals: &ConnectionTotals,
 ) -> Result<String<&'a A>, AllocError> {

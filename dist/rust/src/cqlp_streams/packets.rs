@@ -1,6 +1,8 @@
 // Written by dist/erase from crates/cqlp_streams/src/packets.rt.
 //! What the packets of a capture were, in numbers.
 
+use crate::cqlp_streams::skipped::SkippedCounts;
+use crate::cqlp_capture::SkipReason;
 use crate::cqlp_segment::NoSegment;
 
 /// Packets without a segment of TCP, by the reason. A number stays at 2^64 - 1 once it is there.
@@ -13,6 +15,8 @@ pub struct WithoutCounts {
     pub bad_ip_length: u64,
     pub fragment: u64,
     pub not_tcp: u64,
+    pub cut_in_tunnel: u64,
+    pub too_many_tunnels: u64,
     pub cut_in_tcp: u64,
     pub bad_tcp_length: u64,
 }
@@ -26,6 +30,7 @@ pub struct PacketCounts {
     /// Those of connections of which not all of the payload was captured, since the packet was cut.
     pub snapped: u64,
     pub without: WithoutCounts,
+    pub skipped: SkippedCounts,
 }
 
 impl WithoutCounts {
@@ -39,6 +44,10 @@ impl WithoutCounts {
             NoSegment::BadIpLength => self.bad_ip_length = self.bad_ip_length.saturating_add(1),
             NoSegment::Fragment => self.fragment = self.fragment.saturating_add(1),
             NoSegment::NotTcp => self.not_tcp = self.not_tcp.saturating_add(1),
+            NoSegment::CutInTunnel => self.cut_in_tunnel = self.cut_in_tunnel.saturating_add(1),
+            NoSegment::TooManyTunnels => {
+                self.too_many_tunnels = self.too_many_tunnels.saturating_add(1)
+            }
             NoSegment::CutInTcp => self.cut_in_tcp = self.cut_in_tcp.saturating_add(1),
             NoSegment::BadTcpLength => self.bad_tcp_length = self.bad_tcp_length.saturating_add(1),
         }
@@ -58,9 +67,12 @@ impl PacketCounts {
             bad_ip_length: 0,
             fragment: 0,
             not_tcp: 0,
+            cut_in_tunnel: 0,
+            too_many_tunnels: 0,
             cut_in_tcp: 0,
             bad_tcp_length: 0,
         },
+        skipped: SkippedCounts::NONE,
     };
 
     /// Counts a packet with a segment, of a connection and cut or not.
@@ -76,5 +88,10 @@ impl PacketCounts {
     pub(crate) fn count_without(&mut self, why: NoSegment) {
         self.packets = self.packets.saturating_add(1);
         self.without.count(why);
+    }
+
+    /// Counts a block, an interface or a packet that cannot be read.
+    pub(crate) fn count_skipped(&mut self, why: SkipReason) {
+        self.skipped.count(why);
     }
 }

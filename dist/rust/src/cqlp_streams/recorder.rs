@@ -1,17 +1,18 @@
 // Written by dist/erase from crates/cqlp_streams/src/recorder.rt.
 //! What is told of connections, on its way to files and to lines.
 
-use crate::kit_host::prelude::{AllocGlobal, String, format};
+use crate::kit_host::prelude::{AllocGlobal};
 use crate::cqlp_streams::fault::StreamsFault;
 use crate::cqlp_streams::files::{StreamFile, StreamFiles};
-use crate::cqlp_streams::lines::{connection_line, gap_line};
+use crate::cqlp_streams::last_words::LastWords;
+use crate::cqlp_streams::lines::{ConnectionLines, gap_line};
 use crate::cqlp_streams::listener::Listener;
 use crate::cqlp_streams::saying::Saying;
 use crate::cqlp_connections::{ConnectionTotals, DirectionTotals, Told};
 use crate::cqlp_grammar::SinkFault;
 use crate::cqlp_note::Target;
 use crate::cqlp_reassembly::StreamStep;
-use crate::cqlp_text::put_text;
+use crate::cqlp_text::{Pen, TextWriter, put_text};
 use crate::kit_std::alloc::{AllocError, Allocator};
 
 /// What was told of the connections that have left. A number stays at 2^64 - 1 once it is there.
@@ -24,7 +25,7 @@ pub(crate) struct Sums {
 
 /// Has files keep the bytes of connections, and writes a line for each gap and for each connection that has left.
 pub(crate) struct Recorder<F: StreamFiles, O: Target, A: Allocator> {
-    alloc: A,
+    lines: ConnectionLines<A>,
     files: F,
     out: O,
     sums: Sums,
@@ -36,10 +37,26 @@ impl Sums {
         self.bytes = self.bytes.saturating_add(totals.bytes);
     }
 
-    /// Their words in the last line.
-    pub fn words<A: Allocator>(&self, alloc: A) -> Result<String<A>, AllocError> {
-        let Sums { gaps, bytes } = *self;
-        format!(in alloc; "gaps {gaps} bytes {bytes}")
+    /// Takes their words in the last line.
+    fn put<P: Pen>(&self, writer: &mut TextWriter<P>) -> Result<(), SinkFault> {
+        writer.put(b"gaps ")?;
+        writer.put_number(self.gaps)?;
+        writer.put(b" bytes ")?;
+        writer.put_number(self.bytes)
+    }
+}
+
+impl LastWords for Sums {
+    fn has_note(&self) -> bool {
+        false
+    }
+
+    fn put_note<P: Pen>(&self, writer: &mut TextWriter<P>) -> Result<(), SinkFault> {
+        writer.put(b"")
+    }
+
+    fn put_words<P: Pen>(&self, writer: &mut TextWriter<P>) -> Result<(), SinkFault> {
+        self.put(writer)
     }
 }
 
@@ -47,7 +64,7 @@ impl<F: StreamFiles, O: Target, A: Allocator> Recorder<F, O, A> {
     /// Over files and an output, with nothing told.
     pub fn new(alloc: A, files: F, out: O) -> Self {
         Recorder {
-            alloc,
+            lines: ConnectionLines::new(alloc),
             files,
             out,
             sums: Sums { gaps: 0, bytes: 0 },
@@ -57,7 +74,7 @@ impl<F: StreamFiles, O: Target, A: Allocator> Recorder<F, O, A> {
     /// The files, the output and the sums.
     pub fn into_parts(self) -> (F, O, Sums) {
         let Recorder {
-            alloc: _,
+            lines: _,
             files,
             out,
             sums,
@@ -94,11 +111,11 @@ impl<F: StreamFiles, O: Target, A: Allocator> Recorder<F, O, A> {
         }
     }
 
-    /// Writes the line of a gap.
+    /// Writes the line of a gap, for which there is no memory to take.
     fn put_gap(&mut self, file: StreamFile, at: u64, length: usize) -> Result<(), StreamsFault> {
-        match gap_line(&self.alloc, file, at, length) {
-            Ok(line) => put_line(&line, &mut self.out),
-            Err(AllocError) => Err(StreamsFault::NoMemory),
+        match gap_line(file, at, length, &mut self.out) {
+            Ok(()) => Ok(()),
+            Err(SinkFault) => Err(StreamsFault::Write),
         }
     }
 
@@ -107,7 +124,7 @@ impl<F: StreamFiles, O: Target, A: Allocator> Recorder<F, O, A> {
         self.files.keep(totals.number)?;
         self.sums.add(&totals.requests);
         self.sums.add(&totals.responses);
-        match connection_line(&self.alloc, totals) {
+        match self.lines.line(totals) {
             Ok(line) => put_line(&line, &mut self.out),
             Err(AllocError) => Err(StreamsFault::NoMemory),
         }

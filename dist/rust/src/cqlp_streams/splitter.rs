@@ -55,6 +55,10 @@ impl<A: Allocator> Splitter<A> {
                 Ok(())
             }
             CaptureEvent::Data(packet) => self.take_packet(packet, listener),
+            CaptureEvent::Skipped(why) => {
+                self.counts.count_skipped(*why);
+                Ok(())
+            }
         }
     }
 

@@ -1,61 +1,66 @@
 // Written by dist/erase from crates/cqlp_streams/src/summary.rt.
 //! What a capture was, in numbers.
 
-use crate::kit_host::prelude::{String};
 use crate::cqlp_streams::capturing::CaptureRead;
 use crate::cqlp_streams::packets::WithoutCounts;
 use crate::cqlp_connections::ConnectionCounts;
-use crate::kit_std::alloc::{AllocError, Allocator};
+use crate::cqlp_grammar::SinkFault;
+use crate::cqlp_text::{Pen, TextWriter};
 
-/// Appends how many packets, segments and connections there were.
-pub(crate) fn push_head<A: Allocator>(
-    words: &mut String<A>,
+/// Takes how many packets, segments and connections there were.
+pub(crate) fn put_head<P: Pen>(
+    writer: &mut TextWriter<P>,
     read: &CaptureRead,
-) -> Result<(), AllocError> {
-    push_named(words, "packets", read.packets.packets)?;
-    push_named(words, "segments", read.packets.segments)?;
-    push_named(words, "connections", read.connections.connections)
+) -> Result<(), SinkFault> {
+    put_named(writer, "packets", read.packets.packets)?;
+    put_named(writer, "segments", read.packets.segments)?;
+    put_named(writer, "connections", read.connections.connections)
 }
 
-/// Appends a caller's own words, after a space.
-pub(crate) fn push_own<A: Allocator>(words: &mut String<A>, own: &str) -> Result<(), AllocError> {
-    write!(words, " {own}")
-}
-
-/// Appends what connections did not take.
-pub(crate) fn push_table<A: Allocator>(
-    words: &mut String<A>,
+/// Takes what connections did not take.
+pub(crate) fn put_table<P: Pen>(
+    writer: &mut TextWriter<P>,
     counts: &ConnectionCounts,
-) -> Result<(), AllocError> {
-    push_count(words, "Crowded", counts.crowded)?;
-    push_count(words, "OtherPorts", counts.foreign)
+) -> Result<(), SinkFault> {
+    put_count(writer, "Crowded", counts.crowded)?;
+    put_count(writer, "OtherPorts", counts.foreign)
 }
 
-/// Appends how many packets had no segment, by the reason.
-pub(crate) fn push_reasons<A: Allocator>(
-    words: &mut String<A>,
+/// Takes how many packets had no segment, by the reason.
+pub(crate) fn put_reasons<P: Pen>(
+    writer: &mut TextWriter<P>,
     counts: &WithoutCounts,
-) -> Result<(), AllocError> {
-    push_count(words, "UnknownLink", counts.unknown_link)?;
-    push_count(words, "CutInLink", counts.cut_in_link)?;
-    push_count(words, "NotIp", counts.not_ip)?;
-    push_count(words, "CutInIp", counts.cut_in_ip)?;
-    push_count(words, "BadIpLength", counts.bad_ip_length)?;
-    push_count(words, "Fragment", counts.fragment)?;
-    push_count(words, "NotTcp", counts.not_tcp)?;
-    push_count(words, "CutInTcp", counts.cut_in_tcp)?;
-    push_count(words, "BadTcpLength", counts.bad_tcp_length)
+) -> Result<(), SinkFault> {
+    put_count(writer, "UnknownLink", counts.unknown_link)?;
+    put_count(writer, "CutInLink", counts.cut_in_link)?;
+    put_count(writer, "NotIp", counts.not_ip)?;
+    put_count(writer, "CutInIp", counts.cut_in_ip)?;
+    put_count(writer, "BadIpLength", counts.bad_ip_length)?;
+    put_count(writer, "Fragment", counts.fragment)?;
+    put_count(writer, "NotTcp", counts.not_tcp)?;
+    put_count(writer, "CutInTunnel", counts.cut_in_tunnel)?;
+    put_count(writer, "TooManyTunnels", counts.too_many_tunnels)?;
+    put_count(writer, "CutInTcp", counts.cut_in_tcp)?;
+    put_count(writer, "BadTcpLength", counts.bad_tcp_length)
 }
 
-/// Appends a name and a number, each after a space, unless the number is 0.
-fn push_count<A: Allocator>(words: &mut String<A>, name: &str, count: u64) -> Result<(), AllocError> {
+/// Takes a name and a number, each after a space, unless the number is 0.
+pub fn put_count<P: Pen>(
+    writer: &mut TextWriter<P>,
+    name: &str,
+    count: u64,
+) -> Result<(), SinkFault> {
     if count == 0 {
-        return Ok(());
+        writer.put(b"")
+    } else {
+        put_named(writer, name, count)
     }
-    push_named(words, name, count)
 }
 
-/// Appends a name and a number, each after a space.
-fn push_named<A: Allocator>(words: &mut String<A>, name: &str, count: u64) -> Result<(), AllocError> {
-    write!(words, " {name} {count}")
+/// Takes a name and a number, each after a space.
+fn put_named<P: Pen>(writer: &mut TextWriter<P>, name: &str, count: u64) -> Result<(), SinkFault> {
+    writer.put(b" ")?;
+    writer.put_str(name)?;
+    writer.put(b" ")?;
+    writer.put_number(count)
 }

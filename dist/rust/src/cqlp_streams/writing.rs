@@ -2,13 +2,12 @@
 //! A capture whose streams are written.
 
 use crate::kit_host::prelude::{AllocGlobal};
-use crate::cqlp_streams::capturing::{CaptureRead, LIMITS, read_capture};
+use crate::cqlp_streams::capturing::{LIMITS, read_capture};
 use crate::cqlp_streams::ending::conclude_capture;
-use crate::cqlp_streams::fault::StreamsFault;
 use crate::cqlp_streams::files::StreamFiles;
-use crate::cqlp_streams::recorder::{Recorder, Sums};
+use crate::cqlp_streams::recorder::Recorder;
 use crate::cqlp_note::{Source, Target};
-use crate::kit_std::alloc::{AllocError, Global};
+use crate::kit_std::alloc::Global;
 
 /// Splits a capture into the streams of its connections with nodes that listen on these ports. Writes a line for each gap and for each
 /// connection to `out`, and what the capture was, or the fault line, to `err`. Answers the exit status, the files and the two outputs.
@@ -26,19 +25,6 @@ pub fn write_streams<R: Source, F: StreamFiles, O: Target, E: Target>(
     let mut recorder = Recorder::new(alloc, files, out);
     let answer = read_capture(alloc, LIMITS, ports, input, &mut recorder);
     let (files, out, sums) = recorder.into_parts();
-    let (status, err) = conclude_streams(alloc, &answer, &sums, err);
+    let (status, err) = conclude_capture(&answer, &sums, err);
     (status, files, out, err)
-}
-
-/// Writes the line of how the reading ended. Answers the exit status.
-fn conclude_streams<E: Target>(
-    alloc: Global,
-    answer: &Result<CaptureRead, StreamsFault>,
-    sums: &Sums,
-    err: E,
-) -> (u8, E) {
-    match sums.words(alloc) {
-        Ok(words) => conclude_capture(alloc, answer, &words, err),
-        Err(AllocError) => conclude_capture(alloc, &Err(StreamsFault::NoMemory), "", err),
-    }
 }
