@@ -1,5 +1,5 @@
 -- What an inbox hears, read by read.
-use Rattle.std.proofs.Common.{◌≡◌, ℕ, true, ◌+◌, ◌-◌, ◌≤◌, List, [], ◌∷◌, ◌++◌, length, take, drop, inl, inr, refl, sym, ap, ◌∙◌, append_assoc, arith}
+use Rattle.std.proofs.Common.{◌≡◌, ℕ, true, ◌+◌, ◌-◌, ◌≤◌, List, [], ◌∷◌, ◌++◌, length, take, drop, inl, inr, refl, sym, ap, subst, ◌∙◌, append_assoc, arith}
 use Rattle.std.proofs.lemmas.List.{append-nil, take-append-drop, length-append, length-take, drop-take, drop-drop}
 use Rattle.std.proofs.KnownBytes.{Consumes-nil, Consumes-trans}
 use Rattle.std.specs.Prelude.{Ok, Err}
@@ -7,13 +7,14 @@ use Rattle.cqlp_note.specs.declared.header.Header.{Header}
 use Rattle.cqlp_note.specs.declared.refusal.Refusal.{Refusal}
 use Rattle.cqlp_decode.specs.Reading.{Verdict, Waits, Refused}
 use Rattle.cqlp_decode.specs.Streams.{state}
+use Rattle.cqlp_decode.specs.Draining.{Calls}
 use Rattle.cqlp_loop.specs.declared.fault.LoopFault.{LoopFault}
 use Rattle.cqlp_loop.specs.declared.fault.LoopFault.TheVariants as fault
 use Rattle.cqlp_loop.specs.declared.inbox.Edge.{Edge}
 use Rattle.cqlp_loop.specs.declared.inbox.Mark.{Mark}
 use Rattle.cqlp_loop.specs.declared.inbox.Mark.TheVariants as mark
 use Rattle.cqlp_loop.specs.Hearing.{Hearing, idle, amid}
-use Rattle.cqlp_loop.specs.Inboxes.{Supply, InboxState, Tells, SaysAll, IsWithout, Uses, Fills, Reads, IsShort, AreNeeded, Hears, Lacks, Misses, HearsRest, Receives, StopsAt, awaiting, for_next}
+use Rattle.cqlp_loop.specs.Inboxes.{Supply, MakesCalls, InboxState, Tells, SaysAll, IsWithout, Uses, Fills, Reads, IsShort, AreNeeded, Hears, Lacks, Misses, HearsRest, Receives, StopsAt, awaiting, for_next}
 use Rattle.cqlp_loop.proofs.Seeking.{tells_none, tells_then, says_then}
 
 -- the bytes that wait, once some of them are used
@@ -29,13 +30,31 @@ waiting_split next end used piece within =
 
 -- ---- reads
 
+calls_none : (c : Calls) → MakesCalls 0 c c
+calls_none c = record { reads = λ small. omega arith; asked = λ small. omega arith }
+
+calls_then : (n m : ℕ) (a b c : Calls) → MakesCalls n a b → MakesCalls m b c → MakesCalls (n + m) a c
+calls_then n m a b c p q = record {
+  reads = λ small. let one = p.reads (omega (arith, small)) in let two = q.reads (omega (arith, small, one)) in omega (arith, one, two);
+  asked = λ small. let one = p.asked (omega (arith, small)) in let two = q.asked (omega (arith, small, one)) in omega (arith, one, two);
+}
+
 reads_none : (n : ℕ) (from : Supply) → Reads n from [] n from
-reads_none n from = record { taken = Consumes-nil from.left; failures = refl; least = omega arith; most = omega arith }
+reads_none n from = record {
+  taken = Consumes-nil from.left;
+  failures = refl;
+  calls = let none : 0 ≡ n - n = omega arith in subst (λ (k : ℕ). MakesCalls k from.calls from.calls) none (calls_none from.calls);
+  least = omega arith;
+  most = omega arith;
+}
 
 reads_then : (n m k : ℕ) (from at left : Supply) (a b : List ℕ) → Reads n from a m at → Reads m at b k left → Reads n from (a ++ b) k left
 reads_then n m k from at left a b p q = record {
   taken = Consumes-trans from.left at.left left.left a b p.taken q.taken;
   failures = q.failures ∙ p.failures;
+  calls =
+      let both : (n - m) + (m - k) ≡ n - k = omega (arith, p.most, q.most) in
+      subst (λ (c : ℕ). MakesCalls c from.calls left.calls) both (calls_then (n - m) (m - k) from.calls at.calls left.calls p.calls q.calls);
   least = omega (arith, p.least, q.least, length-append a b);
   most = omega (arith, p.most, q.most, length-append a b);
 }
@@ -122,7 +141,13 @@ fill_hears : (old mid new : InboxState) (from left : Supply) (x : Hearing) → m
 fill_hears old mid new from left x reads waiting says tells f = record {
   read = new.waiting;
   used = old.waiting;
-  reads = record { taken = f.4; failures = f.5; least = omega (arith, f.0, f.3, reads); most = omega (arith, f.0, f.2, reads) };
+  reads = record {
+    taken = f.4;
+    failures = f.5;
+    calls = let one : 1 ≡ old.reads - new.reads = omega (arith, f.0, reads) in subst (λ (k : ℕ). MakesCalls k from.calls left.calls) one f.6;
+    least = omega (arith, f.0, f.3, reads);
+    most = omega (arith, f.0, f.2, reads);
+  };
   needed = inr (record {
     earlier = [];
     last = new.waiting;

@@ -1,5 +1,5 @@
 -- What an inbox hears of what a source gives.
-use Rattle.std.specs.Prelude.{◌≡◌, ℕ, ◌+◌, ◌*◌, ◌≤◌, true, false, List, [], ◌∷◌, ◌++◌, length, take, Option, Some, None, Result, Ok}
+use Rattle.std.specs.Prelude.{◌≡◌, ℕ, ◌+◌, ◌-◌, ◌*◌, ◌≤◌, true, false, List, [], ◌∷◌, ◌++◌, length, take, Option, Some, None, Result, Ok}
 use Rattle.std.specs.Prelude.{Err, ⊤, ◌⊎◌}
 use Rattle.std.specs.Io.KnownBytes.{Consumes, Keeps, IsAtEnd}
 use Rattle.cqlp_note.specs.declared.streams.Source.{Ghosts}
@@ -7,11 +7,12 @@ use Rattle.cqlp_note.specs.declared.header.Header.{Header}
 use Rattle.cqlp_note.specs.declared.limits.TheConstants.Limits.{DEFAULT}
 use Rattle.cqlp_note.specs.declared.refusal.Refusal.{Refusal}
 use Rattle.cqlp_note.specs.Limits.{rules_of}
-use Rattle.cqlp_note.specs.Streams.{counted}
+use Rattle.cqlp_note.specs.Streams.{counted, CountsUp}
 use Rattle.cqlp_grammar.specs.Events.{Event, Frame, End}
 use Rattle.cqlp_decode.specs.Reading.{Verdict, Waits, Refused, Says, start}
 use Rattle.cqlp_decode.specs.Progress.{StreamState, IsPending, ends_due}
 use Rattle.cqlp_decode.specs.Streams.{Decoding, After, state}
+use Rattle.cqlp_decode.specs.Draining.{Calls, calls}
 use Rattle.cqlp_loop.specs.declared.fault.LoopFault.{LoopFault}
 use Rattle.cqlp_loop.specs.declared.fault.LoopFault.TheVariants as fault
 use Rattle.cqlp_loop.specs.declared.inbox.Edge.{Edge}
@@ -24,13 +25,20 @@ use Rattle.cqlp_loop.specs.declared.inbox.Sought.{Sought}
 use Rattle.cqlp_loop.specs.declared.inbox.Sought.TheVariants as sought
 use Rattle.cqlp_loop.specs.Hearing.{Hearing, idle, amid, with_events}
 
--- what a source has left, where that is known, and how often it failed
+-- what a source has left, where that is known, how often it failed, and which calls of it were made
 pub record Supply : Type 0 where
   pub left : Option (List ℕ)
   pub failures : ℕ
+  pub calls : Calls
 
 abbrev pub supply : {R : Type 0} → Ghosts R → R → Supply
-supply members source = record { left = members.left source; failures = members.failures source }
+supply members source =
+    record { left = members.left source; failures = members.failures source; calls = calls members source }
+
+-- So many calls more were made, each with room for 4,096 bytes.
+pub record MakesCalls (count : ℕ) (old new : Calls) : Type 0 where
+  pub reads : CountsUp count old.reads new.reads
+  pub asked : CountsUp (4096 * count) old.asked new.asked
 
 -- a decoder, the bytes that were read and wait for it, and how many reads the message may still take
 pub record InboxState : Type 0 where
@@ -138,27 +146,30 @@ Finds edge old found.More new =
 Finds edge old found.Refused new =
     (new.reads ≡ old.reads) × (r : Refusal) × IsWithout edge (state old.decoder) old.waiting (Refused r.at r.why)
 
--- the source failed, or is at its end
+-- one more read was made, and the source failed, or is at its end
 abbrev pub Fails : (from left : Supply) → Type 0
 Fails from left =
-    (left.failures ≡ counted true from.failures) ⊎ ((left.failures ≡ from.failures) × IsAtEnd left.left)
+    MakesCalls 1 from.calls left.calls
+    × ((left.failures ≡ counted true from.failures) ⊎ ((left.failures ≡ from.failures) × IsAtEnd left.left))
 
 -- A read gave what waits now; or the message has no read left; or the source failed or ended.
 abbrev pub Fills : InboxState → Supply → Result (Unit {0}) LoopFault → InboxState → Supply → Type 0
 Fills old from (Ok u) new left =
     (old.reads ≡ new.reads + 1) × (new.decoder ≡ old.decoder) × (length new.waiting ≤ 4096)
     × (1 ≤ length new.waiting) × Consumes from.left left.left new.waiting × (left.failures ≡ from.failures)
+    × MakesCalls 1 from.calls left.calls
 Fills old from (Err fault.TooManyTurns) new left = (old.reads ≡ 0) × (new ≡ old) × (left ≡ from)
 Fills old from (Err fault.SocketFault) new left = Keeps from.left left.left × Fails from left
 Fills old from (Err e) new left = ⊥
 
 -- ---- reads
 
--- Some reads were made, and none failed: each gave 1 to 4,096 bytes, together these. So many were left before, and so
--- many after.
+-- Some reads were made, and none failed: each had room for 4,096 bytes and gave 1 or more, together these. So many were
+-- left before, and so many after.
 pub record Reads (before : ℕ) (from : Supply) (bytes : List ℕ) (after : ℕ) (left : Supply) : Type 0 where
   pub taken : Consumes from.left left.left bytes
   pub failures : left.failures ≡ from.failures
+  pub calls : MakesCalls (before - after) from.calls left.calls
   pub least : before ≤ length bytes + after
   pub most : length bytes + 4096 * after ≤ 4096 * before
 

@@ -178,7 +178,7 @@ module _ (l : Rules) (xs : List ℕ) where
     cut_end used old from left y sound st cut m =
         let s = lacked used old from m.1 Waits m.0 hs y st m.2 in
         let same = m.2.reads.failures in
-        elim m.4 [
+        elim m.4.1 [
           | inl failed ↦ absurd (counts_up from.failures sound.0 (ap (λ (n : ℕ). counted true n) (sym same) ∙ sym failed ∙ sound.1))
           | inr none ↦ (behind hs y, ended m.1 (behind hs y) s (at_end m.1.left left.left s.rest s.left m.3 none.1), cut)
         ]
