@@ -1,5 +1,6 @@
 -- What a command line does, and what is written where it starts no task.
 use Rattle.std.specs.Prelude.{◌≡◌, ◌≢◌, ◌≤◌, true, false, ℕ, List, [], Result, Ok, Err, IsSome, ◌⊎◌, codes, string_bytes}
+use Rattle.std.specs.declared.io.traits.Read.{Ghosts}
 use Rattle.cqlp_note.specs.declared.limits.Limits.{Limits}
 use Rattle.cqlp_note.specs.Limits.{Rules, rules_of, with_lenient}
 use Rattle.cqlp_options.specs.declared.command_line.CommandLine.{CommandLine}
@@ -27,6 +28,7 @@ use Rattle.cqlp_render_skip.specs.Showing as skipping
 pub use Rattle.cqlp_tool.specs.Faults.{ReportsFault}
 use Rattle.cqlp_options.specs.Ports.{named}
 use Rattle.cqlp_tool.specs.Capturing.{DoesCaptureTask, IsCaptureOfInput}
+use Rattle.cqlp_tool.specs.Files.{DoesOn}
 use Rattle.cqlp_tool.specs.Conversing.{ConversesAndReports}
 
 -- the limits where none are given
@@ -95,20 +97,17 @@ DoesTask (task.Rows form r) limits before status after = Shows (form_of_rows for
 DoesTask (task.Check at.End) limits before status after = ChecksAndReports limits turns before status after
 DoesTask (task.Check at.Skip) limits before status after = skipping.ChecksAndReports limits turns before status after
 
--- the stream is the input, and no file
-abbrev pub IsOfInput : Options → Type 0
-IsOfInput options = options.file.now ≡ codes "-"
-
--- What a command line does: a task with the input, a stream or a capture, or a conversation. What a file gives is not known.
-abbrev pub Executes : Result CommandLine NoTask
+-- What a command line does: a task with a stream, which is the input or a file, or with a capture that is the input, or a
+-- conversation.
+abbrev pub Executes : {F : Type 0} → Ghosts F → Result CommandLine NoTask
     → (before : Streams) → (status : ℕ) → (after : Streams) → Type 0
-Executes (Ok (line.Stream options)) before status after =
-    IsOfInput options → DoesTask options.task (rules_for options) before status after
-Executes (Ok (line.Loop queries)) before status after =
+Executes files (Ok (line.Stream options)) before status after =
+    DoesOn files options.file.now (DoesTask options.task (rules_for options)) before status after
+Executes files (Ok (line.Loop queries)) before status after =
     ConversesAndReports queries before.out before.err status after.out after.err
-Executes (Ok (line.Capture options)) before status after =
+Executes files (Ok (line.Capture options)) before status after =
     IsCaptureOfInput options → DoesCaptureTask options.task (named options.ports) before status after
-Executes (Err reason) before status after =
+Executes files (Err reason) before status after =
     Tells reason before.out before.err status after.out after.err
 
 -- It is no task with the input.

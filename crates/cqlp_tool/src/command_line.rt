@@ -6,8 +6,9 @@ ghost use Rattle.cqlp_options.specs.CommandLines.{IsWithin};
 ghost use Rattle.cqlp_options.specs.Ports.{AreWithin, named};
 ghost use Rattle.cqlp_options.specs.declared.capture.CaptureTask.TheVariants as tasks;
 ghost use Rattle.cqlp_tool.specs.Capturing.{DoesCaptureTask, IsCaptureOfInput, SplitsToFolder, filter_of, form_of};
-ghost use Rattle.cqlp_tool.specs.CommandLines.{Complains, DoesTask, Executes, Helps, IsOfInput, NeedsNoInput, Performs, ReadsNoCapture};
+ghost use Rattle.cqlp_tool.specs.CommandLines.{Complains, DoesTask, Executes, Helps, NeedsNoInput, Performs, ReadsNoCapture};
 ghost use Rattle.cqlp_tool.specs.CommandLines.{ReportsFault, ReportsWrong, Tells, form_of_events, form_of_rows, rules_for};
+ghost use Rattle.cqlp_tool.specs.Files.{DoesIfOpened, DoesOn};
 ghost use Rattle.cqlp_text.specs.Endings.{IsStatusOfTask, cannot_open_line as cannot_open_line_of};
 ghost use Rattle.cqlp_text.specs.Outputs.{written};
 ghost use Rattle.cqlp_render.specs.Streams.{streams};
@@ -33,6 +34,7 @@ use cqlp_text::exit_status::{BAD_COMMAND_LINE, DONE, FAULT};
 use cqlp_text::{Ending, PagePlace, cannot_open_line, put_text};
 use std::alloc::Allocator;
 use std::fs::{File, OpenFile};
+use std::io::{self, Read};
 use std::net::{Net, TcpListener, TcpStream};
 use std::rt::Files;
 
@@ -98,7 +100,7 @@ where
     R: Files + Net<Listener = TcpListener, Stream = TcpStream> + AllocGlobal,
     requires within { IfOk line IsWithin }
     ensures executes { let view = streams I.Source O.Target E.Target in
-        Executes line.entry (view input.old out err) result.0 (view input.new result.1 result.2) }
+        Executes R.File.Read line.entry (view input.old out err) result.0 (view input.new result.1 result.2) }
     ensures status { IfOk line.entry (λ _. IsStatusOfTask result.0) }
     ensures fault_at_most { result.0 ≤ 3 }
     ensures wrong { result.0 ≡ 2 → IsSome (O.contents out) → IsSome (E.contents err) →
@@ -115,7 +117,7 @@ where
     }
 }
 
-/// Opens a stream, and does the task with it.
+/// Does the task with a stream: standard input, or a file that is opened.
 fn stream<R: Files + AllocGlobal, I: Source, O: Target, E: Target>(
     rt: &R,
     options: Options<'_>,
@@ -125,7 +127,7 @@ fn stream<R: Files + AllocGlobal, I: Source, O: Target, E: Target>(
 ) -> (u8, O, E)
     requires { first_bad options.limits ≡ Ok tt }
     ensures task { let view = streams I.Source O.Target E.Target in
-        IsOfInput options.entry → DoesTask options.entry.task (rules_for options.entry)
+        DoesOn R.File.Read options.entry.file.now (DoesTask options.entry.task (rules_for options.entry))
         (view input.old out err) result.0 (view input.new result.1 result.2) }
     ensures status { IsStatusOfTask result.0 }
     ensures untouched { options.entry.file.now ≢ codes "-" → input.new ≡ input.old }
@@ -134,8 +136,24 @@ fn stream<R: Files + AllocGlobal, I: Source, O: Target, E: Target>(
     if options.file == "-" {
         return perform(&heap, options, input, out, err);
     }
-    match File::open(rt, options.file) {
-        Ok(file) => perform(&heap, options, &mut OfStd::new(file), out, err),
+    perform_with_file(&heap, options, File::open(rt, options.file), out, err)
+}
+
+/// Does the task with a stream in a file, if it was opened.
+fn perform_with_file<A: Allocator, F: Read + Drop, O: Target, E: Target>(
+    heap: &A,
+    options: Options<'_>,
+    opened: io::Result<F>,
+    out: O,
+    err: E,
+) -> (u8, O, E)
+    requires { first_bad options.limits ≡ Ok tt }
+    ensures task { DoesIfOpened F.Read options.entry.file.now (DoesTask options.entry.task (rules_for options.entry)) opened
+        (written O.Target out) (written E.Target err) result.0 (written O.Target result.1) (written E.Target result.2) }
+    ensures status { IsStatusOfTask result.0 }
+{
+    match opened {
+        Ok(file) => perform(heap, options, &mut OfStd::new(file), out, err),
         Err(_) => {
             let (status, err) = cannot_open(options.file, err);
             (status, out, err)

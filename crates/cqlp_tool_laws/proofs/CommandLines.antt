@@ -2,6 +2,7 @@
 use Rattle.std.proofs.Common.{◌≡◌, ℕ, Bool, List, [], ◌++◌, Option, Some, None, IsSome, Result, Ok, Err, ◌⊎◌, sym, ap, ◌∙◌, inl, inr, subst, append_assoc}
 use Rattle.std.specs.Prelude.{string_bytes}
 use Rattle.std.specs.Io.KnownBytes.{Appends, append_known}
+use Rattle.std.specs.declared.io.traits.Read.{Ghosts}
 use Rattle.cqlp_note.specs.Limits.{Rules}
 use Rattle.cqlp_note.specs.Streams.{counted}
 use Rattle.cqlp_options.specs.Ports.{named}
@@ -24,7 +25,7 @@ use Rattle.cqlp_loop_laws.specs.OneAnswer.{SaidTheSame, SaidMore}
 use Rattle.cqlp_loop_laws.proofs.Conversations.{one_answer, one_goes_on}
 use Rattle.cqlp_render.specs.declared.text_form.TextForm.{TextForm}
 use Rattle.cqlp_render.specs.Showing.{ShowsBytes, ChecksBytes}
-use Rattle.cqlp_render.specs.Streams.{Streams}
+use Rattle.cqlp_render.specs.Streams.{Input, Streams}
 use Rattle.cqlp_render.proofs.Renders.{known_nothing}
 use Rattle.cqlp_streams.specs.Captures.{ReadsMade}
 use Rattle.cqlp_streams.specs.Causes.{HasCause}
@@ -38,10 +39,11 @@ use Rattle.cqlp_capture_rows.proofs.WrittenOnce.{rows_once}
 use Rattle.cqlp_tool.specs.Capturing.{DoesCaptureTask, ReadsInput, SplitsCapture, filter_of, form_of}
 use Rattle.cqlp_tool.specs.Faults.{ReportsFault}
 use Rattle.cqlp_tool.specs.CommandLines.{DoesTask, Executes, Complains, Helps, Shows, form_of_events, form_of_rows, rules_for, turns}
+use Rattle.cqlp_tool.specs.Files.{DoesOn, DoesWithFile, opened}
 use Rattle.cqlp_tool.specs.Conversing.{ConversesWithItself, Reports, ending_of}
 use Rattle.cqlp_tool_laws.specs.Text.{FailsAlike, GoesOnFromOther}
 use Rattle.cqlp_tool_laws.specs.Tool.{IsOneOutput}
-use Rattle.cqlp_tool_laws.specs.CommandLines.{CaptureFaultsHaveCauses, HasFault, AreCheckedAlike, AreMetAlike, AreKnown, AreSplitAlike, IsCaptureMetAlike, AreShownAlike, AreLoopsAlike, IsExecutedOnce, IsLoopDecided, IsOneAnswer, IsTaskMetAlike, IsTextMetAlike, LoopGoesOn}
+use Rattle.cqlp_tool_laws.specs.CommandLines.{CaptureFaultsHaveCauses, HasFault, AreCheckedAlike, AreMetAlike, AreKnown, AreSplitAlike, IsCaptureMetAlike, AreShownAlike, AreLoopsAlike, IsExecutedOnce, IsLoopDecided, IsOneAnswer, IsFileMetAlike, IsMetAlikeOn, IsStreamMetAlike, IsTaskMetAlike, IsTextMetAlike, LoopGoesOn}
 use Rattle.cqlp_tool_laws.proofs.OneText.{counts_up, stops_once}
 use Rattle.cqlp_tool_laws.proofs.SkippedOnce.{skipping_once, checking_skipping_once}
 use Rattle.cqlp_tool_laws.proofs.OneAnswer.{commands_end_once, checks_end_once, concludes_once, shown_once, checked_once}
@@ -66,6 +68,9 @@ complained_once text before after after' status status' alike (inl a) (inl b) = 
 complained_once text before after after' status status' alike (inl a) (inr b) = absurd (counts_up before.failures alike.0 (sym b.1.failures ∙ alike.1 ∙ ap (λ o. o.failures) a.1))
 complained_once text before after after' status status' alike (inr a) (inl b) = absurd (counts_up before.failures alike.0 (sym a.1.failures ∙ sym alike.1 ∙ ap (λ o. o.failures) b.1))
 complained_once text before after after' status status' alike (inr a) (inr b) = (b.0 ∙ sym a.0, text_once before after after' text alike (inr a.1) (inr b.1))
+
+fault_reported_once : (text : List ℕ) (before after after' : Output) (status status' : ℕ) → FailsAlike before after after' → ReportsFault text before status after → ReportsFault text before status' after' → (status' ≡ status) × IsOneOutput before after after'
+fault_reported_once text before after after' status status' alike a b = (b.0 ∙ sym a.0, text_once before after after' text alike a.1 b.1)
 
 -- ---- a command
 
@@ -100,6 +105,26 @@ module _ (limits : Rules) (before : Streams) (status status' : ℕ) (after after
   task_once (task.Rows form r) known a b alike = form_once (form_of_rows form) r known a b alike
   task_once (task.Check at.End) known a b alike = checking_once known.bytes (a known.bytes known.left known.out known.err) (b known.bytes known.left known.out known.err) alike
   task_once (task.Check at.Skip) known a b alike = checking_skipping_once limits known.bytes before status status' after after' known.err (a known.bytes known.left known.out known.err) (b known.bytes known.left known.out known.err) alike.0 alike.1
+
+-- ---- the input or a file
+
+module _ {F : Type 0} (files : Ghosts F) (path : List ℕ)
+    (Does : (before : Streams) → (status : ℕ) → (after : Streams) → Type 0)
+    (IsMet : (before : Streams) (status status' : ℕ) (after after' : Streams) → Does before status after → Does before status' after' → Type 0)
+    (once : (before : Streams) (status status' : ℕ) (after after' : Streams) (a : Does before status after) (b : Does before status' after') → IsMet before status status' after after' a b → IsOneAnswer before status status' after after')
+    (before : Streams) (status status' : ℕ) (after after' : Streams) where
+  file_once : (a : DoesWithFile files path Does before.out before.err status after.out after.err) (b : DoesWithFile files path Does before.out before.err status' after'.out after'.err) → IsFileMetAlike files path Does IsMet before status status' after after' a b → IsOneAnswer before status status' after after'
+  file_once (inl (file, (left, a))) (inl (file', (left', b))) (same, alike) =
+      once (record before { input = opened files file }) status status' (record after { input = left }) (record after' { input = left' }) a (subst (λ (i : Input). Does (record before { input = i }) status' (record after' { input = left' })) same b) alike
+  file_once (inl a) (inr b) alike = absurd alike
+  file_once (inr a) (inl b) alike = absurd alike
+  file_once (inr a) (inr b) alike =
+      let one = fault_reported_once (cannot_open_line path) before.err after.err after'.err status status' alike.fails (a.2 alike.known) (b.2 alike.known) in
+      (one.0, inl (b.1 ∙ sym a.1), one.1)
+
+  once_on : (a : DoesOn files path Does before status after) (b : DoesOn files path Does before status' after') → IsMetAlikeOn files path Does IsMet before status status' after after' a b → IsOneAnswer before status status' after after'
+  once_on a b (inl (is, alike)) = once before status status' after after' (a.0 is) (b.0 is) alike
+  once_on a b (inr (is, alike)) = file_once (a.1 is) (b.1 is) alike
 
 -- ---- a conversation
 
@@ -163,9 +188,6 @@ loop_goes_on queries before status status' after after' a b met alike ends =
 
 -- ---- a capture
 
-fault_reported_once : (text : List ℕ) (before after after' : Output) (status status' : ℕ) → FailsAlike before after after' → ReportsFault text before status after → ReportsFault text before status' after' → (status' ≡ status) × IsOneOutput before after after'
-fault_reported_once text before after after' status status' alike a b = (b.0 ∙ sym a.0, text_once before after after' text alike a.1 b.1)
-
 module _ (before : Streams) (status status' : ℕ) (after after' : Streams) where
   split_once : (folder ports : List ℕ) (known : AreKnown before) (a : SplitsCapture folder ports before status after) (b : SplitsCapture folder ports before status' after') → AreSplitAlike before status status' after after' folder ports a b → IsOneAnswer before status status' after after'
   split_once folder ports known (inl a) (inl b) alike =
@@ -217,9 +239,11 @@ captures_caused (capture_task.Rows asked) ports before after known does =
 
 -- ---- a command line
 
-module _ (before : Streams) (status status' : ℕ) (after after' : Streams) where
-  line_once : (l : Result CommandLine NoTask) (a : Executes l before status after) (b : Executes l before status' after') → AreMetAlike before status status' after after' l a b → IsOneAnswer before status status' after after'
-  line_once (Ok (line.Stream options)) a b alike = task_once (rules_for options) before status status' after after' options.task alike.1 (a alike.0) (b alike.0) alike.2
+module _ {F : Type 0} (files : Ghosts F) (before : Streams) (status status' : ℕ) (after after' : Streams) where
+  line_once : (l : Result CommandLine NoTask) (a : Executes files l before status after) (b : Executes files l before status' after') → AreMetAlike files before status status' after after' l a b → IsOneAnswer before status status' after after'
+  line_once (Ok (line.Stream options)) a b alike =
+      once_on files options.file.now (DoesTask options.task (rules_for options)) (IsStreamMetAlike options.task (rules_for options))
+      (λ x s s' y y' d d' m. task_once (rules_for options) x s s' y y' options.task m.0 d d' m.1) before status status' after after' a b alike
   line_once (Ok (line.Loop queries)) a b alike =
       let met = alike.outputs in
       let one = talked_once queries before.out after.out after'.out met.known met.fails a.0 b.0 a.1 b.1 alike.alike alike.decided alike.decided' in
@@ -235,5 +259,5 @@ module _ (before : Streams) (status status' : ℕ) (after after' : Streams) wher
       let one = concludes_once ending.NoMemory before.err after.err after'.err status status' alike.fails (a alike.known).1 (b alike.known).1 in
       (one.0, inl ((b alike.known).0 ∙ sym (a alike.known).0), one.1)
 
-pub executed_once : IsExecutedOnce
-executed_once l before status status' after after' a b alike = line_once before status status' after after' l a b alike
+pub executed_once : {F : Type 0} (files : Ghosts F) → IsExecutedOnce files
+executed_once files l before status status' after after' a b alike = line_once files before status status' after after' l a b alike

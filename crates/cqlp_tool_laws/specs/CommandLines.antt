@@ -1,7 +1,9 @@
 -- The law of one answer of a command line that was read: what is written, and the status, are decided by the line and by
 -- what comes of the outside, but for what only the outside decides.
 use Rattle.std.specs.Prelude.{◌≡◌, ◌≢◌, ◌⊎◌, ℕ, true, List, Some, IsSome, Result, Ok, Err}
-use Rattle.std.proofs.Common.{inl, inr}
+use Rattle.std.specs.Prelude.{codes}
+use Rattle.std.proofs.Common.{inl, inr, subst}
+use Rattle.std.specs.declared.io.traits.Read.{Ghosts}
 use Rattle.cqlp_note.specs.Limits.{Rules}
 use Rattle.cqlp_note.specs.Streams.{counted}
 use Rattle.cqlp_options.specs.Ports.{named}
@@ -23,14 +25,15 @@ use Rattle.cqlp_loop_laws.specs.OneAnswer.{IsDecided}
 use Rattle.cqlp_render.specs.declared.text_form.TextForm.{TextForm}
 use Rattle.cqlp_render.specs.declared.text_form.TextForm.TheVariants as forms
 use Rattle.cqlp_render.specs.Showing.{ShowsBytes, ChecksBytes}
-use Rattle.cqlp_render.specs.Streams.{Streams}
+use Rattle.cqlp_render.specs.Streams.{Input, Streams}
 use Rattle.cqlp_render_skip.specs.Showing as skipping
 use Rattle.cqlp_render_skip.specs.Showing.{outputs_of}
 use Rattle.cqlp_render_skip_laws.specs.Laws.{IsPlain}
 use Rattle.cqlp_streams.specs.declared.fault.StreamsFault.TheVariants as fault
 use Rattle.cqlp_streams.specs.Endings.{fault_line, no_memory_line}
 use Rattle.cqlp_tool.specs.Capturing.{DoesCaptureTask, IsCaptureOfInput, SplitsCapture}
-use Rattle.cqlp_tool.specs.CommandLines.{DoesTask, Executes, IsOfInput, Shows, form_of_events, form_of_rows, rules_for, turns}
+use Rattle.cqlp_tool.specs.CommandLines.{DoesTask, Executes, Shows, form_of_events, form_of_rows, rules_for, turns}
+use Rattle.cqlp_tool.specs.Files.{DoesOn, DoesWithFile, opened}
 use Rattle.cqlp_tool.specs.Conversing.{ConversesAndReports, ConversesWithItself}
 use Rattle.cqlp_tool_laws.specs.Text.{FailsAlike, GoesOnFromOther}
 use Rattle.cqlp_tool_laws.specs.Tool.{IsOneOutput, IsServedAlike}
@@ -103,6 +106,12 @@ module _ (limits : Rules) (before : Streams) (status status' : ℕ) (after after
       ChecksPlainly limits known.bytes before status after (does known.bytes known.left known.out known.err)
       × ChecksPlainly limits known.bytes before status' after' (does' known.bytes known.left known.out known.err)
 
+-- The same of a task, where what is read is known.
+abbrev pub IsStreamMetAlike : (t : Task) (limits : Rules) (before : Streams) (status status' : ℕ) (after after' : Streams)
+    → DoesTask t limits before status after → DoesTask t limits before status' after' → Type 0
+IsStreamMetAlike t limits before status status' after after' does does' =
+    (known : AreKnown before) × IsTaskMetAlike limits before status status' after after' t known does does'
+
 -- The error output, of which it is known what it was given, failed in both or in neither.
 pub record IsErrorMetAlike (before after after' : Streams) : Type 0 where
   pub known : IsSome before.err.given
@@ -113,6 +122,31 @@ pub record AreOutputsMetAlike (before after after' : Streams) : Type 0 where
   pub known : IsSome before.out.given
   pub fails : FailsAlike before.out after.out after'.out
   pub error : IsErrorMetAlike before after after'
+
+-- ---- the input or a file
+
+-- Of what is done with the input or a file: IsMet says of two that did it with the input that the outside did the same to them.
+module _ {F : Type 0} (files : Ghosts F) (path : List ℕ)
+    (Does : (before : Streams) → (status : ℕ) → (after : Streams) → Type 0)
+    (IsMet : (before : Streams) (status status' : ℕ) (after after' : Streams)
+    → Does before status after → Does before status' after' → Type 0)
+    (before : Streams) (status status' : ℕ) (after after' : Streams) where
+  -- The same of a file: it was opened in neither, or in both and gives the same bytes.
+  abbrev pub IsFileMetAlike : DoesWithFile files path Does before.out before.err status after.out after.err
+      → DoesWithFile files path Does before.out before.err status' after'.out after'.err → Type 0
+  IsFileMetAlike (inl (file, (left, does))) (inl (file', (left', does'))) =
+      (same : opened files file' ≡ opened files file)
+      × IsMet (record before { input = opened files file }) status status'
+      (record after { input = left }) (record after' { input = left' }) does
+      (subst (λ (i : Input). Does (record before { input = i }) status' (record after' { input = left' })) same does')
+  IsFileMetAlike (inr misses) (inr misses') = IsErrorMetAlike before after after'
+  IsFileMetAlike does does' = ⊥
+
+  abbrev pub IsMetAlikeOn : DoesOn files path Does before status after → DoesOn files path Does before status' after'
+      → Type 0
+  IsMetAlikeOn does does' =
+      ((is : path ≡ codes "-") × IsMet before status status' after after' (does.0 is) (does'.0 is))
+      ⊎ ((is : path ≢ codes "-") × IsFileMetAlike (does.1 is) (does'.1 is))
 
 -- ---- a conversation
 
@@ -202,14 +236,14 @@ CaptureFaultsHaveCauses =
 
 -- ---- a command line
 
--- To two executions of a command line, which names no file, the outside did the same: the input, both outputs, memory, the
--- turns, the network, and the folder for a capture's streams.
-module _ (before : Streams) (status status' : ℕ) (after after' : Streams) where
-  abbrev pub AreMetAlike : (l : Result CommandLine NoTask) → Executes l before status after
-      → Executes l before status' after' → Type 0
+-- To two executions of a command line, which names no capture in a file, the outside did the same: the input, the file of a
+-- stream, both outputs, memory, the turns, the network, and the folder for a capture's streams.
+module _ {F : Type 0} (files : Ghosts F) (before : Streams) (status status' : ℕ) (after after' : Streams) where
+  abbrev pub AreMetAlike : (l : Result CommandLine NoTask) → Executes files l before status after
+      → Executes files l before status' after' → Type 0
   AreMetAlike (Ok (line.Stream options)) does does' =
-      (is : IsOfInput options) × (known : AreKnown before)
-      × IsTaskMetAlike (rules_for options) before status status' after after' options.task known (does is) (does' is)
+      IsMetAlikeOn files options.file.now (DoesTask options.task (rules_for options))
+      (IsStreamMetAlike options.task (rules_for options)) before status status' after after' does does'
   AreMetAlike (Ok (line.Loop queries)) does does' = AreLoopsMetAlike queries before status status' after after' does does'
   AreMetAlike (Ok (line.Capture options)) does does' =
       (is : IsCaptureOfInput options) × (known : AreKnown before)
@@ -219,9 +253,9 @@ module _ (before : Streams) (status status' : ℕ) (after after' : Streams) wher
   AreMetAlike (Err no_task.NoMemory) does does' = IsErrorMetAlike before after after'
 
 -- Two executions of one command line, to which the outside did the same, have one answer.
-abbrev pub IsExecutedOnce : Type 0
-IsExecutedOnce = (l : Result CommandLine NoTask) (before : Streams) (status status' : ℕ)
+abbrev pub IsExecutedOnce : {F : Type 0} → Ghosts F → Type 0
+IsExecutedOnce files = (l : Result CommandLine NoTask) (before : Streams) (status status' : ℕ)
     (after after' : Streams)
-    → (does : Executes l before status after) (does' : Executes l before status' after')
-    → AreMetAlike before status status' after after' l does does'
+    → (does : Executes files l before status after) (does' : Executes files l before status' after')
+    → AreMetAlike files before status status' after after' l does does'
     → IsOneAnswer before status status' after after'
