@@ -1,6 +1,6 @@
 //! The connections that are watched.
 
-ghost use Rattle.std.specs.Prelude.{◌≡◌, IfOk, OnOk, position, replicate, None};
+ghost use Rattle.std.specs.Prelude.{◌≡◌, IfOk, OnOk, length, position, replicate, vec_capacity, None};
 ghost use Rattle.cqlp_text.specs.Written.{Writes};
 ghost use Rattle.cqlp_capture_events.specs.Tables.{fresh, has_number};
 
@@ -18,12 +18,14 @@ pub(crate) struct Table<A: Allocator = Global> {
 }
 
 impl<A: Allocator> Model for Table<A> {
-    ghost use Rattle.std.specs.Prelude.{List};
+    ghost use Rattle.std.specs.Prelude.{◌≡◌, List, length, vec_capacity};
     ghost use Rattle.cqlp_capture_events.specs.Tables.{Slot};
 
     ghost Value = { List Slot };
 
     ghost view = { λ t. t.slots.items };
+
+    ghost invariant = { λ t. vec_capacity t.slots ≡ length t.slots.items };
 }
 
 impl<A: Allocator> Table<A> {
@@ -90,7 +92,8 @@ fn place_of<A: Allocator>(slots: &[Slot<A>], number: Option<u64>) -> Option<usiz
 }
 
 fn make_slots<A: Allocator + Clone>(alloc: A, count: usize) -> Result<Vec<Slot<A>, A>, AllocError>
-    ensures { IfOk result (λ slots. slots.items ≡ replicate count (fresh None)) }
+    ensures slots { IfOk result (λ slots. slots.items ≡ replicate count (fresh None)) }
+    ensures capacity { IfOk result (λ slots. vec_capacity slots ≡ length slots.items) }
 {
     let mut slots = Vec::with_capacity(alloc.clone()?, count)?;
     for _ in 0..count {

@@ -1,5 +1,5 @@
 -- Texts that end early.
-use Rattle.std.proofs.Common.{◌≡◌, List, ℕ, [], ◌++◌, Result, Ok, Err, IsErr, IsErrAnd, refl, sym, subst, append-nil}
+use Rattle.std.proofs.Common.{◌≡◌, ◌∙◌, List, ℕ, Bool, true, false, [], ◌++◌, Result, Ok, Err, IfErr, IsErr, IsErrAnd, refl, sym, ap, subst, append-nil}
 use Rattle.cqlp_text.specs.Written.{Written, BreaksOff, Receives}
 use Rattle.cqlp_text.proofs.Writing.{breaks_in_more, takes_nothing, takes_then_breaks}
 use Rattle.cqlp_capture_rows.specs.declared.fault.TellFault.{TellFault}
@@ -16,6 +16,16 @@ breaks_here old new text (Err f) stops breaks = subst (λ (z : TellFault). Takes
 pub refused_here : (w : Written) (text : List ℕ) (r : Result (Unit {0}) TellFault) → IsErr r × IsErrAnd r (λ f. f ≡ fault.NoMemory) → Takes is_memory w text r w
 refused_here w text (Ok u) stops = cc
 refused_here w text (Err f) stops = subst (λ (z : TellFault). Takes is_memory w text (Err z) w) (sym stops.1) ([], text, refl, takes_nothing w)
+
+-- memory was asked for
+pub asked_here : {T X : Type 0} (r : Result T TellFault) → X → IfErr r (λ f. is_memory f ≡ true → X)
+asked_here (Ok u) x = tt
+asked_here (Err f) x = λ is. x
+
+-- the output failed, and no memory was refused
+pub none_refused : {T X : Type 0} (r : Result T TellFault) → IsErr r × IsErrAnd r (λ f. f ≡ fault.Write) → IfErr r (λ f. is_memory f ≡ true → X)
+none_refused (Ok u) stops = tt
+none_refused (Err f) stops = λ memory. absurd (let no : ◌≡◌ {A = Bool} true false = sym memory ∙ ap is_memory stops.1 in cc)
 
 -- what was taken is passed on, and the output fails then
 pub passing_fails : (old mid new : Written) (text : List ℕ) (r : Result (Unit {0}) TellFault) → IsErr r × IsErrAnd r (λ f. f ≡ fault.Write) → Receives old text mid → BreaksOff mid [] new → Takes is_memory old text r new

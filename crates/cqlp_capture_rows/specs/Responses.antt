@@ -1,5 +1,5 @@
 -- What is known of the responses of a connection, and how what happens in them is written.
-use Rattle.std.specs.Prelude.{ℕ, Bool, true, false, if◌then◌else◌, List, [], ◌++◌, Option, Some, None}
+use Rattle.std.specs.Prelude.{◌≡◌, ℕ, Bool, true, false, if◌then◌else◌, List, [], ◌++◌, Option, Some, None, IsSome}
 use Rattle.cqlp_note.specs.declared.header.Header.{Header}
 use Rattle.cqlp_note.specs.declared.opcode.Opcode.{Opcode}
 use Rattle.cqlp_note.specs.declared.opcode.Opcode.TheVariants as opcode
@@ -69,6 +69,12 @@ after r (Compressed at h) = with_known (answered h.stream r.known) r
 after r (Gap at n) = r
 after r (Ends types) = with_known (known_by r.begun.header r.page types r.known) (with_page no_rows r)
 after r Closes = with_page no_rows r
+
+-- For what memory is asked: for the types of a page, and for those of a statement that is prepared.
+abbrev pub AsksFor : Responses → Happening → Type 0
+AsksFor r (Begins at h) = IsSome (types_for h.stream r.known)
+AsksFor r (Ends types) = (is_result r.begun.header.opcode ≡ true) × IsSome r.page.id
+AsksFor r h = ⊥
 
 -- Where an EXECUTE waits under the frame's stream id, the types are those that the last PREPARED said of the statement which it names.
 abbrev pub page_manner : Manner Responses

@@ -3,12 +3,12 @@
 ghost use Rattle.std.specs.Prelude.{◌≡◌, ℕ, List, IsSome, Some};
 ghost use Rattle.cqlp_text.specs.Endings.{IsStatusOfTask};
 ghost use Rattle.cqlp_text.specs.Outputs.{written};
-ghost use Rattle.cqlp_streams.specs.Captures.{AreCounted, ReadsMade};
+ghost use Rattle.cqlp_streams.specs.Captures.{AreCounted, ReadsMade, read_counts};
 ghost use Rattle.cqlp_capture_rows.specs.Capturing.{Listens, WritesRows};
 
 use crate::rows::Rows;
 use cqlp_note::{Source, Target};
-use cqlp_streams::{CaptureRead, LIMITS, StreamsFault, conclude_capture, read_capture};
+use cqlp_streams::{CaptureRead, LIMITS, LastWord, StreamsFault, conclude_capture, read_capture};
 use std::alloc::Global;
 
 /// Reads the frames on one connection of a capture with nodes that listen on these ports: on the one with this number; the first has the
@@ -26,12 +26,12 @@ pub fn write_rows<R: Source, O: Target, E: Target>(
 ) -> (u8, O, E)
     ensures task { IsStatusOfTask result.0 }
     ensures rows { (xs : List ℕ) → R.left input.old ≡ Some xs → IsSome (O.contents out) → IsSome (E.contents err) →
-        (m : ReadsMade) × AreCounted m (R.reads input.old) (R.reads input.new) (R.failures input.old) (R.failures input.new)
+        (m : ReadsMade) × AreCounted m (read_counts R.Source input.old) (read_counts R.Source input.new)
         × WritesRows connection ports.now xs m (R.left input.new) (written O.Target out) (written E.Target err)
         result.0 (written O.Target result.1) (written E.Target result.2) }
 {
     let (answer, out) = listen(alloc, ports, connection, input, out);
-    let (status, err) = conclude_capture(alloc, &answer, "rows", err);
+    let (status, err) = conclude_capture(&answer, &LastWord("rows"), err);
     (status, out, err)
 }
 
@@ -44,7 +44,7 @@ fn listen<R: Source, O: Target>(
     out: O,
 ) -> (Result<CaptureRead, StreamsFault>, O)
     ensures { (xs : List ℕ) → R.left input.old ≡ Some xs → IsSome (O.contents out) →
-        (m : ReadsMade) × AreCounted m (R.reads input.old) (R.reads input.new) (R.failures input.old) (R.failures input.new)
+        (m : ReadsMade) × AreCounted m (read_counts R.Source input.old) (read_counts R.Source input.new)
         × Listens connection ports.now xs m result.0 (R.left input.new) (written O.Target out) (written O.Target result.1) }
 {
     let mut rows = match Rows::new(alloc, connection, out) {

@@ -1,6 +1,6 @@
 //! The text of the responses of a connection.
 
-ghost use Rattle.std.specs.Prelude.{◌≡◌, IfOk, OnOk};
+ghost use Rattle.std.specs.Prelude.{◌≡◌, true, IfErr, IfOk, IsSome, OnErr, OnOk, option_map};
 ghost use Rattle.cqlp_text.specs.Written.{Writes};
 ghost use Rattle.cqlp_prepared.specs.Keeping.{new_keeping};
 ghost use Rattle.cqlp_prepared.specs.Requests.{asked, step_asked};
@@ -100,12 +100,14 @@ impl<A: Allocator> Responses<A> {
         cut
     }
 
-    /// The frame came whole. A PREPARED says the types of its statement's result: it is the RESULT that names a statement.
+    /// The frame came whole. A PREPARED says the types of its statement's result: it is the RESULT that names a statement. Memory is asked for
+    /// only then.
     fn learn(&mut self, types: &TypeTable<A>) -> Result<(), NoMemory>
     where
         A: Clone,
-        ensures { OnOk result
+        ensures known { OnOk result
             (self.new ≡ with_known (known_by self.old.begun.header self.old.page types.now.nodes self.old.known) self.old) }
+        ensures asks { OnErr result ((is_result self.old.begun.header.opcode ≡ true) × IsSome self.old.page.id) }
     {
         if !is_result(&self.begun.header) {
             return Ok(());
@@ -118,8 +120,10 @@ impl<A: Allocator> Responses<A> {
 }
 
 impl<A: Allocator + Clone> Transcript<A> for Responses<A> {
+    ghost use Rattle.cqlp_capture_frames.specs.Faults.{Takes};
+    ghost use Rattle.cqlp_capture_frames.specs.Happenings.{Begins, Ends, outcome};
     ghost use Rattle.cqlp_capture_rows.specs.Faults.{is_memory};
-    ghost use Rattle.cqlp_capture_rows.specs.Responses.{Responses, page_manner};
+    ghost use Rattle.cqlp_capture_rows.specs.Responses.{AsksFor, Responses, page_manner};
 
     type Fault = TellFault;
 
@@ -131,13 +135,18 @@ impl<A: Allocator + Clone> Transcript<A> for Responses<A> {
 
     ghost manner = { page_manner };
 
-    #[tactic(auto, using(crate::proofs::Faults::refused_here))]
+    #[tactic(auto, using(crate::proofs::Faults::asked_here, crate::proofs::Faults::refused_here))]
     fn begin<P: Pen>(
         &mut self,
         at: u64,
         header: &Header,
         _writer: &mut TextWriter<P>,
-    ) -> Result<Option<TypeTable<A>>, TellFault> {
+    ) -> Result<Option<TypeTable<A>>, TellFault>
+        ensures text { Takes is_memory _writer.old (page_manner.text self.old (Begins at header.now)) (outcome result) _writer.new }
+        ensures types { IfOk result (λ types. option_map (λ table. table.nodes) types ≡ page_manner.types self.old at header.now) }
+        ensures after { OnOk result (self.new ≡ page_manner.after self.old (Begins at header.now)) }
+        ensures asks { IfErr result (λ f. is_memory f ≡ true → AsksFor self.old (Begins at header.now)) }
+    {
         let types = self.known.types_for(header.stream)?;
         self.begun = FrameSpot {
             spot: self.spot(at),
@@ -189,12 +198,16 @@ impl<A: Allocator + Clone> Transcript<A> for Responses<A> {
         Ok(put_gap(writer, self.spot(at), length)?)
     }
 
-    #[tactic(auto, using(crate::proofs::Faults::breaks_here, crate::proofs::Faults::refused_here))]
+    #[tactic(auto, using(crate::proofs::Faults::asked_here, crate::proofs::Faults::breaks_here, crate::proofs::Faults::none_refused, crate::proofs::Faults::refused_here))]
     fn end<P: Pen>(
         &mut self,
         types: &TypeTable<A>,
         writer: &mut TextWriter<P>,
-    ) -> Result<(), TellFault> {
+    ) -> Result<(), TellFault>
+        ensures text { Takes is_memory writer.old (page_manner.text self.old (Ends types.now.nodes)) result writer.new }
+        ensures after { OnOk result (self.new ≡ page_manner.after self.old (Ends types.now.nodes)) }
+        ensures asks { IfErr result (λ f. is_memory f ≡ true → AsksFor self.old (Ends types.now.nodes)) }
+    {
         self.learn(types)?;
         Ok(self.cut(writer)?)
     }

@@ -7,8 +7,8 @@ use Rattle.cqlp_options.specs.declared.capture.ExchangeOptions.{ExchangeOptions}
 use Rattle.cqlp_options.specs.declared.capture.ExchangesAs.{ExchangesAs}
 use Rattle.cqlp_options.specs.declared.capture.ExchangesAs.TheVariants as asked_as
 use Rattle.cqlp_text.specs.Endings.{cannot_open_line}
-use Rattle.cqlp_render.specs.Streams.{Streams, IfKnown}
-use Rattle.cqlp_streams.specs.Captures.{AreCounted, ReadsMade}
+use Rattle.cqlp_render.specs.Streams.{Input, Streams, IfKnown}
+use Rattle.cqlp_streams.specs.Captures.{AreCounted, ReadCounts, ReadsMade}
 use Rattle.cqlp_streams.specs.Streams.{WritesStreamsBy}
 use Rattle.cqlp_exchanges.specs.declared.filter.ExchangeFilter.{ExchangeFilter}
 use Rattle.cqlp_exchanges.specs.declared.form.ExchangeForm.{ExchangeForm}
@@ -22,10 +22,12 @@ use Rattle.cqlp_tool.specs.Faults.{ReportsFault}
 abbrev pub IsCaptureOfInput : CaptureOptions → Type 0
 IsCaptureOfInput options = options.file.now ≡ codes "-"
 
+abbrev pub counts_of : Input → ReadCounts
+counts_of i = record { reads = i.reads; failures = i.failures; asked = i.asked }
+
 -- So many reads were made of the input.
 abbrev pub ReadsInput : ReadsMade → (before after : Streams) → Type 0
-ReadsInput m before after =
-    AreCounted m before.input.reads after.input.reads before.input.failures after.input.failures
+ReadsInput m before after = AreCounted m (counts_of before.input) (counts_of after.input)
 
 -- The streams of the input's connections were written to a folder, of whose files nothing is known; the lines went to the output, and how
 -- it ended was reported with its status, after so many reads.

@@ -5,7 +5,7 @@ use crate::kit_host::prelude::{AllocGlobal};
 use crate::cqlp_capture_events::events::Events;
 use crate::cqlp_capture_events::limits::CONNECTION_LIMITS;
 use crate::cqlp_note::{Source, Target};
-use crate::cqlp_streams::{CaptureRead, StreamsFault, conclude_capture, read_capture};
+use crate::cqlp_streams::{CaptureRead, LastWord, StreamsFault, conclude_capture, read_capture};
 use crate::kit_std::alloc::Global;
 
 /// Reads the frames on the connections of a capture with nodes that listen on these ports: on the connection with this number, or on all. Writes
@@ -21,7 +21,7 @@ pub fn write_events<R: Source, O: Target, E: Target>(
     err: E,
 ) -> (u8, O, E) {
     let (answer, out) = listen(alloc, ports, connection, input, out);
-    let (status, err) = conclude_capture(alloc, &answer, "events", err);
+    let (status, err) = conclude_capture(&answer, &LastWord("events"), err);
     (status, out, err)
 }
 

@@ -4,7 +4,7 @@
 use crate::kit_host::prelude::{AllocGlobal};
 use crate::cqlp_capture_rows::rows::Rows;
 use crate::cqlp_note::{Source, Target};
-use crate::cqlp_streams::{CaptureRead, LIMITS, StreamsFault, conclude_capture, read_capture};
+use crate::cqlp_streams::{CaptureRead, LIMITS, LastWord, StreamsFault, conclude_capture, read_capture};
 use crate::kit_std::alloc::Global;
 
 /// Reads the frames on one connection of a capture with nodes that listen on these ports: on the one with this number; the first has the
@@ -21,7 +21,7 @@ pub fn write_rows<R: Source, O: Target, E: Target>(
     err: E,
 ) -> (u8, O, E) {
     let (answer, out) = listen(alloc, ports, connection, input, out);
-    let (status, err) = conclude_capture(alloc, &answer, "rows", err);
+    let (status, err) = conclude_capture(&answer, &LastWord("rows"), err);
     (status, out, err)
 }
 

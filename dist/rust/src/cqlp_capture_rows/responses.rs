@@ -74,7 +74,8 @@ impl<A: Allocator> Responses<A> {
         cut
     }
 
-    /// The frame came whole. A PREPARED says the types of its statement's result: it is the RESULT that names a statement.
+    /// The frame came whole. A PREPARED says the types of its statement's result: it is the RESULT that names a statement. Memory is asked for
+    /// only then.
     fn learn(&mut self, types: &TypeTable<A>) -> Result<(), NoMemory>
     where
         A: Clone,

@@ -7,7 +7,7 @@ use Rattle.cqlp_capture_rows.proofs.capturing.listen.Goals as goal
 
 pub returns-in-Err : goal.returns-in-Err
 returns-in-Err g c = λ xs is known.
-    (no_reads, (λ fits. omega arith, refl), (new_listening c.args.connection (written g.O.Target c.args.out), inr (refl, refl, is, refl), c.in-Err.ensures.err))
+    (no_reads, (λ fits. omega arith, refl, λ fits. omega arith), (new_listening c.args.connection (written g.O.Target c.args.out), inr (refl, refl, is, refl), c.in-Err.ensures.err))
 
 pub returns : goal.returns
 returns g c = λ xs is known.
