@@ -13,15 +13,18 @@ from ._client import Client, Reply, Ticket
 from ._columns import PageColumns, Series, columns
 from ._core import event_header, header, version_error
 from ._decoder import BadCall, BadLimits, Closed, Cut, Decoder, Held, Limits, Refused, Skipped, Verdict, check
-from ._encode import BadEvent, encode, encode_frames
+from ._encode import BadEvent, encode_frames
 from ._events import Event
+from ._message_events import encode
 from ._missing import Missing, ValuesMissing
 from ._names import name, version, version_number
 from ._paged import PageWriter, cells_size
-from ._pages import Column, Page, Pages, Type, Types, rows
+from ._pages import Page, Pages, Types, rows
 from ._server import Answered, Server
 from ._sources import events
 from ._turns import Error, InUse
+from ._types import Column, Type
+from ._value_events import BadValue, bind, cell_events
 from ._values import EMPTY, UNSET, Days, Milliseconds, Nanoseconds, Unset
 from ._version import __version__ as __version__
 from .messages import Frame, FrameTooLong, frames
@@ -50,7 +53,10 @@ __all__ = [
     "BadCall",
     "BadEvent",
     "BadLimits",
+    "BadValue",
     "BatchType",
+    "bind",
+    "cell_events",
     "cells_size",
     "CellTooLong",
     "check",

@@ -11,9 +11,10 @@ from . import _native
 from ._decoder import _KINDS, BadCall, Behind, Decoder, Limits, Refusal, Refused, Skip, _address, _must_be_done, event_of
 from ._events import Event
 from ._missing import Missing, numpy_of
-from ._pages import _NO_METADATA, _ROWS_RESULT, Column, Types, _Metadata
+from ._pages import _NO_METADATA, _ROWS_RESULT, Types, _Metadata
 from ._sources import Progress, Source, _must_be_whole, _pieces, _pieces_of_frames
 from ._turns import Error
+from ._types import Column
 from .numbers import Code, Field, Kind, Stop, Tag
 
 # The kinds whose values are numbers in their array, and the code of its items.

@@ -11,8 +11,9 @@ from ._arrays import _Arrays
 from ._decoder import Behind, Decoder, Limits, Placed, Record, Refused, Skip, event_of
 from ._events import Event
 from ._missing import Missing, numpy_of
-from ._pages import Column, Row, Type, _Cells, _cells, _CompiledCells
+from ._pages import Row, _Cells, _cells, _CompiledCells
 from ._sources import Batch, Progress, Source, _must_be_whole, _pieces, batches
+from ._types import Column, Type
 from ._values import ValueOf
 from .messages import Frame, Rows, _Frames
 from .numbers import Kind, Stop, Tag
