@@ -2,9 +2,9 @@
 
 `rows(source)` gives the rows of a stream's pages, `columns(source)` their columns, numbers as arrays, `arrays(source)` batches of rows in the
 layout of Apache Arrow, `frames(source)` the frames, each message a dataclass of `cqlp.messages`, `events(source)` the events, `check(data)` the
-verdict, and `encode(events)` writes a frame of its events, a `PageWriter` a page of any size. A `Decoder` takes the pieces of a stream as they
-come, a `Client` pairs replies with requests, a `Server` knows which requests it has not answered. All stand on the proved library libcqlp, whose
-interface is include/cqlp.h.
+verdict. `encode` writes a frame of its message or of its events, a `PageWriter` a page of any size. A `MessageDecoder` and a `Decoder` take the
+pieces of a stream as they come, a `Client` pairs replies with requests, a `Server` knows which requests it has not answered. All stand on the
+proved library libcqlp, whose interface is include/cqlp.h.
 """
 
 from . import messages
@@ -15,6 +15,7 @@ from ._core import event_header, header, version_error
 from ._decoder import BadCall, BadLimits, Closed, Cut, Decoder, Held, Limits, Refused, Skipped, Verdict, check
 from ._encode import BadEvent, encode_frames
 from ._events import Event
+from ._message_decoder import MessageDecoder, OtherVersion
 from ._message_events import encode
 from ._missing import Missing, ValuesMissing
 from ._names import name, version, version_number
@@ -90,12 +91,14 @@ __all__ = [
     "Kind",
     "Limits",
     "Mark",
+    "MessageDecoder",
     "messages",
     "Milliseconds",
     "Missing",
     "name",
     "Nanoseconds",
     "Opcode",
+    "OtherVersion",
     "Page",
     "PageColumns",
     "Pages",

@@ -1,82 +1,71 @@
 """The events of a frame with its message: the inverse of what `cqlp.frames` makes of them. And `encode`, which writes it."""
 
 import dataclasses
-import operator
 from typing import Any, Callable, Dict, Iterable, List, Mapping, Optional, Sequence, Tuple, Union, overload
 
 from . import _encode, messages
 from ._events import Event, camel
 from ._pages import _RAW
 from ._types import Column
-from ._value_events import BadValue, bytes_content, packed_address, putting, text_content, type_events
+from ._value_events import BadValue, bytes_content, number_within, packed_address, putting, text_content, type_events, uuid_octets
 from ._values import Unset
-from .messages import PARTS_OF_BATCH, PARTS_OF_QUERY, Frame, Message, Metadata, Parameters
-from .numbers import Field, Mark, Opcode, ResultKind, Tag
+from .messages import Frame, Message, Metadata, Parameters
+from .numbers import Field, Mark, ResultKind, Tag
 
-# Of each field the tag of its event, where that is no text.
-_TAGS: Dict[Field, Tag] = {
-    **dict.fromkeys((Field.ENTRY_KIND, Field.BATCH_TYPE, Field.BATCH_FLAGS, Field.QUERY_FLAGS, Field.DATA_PRESENT), Tag.BYTE),
-    **dict.fromkeys((Field.CONSISTENCY, Field.SERIAL_CONSISTENCY, Field.KEY_INDEX), Tag.SHORT),
-    **dict.fromkeys((Field.PAGE_SIZE, Field.ERROR_CODE, Field.RESULT_KIND, Field.META_FLAGS), Tag.INT),
-    **dict.fromkeys((Field.REQUIRED, Field.ALIVE, Field.RECEIVED, Field.BLOCK_FOR, Field.FAILURES), Tag.INT),
-    **dict.fromkeys((Field.PAYLOAD_VALUE, Field.STATEMENT_ID, Field.TOKEN, Field.PAGING_STATE), Tag.BYTES),
-    **dict.fromkeys((Field.WARNINGS, Field.PAYLOAD_ITEMS, Field.OPTIONS, Field.OPTION_VALUES, Field.EVENT_TYPES), Tag.COUNT),
-    **dict.fromkeys((Field.ENTRIES, Field.VALUES, Field.ARGUMENTS), Tag.COUNT),
-    **dict.fromkeys((Field.COLUMNS, Field.KEYS, Field.ROWS), Tag.COUNT),
-    Field.TIMESTAMP: Tag.LONG,
-    Field.TRACE_ID: Tag.UUID,
-    Field.VALUE: Tag.BOUND,
-}
-# The numbers that an event of a tag may have.
-_RANGES: Dict[Tag, Tuple[int, int]] = {
-    Tag.BYTE: (0, 0xFF),
-    Tag.SHORT: (0, 0xFFFF),
-    Tag.INT: (-(1 << 31), (1 << 31) - 1),
-    Tag.LONG: (-(1 << 63), (1 << 63) - 1),
-    Tag.COUNT: (0, (1 << 31) - 1),
-}
-# The counts that have four bytes; others have two. And the texts and bytes whose length has four bytes.
-_LONG_COUNTS = (Field.COLUMNS, Field.KEYS, Field.ROWS)
-_LONG = (Field.QUERY, Field.PAYLOAD_VALUE, Field.TOKEN, Field.PAGING_STATE)
+# Plain numbers, since those of an Enum take longer to be looked up and compared.
+_TEXT, _UUID, _BYTES, _BOUND = map(int, (Tag.TEXT, Tag.UUID, Tag.BYTES, Tag.BOUND))
+_NULL, _UNSET = int(Mark.NULL), int(Mark.UNSET)
+_HALF = 1 << 31
+# Of each field its tag, and the range of its number or the greatest length of its content: its notation, section 3. Most are a [string].
+_NOTATIONS: List[Tuple[int, int, int]] = [(_TEXT, 0, 0xFFFF)] * 256
+for _tag, _least, _most, _fields in (
+    (Tag.TEXT, 0, _HALF - 1, (Field.QUERY,)),
+    (Tag.BYTE, 0, 0xFF, (Field.ENTRY_KIND, Field.BATCH_TYPE, Field.BATCH_FLAGS, Field.QUERY_FLAGS, Field.DATA_PRESENT)),
+    (Tag.SHORT, 0, 0xFFFF, (Field.CONSISTENCY, Field.SERIAL_CONSISTENCY, Field.KEY_INDEX)),
+    (Tag.INT, -_HALF, _HALF - 1, (Field.PAGE_SIZE, Field.ERROR_CODE, Field.RESULT_KIND, Field.META_FLAGS)),
+    (Tag.INT, -_HALF, _HALF - 1, (Field.REQUIRED, Field.ALIVE, Field.RECEIVED, Field.BLOCK_FOR, Field.FAILURES)),
+    (Tag.LONG, -(1 << 63), (1 << 63) - 1, (Field.TIMESTAMP,)),
+    (Tag.UUID, 0, 0, (Field.TRACE_ID,)),
+    (Tag.COUNT, 0, 0xFFFF, (Field.WARNINGS, Field.PAYLOAD_ITEMS, Field.OPTIONS, Field.OPTION_VALUES)),
+    (Tag.COUNT, 0, 0xFFFF, (Field.EVENT_TYPES, Field.ENTRIES, Field.VALUES, Field.ARGUMENTS)),
+    (Tag.COUNT, 0, _HALF - 1, (Field.COLUMNS, Field.KEYS, Field.ROWS)),
+    (Tag.BYTES, 0, 0xFFFF, (Field.STATEMENT_ID,)),
+    (Tag.BYTES, 0, _HALF - 1, (Field.PAYLOAD_VALUE, Field.TOKEN, Field.PAGING_STATE)),
+    (Tag.BOUND, 0, _HALF - 1, (Field.VALUE,)),
+):
+    for _field in _fields:
+        _NOTATIONS[_field] = int(_tag), _least, _most
 
 
 def field_event(field: Field, value: Any) -> Event:
     """The event of a field of a message that has this `value`. Raises BadValue."""
-    tag = _TAGS.get(field, Tag.TEXT)
-    if tag in _RANGES:
-        return Event(tag=tag, field=field, number=_number(value, *((0, 0xFFFF) if _is_short(tag, field) else _RANGES[tag])))
-    if tag == Tag.TEXT:
-        return Event(tag=tag, field=field, content=_not_too_long(field, value, text_content(value)))
-    if tag == Tag.UUID:
-        octets = getattr(value, "bytes", None)
-        if not isinstance(octets, bytes) or len(octets) != 16:
-            raise BadValue(value, "a uuid.UUID is wanted")
-        return Event(tag=tag, field=field, octets=octets)
-    if value is None and field != Field.STATEMENT_ID:
-        return Event(tag=tag, field=field, mark=Mark.NULL)
-    if tag == Tag.BOUND and isinstance(value, Unset):
-        return Event(tag=tag, field=field, mark=Mark.UNSET)
-    return Event(tag=tag, field=field, content=_not_too_long(field, value, bytes_content(value)))
+    tag, least, most = _NOTATIONS[field]
+    number, content, octets, mark = 0, b"", b"", 0
+    if tag == _TEXT:
+        content = text_content(value)
+    elif tag == _BYTES or tag == _BOUND:
+        if value is None and field != _STATEMENT_ID:
+            mark = _NULL
+        elif tag == _BOUND and isinstance(value, Unset):
+            mark = _UNSET
+        else:
+            content = bytes_content(value)
+    elif tag == _UUID:
+        octets = uuid_octets(value)
+    else:
+        number = number_within(value, least, most)
+    if len(content) > most:
+        raise BadValue(value, "it has %d bytes, more than %d" % (len(content), most))
+    return tuple.__new__(Event, (0, content, number, 0, 0, 0, 0, octets, tag, field, 0, 0, 0, mark))
 
 
-def _is_short(tag: Tag, field: Field) -> bool:
-    return tag == Tag.COUNT and field not in _LONG_COUNTS
+_STATEMENT_ID = int(Field.STATEMENT_ID)
+Place = Union[str, Tuple[str, int], Tuple[str, int, str]]
+"""Where in a message a field is: its name, or that of a list, which of its items, and what in the item."""
 
 
-def _number(value: Any, least: int, most: int) -> int:
-    try:
-        number = operator.index(value)
-    except TypeError:
-        raise BadValue(value, "an int is wanted") from None
-    if not least <= number <= most:
-        raise BadValue(value, "a number from %d to %d is wanted" % (least, most))
-    return number
-
-
-def _not_too_long(field: Field, value: Any, content: bytes) -> bytes:
-    if len(content) > 0xFFFF and field not in _LONG and field != Field.VALUE:
-        raise BadValue(value, "it has %d bytes, more than 65535" % len(content))
-    return content
+def _name_of(place: Place) -> str:
+    return place if isinstance(place, str) else "%s[%d]%s" % (place[0], place[1], "".join(place[2:]))
 
 
 class _Fields:
@@ -84,59 +73,59 @@ class _Fields:
 
     def __init__(self) -> None:
         self.events: List[Event] = []
-        self.places: List[str] = []
+        self.places: List[Place] = []
 
-    def put(self, place: str, field: Field, value: Any) -> None:
+    def put(self, place: Place, field: Field, value: Any) -> None:
         try:
             event = field_event(field, value)
         except BadValue as bad:
-            raise bad.within(place) from None
+            raise bad.within(_name_of(place)) from None
         self.events.append(event)
         self.places.append(place)
 
-    def add(self, place: str, events: Iterable[Event]) -> None:
-        before = len(self.events)
+    def add(self, place: Place, events: Sequence[Event]) -> None:
         self.events += events
-        self.places += [place] * (len(self.events) - before)
+        self.places += [place] * len(events)
 
-    def each(self, place: str, count: Field, items: Sequence[Any], put: Callable[[str, Any], None]) -> None:
+    def each(self, place: str, count: Field, items: Any, put: Callable[[Tuple[str, int], Any], None]) -> None:
         """How many items there are, and each of them."""
         if not isinstance(items, (tuple, list)):
             raise BadValue(items, "a tuple or a list is wanted").within(place)
-        self.put("len(%s)" % place, count, len(items))
+        self.put(place, count, len(items))
         for at, item in enumerate(items):
-            put("%s[%d]" % (place, at), item)
+            put((place, at), item)
 
-    def texts(self, place: str, count: Field, field: Field, texts: Sequence[Any]) -> None:
+    def texts(self, place: str, count: Field, field: Field, texts: Any) -> None:
         self.each(place, count, texts, lambda place, text: self.put(place, field, text))
 
-    def parts(self, place: str, message: Any, flags: int, fields: Dict[str, Tuple[int, Field]]) -> None:
-        """The parts whose flags are set. A paging state may be null."""
-        for name, (flag, field) in fields.items():
+    def parts(self, place: str, message: Any, flags: int, fields: Tuple[Tuple[str, int, Field], ...]) -> None:
+        """The parts whose flags are set."""
+        for name, flag, field in fields:
             value = getattr(message, name)
-            if value is not None and not flags & flag:
-                raise BadValue(value, "the flag %02x is not set" % flag).within(place + name)
             if flags & flag:
                 self.put(place + name, field, value)
+            elif value is not None:
+                raise BadValue(value, "the flag %02x is not set" % flag).within(place + name)
 
 
-_PARTS_OF_BATCH = {
-    "serial_consistency": (PARTS_OF_BATCH["serial_consistency"], Field.SERIAL_CONSISTENCY),
-    "timestamp": (PARTS_OF_BATCH["timestamp"], Field.TIMESTAMP),
-}
-_PARTS_OF_QUERY = {
-    "page_size": (PARTS_OF_QUERY["page_size"], Field.PAGE_SIZE),
-    "paging_state": (PARTS_OF_QUERY["paging_state"], Field.PAGING_STATE),
-    **_PARTS_OF_BATCH,
-}
+_PARTS_OF_BATCH = (
+    ("serial_consistency", 0x10, Field.SERIAL_CONSISTENCY),
+    ("timestamp", 0x20, Field.TIMESTAMP),
+)
+_PARTS_OF_QUERY = (
+    ("page_size", 0x04, Field.PAGE_SIZE),
+    ("paging_state", 0x08, Field.PAGING_STATE),
+    *_PARTS_OF_BATCH,
+)
+_PARTS_OF_METADATA = (("paging_state", 2, Field.PAGING_STATE),)
 
 # ---- requests
 
 
 def _startup(to: _Fields, message: messages.Startup) -> None:
-    def option(place: str, pair: Tuple[Any, Any]) -> None:
-        to.put(place + "[0]", Field.OPTION_KEY, pair[0])
-        to.put(place + "[1]", Field.OPTION_VALUE, pair[1])
+    def option(place: Place, pair: Tuple[Any, Any]) -> None:
+        to.put(place, Field.OPTION_KEY, pair[0])
+        to.put(place, Field.OPTION_VALUE, pair[1])
 
     to.each("options", Field.OPTIONS, message.options, option)
 
@@ -169,21 +158,21 @@ def _values(to: _Fields, values: Optional[Sequence[Any]], names: Optional[Sequen
         raise BadValue(values, "the flag 01 is set").within("parameters.values")
     if named and (names is None or len(names) != len(values)):
         raise BadValue(names, "a name of each value is wanted").within("parameters.names")
-    to.put("len(parameters.values)", Field.VALUES, len(values))
+    to.put("parameters.values", Field.VALUES, len(values))
     for at, value in enumerate(values):
         if named and names:
-            to.put("parameters.names[%d]" % at, Field.VALUE_NAME, names[at])
-        to.put("parameters.values[%d]" % at, Field.VALUE, value)
+            to.put(("parameters.names", at), Field.VALUE_NAME, names[at])
+        to.put(("parameters.values", at), Field.VALUE, value)
 
 
 def _batch(to: _Fields, message: messages.Batch) -> None:
-    def statement(place: str, item: messages.Statement) -> None:
+    def statement(place: Tuple[str, int], item: messages.Statement) -> None:
         if not isinstance(item, messages.Statement):
-            raise BadValue(item, "a Statement is wanted").within(place)
+            raise BadValue(item, "a Statement is wanted").within(_name_of(place))
         prepared = not isinstance(item.statement, str)
         to.put(place, Field.ENTRY_KIND, int(prepared))
-        to.put(place + ".statement", Field.STATEMENT_ID if prepared else Field.QUERY, item.statement)
-        to.each(place + ".values", Field.VALUES, item.values, lambda place, value: to.put(place, Field.VALUE, value))
+        to.put((*place, ".statement"), Field.STATEMENT_ID if prepared else Field.QUERY, item.statement)
+        to.each(_name_of(place) + ".values", Field.VALUES, item.values, lambda place, value: to.put(place, Field.VALUE, value))
 
     to.put("type", Field.BATCH_TYPE, message.type)
     to.each("statements", Field.ENTRIES, message.statements, statement)
@@ -196,9 +185,9 @@ def _batch(to: _Fields, message: messages.Batch) -> None:
 
 
 def _supported(to: _Fields, message: messages.Supported) -> None:
-    def option(place: str, pair: Tuple[Any, Any]) -> None:
-        to.put(place + "[0]", Field.OPTION_KEY, pair[0])
-        to.texts(place + "[1]", Field.OPTION_VALUES, Field.OPTION_VALUE, pair[1])
+    def option(place: Place, pair: Tuple[Any, Any]) -> None:
+        to.put(place, Field.OPTION_KEY, pair[0])
+        to.texts(_name_of(place), Field.OPTION_VALUES, Field.OPTION_VALUE, pair[1])
 
     to.each("options", Field.OPTIONS, message.options, option)
 
@@ -224,7 +213,7 @@ def _event(to: _Fields, message: messages.Event) -> None:
     to.put("type", Field.EVENT_TYPE, message.type)
     if isinstance(message, messages.NodeEvent):
         to.put("change", Field.CHANGE, message.change)
-        to.add("address", [_inet(message)])
+        to.add("address", (_inet(message),))
     elif isinstance(message, messages.SchemaEvent):
         _change(to, "schema.", message.schema)
 
@@ -234,11 +223,7 @@ def _inet(message: messages.NodeEvent) -> Event:
         octets = packed_address(message.address)
     except BadValue as bad:
         raise bad.within("address") from None
-    try:
-        port = _number(message.port, -(1 << 31), (1 << 31) - 1)
-    except BadValue as bad:
-        raise bad.within("port") from None
-    return Event(tag=Tag.INET, field=Field.ADDRESS, octets=octets, extra=port)
+    return Event(tag=Tag.INET, field=Field.ADDRESS, octets=octets, extra=_in("port", message.port, -(1 << 31), (1 << 31) - 1))
 
 
 def _change(to: _Fields, place: str, message: messages.SchemaChange) -> None:
@@ -263,20 +248,19 @@ def _columns(to: _Fields, place: str, flags: int, columns: Sequence[Column]) -> 
     """The specs of columns."""
     if flags & 1:
         first = columns[0] if columns else Column("", "", "", _RAW)
-        to.put(place + "[0].keyspace", Field.KEYSPACE, first.keyspace)
-        to.put(place + "[0].table", Field.TABLE, first.table)
+        to.put((place, 0, ".keyspace"), Field.KEYSPACE, first.keyspace)
+        to.put((place, 0, ".table"), Field.TABLE, first.table)
     for at, column in enumerate(columns):
-        here = "%s[%d]" % (place, at)
         if not flags & 1:
-            to.put(here + ".keyspace", Field.KEYSPACE, column.keyspace)
-            to.put(here + ".table", Field.TABLE, column.table)
+            to.put((place, at, ".keyspace"), Field.KEYSPACE, column.keyspace)
+            to.put((place, at, ".table"), Field.TABLE, column.table)
         elif column[:2] != columns[0][:2]:
-            raise BadValue(column, "the flag 01 says that all columns are of one table").within(here)
-        to.put(here + ".name", Field.COLUMN_NAME, column.name)
+            raise BadValue(column, "the flag 01 says that all columns are of one table").within("%s[%d]" % (place, at))
+        to.put((place, at, ".name"), Field.COLUMN_NAME, column.name)
         try:
-            to.add(here + ".type", type_events(column.type))
+            to.add((place, at, ".type"), type_events(column.type))
         except BadValue as bad:
-            raise bad.within(here + ".type") from None
+            raise bad.within("%s[%d].type" % (place, at)) from None
 
 
 def _metadata(to: _Fields, place: str, given: Metadata) -> None:
@@ -286,7 +270,7 @@ def _metadata(to: _Fields, place: str, given: Metadata) -> None:
         raise BadValue(given.columns, "as many columns as `width` are wanted, or none with the flag 04").within(place + ".columns")
     to.put(place + ".flags", Field.META_FLAGS, given.flags)
     to.put(place + ".width", Field.COLUMNS, given.width)
-    to.parts(place + ".", given, given.flags, {"paging_state": (2, Field.PAGING_STATE)})
+    to.parts(place + ".", given, given.flags, _PARTS_OF_METADATA)
     if not given.flags & 4:
         _columns(to, place + ".columns", given.flags, given.columns)
 
@@ -321,7 +305,7 @@ def _prepared(to: _Fields, message: messages.Prepared) -> None:
     to.put("", Field.RESULT_KIND, ResultKind.PREPARED)
     to.put("id", Field.STATEMENT_ID, message.id)
     to.put("flags", Field.META_FLAGS, message.flags)
-    to.put("len(bound)", Field.COLUMNS, len(message.bound))
+    to.put("bound", Field.COLUMNS, len(message.bound))
     to.each("keys", Field.KEYS, message.keys, lambda place, key: to.put(place, Field.KEY_INDEX, key))
     _columns(to, "bound", message.flags, message.bound)
     _metadata(to, "result", message.result)
@@ -376,7 +360,16 @@ _WRITERS: Dict[type, Callable[[_Fields, Any], None]] = {
 }
 _WRITERS.update(dict.fromkeys((messages.Error, *messages.Error.__subclasses__()), _error))
 _WRITERS.update(dict.fromkeys((messages.Event, *messages.Event.__subclasses__()), _event))
-_REQUESTS = frozenset((0x01, 0x05, 0x07, 0x09, 0x0A, 0x0B, 0x0D, 0x0F))
+_REQUESTS = (
+    messages.Startup,
+    messages.Options,
+    messages.Query,
+    messages.Prepare,
+    messages.Execute,
+    messages.Batch,
+    messages.Register,
+    messages.AuthResponse,
+)
 
 # ---- frames
 
@@ -394,10 +387,10 @@ def _put_parts(to: _Fields, response: bool, flags: int, trace_id: Any, warnings:
         if payload is None:
             raise BadValue(payload, "the flag 04 is set").within("payload")
         pairs = list(payload.items() if isinstance(payload, Mapping) else payload)
-        to.put("len(payload)", Field.PAYLOAD_ITEMS, len(pairs))
+        to.put("payload", Field.PAYLOAD_ITEMS, len(pairs))
         for at, (key, value) in enumerate(pairs):
-            to.put("payload[%d]" % at, Field.PAYLOAD_KEY, key)
-            to.put("payload[%r]" % key, Field.PAYLOAD_VALUE, value)
+            to.put(("payload", at), Field.PAYLOAD_KEY, key)
+            to.put(("payload", at), Field.PAYLOAD_VALUE, value)
 
 
 def _frame(message: Message, stream: int, flags: int, trace_id: Any, warnings: Sequence[str], payload: Payload) -> _Fields:
@@ -405,7 +398,7 @@ def _frame(message: Message, stream: int, flags: int, trace_id: Any, warnings: S
     to, write = _Fields(), _WRITERS.get(type(message))
     if write is None:
         raise BadValue(message, "one of the classes of cqlp.messages is wanted")
-    response = message.opcode not in _REQUESTS
+    response = not isinstance(message, _REQUESTS)
     for name, part, flag in (("trace_id", trace_id, 0x02), ("warnings", warnings or None, 0x08), ("payload", payload, 0x04)):
         if part is not None:
             flags |= flag
@@ -418,7 +411,7 @@ def _frame(message: Message, stream: int, flags: int, trace_id: Any, warnings: S
         extra=_in("stream", stream, -32768, 32767),
         flags=_in("flags", flags, 0, 255),
     )
-    to.add("flags", [head])
+    to.add("flags", (head,))
     _put_parts(to, response, flags, trace_id, warnings, payload)
     try:
         write(to, message)
@@ -429,7 +422,7 @@ def _frame(message: Message, stream: int, flags: int, trace_id: Any, warnings: S
 
 def _in(place: str, value: Any, least: int, most: int) -> int:
     try:
-        return _number(value, least, most)
+        return number_within(value, least, most)
     except BadValue as bad:
         raise bad.within(place) from None
 
@@ -441,7 +434,7 @@ def _written(message: Message, to: _Fields) -> bytes:
         event, why = refused.event, camel(refused.code)
         bad = BadValue(message if event is None else event.value, why)
         if event is not None and refused.index < len(to.places):
-            bad.within(to.places[refused.index])
+            bad.within(_name_of(to.places[refused.index]))
         elif event is not None:
             bad.within("rows[%d][%d]" % (event.row, event.column))
         raise bad.within(type(message).__name__) from refused

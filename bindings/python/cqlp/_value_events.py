@@ -45,13 +45,15 @@ Parts = Tuple[int, bytes, int, bytes]
 
 
 def _integer(least: int, most: int) -> Callable[[Any], Parts]:
-    def parts(value: Any) -> Parts:
-        number = _number(value)
-        if not least <= number <= most:
-            raise BadValue(value, "a number from %d to %d is wanted" % (least, most))
-        return number, b"", 0, b""
+    return lambda value: (number_within(value, least, most), b"", 0, b"")
 
-    return parts
+
+def number_within(value: Any, least: int, most: int) -> int:
+    """A number in this range."""
+    number = value if type(value) is int else _number(value)
+    if least <= number <= most:
+        return number
+    raise BadValue(value, "a number from %d to %d is wanted" % (least, most))
 
 
 def _number(value: Any) -> int:
@@ -134,10 +136,15 @@ def _blob(value: Any) -> Parts:
     return 0, bytes_content(value), 0, b""
 
 
-def _uuid(value: Any) -> Parts:
+def uuid_octets(value: Any) -> bytes:
+    """The 16 bytes of a uuid."""
     if not isinstance(value, uuid.UUID):
         raise BadValue(value, "a uuid.UUID is wanted")
-    return 0, b"", 0, value.bytes
+    return value.bytes
+
+
+def _uuid(value: Any) -> Parts:
+    return 0, b"", 0, uuid_octets(value)
 
 
 def packed_address(value: Any) -> bytes:
@@ -237,18 +244,28 @@ def _scalar(kind: int) -> Put:
 
     def put(events: List[Event], value: ValueOf, row: int, column: int, level: int) -> None:
         if value is None:
-            events.append(_event(b"", 0, row, column, level, 0, b"", _NULL, 0))
+            events.append(_absent(_NULL, row, column, level))
         elif value is EMPTY or value == empty:
-            events.append(_event(b"", 0, row, column, level, 0, b"", _EMPTY, 0))
+            events.append(_absent(_EMPTY, row, column, level))
         else:
             number, content, extra, octets = parts(value)
-            events.append(_event(content, number, row, column, level, extra, octets, _LEAF, kind))
+            events.append(_new(Event, (0, content, number, row, column, level, extra, octets, _LEAF, 0, kind, 0, 0, 0)))
 
     return put
 
 
-def _event(content: bytes, number: int, row: int, column: int, level: int, extra: int, octets: bytes, tag: Tag, kind: int) -> Event:
-    return tuple.__new__(Event, (0, content, number, row, column, level, extra, octets, tag, 0, kind, 0, 0, 0))
+# An event of the members, all of them in their order: in half the time of `Event(..)`.
+_new = tuple.__new__
+
+
+def _absent(tag: Tag, row: int, column: int, level: int) -> Event:
+    """That of a null, or of no bytes."""
+    return _new(Event, (0, b"", 0, row, column, level, 0, b"", tag, 0, 0, 0, 0, 0))
+
+
+def _around(tag: Tag, kind: int, count: int, row: int, column: int, level: int) -> Event:
+    """That of the begin or the end of a value with items."""
+    return _new(Event, (0, b"", count, row, column, level, 0, b"", tag, 0, kind, 0, 0, 0))
 
 
 def _with_items(kind: int, inner: Tuple[Put, ...], items: "Callable[[Any], Items]") -> Put:
@@ -257,10 +274,10 @@ def _with_items(kind: int, inner: Tuple[Put, ...], items: "Callable[[Any], Items
 
     def put(events: List[Event], value: ValueOf, row: int, column: int, level: int) -> None:
         if value is None or value is EMPTY:
-            events.append(_event(b"", 0, row, column, level, 0, b"", _NULL if value is None else _EMPTY, 0))
+            events.append(_absent(_NULL if value is None else _EMPTY, row, column, level))
             return
         count, found, names = items(value)
-        events.append(_event(b"", count, row, column, level, 0, b"", _ENTER, kind))
+        events.append(_around(_ENTER, kind, count, row, column, level))
         at = 0
         try:
             for item in found:
@@ -268,7 +285,7 @@ def _with_items(kind: int, inner: Tuple[Put, ...], items: "Callable[[Any], Items
                 at += 1
         except BadValue as bad:
             raise bad.within("[%r]" % names[at] if names else "[%d]" % (at // 2 if kind == Kind.MAP else at)) from None
-        events.append(_event(b"", count, row, column, level, 0, b"", _LEAVE, 0))
+        events.append(_around(_LEAVE, 0, count, row, column, level))
 
     return put
 
@@ -336,7 +353,8 @@ def cell_events(type: Union[Type, str], value: ValueOf, row: int = 0, column: in
 # ---- values that are bound
 
 
-def type_events(type: Type) -> List[Event]:
+@lru_cache(512)
+def type_events(type: Type) -> Tuple[Event, ...]:
     """The events of a type option."""
     events = [Event(tag=Tag.TYPE_NODE, kind=type.kind)]
     if type.kind == Kind.CUSTOM:
@@ -353,7 +371,7 @@ def type_events(type: Type) -> List[Event]:
         if type.kind == Kind.UDT:
             events.append(Event(tag=Tag.TEXT, field=Field.FIELD_NAME, content=text_content(type.names[at])))
         events += type_events(inner)
-    return events
+    return tuple(events)
 
 
 @lru_cache(512)

@@ -49,10 +49,8 @@ class Message:
     """That of its frame."""
 
 
-def _set(message: Any, **members: Any) -> None:
-    """Sets members of a frozen dataclass, as its `__init__` may."""
-    for name, value in members.items():
-        object.__setattr__(message, name, value)
+_set = object.__setattr__
+"""Sets a member of a frozen dataclass, as its `__init__` may."""
 
 
 def _several(given: Iterable[T]) -> Tuple[T, ...]:
@@ -67,12 +65,9 @@ def _pairs(given: Union[Mapping[str, T], Iterable[Tuple[str, T]]]) -> Tuple[Tupl
     return tuple((key, value) for key, value in (given.items() if isinstance(given, Mapping) else given))
 
 
-def _flags_of(message: Any, flags: int, parts: Dict[str, int]) -> int:
-    """These flags, and those of the parts that are there."""
-    for name, flag in parts.items():
-        if getattr(message, name) is not None:
-            flags |= flag
-    return flags
+def _flags_of_times(message: Any) -> int:
+    """The flags of the parts that both a query and a batch may have."""
+    return (0 if message.serial_consistency is None else 0x10) | (0 if message.timestamp is None else 0x20)
 
 
 @dataclass(frozen=True)
@@ -121,16 +116,20 @@ class Parameters:
     """In microseconds from 1970."""
 
     def __post_init__(self) -> None:
-        for name in ("values", "names"):
-            if getattr(self, name) is not None:
-                _set(self, **{name: _several(getattr(self, name))})
-        _set(self, flags=_flags_of(self, self.flags, PARTS_OF_QUERY))
+        flags = self.flags | _flags_of_times(self)
+        if self.values is not None:
+            flags |= 0x01
+            _set(self, "values", _several(self.values))
+        if self.names is not None:
+            flags |= 0x40
+            _set(self, "names", _several(self.names))
+        if self.page_size is not None:
+            flags |= 0x04
+        if self.paging_state is not None:
+            flags |= 0x08
+        _set(self, "flags", flags)
 
 
-PARTS_OF_BATCH = {"serial_consistency": 0x10, "timestamp": 0x20}
-"""The flag of each part of a BATCH."""
-PARTS_OF_QUERY = {"values": 0x01, "page_size": 0x04, "paging_state": 0x08, **PARTS_OF_BATCH, "names": 0x40}
-"""The flag of each part of the parameters of a query."""
 _NO_PARAMETERS = (Consistency.LOCAL_ONE, 0, None, None, None, None, None, None)
 
 
@@ -150,8 +149,8 @@ class Startup(Message):
     opcode = Opcode.STARTUP
     options: Tuple[Tuple[str, str], ...]
 
-    def __init__(self, options: Union[Mapping[str, str], Iterable[Tuple[str, str]]] = (("CQL_VERSION", "3.0.0"),)) -> None:
-        _set(self, options=_pairs(options))
+    def __init__(self, options: Union[Mapping[str, str], Tuple[Tuple[str, str], ...]] = (("CQL_VERSION", "3.0.0"),)) -> None:
+        _set(self, "options", _pairs(options))
 
 
 @dataclass(frozen=True)
@@ -185,7 +184,8 @@ class Query(Message):
     ) -> None:
         """Its parameters are `parameters`, or else are made of the others."""
         given = (consistency, 2 * skip_metadata, values, names, page_size, paging_state, serial_consistency, timestamp)
-        _set(self, query=query, parameters=_parameters_of(parameters, given))
+        _set(self, "query", query)
+        _set(self, "parameters", _parameters_of(parameters, given))
 
 
 @dataclass(frozen=True)
@@ -220,7 +220,8 @@ class Execute(Message):
     ) -> None:
         """Its parameters are `parameters`, or else are made of the others."""
         given = (consistency, 2 * skip_metadata, values, names, page_size, paging_state, serial_consistency, timestamp)
-        _set(self, id=id, parameters=_parameters_of(parameters, given))
+        _set(self, "id", id)
+        _set(self, "parameters", _parameters_of(parameters, given))
 
 
 @dataclass(frozen=True)
@@ -231,7 +232,7 @@ class Statement:
     values: Sequence[Value] = ()
 
     def __post_init__(self) -> None:
-        _set(self, values=_several(self.values))
+        _set(self, "values", _several(self.values))
 
 
 @dataclass(frozen=True)
@@ -248,7 +249,8 @@ class Batch(Message):
     timestamp: Optional[int] = None
 
     def __post_init__(self) -> None:
-        _set(self, statements=_several(self.statements), flags=_flags_of(self, self.flags, PARTS_OF_BATCH))
+        _set(self, "statements", _several(self.statements))
+        _set(self, "flags", self.flags | _flags_of_times(self))
 
 
 @dataclass(frozen=True)
@@ -259,7 +261,7 @@ class Register(Message):
     event_types: Sequence[str]
 
     def __post_init__(self) -> None:
-        _set(self, event_types=_several(self.event_types))
+        _set(self, "event_types", _several(self.event_types))
 
 
 @dataclass(frozen=True)
@@ -381,8 +383,8 @@ class Supported(Message):
     opcode = Opcode.SUPPORTED
     options: Tuple[Tuple[str, Tuple[str, ...]], ...]
 
-    def __init__(self, options: Union[Mapping[str, Sequence[str]], Iterable[Tuple[str, Sequence[str]]]]) -> None:
-        _set(self, options=tuple((name, _several(values)) for name, values in _pairs(options)))
+    def __init__(self, options: Union[Mapping[str, Sequence[str]], Tuple[Tuple[str, Sequence[str]], ...]]) -> None:
+        _set(self, "options", tuple((name, _several(values)) for name, values in _pairs(options)))
 
 
 @dataclass(frozen=True)
