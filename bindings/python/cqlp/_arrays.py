@@ -14,7 +14,7 @@ from ._missing import Missing, numpy_of
 from ._pages import _NO_METADATA, _ROWS_RESULT, Types, _Metadata
 from ._sources import Progress, Source, _must_be_whole, _pieces, _pieces_of_frames
 from ._turns import Error
-from ._types import Column
+from ._types import Column, column_text
 from .numbers import Code, Field, Kind, Stop, Tag
 
 # The kinds whose values are numbers in their array, and the code of its items.
@@ -66,6 +66,9 @@ class ColumnArray(NamedTuple):
     """A bit for each cell, set where it has a value of no bytes. None where none has. Of values of a fixed length such a cell has no value in
     `validity`."""
 
+    def __repr__(self) -> str:
+        return "<ColumnArray of %d cells: %s>" % (self.cells, column_text(self.column, self.kind))
+
     def numbers(self) -> memoryview:
         """The values of a kind that has numbers, as this machine has them, over the same memory where its bytes are in this order: 0 where a cell
         has none, of which `validity` says."""
@@ -98,7 +101,7 @@ def _unpickled(members: Tuple[Any, ...], offsets: Optional[bytes]) -> ColumnArra
     return ColumnArray(*members)._replace(offsets=None if offsets is None else memoryview(offsets).cast("q"))
 
 
-@dataclass(frozen=True)
+@dataclass(frozen=True, repr=False)
 class ArrayBatch:
     """Rows of a page, one after the other, column by column."""
 
@@ -114,6 +117,10 @@ class ArrayBatch:
     """How many rows the page says that it has."""
     paging_state: Optional[bytes]
     """Where the result goes on after the page, or None where this is its last one."""
+
+    def __repr__(self) -> str:
+        columns = ", ".join(column_text(each.column, each.kind) for each in self.arrays)
+        return "<ArrayBatch of %d rows from row %d on: %s>" % (self.count, self.first, columns)
 
     def __getitem__(self, name: str) -> ColumnArray:
         """The array of the first column of this name."""

@@ -404,12 +404,14 @@ def _frame(message: Message, stream: int, flags: int, trace_id: Any, warnings: S
             flags |= flag
             if not response and name != "payload":
                 raise BadValue(part, "a request has none").within(name)
+    if _in("flags", flags, 0, 255) & 1:
+        raise BadValue(flags, "the flag 01 says that the body is compressed").within("flags")
     head = Event(
         tag=Tag.FRAME,
         mark=Mark.RESPONSE if response else Mark.NONE,
         opcode=message.opcode,
         extra=_in("stream", stream, -32768, 32767),
-        flags=_in("flags", flags, 0, 255),
+        flags=flags,
     )
     to.add("flags", (head,))
     _put_parts(to, response, flags, trace_id, warnings, payload)

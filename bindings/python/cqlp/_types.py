@@ -23,13 +23,20 @@ class Type(NamedTuple):
     def of(cls, text: "Union[str, Type]", *udts: "Type") -> "Type":
         """The type that has this text: `Type.of("map<text, frozen<list<int>>>")`. A class in quotes is a custom type, the name of one of `udts` that
         one, and a Type itself. Raises ValueError where no type has this text."""
-        return text if isinstance(text, Type) else _type_of(text, udts)
+        if isinstance(text, Type):
+            return text
+        if not isinstance(text, str):
+            raise TypeError("a type is a Type, or its text")
+        return _type_of(text, udts)
 
     @classmethod
     def udt(cls, name: str, fields: "Sequence[Tuple[str, Union[str, Type]]]", *udts: "Type") -> "Type":
         """A user-defined type, by its name with its keyspace: `Type.udt("shop.address", [("street", "text"), ("number", "int")])`."""
         inner = tuple(cls.of(type, *udts) for _, type in fields)
         return cls(Kind.UDT, inner, tuple(field for field, _ in fields), name)
+
+    def __repr__(self) -> str:
+        return "Type.of(%r)" % (str(self),)
 
     def __str__(self) -> str:
         word = getattr(self.kind, "name", str(self.kind)).lower()
@@ -49,7 +56,18 @@ class Column(NamedTuple):
     type: Type
 
 
+def column_text(column: Optional[Column], kind: Union[Kind, int] = Kind.RAW) -> str:
+    """The name and the type of a column, or what is known of one without metadata."""
+    return str(Type(kind)) if column is None else "%s %s" % (column.name, column.type)
+
+
 _ARITY: Dict[int, int] = {Kind.LIST: 1, Kind.SET: 1, Kind.MAP: 2}
+
+
+def has_arity(type: Type) -> bool:
+    """Whether it has as many types in it as its kind has."""
+    return type.kind in (Kind.TUPLE, Kind.UDT) or len(type.inner) == _ARITY.get(type.kind, 0)
+
 
 # ---- read from events
 
@@ -149,10 +167,10 @@ class _TextReader:
         inner = tuple(self.inner()) if self.token == "<" else ()
         if word.lower() == "frozen" and len(inner) == 1:
             return inner[0]
-        kind = _KINDS.get(word.lower())
-        if kind is None or (kind != Kind.TUPLE and len(inner) != _ARITY.get(kind, 0)):
+        found = Type(_KINDS.get(word.lower(), Kind.CUSTOM), inner)
+        if found.kind == Kind.CUSTOM or not has_arity(found):
             raise self.bad()
-        return Type(kind, inner)
+        return found
 
     def inner(self) -> Iterator[Type]:
         """What is between a `<` and its `>`."""

@@ -14,7 +14,7 @@ from typing import Any, Callable, Dict, Iterable, List, Tuple, Union
 from . import _encode
 from ._events import Event
 from ._turns import Error
-from ._types import Type
+from ._types import Type, has_arity
 from ._values import _EPOCH, _ORDINAL, EMPTY, Days, Milliseconds, Unset, ValueOf
 from .numbers import Field, Kind, Mark, Opcode, ResultKind, Tag
 
@@ -356,6 +356,8 @@ def cell_events(type: Union[Type, str], value: ValueOf, row: int = 0, column: in
 @lru_cache(512)
 def type_events(type: Type) -> Tuple[Event, ...]:
     """The events of a type option."""
+    if type.kind == Kind.RAW or not (type.kind in _PARTS or type.kind in _ITEMS) or not has_arity(type):
+        raise BadValue(type, "no such type is written")
     events = [Event(tag=Tag.TYPE_NODE, kind=type.kind)]
     if type.kind == Kind.CUSTOM:
         events.append(Event(tag=Tag.TEXT, field=Field.CLASS, content=text_content(type.name)))

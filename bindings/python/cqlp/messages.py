@@ -7,6 +7,7 @@ of empty sets, 14 of rows of one null. Tuples and udts whose first field alone c
 trusted give `longest`, and lower `entries`, or read pages by `Pages`.
 """
 
+import reprlib
 from dataclasses import dataclass
 from typing import Any, Callable, ClassVar, Dict, Generator, Iterable, Iterator, List, Mapping, Optional, Sequence, Tuple, TypeVar, Union
 
@@ -18,6 +19,7 @@ from ._sources import Batch as _EventBatch
 from ._sources import Progress, Source, batches
 from ._turns import Error as _PackageError
 from ._types import Column, Type, TypeReader
+from ._value_events import BadValue, bind
 from ._values import Unset, address
 from .numbers import BatchType, Consistency, ErrorCode, Field, Mark, Opcode, ResultKind, Tag
 
@@ -198,7 +200,7 @@ class Prepare(Message):
 
 @dataclass(frozen=True, init=False)
 class Execute(Message):
-    """A query by the id of its prepared statement. Section 4.1.6. `Prepared.execute` makes one of Python values."""
+    """A query by the id of its prepared statement. Section 4.1.6. `Prepared.bind` makes its values of Python's."""
 
     opcode = Opcode.EXECUTE
     id: bytes
@@ -426,7 +428,7 @@ class Metadata:
         return cls(flags, len(found), paging_state, found)
 
 
-@dataclass(frozen=True)
+@dataclass(frozen=True, repr=False)
 class Rows(Message):
     """A page. Section 4.2.5.2."""
 
@@ -436,6 +438,9 @@ class Rows(Message):
     """How many rows it says that it has. A page without columns has none in `rows`, whatever it says."""
     rows: List[Row]
     """Each a tuple with a value of each column, as `cqlp.rows` gives them."""
+
+    def __repr__(self) -> str:
+        return "Rows(metadata=%r, count=%d, rows=%s)" % (self.metadata, self.count, reprlib.repr(self.rows))
 
     @classmethod
     def of(
@@ -484,6 +489,19 @@ class Prepared(Message):
         table."""
         found = _columns_of(bound, keyspace, table)
         return cls(id, _one_table(found), tuple(keys), found, Metadata.of(result, keyspace=keyspace, table=table))
+
+
+    def bind(self, values: Sequence[Any]) -> Tuple[Value, ...]:
+        """Python values for the statement, as many as `bound`: `Execute(prepared.id, values=prepared.bind([1, "x"]))`. Raises BadValue."""
+        if len(values) != len(self.bound):
+            raise BadValue(values, "%d values are wanted" % len(self.bound))
+        found = []
+        for at, (column, value) in enumerate(zip(self.bound, values)):
+            try:
+                found.append(bind(column.type, value))
+            except BadValue as bad:
+                raise bad.within("values[%d]" % at) from None
+        return tuple(found)
 
 
 @dataclass(frozen=True)
