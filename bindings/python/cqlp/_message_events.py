@@ -6,7 +6,7 @@ from typing import Any, Callable, Dict, Iterable, List, Mapping, Optional, Seque
 from . import _encode, messages
 from ._events import Event, camel
 from ._pages import _RAW
-from ._types import Column
+from ._types import Column, Type
 from ._value_events import BadValue, bytes_content, number_within, packed_address, putting, text_content, type_events, uuid_octets
 from ._values import Unset
 from .messages import Frame, Message, Metadata, Parameters
@@ -68,6 +68,15 @@ def _name_of(place: Place) -> str:
     return place if isinstance(place, str) else "%s[%d]%s" % (place[0], place[1], "".join(place[2:]))
 
 
+def _list(place: str, value: Any, count: Optional[int] = None) -> Any:
+    """Sees that a value is a tuple or a list, with as many items."""
+    if not isinstance(value, (tuple, list)):
+        raise BadValue(value, "a tuple or a list is wanted").within(place)
+    if count is not None and len(value) != count:
+        raise BadValue(value, "%d values are wanted" % count).within(place)
+    return value
+
+
 class _Fields:
     """The events of the fields of a message, and where in the message each is."""
 
@@ -89,9 +98,7 @@ class _Fields:
 
     def each(self, place: str, count: Field, items: Any, put: Callable[[Tuple[str, int], Any], None]) -> None:
         """How many items there are, and each of them."""
-        if not isinstance(items, (tuple, list)):
-            raise BadValue(items, "a tuple or a list is wanted").within(place)
-        self.put(place, count, len(items))
+        self.put(place, count, len(_list(place, items)))
         for at, item in enumerate(items):
             put((place, at), item)
 
@@ -123,9 +130,10 @@ _PARTS_OF_METADATA = (("paging_state", 2, Field.PAGING_STATE),)
 
 
 def _startup(to: _Fields, message: messages.Startup) -> None:
-    def option(place: Place, pair: Tuple[Any, Any]) -> None:
-        to.put(place, Field.OPTION_KEY, pair[0])
-        to.put(place, Field.OPTION_VALUE, pair[1])
+    def option(place: Place, pair: Any) -> None:
+        key, value = _list(_name_of(place), pair, 2)
+        to.put(place, Field.OPTION_KEY, key)
+        to.put(place, Field.OPTION_VALUE, value)
 
     to.each("options", Field.OPTIONS, message.options, option)
 
@@ -146,21 +154,23 @@ def _parameters(to: _Fields, given: Parameters) -> None:
     to.put("parameters.consistency", Field.CONSISTENCY, given.consistency)
     to.put("parameters.flags", Field.QUERY_FLAGS, given.flags)
     if given.flags & 0x01:
-        _values(to, given.values, given.names, bool(given.flags & 0x40))
-    elif given.names is not None:
-        raise BadValue(given.names, "there are no values").within("parameters.names")
+        _values(to, given, bool(given.flags & 0x40))
+    else:
+        for name in ("values", "names"):
+            if getattr(given, name) is not None:
+                raise BadValue(getattr(given, name), "there are no values").within("parameters." + name)
     to.parts("parameters.", given, given.flags, _PARTS_OF_QUERY)
 
 
-def _values(to: _Fields, values: Optional[Sequence[Any]], names: Optional[Sequence[Any]], named: bool) -> None:
+def _values(to: _Fields, given: Parameters, named: bool) -> None:
     """The values of a query, with their names where they have some."""
-    if values is None:
-        raise BadValue(values, "the flag 01 is set").within("parameters.values")
-    if named and (names is None or len(names) != len(values)):
-        raise BadValue(names, "a name of each value is wanted").within("parameters.names")
+    values = _list("parameters.values", given.values)
+    if not named and given.names is not None:
+        raise BadValue(given.names, "the flag 40 is not set").within("parameters.names")
+    names = _list("parameters.names", given.names, len(values)) if named else ()
     to.put("parameters.values", Field.VALUES, len(values))
     for at, value in enumerate(values):
-        if named and names:
+        if named:
             to.put(("parameters.names", at), Field.VALUE_NAME, names[at])
         to.put(("parameters.values", at), Field.VALUE, value)
 
@@ -185,18 +195,19 @@ def _batch(to: _Fields, message: messages.Batch) -> None:
 
 
 def _supported(to: _Fields, message: messages.Supported) -> None:
-    def option(place: Place, pair: Tuple[Any, Any]) -> None:
-        to.put(place, Field.OPTION_KEY, pair[0])
-        to.texts(_name_of(place), Field.OPTION_VALUES, Field.OPTION_VALUE, pair[1])
+    def option(place: Place, pair: Any) -> None:
+        key, values = _list(_name_of(place), pair, 2)
+        to.put(place, Field.OPTION_KEY, key)
+        to.texts(_name_of(place), Field.OPTION_VALUES, Field.OPTION_VALUE, values)
 
     to.each("options", Field.OPTIONS, message.options, option)
 
 
 def _error(to: _Fields, message: messages.Error) -> None:
+    to.put("code", Field.ERROR_CODE, message.code)
     make, fields = messages._ERRORS.get(message.code, (messages.Error, ()))
     if type(message) is not make:
         raise BadValue(message.code, "an error of this code is of the class %s" % getattr(make, "__name__", make)).within("code")
-    to.put("code", Field.ERROR_CODE, message.code)
     to.put("message", Field.MESSAGE, message.message)
     for member, field in zip(dataclasses.fields(message)[2:], fields):
         if field == Field.ARGUMENTS:
@@ -206,11 +217,11 @@ def _error(to: _Fields, message: messages.Error) -> None:
 
 
 def _event(to: _Fields, message: messages.Event) -> None:
+    to.put("type", Field.EVENT_TYPE, message.type)
     wanted = {"TOPOLOGY_CHANGE": messages.NodeEvent, "STATUS_CHANGE": messages.NodeEvent, "SCHEMA_CHANGE": messages.SchemaEvent}
     made = wanted.get(message.type, messages.Event)
     if type(message) is not made:
         raise BadValue(message.type, "an event of this type is of the class %s" % made.__name__).within("type")
-    to.put("type", Field.EVENT_TYPE, message.type)
     if isinstance(message, messages.NodeEvent):
         to.put("change", Field.CHANGE, message.change)
         to.add("address", (_inet(message),))
@@ -246,6 +257,9 @@ def _change(to: _Fields, place: str, message: messages.SchemaChange) -> None:
 
 def _columns(to: _Fields, place: str, flags: int, columns: Sequence[Column]) -> None:
     """The specs of columns."""
+    for at, column in enumerate(_list(place, columns)):
+        if not isinstance(column, Column) or not isinstance(column.type, Type):
+            raise BadValue(column, "a Column is wanted, with a Type").within("%s[%d]" % (place, at))
     if flags & 1:
         first = columns[0] if columns else Column("", "", "", _RAW)
         to.put((place, 0, ".keyspace"), Field.KEYSPACE, first.keyspace)
@@ -266,10 +280,10 @@ def _columns(to: _Fields, place: str, flags: int, columns: Sequence[Column]) -> 
 def _metadata(to: _Fields, place: str, given: Metadata) -> None:
     if not isinstance(given, Metadata):
         raise BadValue(given, "Metadata are wanted").within(place)
-    if len(given.columns) != (0 if given.flags & 4 else given.width):
-        raise BadValue(given.columns, "as many columns as `width` are wanted, or none with the flag 04").within(place + ".columns")
     to.put(place + ".flags", Field.META_FLAGS, given.flags)
     to.put(place + ".width", Field.COLUMNS, given.width)
+    if len(_list(place + ".columns", given.columns)) != (0 if given.flags & 4 else given.width):
+        raise BadValue(given.columns, "as many columns as `width` are wanted, or none with the flag 04").within(place + ".columns")
     to.parts(place + ".", given, given.flags, _PARTS_OF_METADATA)
     if not given.flags & 4:
         _columns(to, place + ".columns", given.flags, given.columns)
@@ -280,7 +294,7 @@ def _rows(to: _Fields, message: messages.Rows) -> None:
     to.put("", Field.RESULT_KIND, ResultKind.ROWS)
     _metadata(to, "metadata", metadata)
     to.put("count", Field.ROWS, message.count)
-    if len(message.rows) != (message.count if metadata.width else 0):
+    if len(_list("rows", message.rows)) != (message.count if metadata.width else 0):
         raise BadValue(message.count, "there are %d rows" % len(message.rows)).within("count")
     _cells(to.events, message)
 
@@ -291,7 +305,7 @@ def _cells(events: List[Event], message: messages.Rows) -> None:
     types = [column.type for column in metadata.columns] or [_RAW] * width
     puts, column = [putting(type) for type in types], 0
     for at, row in enumerate(message.rows):
-        if len(row) != width:
+        if not isinstance(row, (tuple, list)) or len(row) != width:
             raise BadValue(row, "%d values are wanted" % width).within("rows[%d]" % at)
         try:
             for column in range(width):
@@ -305,7 +319,7 @@ def _prepared(to: _Fields, message: messages.Prepared) -> None:
     to.put("", Field.RESULT_KIND, ResultKind.PREPARED)
     to.put("id", Field.STATEMENT_ID, message.id)
     to.put("flags", Field.META_FLAGS, message.flags)
-    to.put("bound", Field.COLUMNS, len(message.bound))
+    to.put("bound", Field.COLUMNS, len(_list("bound", message.bound)))
     to.each("keys", Field.KEYS, message.keys, lambda place, key: to.put(place, Field.KEY_INDEX, key))
     _columns(to, "bound", message.flags, message.bound)
     _metadata(to, "result", message.result)
@@ -322,9 +336,9 @@ def _set_keyspace(to: _Fields, message: messages.SetKeyspace) -> None:
 
 
 def _unknown_result(to: _Fields, message: messages.UnknownResult) -> None:
-    if message.kind in set(ResultKind):
-        raise BadValue(message.kind, "a result of this kind has a class of its own").within("kind")
     to.put("kind", Field.RESULT_KIND, message.kind)
+    if message.kind in tuple(ResultKind):
+        raise BadValue(message.kind, "a result of this kind has a class of its own").within("kind")
 
 
 def _only(name: str, field: Field) -> Callable[[_Fields, Any], None]:

@@ -31,6 +31,7 @@ async def main(port: str, *statements: str) -> None:
                         send(statement, messages.Query(statement))
                 open_requests -= 1
     writer.close()
+    await writer.wait_closed()
 
 
 asyncio.run(main(*sys.argv[1:]))

@@ -1,5 +1,6 @@
 """Each message is written as it is read."""
 
+import copy
 import dataclasses
 import datetime
 import decimal
@@ -308,9 +309,9 @@ class Errors(unittest.TestCase):
             (m.Query("q", consistency=1 << 16), "Query.parameters.consistency: 65536: a number from 0 to 65535 is wanted"),
             (m.Query("q", consistency="ONE"), "Query.parameters.consistency: 'ONE': an int is wanted"),
             (m.Query("q", values=[b"", 5]), "Query.parameters.values[1]: 5: bytes are wanted"),
-            (m.Query("q", values=[b""], names=[]), "Query.parameters.names: (): a name of each value is wanted"),
+            (m.Query("q", values=[b""], names=[]), "Query.parameters.names: (): 1 values are wanted"),
             (m.Query("q", names=["a"]), "Query.parameters.names: ('a',): there are no values"),
-            (m.Query("q", m.Parameters(flags=1)), "Query.parameters.values: None: the flag 01 is set"),
+            (m.Query("q", m.Parameters(flags=1)), "Query.parameters.values: None: a tuple or a list is wanted"),
             (m.Query("q", m.Parameters(flags=4)), "Query.parameters.page_size: None: an int is wanted"),
             (m.Query("q", m.Parameters(flags=256)), "Query.parameters.flags: 256: a number from 0 to 255 is wanted"),
             (m.Query("q", 5), "Query.parameters: 5: Parameters are wanted"),
@@ -356,6 +357,23 @@ class Errors(unittest.TestCase):
         self.assertEqual(bad(m.Ready(), flags=1), "flags: 1: the flag 01 says that the body is compressed")
         self.assertEqual(bad(m.Ready(), payload={"k": 5}), "payload[0]: 5: bytes are wanted")
 
+    def test_a_member_of_another_class(self) -> None:
+        """Each member of each message in turn is any of these: it is refused by name, or read as it was written."""
+        refused = 0
+        for message in REQUESTS + RESPONSES:
+            for changed in with_each_member_changed(message):
+                try:
+                    data = cqlp.encode(changed)
+                except BadValue as error:
+                    self.assertEqual(error.field.split(".")[0], type(message).__name__)
+                    refused += 1
+                else:
+                    (frame,) = cqlp.frames(data)
+                    self.assertEqual(cqlp.encode(frame), data)
+                    if not isinstance(changed, m.Rows):  # a udt without fields is read with nulls
+                        self.assertEqual(in_tuples(frame.message), in_tuples(changed))
+        self.assertGreater(refused, 4000)
+
     def test_values_that_no_cell_has(self) -> None:
         naive = datetime.datetime(2000, 1, 1)
         cases: Tuple[Tuple[Any, Any], ...] = (
@@ -384,6 +402,38 @@ class Errors(unittest.TestCase):
             self.assertRaises(BadValue, cqlp.bind, type, value)
             self.assertRaises(BadValue, cqlp.cell_events, type, value)
             self.assertTrue(bad(m.Rows.of([("a", type)], [(value,)])).startswith("Rows.rows[0]['a']"), (type, value))
+
+
+JUNK = (None, 5, -1, 1 << 40, "x", b"x", 1.5, (), [5], {"a": 1}, object(), UNSET, "STATUS_CHANGE", "TABLE", 0x1000, ((),), ((1,),), (("a", "b"),))
+
+
+def with_each_member_changed(message: Any) -> Iterator[Any]:
+    for member in dataclasses.fields(message):
+        for value in [*JUNK, *changed_parts(getattr(message, member.name))]:
+            changed = copy.copy(message)
+            object.__setattr__(changed, member.name, value)
+            yield changed
+
+
+def changed_parts(value: Any) -> Iterator[Any]:
+    """What becomes of a member where something in it is changed."""
+    if dataclasses.is_dataclass(value):
+        yield from with_each_member_changed(value)
+    elif isinstance(value, cqlp.Column):
+        yield from (value._replace(**{name: junk}) for name in value._fields for junk in JUNK)
+    elif type(value) in (tuple, list):
+        for at, item in enumerate(value):
+            for junk in [*JUNK, *changed_parts(item)]:
+                yield type(value)([*value[:at], junk, *value[at + 1 :]])
+
+
+def in_tuples(value: Any) -> Any:
+    """A message with tuples in place of lists."""
+    if dataclasses.is_dataclass(value):
+        return [(member.name, in_tuples(getattr(value, member.name))) for member in dataclasses.fields(value)]
+    if isinstance(value, (list, tuple)) and not isinstance(value, cqlp.Column):
+        return tuple(map(in_tuples, value))
+    return value
 
 
 class Types(unittest.TestCase):
