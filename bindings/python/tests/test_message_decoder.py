@@ -1,6 +1,8 @@
 """Messages of pieces that come from elsewhere."""
 
+import os
 import random
+import threading
 import unittest
 from typing import Any, Iterable, List, Tuple
 from unittest import mock
@@ -12,6 +14,7 @@ from .streams import BINDINGS, streams
 from .test_cells import told
 from .test_messages import endings, others
 
+CHANGES = int(os.environ.get("CQLP_CHANGES", 100_000)) // 20
 OPTIONS = cqlp.encode(messages.Options(), 7)
 BAD_TEXT = b"\4\0\0\2\7\0\0\0\12\0\0\0\3b\303d\0\1\0"
 PAGES = (BINDINGS / "pages.bin").read_bytes()
@@ -35,6 +38,26 @@ def kept(given: Iterable[Any], found: List[Any]) -> Iterable[Any]:
     for one in given:
         found.append(one)
     return ()
+
+
+def changed(rng: random.Random, data: bytes, seeds: List[bytes]) -> bytes:
+    """These bytes with some of them changed, and often with a length that is theirs."""
+    found = bytearray(data)
+    for _ in range(rng.randrange(4)):
+        at, what = rng.randrange(len(found)), rng.randrange(4)
+        if what == 0:
+            found[at] = rng.randrange(256)
+        elif what == 1:
+            found[at] ^= 1 << rng.randrange(8)
+        elif what == 2:
+            other = rng.choice(seeds)
+            place = rng.randrange(len(other))
+            found[at:at] = other[place : place + rng.randrange(1, 40)]
+        elif len(found) > 20:
+            del found[at : at + rng.randrange(1, 9)]
+    if len(found) >= 9 and rng.randrange(2):
+        found[5:9] = (len(found) - 9).to_bytes(4, "big")
+    return bytes(found)
 
 
 class Decoders(unittest.TestCase):
@@ -78,7 +101,7 @@ class Decoders(unittest.TestCase):
             header = bytes([version, 0, 0, 9, 5, 0, 0, 0, 0])
             stream = OPTIONS + header + b"more"
             for _ in range(20):
-                at = rng.randrange(len(stream))
+                at = rng.randrange(18)
                 decoder = cqlp.MessageDecoder()
                 found = [one for piece in (stream[:at], stream[at:18]) for one in decoder.feed(piece)]
                 self.assertEqual(len(found), 2)
@@ -137,6 +160,39 @@ class Decoders(unittest.TestCase):
         self.assertEqual(fed([longer])[0], [])
         (frame,), _ = fed([longer], lenient=True)
         self.assertEqual(frame.message.rows, [(b"\0\0\0\1x",)])
+
+    def test_streams_changed_at_random(self) -> None:
+        """What is handed out is what `frames` gives, and each frame is written as it was read."""
+        rng = random.Random(11)
+        seeds = [stream.bytes for stream in [*streams(), *others()] if 9 <= len(stream.bytes) < 4000]
+        count = written = 0
+        while count < CHANGES:
+            data = changed(rng, rng.choice(seeds), seeds)
+            cut = rng.randrange(len(data) + 1)
+            wanted = endings(cqlp.frames, data)
+            found, ending = fed([data[:cut], data[cut:]])
+            if found and isinstance(found[-1], cqlp.OtherVersion):
+                found.pop()
+                ending = wanted[1]
+            self.assertEqual((told(found), ending), (told(wanted[0]), wanted[1]), data.hex())
+            for frame in found:
+                (again,) = cqlp.frames(cqlp.encode(frame))
+                self.assertEqual(told(again.message), told(frame.message), data.hex())
+                written += 1
+            count += 1
+        self.assertGreater(written, CHANGES // 4)
+
+    def test_threads_that_share_one(self) -> None:
+        found: List[Any] = []
+        decoder = cqlp.MessageDecoder()
+        threads = [threading.Thread(target=lambda: [found.extend(decoder.feed(PAGES)) for _ in range(30)]) for _ in range(4)]
+        for thread in threads:
+            thread.start()
+        for thread in threads:
+            thread.join()
+        self.assertEqual(sorted(frame.at for frame in found), [at + base for base in range(0, 120 * len(PAGES), len(PAGES)) for at in (0, 218)])
+        wanted = [frame.message for frame in cqlp.frames(PAGES)]
+        self.assertTrue(all(frame.message in wanted for frame in found))
 
     def test_closed(self) -> None:
         decoder = cqlp.MessageDecoder()
