@@ -8,7 +8,7 @@ proved library libcqlp, whose interface is include/cqlp.h.
 """
 
 from . import messages
-from ._arrays import ArrayBatch, CellTooLong, ColumnArray, arrays
+from ._arrays import ArrayBatch, Batches, CellTooLong, ColumnArray, arrays
 from ._client import Client, Reply, Ticket
 from ._columns import PageColumns, Series, columns
 from ._core import event_header, header, version_error
@@ -55,6 +55,7 @@ __all__ = [
     "BadEvent",
     "BadLimits",
     "BadValue",
+    "Batches",
     "BatchType",
     "bind",
     "cell_events",

@@ -7,7 +7,7 @@ from dataclasses import dataclass
 from functools import lru_cache
 from typing import Any, Dict, Iterator, List, NamedTuple, Optional, Tuple, Union
 
-from . import _native
+from . import _arrow, _native
 from ._decoder import _KINDS, BadCall, Behind, Decoder, Limits, Refusal, Refused, Skip, _address, _must_be_done, event_of
 from ._events import Event
 from ._missing import Missing, numpy_of
@@ -92,6 +92,20 @@ class ColumnArray(NamedTuple):
 
         return numpy_of(numbers, self.column, missing, count, mask)
 
+    def __arrow_c_schema__(self) -> Any:
+        """A capsule with the schema, of the C data interface of Arrow."""
+        return _arrow.capsules().schema(*self._arrow_schema())
+
+    def __arrow_c_array__(self, requested_schema: Any = None) -> Tuple[Any, Any]:
+        """Capsules with the schema and the array, without a copy but of dates. No other schema is made on request."""
+        return self.__arrow_c_schema__(), _arrow.capsules().array(*self._arrow_array())
+
+    def _arrow_schema(self) -> _arrow.Told:
+        return _arrow.schema_of_column(self.column, self.kind)
+
+    def _arrow_array(self) -> _arrow.Told:
+        return _arrow.array_of_column(self.kind, self.cells, self.values, self.offsets, self.validity)
+
     def __reduce__(self) -> Tuple[Any, ...]:
         """Offsets pickle as their bytes."""
         return _unpickled, (tuple(self._replace(offsets=None)), None if self.offsets is None else bytes(self.offsets))
@@ -128,6 +142,50 @@ class ArrayBatch:
             if found.column is not None and found.column.name == name:
                 return found
         raise KeyError(name)
+
+    def __arrow_c_schema__(self) -> Any:
+        """A capsule with the schema, a struct of the columns, of the C data interface of Arrow."""
+        return _arrow.capsules().schema(*self._arrow_schema())
+
+    def __arrow_c_array__(self, requested_schema: Any = None) -> Tuple[Any, Any]:
+        """Capsules with the schema and the array, without a copy but of dates. No other schema is made on request."""
+        return self.__arrow_c_schema__(), _arrow.capsules().array(*self._arrow_array())
+
+    def _arrow_schema(self) -> _arrow.Told:
+        return _arrow.schema_of_batch(tuple(one._arrow_schema() for one in self.arrays))
+
+    def _arrow_array(self) -> _arrow.Told:
+        return _arrow.array_of_batch(self.count, tuple(one._arrow_array() for one in self.arrays))
+
+
+class Batches(Iterator[ArrayBatch]):
+    """The batches of a stream, one after the other. Other packages take them as a stream of Arrow: `pyarrow.table(cqlp.arrays("page.bin"))`."""
+
+    def __init__(self, found: Iterator[ArrayBatch]) -> None:
+        self._found = found
+
+    def __next__(self) -> ArrayBatch:
+        return next(self._found)
+
+    def close(self) -> None:
+        """Lets go of the source."""
+        self._found.close()  # type: ignore[attr-defined]
+
+    def __arrow_c_stream__(self, requested_schema: Any = None) -> Any:
+        """A capsule with a stream of the batches that are still to come. Its schema is that of the next one, which is read for it; a batch with other
+        columns, as of another page, ends it with an error. Raises ValueError where no batch comes."""
+        first = next(self._found, None)
+        if first is None:
+            raise ValueError("there is no page, so there is no schema")
+        schema = first._arrow_schema()
+        return _arrow.capsules().stream(schema, self._arrow_arrays(first, schema))
+
+    def _arrow_arrays(self, batch: Optional[ArrayBatch], schema: _arrow.Told) -> Iterator[_arrow.Told]:
+        while batch is not None:
+            if batch._arrow_schema() != schema:
+                raise ValueError("page %d has other columns than the page before it" % batch.page)
+            yield batch._arrow_array()
+            batch = next(self._found, None)
 
 
 class _Arrays:
@@ -367,7 +425,7 @@ def arrays(
     progress: Optional[Progress] = None,
     types: Optional[Types] = None,
     skip: Optional[Skip] = None,
-) -> Iterator[ArrayBatch]:
+) -> Batches:
     """The rows of all pages of a stream as arrays in the layout of Apache Arrow, in batches of at most this many rows. A page has a batch at
     least, also where it has no rows. Each batch is a copy, and lives on.
 
@@ -380,7 +438,8 @@ def arrays(
     """
     if rows < 1 or memory < 1:
         raise ValueError("rows and memory are over 0")
-    return _batches_of(_places(source, piece, types is not None), limits, min(rows, 1 << 24), memory, progress, types, skip)
+    places = _places(source, piece, types is not None)
+    return Batches(_batches_of(places, limits, min(rows, 1 << 24), memory, progress, types, skip))
 
 
 def _batches_of(

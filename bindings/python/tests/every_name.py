@@ -55,7 +55,8 @@ def read(data: bytes) -> None:
         series: cqlp.Series = told["c"]
         numbers = series.values
         assert isinstance(numbers, array) and len(numbers) == told.count and series.missing is None
-    for batch in cqlp.arrays(data, rows=100):
+    batches: cqlp.Batches = cqlp.arrays(data, rows=100)
+    for batch in batches:
         arrays: cqlp.ArrayBatch = batch
         one: cqlp.ColumnArray = arrays["c"]
         view: memoryview = one.numbers()
