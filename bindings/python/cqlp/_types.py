@@ -21,8 +21,8 @@ class Type(NamedTuple):
 
     @classmethod
     def of(cls, text: "Union[str, Type]", *udts: "Type") -> "Type":
-        """The type that has this text: `Type.of("map<text, frozen<list<int>>>")`. A class in quotes is a custom type, the name of one of `udts` that
-        one, and a Type itself. Raises ValueError where no type has this text."""
+        """The type that has this text: `Type.of("map<text, frozen<list<int>>>")`. A class in quotes is a custom type. The name of one of `udts` is that
+        type. A Type is returned as it is. Raises ValueError if no type has this text."""
         if isinstance(text, Type):
             return text
         if not isinstance(text, str):
