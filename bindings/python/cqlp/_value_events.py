@@ -342,6 +342,16 @@ _ITEMS: Dict[int, Callable[[Type, Any], Items]] = {
 }
 
 
+def parts_of(kind: int, value: ValueOf) -> Parts:
+    """The number, content, extra and octets of a scalar."""
+    return _PARTS[kind](value)
+
+
+def items_of(type: Type, value: ValueOf) -> Items:
+    """How many items a list, set, map, tuple or udt says that it has, and its items: of a map keys and values in turn."""
+    return _ITEMS[type.kind](type, value)
+
+
 def cell_events(type: Union[Type, str], value: ValueOf, row: int = 0, column: int = 0) -> List[Event]:
     """The events of a cell of this type, whose text is enough, with this value, as `cqlp.rows` gives it: for `encode` and `PageWriter`. Raises
     BadValue."""

@@ -113,11 +113,20 @@ def values(schema: Schema, array: Array) -> List[Any]:
         assert (array.n_buffers, array.n_children) == (1, schema.n_children)
         columns = [values(schema.children[at][0], array.children[at][0]) for at in range(array.n_children)]
         assert all(len(column) == count for column in columns)
-        return list(zip(*columns)) if columns else [()] * count
+        rows = list(zip(*columns)) if columns else [()] * count
+        return [row if there else None for row, there in zip(rows, valid)]
+    if form in (b"+L", b"+m"):
+        assert (array.n_buffers, array.n_children, schema.n_children) == (2, 1, 1)
+        size = c_int64 if form == b"+L" else ctypes.c_int32
+        ends = (size * (count + 1)).from_address(array.buffers[1])
+        assert form == b"+L" or not schema.children[0][0].flags & 2
+        items = values(schema.children[0][0], array.children[0][0])
+        found: List[Any] = [items[one:two] for one, two in zip(ends, ends[1:])]
+        return [one if there else None for one, there in zip(found, valid)]
     if form in (b"U", b"Z"):
         assert array.n_buffers == 3
         ends = (c_int64 * (count + 1)).from_address(array.buffers[1])
-        found: List[Any] = [ctypes.string_at(array.buffers[2] + one, two - one) for one, two in zip(ends, ends[1:])]
+        found = [ctypes.string_at(array.buffers[2] + one, two - one) for one, two in zip(ends, ends[1:])]
         found = [one.decode() if form == b"U" else one for one in found]
     elif form == b"b":
         found = [bit(array.buffers[1], at) for at in range(count)]
@@ -159,12 +168,30 @@ def in_arrow(kind: int, value: Any) -> Any:
     return event.content if kind in (Kind.BLOB, Kind.CUSTOM, Kind.VARINT) else event.number
 
 
+def in_items(type: Type, value: Any) -> Any:
+    """A value with items as its array has it."""
+    if value is None or value is cqlp.EMPTY:
+        return None
+    if type.kind in (Kind.LIST, Kind.SET):
+        return [in_items(type.inner[0], item) for item in value]
+    if type.kind == Kind.MAP:
+        pairs = value.items() if isinstance(value, dict) else value
+        return [(in_items(type.inner[0], key), in_items(type.inner[1], item)) for key, item in pairs]
+    if type.kind == Kind.TUPLE:
+        return tuple(map(in_items, type.inner, value))
+    if type.kind == Kind.UDT:
+        fields = dict(value)
+        return tuple(in_items(inner, fields.get(name)) for inner, name in zip(type.inner, type.names))
+    return in_arrow(type.kind, value)
+
+
 @unittest.skipUnless(BUILT, "the module in C was not built")
 class Arrow(unittest.TestCase):
     def test_each_type(self) -> None:
         for text, some in VALUES.items():
             type = Type.of(text)
             if type.inner:
+                self.nested(type, some)
                 continue
             given = [*some, None, cqlp.EMPTY if not isinstance(some[0], (str, bytes)) else some[0], *some]
             page = cqlp.encode(messages.Rows.of([("a", type)], [(value,) for value in given]))
@@ -177,6 +204,33 @@ class Arrow(unittest.TestCase):
                     self.assertEqual([(value,) for value in column], taken(batch)[1])
                     found += column
                 self.assertEqual(found, [in_arrow(type.kind, value) for value in given], text)
+
+    def nested(self, type: Type, some: List[Any]) -> None:
+        given = [*some, None, *some]
+        page = cqlp.encode(messages.Rows.of([("n", "int"), ("a", type)], [(at, value) for at, value in enumerate(given)]))
+        for rows in (1, 99):
+            found = []
+            for batch in cqlp.arrays(page, rows=rows):
+                (form, _, _, _, columns), both = taken(batch)
+                self.assertEqual((form, columns[1]), (b"+s", taken(batch["a"])[0]))
+                found += both
+            self.assertEqual(found, [(at, in_items(type, value)) for at, value in enumerate(given)], type)
+
+    def test_columns_that_are_chosen(self) -> None:
+        columns = [("a", "int"), ("b", "list<int>"), ("c", "text")]
+        nested = cqlp.encode(messages.Rows.of(columns, [(1, [2], "x"), (None, None, None)]))
+        plain = cqlp.encode(messages.Rows.of(columns[::2], [(1, "x")]))
+        for names in ([], ["a"], ["c", "a"], ["b", "nothing"]):
+            first, second = cqlp.arrays(nested + plain, columns=names)
+            self.assertEqual([one.column.name for one in first.arrays], [name for name in "abc" if name in names])
+            self.assertEqual([one.column.name for one in second.arrays], [name for name in "ac" if name in names])
+            self.assertEqual((first.count, second.count), (2, 1))
+        self.assertEqual(taken(next(cqlp.arrays(nested, columns=["c"])))[1], [("x",), (None,)])
+
+    def test_a_map_with_a_key_that_is_null(self) -> None:
+        page = cqlp.encode(messages.Rows.of([("a", "map<int, int>")], [({None: 1},)]))
+        (batch,) = cqlp.arrays(page)
+        self.assertRaises(ValueError, batch.__arrow_c_array__)
 
     def test_batches(self) -> None:
         (batch,) = cqlp.arrays(PAGES[:218])
