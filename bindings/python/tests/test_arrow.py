@@ -216,6 +216,18 @@ class Arrow(unittest.TestCase):
                 found += both
             self.assertEqual(found, [(at, in_items(type, value)) for at, value in enumerate(given)], type)
 
+    def test_scalars_beside_values_with_items(self) -> None:
+        """Their arrays are those that the library makes of a page of scalars alone."""
+        for text, some in VALUES.items():
+            type = Type.of(text)
+            empty = cqlp.EMPTY if not isinstance(some[0], (str, bytes)) else some[0]
+            for given in ([], some, [*some, None], [None, empty, *some]):
+                if not type.inner:
+                    alone = messages.Rows.of([("a", type)], [(value,) for value in given])
+                    beside = messages.Rows.of([("a", type), ("b", "list<int>")], [(value, [1]) for value in given])
+                    (first,), (second,) = cqlp.arrays(cqlp.encode(alone)), cqlp.arrays(cqlp.encode(beside))
+                    self.assertEqual(first["a"], second["a"], text)
+
     def test_columns_that_are_chosen(self) -> None:
         columns = [("a", "int"), ("b", "list<int>"), ("c", "text")]
         nested = cqlp.encode(messages.Rows.of(columns, [(1, [2], "x"), (None, None, None)]))
