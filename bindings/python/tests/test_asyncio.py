@@ -6,6 +6,7 @@ import importlib.util
 import io
 import sys
 import unittest
+import warnings
 from typing import Any, AsyncIterator, List, Tuple
 from unittest import mock
 
@@ -61,7 +62,17 @@ async def asked(data: bytes, size: int) -> Tuple[bytes, str]:
     return answer, printed.getvalue()
 
 
-class Node(unittest.IsolatedAsyncioTestCase):
+class Quiet(unittest.IsolatedAsyncioTestCase):
+    """Without the warnings of transports that are closing as the loop ends, which would be printed among what is looked at."""
+
+    def setUp(self) -> None:
+        caught = warnings.catch_warnings()
+        caught.__enter__()
+        warnings.simplefilter("ignore", ResourceWarning)
+        self.addCleanup(caught.__exit__, None, None, None)
+
+
+class Node(Quiet):
     async def test_it_answers_requests_in_pieces(self) -> None:
         requests: List[messages.Message] = [
             messages.Options(),
@@ -97,7 +108,7 @@ class Node(unittest.IsolatedAsyncioTestCase):
         self.assertEqual((answer, printed), (READY, "BadPhase\n"))
 
 
-class Client(unittest.IsolatedAsyncioTestCase):
+class Client(Quiet):
     async def ask(self, answer: bytes, *statements: str) -> Tuple[bytes, str]:
         """What the client sends to a server that answers with these bytes, and what it prints."""
         sent, done = bytearray(), asyncio.Event()
