@@ -41,6 +41,7 @@ setup(
     # the modules in C are for each Python from 3.9 on, and so is the wheel
     options={"bdist_wheel": {"py_limited_api": "cp39"}},
     ext_modules=[
-        Extension("cqlp." + name, ["cqlp/%s.c" % name], include_dirs=[str(TOP / "include")], py_limited_api=True) for name in ("_cells", "_told")
+        Extension("cqlp." + name, ["cqlp/%s.c" % name], include_dirs=[str(TOP / "include")], py_limited_api=True)
+        for name in ("_capsules", "_cells", "_told")
     ],
 )

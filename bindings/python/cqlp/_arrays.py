@@ -5,15 +5,17 @@ import sys
 from array import array
 from dataclasses import dataclass
 from functools import lru_cache
-from typing import Any, Dict, Iterator, List, NamedTuple, Optional, Tuple, Union
+from typing import Any, Dict, FrozenSet, Iterable, Iterator, List, NamedTuple, Optional, Tuple, Union
 
-from . import _native
-from ._decoder import _KINDS, BadCall, Behind, Decoder, Limits, Refusal, Refused, Skip, _address, _must_be_done, event_of
+from . import _arrow, _native
+from ._decoder import _KINDS, BadCall, Behind, Decoder, Limits, Placed, Refusal, Refused, Skip, _address, _must_be_done, event_of
 from ._events import Event
+from ._item_arrays import ITEMS, Members, members_of
 from ._missing import Missing, numpy_of
-from ._pages import _NO_METADATA, _ROWS_RESULT, Column, Types, _Metadata
+from ._pages import _NO_METADATA, _ROWS_RESULT, Row, Types, _cells, _Metadata
 from ._sources import Progress, Source, _must_be_whole, _pieces, _pieces_of_frames
 from ._turns import Error
+from ._types import Column, column_text
 from .numbers import Code, Field, Kind, Stop, Tag
 
 # The kinds whose values are numbers in their array, and the code of its items.
@@ -64,6 +66,12 @@ class ColumnArray(NamedTuple):
     empties: Optional[bytes]
     """A bit for each cell, set where it has a value of no bytes. None where none has. Of values of a fixed length such a cell has no value in
     `validity`."""
+    items: "Tuple[ColumnArray, ...]" = ()
+    """The arrays of the values in it: of a list or a set one, of a map that of keys and that of values, between its `offsets`; of a tuple or a udt
+    one for each field, with as many cells."""
+
+    def __repr__(self) -> str:
+        return "<ColumnArray of %d cells: %s>" % (self.cells, column_text(self.column, self.kind))
 
     def numbers(self) -> memoryview:
         """The values of a kind that has numbers, as this machine has them, over the same memory where its bytes are in this order: 0 where a cell
@@ -88,16 +96,38 @@ class ColumnArray(NamedTuple):
 
         return numpy_of(numbers, self.column, missing, count, mask)
 
+    def __arrow_c_schema__(self) -> Any:
+        """A capsule with the schema, of the C data interface of Arrow."""
+        return _arrow.capsules().schema(*self._arrow_schema())
+
+    def __arrow_c_array__(self, requested_schema: Any = None) -> Tuple[Any, Any]:
+        """Capsules with the schema and the array, without a copy but of dates. No other schema is made on request."""
+        return self.__arrow_c_schema__(), _arrow.capsules().array(*self._arrow_array())
+
+    def _arrow_schema(self) -> _arrow.Told:
+        return _arrow.schema_of_column(self.column, self.kind)
+
+    def _arrow_array(self) -> _arrow.Told:
+        items = tuple(one._arrow_array() for one in self.items)
+        return _arrow.array_of_column(self.kind, self.cells, self.values, self.offsets, self.validity, items)
+
     def __reduce__(self) -> Tuple[Any, ...]:
         """Offsets pickle as their bytes."""
         return _unpickled, (tuple(self._replace(offsets=None)), None if self.offsets is None else bytes(self.offsets))
+
+
+def _array_of_members(kind: int, column: Optional[Column], count: int, members: Members) -> ColumnArray:
+    values, offsets, validity, empties, inner = members
+    cells = count if offsets is None else offsets[count]
+    items = tuple(_array_of_members(type.kind, None, cells, one) for type, one in inner)
+    return ColumnArray(column, _KINDS[kind], count, values, offsets, validity, empties, items)
 
 
 def _unpickled(members: Tuple[Any, ...], offsets: Optional[bytes]) -> ColumnArray:
     return ColumnArray(*members)._replace(offsets=None if offsets is None else memoryview(offsets).cast("q"))
 
 
-@dataclass(frozen=True)
+@dataclass(frozen=True, repr=False)
 class ArrayBatch:
     """Rows of a page, one after the other, column by column."""
 
@@ -114,12 +144,60 @@ class ArrayBatch:
     paging_state: Optional[bytes]
     """Where the result goes on after the page, or None where this is its last one."""
 
+    def __repr__(self) -> str:
+        columns = ", ".join(column_text(each.column, each.kind) for each in self.arrays)
+        return "<ArrayBatch of %d rows from row %d on: %s>" % (self.count, self.first, columns)
+
     def __getitem__(self, name: str) -> ColumnArray:
         """The array of the first column of this name."""
         for found in self.arrays:
             if found.column is not None and found.column.name == name:
                 return found
         raise KeyError(name)
+
+    def __arrow_c_schema__(self) -> Any:
+        """A capsule with the schema, a struct of the columns, of the C data interface of Arrow."""
+        return _arrow.capsules().schema(*self._arrow_schema())
+
+    def __arrow_c_array__(self, requested_schema: Any = None) -> Tuple[Any, Any]:
+        """Capsules with the schema and the array, without a copy but of dates. No other schema is made on request."""
+        return self.__arrow_c_schema__(), _arrow.capsules().array(*self._arrow_array())
+
+    def _arrow_schema(self) -> _arrow.Told:
+        return _arrow.schema_of_batch(tuple(one._arrow_schema() for one in self.arrays))
+
+    def _arrow_array(self) -> _arrow.Told:
+        return _arrow.array_of_batch(self.count, tuple(one._arrow_array() for one in self.arrays))
+
+
+class Batches(Iterator[ArrayBatch]):
+    """The batches of a stream, one after the other. Other packages take them as a stream of Arrow: `pyarrow.table(cqlp.arrays("page.bin"))`."""
+
+    def __init__(self, found: Iterator[ArrayBatch]) -> None:
+        self._found = found
+
+    def __next__(self) -> ArrayBatch:
+        return next(self._found)
+
+    def close(self) -> None:
+        """Lets go of the source."""
+        self._found.close()  # type: ignore[attr-defined]
+
+    def __arrow_c_stream__(self, requested_schema: Any = None) -> Any:
+        """A capsule with a stream of the batches that are still to come. Its schema is that of the next one, which is read for it; a batch with other
+        columns, as of another page, ends it with an error. Raises ValueError where no batch comes."""
+        first = next(self._found, None)
+        if first is None:
+            raise ValueError("there is no page, so there is no schema")
+        schema = first._arrow_schema()
+        return _arrow.capsules().stream(schema, self._arrow_arrays(first, schema))
+
+    def _arrow_arrays(self, batch: Optional[ArrayBatch], schema: _arrow.Told) -> Iterator[_arrow.Told]:
+        while batch is not None:
+            if batch._arrow_schema() != schema:
+                raise ValueError("page %d has other columns than the page before it" % batch.page)
+            yield batch._arrow_array()
+            batch = next(self._found, None)
 
 
 class _Arrays:
@@ -239,7 +317,10 @@ class _Page(NamedTuple):
 class _Reader:
     """Reads the frames of one stream, the cells of pages into arrays, and each other event alone."""
 
-    def __init__(self, decoder: Decoder, arrays: _Arrays, given: Optional[Tuple[Column, ...]]) -> None:
+    def __init__(
+        self, decoder: Decoder, arrays: _Arrays, given: Optional[Tuple[Column, ...]], names: Optional[FrozenSet[str]]
+    ) -> None:
+        self.names = names
         self.decoder = decoder
         self.arrays = arrays
         self.given = given
@@ -247,7 +328,12 @@ class _Reader:
         self.page: Optional[_Page] = None
         self.behind = Behind()
         self.pages = self.first = self.body = 0
+        # of a page with values that have items: what makes its rows, of one event at a time, and those that wait for a batch
+        self.cells: Any = None
+        self.rows: List[Row] = []
         self.event, self.batch = _native.Event(), _native.Batch()
+        self.placed = Placed(self.event, self.event)
+        self.placed.count = 1
 
     def read(self, place: int, length: int, skip: Optional[Skip]) -> Iterator[ArrayBatch]:
         """The batches that a piece ends. Where the stream is refused, the rows before that place come first."""
@@ -271,7 +357,7 @@ class _Reader:
     def call(self, place: int, length: int) -> None:
         """One call of the library: within a page it fills the arrays, else it puts one event."""
         decoder, event, batch = self.decoder._handle, self.event, self.batch
-        if self.page is None:
+        if self.page is None or self.cells:
             code = _native.library.cqlp_next(decoder, place, length, ctypes.addressof(event), 1, batch)
         else:
             code = _native.library.cqlp_columns_next(decoder, self.arrays.handle, place, length, event, batch)
@@ -282,7 +368,11 @@ class _Reader:
         """Takes an event that is none of the arrays'."""
         tag, field = self.event.tag, self.event.field
         if self.page is not None:
-            if _LEAF <= tag <= _PART:
+            if self.cells and _LEAF <= tag <= _PART:
+                self.rows += self.cells.take(self.placed, 0)[0]
+                if len(self.rows) >= self.arrays.rows:
+                    yield from self.rest()
+            elif _LEAF <= tag <= _PART:
                 raise CellTooLong(self.event.row, self.event.column)
             if tag == _END:
                 yield from self.rest(True)
@@ -311,18 +401,40 @@ class _Reader:
         if metadata.width > self.arrays.limits.entries:
             raise BadCall(Code.TOO_MANY_COLUMNS)
         kinds = tuple(int(one.type.kind) for one in columns) if typed and columns else (int(Kind.RAW),) * metadata.width
-        self.arrays.begin(kinds, rows, self.body)
+        self.cells, self.rows = None, []
+        if ITEMS & set(kinds):
+            self.cells = _cells(metadata.width, tuple(column.type for column in columns))
+        else:
+            self.arrays.begin(kinds, rows, self.body)
         self.page = page
 
     def rest(self, last: bool = False) -> Iterator[ArrayBatch]:
         """The whole rows that came of the page under way; at its end also none, where it has none."""
         if self.page is None:
             return
-        page, arrays = self.page, self.arrays.take(self.page.columns)
-        count, first = arrays[-1].cells, self.first
+        page, first = self.page, self.first
+        if self.cells:
+            count, arrays = len(self.rows), self.of_rows(page.columns)
+        else:
+            arrays = self.arrays.take(page.columns)
+            count, arrays = arrays[-1].cells, [one for one in arrays if self.is_wanted(one.column)]
         self.first += count
         if count or last and not first:
             yield ArrayBatch(tuple(arrays), count, first, page.number, page.rows, page.paging_state)
+
+    def of_rows(self, columns: Tuple[Column, ...]) -> List[ColumnArray]:
+        """Arrays of the rows that came, which are let go."""
+        rows, self.rows = self.rows, []
+        found = []
+        for at, column in enumerate(columns):
+            if self.is_wanted(column):
+                members = members_of(column.type, [row[at] for row in rows], _CODES)
+                found.append(_array_of_members(column.type.kind, column, len(rows), members))
+        return found
+
+    def is_wanted(self, column: Optional[Column]) -> bool:
+        """Whether the array of a column is handed out. Those without metadata all are."""
+        return self.names is None or column is None or column.name in self.names
 
     def pass_over(self, refusal: Tuple[int, Any], skip: Optional[Skip], place: int, length: int) -> None:
         """Goes on with the next frame after a refusal in the piece that lies there, where that is asked for and can be done."""
@@ -359,20 +471,25 @@ def arrays(
     progress: Optional[Progress] = None,
     types: Optional[Types] = None,
     skip: Optional[Skip] = None,
-) -> Iterator[ArrayBatch]:
+    columns: Optional[Iterable[str]] = None,
+) -> Batches:
     """The rows of all pages of a stream as arrays in the layout of Apache Arrow, in batches of at most this many rows. A page has a batch at
     least, also where it has no rows. Each batch is a copy, and lives on.
 
     The library's own arrays have no more than `memory` bytes, and what `Limits` say comes beside them. A batch is shorter where its columns are many or its values
     long. A value for which there is no room even so, longer than a quarter of a column's share of the memory, raises CellTooLong, and so does a
-    part, where `limits.parts` is set. A page with a column of lists, sets, maps, tuples or udts raises BadCall with UNSUPPORTED, one
-    with more columns than `limits.entries` BadCall with TOO_MANY_COLUMNS: `columns` and `rows` read them.
+    part, where `limits.parts` is set. A page with more columns than `limits.entries` raises BadCall with TOO_MANY_COLUMNS.
+
+    A page with a column of lists, sets, maps, tuples or udts is read by way of the values that `cqlp.rows` gives: that takes longer, and only the number
+    of rows limits a batch, so do not read such pages of peers that you do not trust. With `columns`, names, only these columns are handed out.
 
     Where the stream is refused or cut, Refused or Cut is raised after the last row before that place. `types` and `skip` are as in `Pages`.
     """
     if rows < 1 or memory < 1:
         raise ValueError("rows and memory are over 0")
-    return _batches_of(_places(source, piece, types is not None), limits, min(rows, 1 << 24), memory, progress, types, skip)
+    places = _places(source, piece, types is not None)
+    names = None if columns is None else frozenset(columns)
+    return Batches(_batches_of(places, limits, min(rows, 1 << 24), memory, progress, types, skip, names))
 
 
 def _batches_of(
@@ -383,9 +500,10 @@ def _batches_of(
     progress: Optional[Progress],
     types: Optional[Types],
     skip: Optional[Skip],
+    names: Optional[FrozenSet[str]],
 ) -> Iterator[ArrayBatch]:
     with Decoder(limits, room=1) as decoder, _Arrays(limits, rows, memory) as held:
-        reader = _Reader(decoder, held, types.columns if types else None)
+        reader = _Reader(decoder, held, types.columns if types else None, names)
         for place, length, total in places:
             if types:
                 types._give(decoder)

@@ -42,6 +42,10 @@ class Client(Core):
 
     _calls = Calls(_native.library.cqlp_client_new, _native.library.cqlp_client_phase, _native.library.cqlp_client_free)
 
+    def __init__(self, slots: int = 1024) -> None:
+        """`slots` is how many requests may be open at a time, 1 to 32768; their stream ids are those below it."""
+        super().__init__(slots)
+
     @one_at_a_time
     def begin(self, opcode: int, carried: Any = None) -> Ticket:
         """Begins a request: its ticket has the least stream id that is free, and the next number. Send its message in the order in

@@ -11,8 +11,9 @@ from ._arrays import _Arrays
 from ._decoder import Behind, Decoder, Limits, Placed, Record, Refused, Skip, event_of
 from ._events import Event
 from ._missing import Missing, numpy_of
-from ._pages import Column, Row, Type, _Cells, _cells, _CompiledCells
+from ._pages import Row, _Cells, _cells, _CompiledCells
 from ._sources import Batch, Progress, Source, _must_be_whole, _pieces, batches
+from ._types import Column, Type, column_text
 from ._values import ValueOf
 from .messages import Frame, Rows, _Frames
 from .numbers import Kind, Stop, Tag
@@ -52,6 +53,9 @@ class Series(NamedTuple):
     """None where no number is missing; else a byte for each: 0 where it is there, 1 where it is null, 2 where it has no bytes, 3 where a
     lenient reading found a content that is none of its type: `rows` gives its bytes."""
 
+    def __repr__(self) -> str:
+        return "<Series of %d values: %s>" % (len(self.values), column_text(self.column))
+
     def numpy(self, missing: Missing = "refuse") -> Any:
         """The numbers as an array of NumPy, over the same memory. NumPy has to be there. Where a number is missing it raises ValuesMissing; with
         `missing="mask"` it is a masked array, and with `missing="zero"` such a number is 0."""
@@ -64,7 +68,7 @@ class Series(NamedTuple):
         )
 
 
-@dataclass(frozen=True)
+@dataclass(frozen=True, repr=False)
 class PageColumns:
     """A page column by column."""
 
@@ -74,6 +78,9 @@ class PageColumns:
     """How many rows it says that it has; each series has as many values."""
     paging_state: Optional[bytes]
     """Where the result goes on, or None where this is its last page."""
+
+    def __repr__(self) -> str:
+        return "<PageColumns of %d rows: %s>" % (self.count, ", ".join(column_text(each.column) for each in self.series))
 
     def __getitem__(self, name: str) -> Series:
         """The series of the first column of this name."""

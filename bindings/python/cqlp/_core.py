@@ -88,7 +88,7 @@ class Core:
 
     _calls: Calls
 
-    def __init__(self, slots: int = 32768) -> None:
+    def __init__(self, slots: int) -> None:
         """`slots` is how many requests may be open at a time, 1 to 32768; their stream ids are those below it."""
         must_be_new(self)
         self._turns = Turns()

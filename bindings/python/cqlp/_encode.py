@@ -49,12 +49,7 @@ def _word(names: Tuple[Any, ...], number: int) -> str:
 
 
 def encode(events: Iterable[Event]) -> bytes:
-    """The bytes of the frame that has these events, those that a decoder gives of it, in their order: that of its header, then its fields, and
-    that of its end, which may be left out. Offsets are not looked at, nor the length of the body, which is counted, nor the number of the end.
-
-    Raises BadEvent where no frame has them. Also an event with a number outside of what `include/cqlp.h` has for it is `NO_EVENT`, whether its tag
-    uses it or not, and one whose octets are not as many as it is to have.
-    """
+    """The bytes of the frame that has these events. Raises BadEvent."""
     given = tuple(events)
     records, contents = told(given)
     encoded = _native.Encoded()

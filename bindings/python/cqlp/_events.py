@@ -1,5 +1,6 @@
 """Events, and their lines."""
 
+import reprlib
 from typing import Callable, Dict, NamedTuple, Optional, Tuple, Union
 
 from ._values import LEAVES, UNSET, ValueOf, address, leaf_text, quoted, uuid_of
@@ -49,11 +50,17 @@ class Event(NamedTuple):
             return address(self.octets), self.extra
         return None if tag == Tag.NULL else self.number
 
+    def __repr__(self) -> str:
+        """Without the members that are as in `Event()`, and of a long content its begin and its end."""
+        members = zip(self._fields, self, _DEFAULTS)
+        return "Event(%s)" % ", ".join("%s=%s" % (name, reprlib.repr(value)) for name, value, default in members if value != default)
+
     def __str__(self) -> str:
         words = _WORDS.get(self.tag)
         return " ".join([str(self.at), camel(self.tag), *(words(self) if words else ())])
 
 
+_DEFAULTS = Event()
 _ABSENT: Dict[int, ValueOf] = {Mark.NULL: None, Mark.UNSET: UNSET}
 _ABSENT_WORDS: Dict[int, str] = {Mark.NULL: "null", Mark.UNSET: "unset"}
 

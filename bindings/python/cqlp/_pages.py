@@ -1,13 +1,14 @@
 """The rows of pages, as Python values."""
 
 import threading
-from typing import Any, Dict, Iterator, List, NamedTuple, Optional, Tuple, Union
+from typing import Any, Dict, Iterator, List, Optional, Tuple, Union
 
 from . import _native
 from ._decoder import BadCall, Cut, Decoder, Limits, Record, Skip, event_of
 from ._events import Event
 from ._sources import Batch, Progress, Source, _pieces, batches
 from ._turns import InUse
+from ._types import Column, Type, TypeReader
 from ._values import EMPTY, LEAVES, ValueOf
 from .numbers import Code, End, Field, Kind, Mark, Tag
 
@@ -20,79 +21,7 @@ _TEXTS = (Kind.ASCII, Kind.VARCHAR)
 _BYTES = (Kind.BLOB, Kind.CUSTOM, Kind.RAW)
 
 
-class Type(NamedTuple):
-    """The type of a column."""
-
-    kind: Union[Kind, int]
-    inner: "Tuple[Type, ...]" = ()
-    """The types in it: one of a list or a set, a key's and a value's of a map, one for each field of a tuple or a udt."""
-    names: Tuple[str, ...] = ()
-    """The names of the fields of a udt."""
-    name: str = ""
-    """The name of a udt, with its keyspace; the class of a custom type."""
-
-    def __str__(self) -> str:
-        word = getattr(self.kind, "name", str(self.kind)).lower()
-        if self.kind == Kind.UDT:
-            return self.name
-        return "%s<%s>" % (word, ", ".join(map(str, self.inner))) if self.inner else word
-
-
-class Column(NamedTuple):
-    """A column of a page."""
-
-    keyspace: str
-    table: str
-    name: str
-    type: Type
-
-
 _RAW = Type(Kind.RAW)
-_ARITY: Dict[int, int] = {Kind.LIST: 1, Kind.SET: 1, Kind.MAP: 2}
-
-
-class _Open:
-    """A type option whose parameters are still to come."""
-
-    def __init__(self, kind: Union[Kind, int]) -> None:
-        self.kind = kind
-        self.inner: List[Type] = []
-        self.names: List[str] = []
-        self.words: List[str] = []
-        # a custom type is whole after its class, a tuple or a udt after as many fields as come to be told
-        self.wanted = None if kind in (Kind.CUSTOM, Kind.TUPLE, Kind.UDT) else _ARITY.get(kind, 0)
-
-    def type(self) -> Type:
-        return Type(self.kind, tuple(self.inner), tuple(self.names), ".".join(self.words))
-
-
-class _Types:
-    """Makes a type of the events of a type option."""
-
-    def __init__(self) -> None:
-        self.open: List[_Open] = []
-
-    def add(self, event: Event) -> Optional[Type]:
-        """The type, once it is whole."""
-        if event.tag == Tag.TYPE_NODE:
-            self.open.append(_Open(event.kind))
-        elif event.tag == Tag.COUNT:
-            self.open[-1].wanted = event.number
-        elif event.field == Field.FIELD_NAME:
-            self.open[-1].names.append(event.value)
-        else:
-            self.open[-1].words.append(event.value)
-            if event.field == Field.CLASS:
-                self.open[-1].wanted = 0
-        return self._closed()
-
-    def _closed(self) -> Optional[Type]:
-        while self.open[-1].wanted == len(self.open[-1].inner):
-            whole = self.open.pop().type()
-            if not self.open:
-                return whole
-            self.open[-1].inner.append(whole)
-        return None
 
 
 def _frozen(value: ValueOf) -> ValueOf:
@@ -242,7 +171,7 @@ class _Metadata:
         self.width = 0
         self.state: Optional[bytes] = None
         self.words: Dict[Union[Field, int], str] = {}
-        self.types = _Types()
+        self.types = TypeReader()
         self.columns: List[Column] = []
 
     def add(self, event: Event) -> None:

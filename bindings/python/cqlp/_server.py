@@ -30,6 +30,11 @@ class Server(Core):
 
     _calls = Calls(_native.library.cqlp_server_new, _native.library.cqlp_server_phase, _native.library.cqlp_server_free)
 
+    def __init__(self, slots: int = 32768) -> None:
+        """`slots` is how many requests may be open at a time, 1 to 32768. A stream id that is not below it is refused. Drivers use any id, so lower it
+        only for a client that you know."""
+        super().__init__(slots)
+
     @one_at_a_time
     def accept(self, frame: Union[Event, Frame], carried: Any = None) -> None:
         """Takes a frame that came, as its event, whose tag is FRAME, or as one of `cqlp.frames`, as a request. Its stream id is taken

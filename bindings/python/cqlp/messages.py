@@ -1,30 +1,38 @@
 """Frames whole, each message of the protocol as a dataclass of its own.
 
-`frames(source)` reads a frame to its end and gives it: a page with all of its rows. So unlike `rows` and `events` it holds as much as a
+`cqlp.encode(message, stream)` writes a frame with a message. `frames(source)` reads a frame to its end and gives it: a page with all of its rows. So unlike `rows` and `events` it holds as much as a
 peer sends in one frame, and more. The body of a frame has up to 268,435,456 bytes, and Python takes some 35 bytes for each byte of a page
 of empty sets, 14 of rows of one null. Tuples and udts whose first field alone came are filled with None: a cell of eight bytes takes some
 8 bytes for each field of its type, and of a udt some 27, which with the 4,096 of `Limits.entries` is 34 and 107 KB. Where the peer is not
 trusted give `longest`, and lower `entries`, or read pages by `Pages`.
 """
 
+import reprlib
 from dataclasses import dataclass
-from typing import Any, Callable, Dict, Generator, Iterator, List, Optional, Tuple, TypeVar, Union
+from typing import Any, Callable, ClassVar, Dict, Generator, Iterable, Iterator, List, Mapping, Optional, Sequence, Tuple, TypeVar, Union
 
 from . import _pages
 from ._decoder import Limits, Skip, event_of
 from ._events import Event as _Event
-from ._pages import Column, Row, Type, _cells, _Types
+from ._pages import Row, _cells
 from ._sources import Batch as _EventBatch
 from ._sources import Progress, Source, batches
 from ._turns import Error as _PackageError
+from ._types import Column, Type, TypeReader
+from ._value_events import BadValue, bind
 from ._values import Unset, address
 from .numbers import BatchType, Consistency, ErrorCode, Field, Mark, Opcode, ResultKind, Tag
+
+T = TypeVar("T")
 
 Value = Union[bytes, None, Unset]
 """A value that is bound: its bytes, or None where it is null, or UNSET where it is not set."""
 
 Address = Any
 """An `ipaddress.IPv4Address` or `IPv6Address`."""
+
+Columns = Iterable[Union[Column, Tuple[str, Union[str, Type]]]]
+"""Columns, each a `Column`, or its name and its type, which may be a text: `("tags", "list<text>")`."""
 
 
 class FrameTooLong(_PackageError, ValueError):
@@ -38,6 +46,30 @@ class FrameTooLong(_PackageError, ValueError):
 
 class Message:
     """What a frame has in its body: one of the classes below. Section 4 of native_protocol_v4.spec."""
+
+    opcode: ClassVar[Opcode]
+    """That of its frame."""
+
+
+_set = object.__setattr__
+"""Sets a member of a frozen dataclass, as its `__init__` may."""
+
+
+def _several(given: Iterable[T]) -> Tuple[T, ...]:
+    """Those of a list. A text or bytes, which have items too, are none."""
+    if isinstance(given, (str, bytes, bytearray, memoryview)):
+        raise TypeError("a list is wanted, not %r" % (given,))
+    return tuple(given)
+
+
+def _pairs(given: Union[Mapping[str, T], Iterable[Tuple[str, T]]]) -> Tuple[Tuple[str, T], ...]:
+    """The items of a dict, or pairs as they are."""
+    return tuple((key, value) for key, value in (given.items() if isinstance(given, Mapping) else given))
+
+
+def _flags_of_times(message: Any) -> int:
+    """The flags of the parts that both a query and a batch may have."""
+    return (0 if message.serial_consistency is None else 0x10) | (0 if message.timestamp is None else 0x20)
 
 
 @dataclass(frozen=True)
@@ -72,53 +104,126 @@ class Frame:
 class Parameters:
     """The parameters of a query. Section 4.1.4."""
 
-    consistency: Union[Consistency, int]
-    flags: int
-    """Which of the parts below are there: 01 values, 04 page_size, 08 paging_state, 10 serial_consistency, 20 timestamp, and 40 names.
-    A part that is not there is None."""
-    values: Optional[Tuple[Value, ...]]
-    names: Optional[Tuple[str, ...]]
+    consistency: Union[Consistency, int] = Consistency.LOCAL_ONE
+    flags: int = 0
+    """Which of the parts below are there: 01 values, 04 page_size, 08 paging_state, 10 serial_consistency, 20 timestamp, and 40 names; the flag of
+    a part that is given is set. 02 asks for pages without metadata. A part that is not there is None."""
+    values: Optional[Sequence[Value]] = None
+    names: Optional[Sequence[str]] = None
     """The names of the values."""
-    page_size: Optional[int]
-    paging_state: Optional[bytes]
-    serial_consistency: Union[Consistency, int, None]
-    timestamp: Optional[int]
+    page_size: Optional[int] = None
+    paging_state: Optional[bytes] = None
+    serial_consistency: Union[Consistency, int, None] = None
+    timestamp: Optional[int] = None
     """In microseconds from 1970."""
 
+    def __post_init__(self) -> None:
+        flags = self.flags | _flags_of_times(self)
+        if self.values is not None:
+            flags |= 0x01
+            _set(self, "values", _several(self.values))
+        if self.names is not None:
+            flags |= 0x40
+            _set(self, "names", _several(self.names))
+        if self.page_size is not None:
+            flags |= 0x04
+        if self.paging_state is not None:
+            flags |= 0x08
+        _set(self, "flags", flags)
 
-@dataclass(frozen=True)
+
+_NO_PARAMETERS = (Consistency.LOCAL_ONE, 0, None, None, None, None, None, None)
+
+
+def _parameters_of(parameters: Optional[Parameters], given: Tuple[Any, ...]) -> Parameters:
+    """These parameters, or those that are given one by one."""
+    if parameters is None:
+        return Parameters(*given)
+    if given != _NO_PARAMETERS:
+        raise TypeError("parameters are given whole, or one by one")
+    return parameters
+
+
+@dataclass(frozen=True, init=False)
 class Startup(Message):
     """The options of a connection. Section 4.1.1."""
 
+    opcode = Opcode.STARTUP
     options: Tuple[Tuple[str, str], ...]
+
+    def __init__(self, options: Union[Mapping[str, str], Tuple[Tuple[str, str], ...]] = (("CQL_VERSION", "3.0.0"),)) -> None:
+        _set(self, "options", _pairs(options))
 
 
 @dataclass(frozen=True)
 class Options(Message):
     """A question for the options that are supported. Section 4.1.3."""
 
+    opcode = Opcode.OPTIONS
 
-@dataclass(frozen=True)
+
+@dataclass(frozen=True, init=False)
 class Query(Message):
     """A query by its text. Section 4.1.4."""
 
+    opcode = Opcode.QUERY
     query: str
     parameters: Parameters
+
+    def __init__(
+        self,
+        query: str,
+        parameters: Optional[Parameters] = None,
+        *,
+        consistency: Union[Consistency, int] = Consistency.LOCAL_ONE,
+        values: Optional[Iterable[Value]] = None,
+        names: Optional[Iterable[str]] = None,
+        page_size: Optional[int] = None,
+        paging_state: Optional[bytes] = None,
+        serial_consistency: Union[Consistency, int, None] = None,
+        timestamp: Optional[int] = None,
+        skip_metadata: bool = False,
+    ) -> None:
+        """Its parameters are `parameters`, or else are made of the others."""
+        given = (consistency, 2 * skip_metadata, values, names, page_size, paging_state, serial_consistency, timestamp)
+        _set(self, "query", query)
+        _set(self, "parameters", _parameters_of(parameters, given))
 
 
 @dataclass(frozen=True)
 class Prepare(Message):
     """A query to be prepared. Section 4.1.5."""
 
+    opcode = Opcode.PREPARE
     query: str
 
 
-@dataclass(frozen=True)
+@dataclass(frozen=True, init=False)
 class Execute(Message):
-    """A query by the id of its prepared statement. Section 4.1.6."""
+    """A query by the id of its prepared statement. Section 4.1.6. `Prepared.bind` makes its values of Python's."""
 
+    opcode = Opcode.EXECUTE
     id: bytes
     parameters: Parameters
+
+    def __init__(
+        self,
+        id: bytes,
+        parameters: Optional[Parameters] = None,
+        *,
+        consistency: Union[Consistency, int] = Consistency.LOCAL_ONE,
+        values: Optional[Iterable[Value]] = None,
+        names: Optional[Iterable[str]] = None,
+        page_size: Optional[int] = None,
+        paging_state: Optional[bytes] = None,
+        serial_consistency: Union[Consistency, int, None] = None,
+        timestamp: Optional[int] = None,
+        skip_metadata: bool = False,
+    ) -> None:
+        """Its parameters are `parameters`, or else are made of the others."""
+        given = (consistency, 2 * skip_metadata, values, names, page_size, paging_state, serial_consistency, timestamp)
+        _set(self, "id", id)
+        _set(self, "parameters", _parameters_of(parameters, given))
 
 
 @dataclass(frozen=True)
@@ -126,33 +231,46 @@ class Statement:
     """A statement of a batch: its text, or the id of a prepared one."""
 
     statement: Union[str, bytes]
-    values: Tuple[Value, ...]
+    values: Sequence[Value] = ()
+
+    def __post_init__(self) -> None:
+        _set(self, "values", _several(self.values))
 
 
 @dataclass(frozen=True)
 class Batch(Message):
     """Statements that are done together. Section 4.1.7."""
 
+    opcode = Opcode.BATCH
     type: Union[BatchType, int]
-    statements: Tuple[Statement, ...]
-    consistency: Union[Consistency, int]
-    flags: int
-    """10 serial_consistency, 20 timestamp; the part of a flag that is not set is None."""
-    serial_consistency: Union[Consistency, int, None]
-    timestamp: Optional[int]
+    statements: Sequence[Statement]
+    consistency: Union[Consistency, int] = Consistency.LOCAL_ONE
+    flags: int = 0
+    """10 serial_consistency, 20 timestamp, set where the part is given; the part of a flag that is not set is None."""
+    serial_consistency: Union[Consistency, int, None] = None
+    timestamp: Optional[int] = None
+
+    def __post_init__(self) -> None:
+        _set(self, "statements", _several(self.statements))
+        _set(self, "flags", self.flags | _flags_of_times(self))
 
 
 @dataclass(frozen=True)
 class Register(Message):
     """The types of the events that are asked for. Section 4.1.8."""
 
-    event_types: Tuple[str, ...]
+    opcode = Opcode.REGISTER
+    event_types: Sequence[str]
+
+    def __post_init__(self) -> None:
+        _set(self, "event_types", _several(self.event_types))
 
 
 @dataclass(frozen=True)
 class AuthResponse(Message):
     """An answer to a challenge. Section 4.1.2."""
 
+    opcode = Opcode.AUTH_RESPONSE
     token: Optional[bytes]
 
 
@@ -163,6 +281,7 @@ class AuthResponse(Message):
 class Error(Message):
     """An error. Section 9. A code after whose message more fields come has a class of its own, below."""
 
+    opcode = Opcode.ERROR
     code: Union[ErrorCode, int]
     message: str
 
@@ -248,24 +367,45 @@ class Unprepared(Error):
 class Ready(Message):
     """The connection is open, or REGISTER was done. Section 4.2.2."""
 
+    opcode = Opcode.READY
+
 
 @dataclass(frozen=True)
 class Authenticate(Message):
     """The class of the authenticator that wants an answer. Section 4.2.3."""
 
+    opcode = Opcode.AUTHENTICATE
     authenticator: str
 
 
-@dataclass(frozen=True)
+@dataclass(frozen=True, init=False)
 class Supported(Message):
     """The supported options, each with its values. Section 4.2.4."""
 
+    opcode = Opcode.SUPPORTED
     options: Tuple[Tuple[str, Tuple[str, ...]], ...]
+
+    def __init__(self, options: Union[Mapping[str, Sequence[str]], Tuple[Tuple[str, Sequence[str]], ...]]) -> None:
+        _set(self, "options", tuple((name, _several(values)) for name, values in _pairs(options)))
 
 
 @dataclass(frozen=True)
 class Void(Message):
     """A result that is nothing. Section 4.2.5.1."""
+
+    opcode = Opcode.RESULT
+
+
+def _columns_of(columns: Columns, keyspace: str, table: str) -> Tuple[Column, ...]:
+    """These columns; those without a table are of this one."""
+    return tuple(
+        column if isinstance(column, Column) else Column(keyspace, table, column[0], Type.of(column[1])) for column in _several(columns)
+    )
+
+
+def _one_table(columns: Tuple[Column, ...]) -> int:
+    """The flag 1 where all columns are of one table."""
+    return int(len({column[:2] for column in columns}) == 1)
 
 
 @dataclass(frozen=True)
@@ -280,22 +420,49 @@ class Metadata:
     """Where the result goes on, or None where this is its last page."""
     columns: Tuple[Column, ...]
 
+    @classmethod
+    def of(cls, columns: Columns, *, keyspace: str = "", table: str = "", paging_state: Optional[bytes] = None) -> "Metadata":
+        """That of these columns. One that is no `Column` is of this keyspace and table."""
+        found = _columns_of(columns, keyspace, table)
+        flags = _one_table(found) | (0 if paging_state is None else 2)
+        return cls(flags, len(found), paging_state, found)
 
-@dataclass(frozen=True)
+
+@dataclass(frozen=True, repr=False)
 class Rows(Message):
     """A page. Section 4.2.5.2."""
 
+    opcode = Opcode.RESULT
     metadata: Metadata
     count: int
     """How many rows it says that it has. A page without columns has none in `rows`, whatever it says."""
     rows: List[Row]
     """Each a tuple with a value of each column, as `cqlp.rows` gives them."""
 
+    def __repr__(self) -> str:
+        return "Rows(metadata=%r, count=%d, rows=%s)" % (self.metadata, self.count, reprlib.repr(self.rows))
+
+    @classmethod
+    def of(
+        cls,
+        columns: Columns,
+        rows: Iterable[Sequence[Any]],
+        *,
+        keyspace: str = "",
+        table: str = "",
+        paging_state: Optional[bytes] = None,
+    ) -> "Rows":
+        """A page of these rows, each with a value of each column: `Rows.of([("id", "int"), ("tags", "list<text>")], [(1, ["new"])])`. The type of a
+        column is a `Type` or its text."""
+        found = [_several(row) for row in rows]
+        return cls(Metadata.of(columns, keyspace=keyspace, table=table, paging_state=paging_state), len(found), found)
+
 
 @dataclass(frozen=True)
 class SetKeyspace(Message):
     """The keyspace in use. Section 4.2.5.3."""
 
+    opcode = Opcode.RESULT
     keyspace: str
 
 
@@ -303,6 +470,7 @@ class SetKeyspace(Message):
 class Prepared(Message):
     """A statement is prepared. Section 4.2.5.4."""
 
+    opcode = Opcode.RESULT
     id: bytes
     flags: int
     """1 one table for all values that are to be bound."""
@@ -313,11 +481,34 @@ class Prepared(Message):
     result: Metadata
     """What the statement's pages will tell of their columns."""
 
+    @classmethod
+    def of(
+        cls, id: bytes, bound: Columns = (), result: Columns = (), *, keys: Iterable[int] = (), keyspace: str = "", table: str = ""
+    ) -> "Prepared":
+        """A statement with these values that are to be bound, whose pages will have these columns. One that is no `Column` is of this keyspace and
+        table."""
+        found = _columns_of(bound, keyspace, table)
+        return cls(id, _one_table(found), tuple(keys), found, Metadata.of(result, keyspace=keyspace, table=table))
+
+
+    def bind(self, values: Sequence[Any]) -> Tuple[Value, ...]:
+        """Python values for the statement, as many as `bound`: `Execute(prepared.id, values=prepared.bind([1, "x"]))`. Raises BadValue."""
+        if len(values) != len(self.bound):
+            raise BadValue(values, "%d values are wanted" % len(self.bound))
+        found = []
+        for at, (column, value) in enumerate(zip(self.bound, values)):
+            try:
+                found.append(bind(column.type, value))
+            except BadValue as bad:
+                raise bad.within("values[%d]" % at) from None
+        return tuple(found)
+
 
 @dataclass(frozen=True)
 class SchemaChange(Message):
     """The schema was changed. Section 4.2.5.5."""
 
+    opcode = Opcode.RESULT
     change: str
     """CREATED, UPDATED or DROPPED; another text is kept."""
     target: str
@@ -329,10 +520,15 @@ class SchemaChange(Message):
     """The types of the arguments of a function or an aggregate."""
 
 
+PARTS_OF_TARGET = {"KEYSPACE": 1, "TABLE": 2, "TYPE": 2, "FUNCTION": 3, "AGGREGATE": 3}
+"""How many of a keyspace, a name and arguments a change of this target has."""
+
+
 @dataclass(frozen=True)
 class UnknownResult(Message):
     """A result of a kind that is none of 1 to 5."""
 
+    opcode = Opcode.RESULT
     kind: int
 
 
@@ -340,6 +536,7 @@ class UnknownResult(Message):
 class Event(Message):
     """An event. Section 4.2.6. One of a type that is not known is of this class, others are of the two below."""
 
+    opcode = Opcode.EVENT
     type: str
 
 
@@ -364,6 +561,7 @@ class SchemaEvent(Event):
 class AuthChallenge(Message):
     """A challenge of the server. Section 4.2.7."""
 
+    opcode = Opcode.AUTH_CHALLENGE
     token: Optional[bytes]
 
 
@@ -371,12 +569,12 @@ class AuthChallenge(Message):
 class AuthSuccess(Message):
     """The end of the authentication. Section 4.2.8."""
 
+    opcode = Opcode.AUTH_SUCCESS
     token: Optional[bytes]
 
 
 # ---- reading: a generator for each production, which yields the field or tag that it waits for, or None for any, and is sent the event
 
-T = TypeVar("T")
 Reading = Generator[Union[Field, Tag, None], _Event, T]
 
 _CONSISTENCIES = {int(level): level for level in Consistency}
@@ -514,11 +712,12 @@ def _change() -> Reading[SchemaChange]:
     change = yield from _one(Field.CHANGE)
     target = yield from _one(Field.TARGET)
     keyspace, name, arguments = None, None, None
-    if target in ("KEYSPACE", "TABLE", "TYPE", "FUNCTION", "AGGREGATE"):
+    count = PARTS_OF_TARGET.get(target, 0)
+    if count > 0:
         keyspace = yield from _one(Field.KEYSPACE)
-    if target in ("TABLE", "TYPE", "FUNCTION", "AGGREGATE"):
+    if count > 1:
         name = yield from _one(Field.NAME)
-    if target in ("FUNCTION", "AGGREGATE"):
+    if count > 2:
         arguments = yield from _texts(Field.ARGUMENTS, Field.ARGUMENT)
     return SchemaChange(change, target, keyspace, name, arguments)
 
@@ -535,7 +734,7 @@ def _event() -> Reading[Message]:
 
 
 def _type() -> Reading[Type]:
-    types = _Types()
+    types = TypeReader()
     whole = types.add((yield Tag.TYPE_NODE))
     while whole is None:
         whole = types.add((yield None))

@@ -4,10 +4,7 @@ import sys
 
 import cqlp
 
-try:
-    for batch in cqlp.arrays(sys.argv[1], rows=2):
-        print("from row", batch.first, "on:", batch.count, "of", batch.rows, "rows")
-        for one in batch.arrays:
-            print(one.column and one.column.name, one.values.hex(), list(one.offsets or ()), one.validity)
-except cqlp.BadCall as error:
-    print("the next page has columns with items:", error)
+for batch in cqlp.arrays(sys.argv[1], rows=2):
+    print("from row", batch.first, "on:", batch.count, "of", batch.rows, "rows")
+    for one in batch.arrays:
+        print(one.column and one.column.name, one.values.hex(), list(one.offsets or ()), one.validity)

@@ -1,24 +1,24 @@
-"""Writes a page of this many orders to standard output, 500 at a time, with functions of serve.py: python3 write_page.py ORDERS"""
+"""Writes a page of this many orders to standard output, 500 at a time: python3 write_page.py ORDERS"""
 
 import itertools
 import sys
 from typing import Iterator
 
 import cqlp
-from cqlp import Event, Field, Mark, Opcode, ResultKind, Tag
-from serve import leaf, metadata, number
+from cqlp import messages
 
 
-def cells(rows: int) -> Iterator[Event]:
+def cells(rows: int) -> Iterator[cqlp.Event]:
     for row in range(rows):
-        yield from (leaf(row, row, 0), leaf("order %d" % row, row, 1))
+        yield from cqlp.cell_events("int", row, row, 0)
+        yield from cqlp.cell_events("text", "order %d" % row, row, 1)
 
 
 rows = int(sys.argv[1])
-frame = Event(tag=Tag.FRAME, mark=Mark.RESPONSE, opcode=Opcode.RESULT, extra=3)
-kind, count = number(Field.RESULT_KIND, ResultKind.ROWS), number(Field.ROWS, rows, Tag.COUNT)
+none = messages.Rows.of([("id", "int"), ("item", "text")], [], keyspace="shop", table="orders")
+*head, count, end = cqlp.events(cqlp.encode(none, stream=3))
 with cqlp.PageWriter(cqlp.cells_size(cells(rows))) as page:
-    sys.stdout.buffer.write(page.put([frame, kind, *metadata("shop.orders"), count]))
+    sys.stdout.buffer.write(page.put([*head, count._replace(number=rows)]))
     rest = cells(rows)
     while some := list(itertools.islice(rest, 1000)):
         sys.stdout.buffer.write(page.put(some))

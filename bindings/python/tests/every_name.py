@@ -55,7 +55,8 @@ def read(data: bytes) -> None:
         series: cqlp.Series = told["c"]
         numbers = series.values
         assert isinstance(numbers, array) and len(numbers) == told.count and series.missing is None
-    for batch in cqlp.arrays(data, rows=100):
+    batches: cqlp.Batches = cqlp.arrays(data, rows=100)
+    for batch in batches:
         arrays: cqlp.ArrayBatch = batch
         one: cqlp.ColumnArray = arrays["c"]
         view: memoryview = one.numbers()
@@ -80,6 +81,29 @@ def frames() -> None:
     reason: Union[cqlp.Reason, int] = skipped[0].reason
     assert reason == cqlp.Reason.BAD_UTF8
     assert [bytes(frame) for frame in cqlp.encode_frames(cqlp.events(OPTIONS))] == [OPTIONS]
+
+
+def written_messages() -> None:
+    query = messages.Query("SELECT", values=[cqlp.bind("list<int>", [1, 2]), None], page_size=5)
+    requests = cqlp.encode(messages.Startup({"CQL_VERSION": "3.0.0"})) + cqlp.encode(query, 3, payload={"k": b"v"})
+    page = messages.Rows.of([("id", "int"), ("tags", cqlp.Type.of("set<text>"))], [(1, {"new"})], keyspace="k", table="t")
+    other = b"\5\0\0\4\5\0\0\0\0"
+    with cqlp.MessageDecoder(longest=1 << 20) as decoder:
+        for found in decoder.feed(requests + cqlp.encode(query, 4) + other):
+            if isinstance(found, cqlp.OtherVersion):
+                reply: bytes = found.reply
+                assert found.version == 5 and reply == cqlp.version_error(found.header)
+            else:
+                message: messages.Message = found.message
+                assert message.opcode == found.opcode
+        assert decoder.finish().end == cqlp.End.REFUSED
+    assert next(cqlp.frames(cqlp.encode(page, warnings=["slow"]))).message == page
+    events: List[Event] = cqlp.cell_events("text", "x", row=0, column=1)
+    assert [event.value for event in events] == ["x"]
+    try:
+        cqlp.encode(messages.Prepare("x" * 3), stream=1 << 20)
+    except cqlp.BadValue as bad:
+        assert (bad.field, bad.value) == ("stream", 1 << 20)
 
 
 def decode() -> None:
@@ -169,6 +193,7 @@ def main() -> None:
     read(page)
     read_given()
     frames()
+    written_messages()
     decode()
     cores()
     refusals(page)

@@ -1,18 +1,20 @@
 """Arrays have what rows have, wherever a stream is cut into pieces."""
 
 import gc
+import pickle
 import struct
 import sys
 import tracemalloc
 import types
 import unittest
 from ipaddress import ip_address
-from typing import Any, List, Tuple
+from typing import Any, List, Optional, Tuple
 from unittest import mock
 from uuid import UUID
 
 import cqlp
 from cqlp import Code, Kind
+from cqlp._pages import _frozen
 from cqlp._values import LEAVES
 
 from .streams import BINDINGS, streams
@@ -50,14 +52,30 @@ def value(of: cqlp.ColumnArray, at: int) -> Any:
     return leaf(of.kind, 0, content)
 
 
-def values(of: cqlp.ColumnArray) -> List[Any]:
+def items(of: cqlp.ColumnArray, type: cqlp.Type) -> List[Any]:
+    """What `rows` has of each value with items, also where there is none."""
+    inner = [values(one, each) for one, each in zip(of.items, type.inner)]
+    if of.kind == Kind.TUPLE:
+        return list(zip(*inner)) if inner else [()] * of.cells
+    if of.kind == Kind.UDT:
+        return [dict(zip(type.names, fields)) for fields in zip(*inner)] if inner else [{}] * of.cells
+    spans = list(zip(of.offsets or (), (of.offsets or ())[1:]))
+    if of.kind == Kind.LIST:
+        return [inner[0][begin:end] for begin, end in spans]
+    if of.kind == Kind.SET:
+        return [set(map(_frozen, inner[0][begin:end])) for begin, end in spans]
+    return [dict(zip(map(_frozen, inner[0][begin:end]), inner[1][begin:end])) for begin, end in spans]
+
+
+def values(of: cqlp.ColumnArray, type: Optional[cqlp.Type] = None) -> List[Any]:
     """What `rows` has of the column."""
     found: List[Any] = []
+    whole = items(of, type) if type and of.kind in ITEMS else []
     for at in range(of.cells):
         if bit(of.empties, at, False):
             found.append("" if of.kind in TEXTS else b"" if of.kind in BYTES else cqlp.EMPTY)
         else:
-            found.append(value(of, at) if bit(of.validity, at, True) else None)
+            found.append((whole[at] if whole else value(of, at)) if bit(of.validity, at, True) else None)
     return found
 
 
@@ -82,18 +100,7 @@ def read_rows(data: bytes, limits: cqlp.Limits = cqlp.Limits(), **words: Any) ->
 
 
 def rows_of(batches: List[cqlp.ArrayBatch]) -> List[Any]:
-    return [row for batch in batches for row in zip(*map(values, batch.arrays))]
-
-
-def has_items(data: bytes, limits: cqlp.Limits) -> bool:
-    """Whether a page of a stream has a column that arrays do not have."""
-    try:
-        for found in cqlp.Pages(data, limits):
-            if any(column.type.kind in ITEMS for column in found.columns) and limits.types:
-                return True
-    except cqlp.Error:
-        pass
-    return False
+    return [row for batch in batches for row in zip(*(values(one, one.column and one.column.type) for one in batch.arrays))]
 
 
 #: 1, "abc", true; null, empty, empty; empty, null, false
@@ -116,7 +123,8 @@ class Arrays(unittest.TestCase):
                     self.assertTrue(bits is None or len(bits) == (one.cells + 7) // 8)
                     self.assertFalse(bits is not None and one.cells % 8 and bits[-1] >> one.cells % 8)
                 if one.offsets is not None:
-                    self.assertEqual((len(one.offsets), one.offsets[0], one.offsets[-1]), (one.cells + 1, 0, len(one.values)))
+                    size = one.items[0].cells if one.items else len(one.values)
+                    self.assertEqual((len(one.offsets), one.offsets[0], one.offsets[-1]), (one.cells + 1, 0, size))
 
     def agrees(self, data: bytes, limits: cqlp.Limits = cqlp.Limits(), pieces: Tuple[int, ...] = (1 << 20,), rows: Tuple[int, ...] = (3, 16384)) -> None:
         wanted, ending = read_rows(data, limits)
@@ -154,11 +162,7 @@ class Arrays(unittest.TestCase):
     def test_streams(self) -> None:
         for stream in streams():
             with self.subTest(stream.name):
-                if has_items(stream.bytes, stream.limits):
-                    with self.assertRaises(cqlp.BadCall) as raised:
-                        list(cqlp.arrays(stream.bytes, stream.limits))
-                    self.assertEqual(raised.exception.code, Code.UNSUPPORTED)
-                elif not stream.limits.parts:
+                if not stream.limits.parts:
                     self.agrees(stream.bytes, stream.limits, (1, 7, 1 << 20))
 
     def test_streams_with_a_byte_changed(self) -> None:
@@ -166,7 +170,7 @@ class Arrays(unittest.TestCase):
             for at in range(0, len(stream.bytes), 11):
                 data = bytearray(stream.bytes)
                 data[at] ^= 1 << at % 8
-                if stream.limits.parts or has_items(bytes(data), stream.limits):
+                if stream.limits.parts:
                     continue
                 try:
                     self.agrees(bytes(data), stream.limits, rows=(16384,))
@@ -174,7 +178,7 @@ class Arrays(unittest.TestCase):
                     self.assertEqual(error.code, Code.TOO_MANY_COLUMNS)
 
     def test_pages_of_the_benchmarks(self) -> None:
-        for words in (("rows", "300"), ("rows", "bare", "300"), ("columns", "5"), ("kinds", "200")):
+        for words in (("rows", "300"), ("rows", "bare", "300"), ("columns", "5"), ("kinds", "200"), ("collections", "50")):
             data = made(*words)
             self.agrees(data, pieces=(1000, 65536), rows=(7, 300, 16384))
             self.agrees(data, cqlp.Limits(types=False))
@@ -223,12 +227,20 @@ class Arrays(unittest.TestCase):
             self.assertEqual((raised.exception.row, raised.exception.column), (1, 1))
         self.assertRaises(cqlp.CellTooLong, list, cqlp.arrays(made("blobs", "1"), cqlp.Limits(cell=4096, parts=True)))
 
+    def test_values_with_items(self) -> None:
+        data = page([b"\0\x20" + INT, INT], [[list_of(cell(b"\0\0\0\1"), NULL), NULL], [NULL, NOTHING], [list_of(), NULL]])
+        for rows in (1, 2, 3):
+            self.agrees(SMALL + data + SMALL, pieces=(1, 65536), rows=(rows,))
+            for length in range(0, len(data), 5):
+                self.agrees(data[:length], rows=(rows,))
+        self.agrees(data, cqlp.Limits(types=False))
+        (batch,) = cqlp.arrays(data)
+        one = batch["c0"]
+        self.assertEqual((one.kind, one.values, list(one.offsets or ()), one.validity, one.empties), (Kind.LIST, b"", [0, 2, 2, 2], b"\5", None))
+        self.assertEqual([(each.kind, each.cells, each.validity) for each in one.items], [(Kind.INT, 2, b"\1")])
+        self.assertEqual(pickle.loads(pickle.dumps(batch)), batch)
+
     def test_what_arrays_do_not_have(self) -> None:
-        of_items = page([b"\0\x20" + INT], [[list_of(cell(b"\0\0\0\1"))]])
-        with self.assertRaises(cqlp.BadCall) as raised:
-            list(cqlp.arrays(SMALL + of_items))
-        self.assertEqual(raised.exception.code, Code.UNSUPPORTED)
-        self.agrees(of_items, cqlp.Limits(types=False))
         for words in ({"rows": 0}, {"memory": 0}):
             self.assertRaises(ValueError, cqlp.arrays, SMALL, **words)
         self.assertRaises(cqlp.BadLimits, list, cqlp.arrays(SMALL, cqlp.Limits(cell=1)))

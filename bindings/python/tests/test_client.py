@@ -144,7 +144,7 @@ class Client(unittest.TestCase):
             client.cancel(cqlp.Ticket(number, id))
 
     def test_threads_may_share_one(self) -> None:
-        with cqlp.Client() as client:
+        with cqlp.Client(2000) as client:
             ids: List[Any] = []
             tasks = [threading.Thread(target=lambda: ids.extend(client.begin(5).id for _ in range(500))) for _ in range(4)]
             for task in tasks:

@@ -15,6 +15,7 @@ RAISED = (
     cqlp.Error("a text"),
     cqlp.BadLimits("cell"),
     cqlp.BadCall(cqlp.Code.FULL),
+    cqlp.BadValue(5, "a str is wanted").within("Query.query"),
     cqlp.BadEvent(cqlp.Code.NO_EVENT, 1, cqlp.Event(tag=cqlp.Tag.TEXT, content=b"\xff")),
     cqlp.CellTooLong(3, 4),
     cqlp.Closed("the page"),
