@@ -271,6 +271,7 @@ mod errors;
 mod hex;
 mod itoa;
 mod jiff_core;
+pub mod rows;
 mod uuid;
 
 #[cfg(feature = "cli")]
