@@ -104,16 +104,16 @@ macro_rules! row {
             enum __Field { $($field),+ }
 
             #[derive(Default)]
-            pub struct __Partial<$($life)?> { $($field: Option<$type>),+ }
+            pub struct __Partial<$($life)?> { $($field: ::core::option::Option<$type>),+ }
 
             impl<$($life)?> $crate::rows::Row for $name<$($life)?> {
                 type Partial = __Partial<$($life)?>;
                 const WIDTH: usize = [$($crate::row!(= $field $column)),+].len();
-                const NAMES: Option<&'static [&'static str]> = Some(&[$($crate::row!(= $field $column)),+]);
+                const NAMES: ::core::option::Option<&'static [&'static str]> = ::core::option::Option::Some(&[$($crate::row!(= $field $column)),+]);
 
                 #[inline(always)]
-                fn finish(partial: &mut Self::Partial) -> Option<Self> {
-                    Some($name { $($field: partial.$field.take()?),+ })
+                fn finish(partial: &mut Self::Partial) -> ::core::option::Option<Self> {
+                    ::core::option::Option::Some($name { $($field: partial.$field.take()?),+ })
                 }
             }
 
@@ -123,12 +123,12 @@ macro_rules! row {
                     partial: &mut Self::Partial,
                     field: usize,
                     cell: $crate::rows::LentCell<$cell, '_>,
-                ) -> Result<(), $crate::rows::Mismatch> {
+                ) -> ::core::result::Result<(), $crate::rows::Mismatch> {
                     $(if field == __Field::$field as usize {
-                        partial.$field = Some($crate::rows::FromCell::from_cell(cell)?);
-                        return Ok(());
+                        partial.$field = ::core::option::Option::Some($crate::rows::FromCell::from_cell(cell)?);
+                        return ::core::result::Result::Ok(());
                     })+
-                    Ok(())
+                    ::core::result::Result::Ok(())
                 }
             }
         };

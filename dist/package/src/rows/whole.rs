@@ -250,6 +250,9 @@ impl<'a, T: FromRow<'a>> WholeSink<'a, T> {
     #[inline(never)]
     fn keep_row(&mut self) -> Result<(), SinkFault> {
         let row = self.reading.end_row()?;
+        if self.made.capacity() == 0 {
+            self.made.try_reserve_exact(BATCH).map_err(|_| self.reading.give_up(RowError::NoMemory))?;
+        }
         self.made.push(row);
         if self.made.len() < BATCH { Ok(()) } else { Err(SinkFault) }
     }
