@@ -91,7 +91,7 @@ impl<'a, 's> Iterator for LentItems<'a, 's> {
 /// The scalar of this kind whose content lies here. The decoder took these bytes for one.
 #[inline]
 fn content(kind: Kind, bytes: &[u8], start: u32, len: u32) -> Scalar<'_> {
-    let bytes = bytes.get(start as usize..).and_then(|rest| rest.get(..len as usize)).unwrap_or_default();
+    let bytes = bytes_at(bytes, start, len as usize);
     match Scalar::from_bytes(kind, bytes) {
         Some(Ok(scalar)) => scalar,
         _ => Scalar::Raw(bytes),
@@ -329,11 +329,30 @@ impl core::ops::Deref for Front {
 /// A scalar of a page, whose content begins at an index, with its bytes lent from the page.
 #[inline(always)]
 pub(crate) fn lend<'a>(page: &'a [u8], start: u32, scalar: &Scalar<'_>) -> Scalar<'a> {
-    match plain(scalar) {
-        Some(scalar) => scalar,
-        None => {
-            let (front, bytes) = bytes_of(scalar);
-            content(kind_of(scalar), page, start, (front.len() + bytes.len()) as u32)
-        }
+    let bytes = |len| bytes_at(page, start, len);
+    match *scalar {
+        Scalar::Varchar(text) => Scalar::Varchar(text_at(page, start, text.len())),
+        Scalar::Ascii(text) => Scalar::Ascii(text_at(page, start, text.len())),
+        Scalar::Custom(own) => Scalar::Custom(bytes(own.len())),
+        Scalar::Blob(own) => Scalar::Blob(bytes(own.len())),
+        Scalar::Varint(own) => Scalar::Varint(bytes(own.len())),
+        Scalar::Raw(own) => Scalar::Raw(bytes(own.len())),
+        Scalar::Decimal { scale, unscaled } => Scalar::Decimal { scale, unscaled: bytes_at(page, start + 4, unscaled.len()) },
+        ref other => plain(other).unwrap_or(Scalar::Raw(&[])),
+    }
+}
+
+/// So many bytes of a page from an index on.
+#[inline]
+fn bytes_at(page: &[u8], start: u32, len: usize) -> &[u8] {
+    page.get(start as usize..).and_then(|rest| rest.get(..len)).unwrap_or_default()
+}
+
+/// The same, as a text, which the decoder took them for.
+#[inline(never)]
+fn text_at(page: &[u8], start: u32, len: usize) -> &str {
+    match Scalar::from_bytes(Kind::Varchar, bytes_at(page, start, len)) {
+        Some(Ok(Scalar::Varchar(text))) => text,
+        _ => "",
     }
 }

@@ -106,7 +106,8 @@ impl AsMut<PageReader> for PageReader {
     }
 }
 
-/// The rows of a page, and an error where one cannot be made, which is the last then.
+/// The rows of a page, and an error where one cannot be made, which is the last then. Up to 64 rows are made at a time.
+#[must_use = "rows are made when they are asked for"]
 pub struct PageRows<'a, R, T: Row> {
     reader: R,
     sink: WholeSink<'a, T>,
