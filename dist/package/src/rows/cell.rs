@@ -348,7 +348,7 @@ fn bytes_at(page: &[u8], start: u32, len: usize) -> &[u8] {
     page.get(start as usize..).and_then(|rest| rest.get(..len)).unwrap_or_default()
 }
 
-/// The same, as a text, which the decoder took them for.
+/// So many bytes of a page from an index on, which the decoder took for a text.
 #[inline(never)]
 fn text_at(page: &[u8], start: u32, len: usize) -> &str {
     match Scalar::from_bytes(Kind::Varchar, bytes_at(page, start, len)) {

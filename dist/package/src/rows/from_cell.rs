@@ -18,7 +18,7 @@ use crate::rows::error::Mismatch;
 /// `'a` is how long the contents are lent: those of a page in memory for as long as the page, so that `&'a str` and `&'a [u8]` are read
 /// without a copy. What a [`RowSink`](crate::rows::RowSink) reads has to be of every `'a`, so it owns its contents.
 ///
-/// A type of the caller's is read by what it stands on:
+/// A newtype of the caller's is read as its inner type:
 ///
 /// ```
 /// use cqlp::rows::{FromCell, LentCell, Mismatch};

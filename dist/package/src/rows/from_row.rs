@@ -11,7 +11,7 @@ pub trait Row: Sized {
     type Partial: Default;
     /// How many fields there are.
     const WIDTH: usize;
-    /// The names of their columns, in the order of the fields; None where they go by their places.
+    /// The names of their columns, in the order of the fields; None where fields are read by the places of columns.
     const NAMES: Option<&'static [&'static str]>;
 
     /// The row of these fields, which it takes; None where one did not come.
@@ -109,7 +109,8 @@ macro_rules! row {
             impl<$($life)?> $crate::rows::Row for $name<$($life)?> {
                 type Partial = __Partial<$($life)?>;
                 const WIDTH: usize = [$($crate::row!(= $field $column)),+].len();
-                const NAMES: ::core::option::Option<&'static [&'static str]> = ::core::option::Option::Some(&[$($crate::row!(= $field $column)),+]);
+                const NAMES: ::core::option::Option<&'static [&'static str]> =
+                    ::core::option::Option::Some(&[$($crate::row!(= $field $column)),+]);
 
                 #[inline(always)]
                 fn finish(partial: &mut Self::Partial) -> ::core::option::Option<Self> {

@@ -1,13 +1,14 @@
 //! Rows of pages as Rust types, and Rust types as values to bind.
 //!
-//! This module is written by hand over the public calls of the package, without `unsafe`, and **is not proved**. What it reads was decoded by a
-//! [`Decoder`](crate::Decoder), and what it binds is written by [`bind_value`](crate::frame::bind_value), which are.
+//! This module is written by hand over the public calls of the package, without `unsafe`, and **is not proved**. What it reads was
+//! decoded by a [`Decoder`](crate::Decoder), and what it binds is written by [`bind_value`](crate::frame::bind_value): the sources of
+//! both are proved.
 //!
 //! # Read a page into structs
 //!
-//! [`row!`](crate::row) makes a struct whose fields are read from the columns of their names; a tuple goes by the places of columns.
-//! [`page_rows`](crate::rows::page_rows) reads a page that is whole in memory, from which fields may lend; a
-//! [`RowSink`](crate::rows::RowSink) reads pages of any size, in pieces:
+//! [`row!`](crate::row) makes a struct whose fields are read from the columns of their names; a tuple is read by the places of columns.
+//! [`page_rows`] reads a page that is whole in memory, from which fields may lend; a
+//! [`RowSink`] reads pages of any size, in pieces:
 //!
 //! ```
 //! use cqlp::rows::{RowError, RowSink, page_rows};

@@ -215,7 +215,7 @@ impl<T: Row> Reading<T> {
         }
     }
 
-    /// The same, where the contents were copied.
+    /// Takes the cell with items that ended, whose contents were copied, and answers whether it ends its row.
     pub(crate) fn take_copied(&mut self) -> Result<bool, SinkFault>
     where
         T: for<'a> FromRow<'a>,

@@ -33,7 +33,8 @@ impl<T: for<'a> FromRow<'a>, F: FnMut(T) -> Result<(), SinkFault>> RowSink<T, F>
         RowSink::with_limits(CELL_LIMITS, hand)
     }
 
-    /// The same with other limits on a cell with items: how many values are in it, and how many bytes of texts, blobs, varints and decimals.
+    /// A sink before the first page, with limits on a cell with items: how many values are in it, and how many bytes of texts, blobs,
+    /// varints and decimals.
     #[must_use]
     pub fn with_limits(limits: CellLimits, hand: F) -> RowSink<T, F> {
         RowSink { reading: Reading::new(limits), hand }
@@ -54,8 +55,8 @@ impl<T: for<'a> FromRow<'a>, F: FnMut(T) -> Result<(), SinkFault>> RowSink<T, F>
     ///
     /// # Errors
     ///
-    /// [`RowError::Refused`] where the decoder refuses the stream; else why there is no row, after which the rest of the piece is lost, and the
-    /// connection with it.
+    /// [`RowError::Refused`] where the decoder refuses the stream; else why there is no row, after which the rest of the piece is lost, and
+    /// the connection with it.
     pub fn feed(&mut self, decoder: &mut Decoder, piece: &[u8]) -> Result<(), RowError> {
         match feed(decoder, piece, self) {
             Fed::More => Ok(()),

@@ -19,7 +19,7 @@ use crate::rows::newtypes::{Counter, Date, Decimal, Time, Timestamp, Timeuuid, U
 
 /// A type that is written as a value of a column, or of an item of one. Section 6 of `native_protocol_v4.spec`.
 ///
-/// A type of the caller's is written by what it stands on:
+/// A newtype of the caller's is written as its inner type:
 ///
 /// ```
 /// use cqlp::frame::{TypeTree, Value};

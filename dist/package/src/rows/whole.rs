@@ -52,7 +52,7 @@ impl PageReader {
         Ok(PageReader { decoder: Decoder::new(Global, limits)?, limits: CELL_LIMITS, given: None })
     }
 
-    /// The same with other limits on a cell with items: how many values are in it, and how many bytes.
+    /// This reader, with limits on a cell with items: how many values are in it, and how many bytes.
     #[must_use]
     pub fn with_cell_limits(self, limits: CellLimits) -> PageReader {
         PageReader { limits, ..self }
@@ -77,7 +77,7 @@ impl PageReader {
     ///
     /// # Errors
     ///
-    /// [`RowError::Refused`] where the decoder refuses what stands before the rows, [`RowError::Cut`] where the bytes end there;
+    /// [`RowError::Refused`] where the decoder refuses what is before the rows, [`RowError::Cut`] where the bytes end there;
     /// [`RowError::Server`] for an ERROR, [`RowError::NoPage`] for another frame that is no page; and [`RowError::MissingColumn`],
     /// [`RowError::TwoFields`], [`RowError::TooFewColumns`] or [`RowError::NoNames`] where the columns are none of `T`. Each row may have
     /// another error.
