@@ -151,7 +151,7 @@ func TestContextThatIsDoneBefore(t *testing.T) {
 	}
 	ctx, cancel = context.WithTimeout(context.Background(), time.Millisecond)
 	defer cancel()
-	if _, err := f.NextContext(ctx); err != context.DeadlineExceeded {
+	if err := within(t, "Frames", func() error { _, err := f.NextContext(ctx); return err }); err != context.DeadlineExceeded {
 		t.Error(err)
 	}
 	time.AfterFunc(20*time.Millisecond, func() { there.Write([]byte("\x04\x00\x00\x01\x05\x00\x00\x00\x00")) })
@@ -186,7 +186,7 @@ func TestDeadlineOfTheCaller(t *testing.T) {
 	}
 	defer f.Close()
 	here.SetReadDeadline(time.Now().Add(10 * time.Millisecond))
-	if _, err := f.NextContext(context.Background()); !errors.Is(err, os.ErrDeadlineExceeded) {
+	if err := within(t, "Frames", func() error { _, err := f.NextContext(context.Background()); return err }); !errors.Is(err, os.ErrDeadlineExceeded) {
 		t.Error(err)
 	}
 }
@@ -216,6 +216,16 @@ func TestCloseEndsACallThatWaits(t *testing.T) {
 				t.Error(name, "has closed the connection, or left a deadline")
 			}
 		}
+	}
+}
+
+// TestCloseBeforeARead closes a source after a call found it open, and before its Read.
+func TestCloseBeforeARead(t *testing.T) {
+	here, _ := connected(t)
+	s := newSource(here)
+	s.close()
+	if err := within(t, "the source", func() error { _, err := s.read(context.Background(), make([]byte, 1)); return err }); err != (interrupted{ErrClosed}) {
+		t.Error(err)
 	}
 }
 
