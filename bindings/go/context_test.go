@@ -204,7 +204,7 @@ func TestCloseEndsACallThatWaits(t *testing.T) {
 			before := runtime.NumGoroutine()
 			there.Write(page[:len(page)-1])
 			time.AfterFunc(20*time.Millisecond, func() { closer.Close() })
-			if err := within(t, name, func() error { return read(ctx) }); err != ErrClosed {
+			if err := within(t, name, func() error { return read(ctx) }); err != ErrClosed || !errors.Is(err, net.ErrClosed) || errors.Is(err, io.EOF) {
 				t.Error(name, err)
 			}
 			if err := read(ctx); err != ErrClosed {

@@ -114,30 +114,35 @@ func TestScanIntoAStruct(t *testing.T) {
 	}
 }
 
-// TestScanIntoStructsOfSeveralPages reads pages whose columns have another order each, into two structs in turn.
+// TestScanIntoStructsOfSeveralPages reads pages whose columns have another order each, into one struct and into two in turn.
 func TestScanIntoStructsOfSeveralPages(t *testing.T) {
 	number, text := Type{Kind: KindInt}, Type{Kind: KindVarchar}
 	stream := append(pageOf(t, []cellOfRow{{"a", number, 1}, {"b", text, "x"}}), pageOf(t, []cellOfRow{{"b", text, "y"}, {"c", number, 0}, {"a", number, 2}})...)
-	r := rowReader(t, bytes.NewReader(stream))
-	printed := ""
-	for r.Next() {
-		var both struct {
-			A int    `cqlp:"a"`
-			B string `cqlp:"b"`
+	for _, several := range []bool{false, true} {
+		r := rowReader(t, bytes.NewReader(stream))
+		printed := ""
+		for r.Next() {
+			var both struct {
+				A int    `cqlp:"a"`
+				B string `cqlp:"b"`
+			}
+			var one struct {
+				B string `cqlp:"b"`
+			}
+			if err := r.Scan(&both); err != nil {
+				t.Fatal(err)
+			}
+			printed += fmt.Sprint(both)
+			if !several {
+				continue
+			}
+			if err := r.Scan(&one); err != nil || one.B != both.B {
+				t.Fatal(err, one)
+			}
 		}
-		var one struct {
-			B string `cqlp:"b"`
+		if printed != "{1 x}{2 y}" || r.Err() != nil {
+			t.Error(printed, r.Err())
 		}
-		if err := r.Scan(&both); err != nil {
-			t.Fatal(err)
-		}
-		if err := r.Scan(&one); err != nil {
-			t.Fatal(err)
-		}
-		printed += fmt.Sprint(both, one)
-	}
-	if printed != "{1 x} {x}{2 y} {y}" || r.Err() != nil {
-		t.Error(printed, r.Err())
 	}
 }
 
