@@ -6,6 +6,7 @@ import (
 	"errors"
 	"fmt"
 	"reflect"
+	"strings"
 	"sync"
 )
 
@@ -47,7 +48,7 @@ func (m *members) add(typ reflect.Type, index []int, path string) {
 		field := typ.Field(i)
 		tag, is := field.Tag.Lookup("cqlp")
 		at := append(index[:len(index):len(index)], i)
-		within := path + "." + field.Name
+		within := strings.TrimPrefix(path+"."+field.Name, ".") // of a struct without a name too
 		switch {
 		case !is && field.Anonymous && field.Type.Kind() == reflect.Struct:
 			m.add(field.Type, at, within)

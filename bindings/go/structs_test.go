@@ -198,6 +198,9 @@ func TestScanIntoAStructThatFails(t *testing.T) {
 		says    string
 	}{
 		{[]cellOfRow{{"id", text, "x"}, {"age", number, 256}}, new(User), ErrRange, "cqlp: row 0, column 1 (age int) into User.Age uint8: the number is out of range"},
+		{[]cellOfRow{{"age", number, nil}}, new(struct {
+			Age int `cqlp:"age"`
+		}), ErrNull, "cqlp: row 0, column 0 (age int) into Age int: the value is null"},
 		{[]cellOfRow{{"age", number, nil}}, new(User), ErrNull, "cqlp: row 0, column 0 (age int) into User.Age uint8: the value is null"},
 		{[]cellOfRow{{"age", text, "7"}}, new(User), nil, "cqlp: row 0, column 0 (age varchar) into User.Age uint8: varchar does not go into uint8"},
 		{[]cellOfRow{{"Age", number, 1}}, new(User), ErrNoColumn, "cqlp: row 0, field User.Age uint8: no column has this name: age"},
@@ -248,5 +251,29 @@ func TestScanErrorsHaveTheirRow(t *testing.T) {
 	}
 	if err := r.Scan(&n); !errors.Is(err, ErrNoRow) {
 		t.Error(err)
+	}
+}
+
+// TestBindOfAStruct has a struct with tags as a UDT, which Scan puts into such a struct again.
+func TestBindOfAStruct(t *testing.T) {
+	house := int32(7)
+	for _, home := range []street{{"Elm", &house, []string{"a"}, ""}, {"", nil, nil, ""}} {
+		var got struct {
+			Home street `cqlp:"home"`
+		}
+		r := rowOf(t, cellOfRow{"home", streetType, home})
+		if err := r.Scan(&got); err != nil || !reflect.DeepEqual(got.Home, home) {
+			t.Errorf("%+v, and not %+v: %v", got.Home, home, err)
+		}
+		more := r.Values()[0].([]NamedValue)[3]
+		if !reflect.DeepEqual(more, NamedValue{"more", nil}) {
+			t.Error(more)
+		}
+	}
+	short := Type{Kind: KindUDT, Names: []string{"name"}, Inner: []Type{{Kind: KindVarchar}}}
+	for _, other := range []any{street{}, dates{}, struct{ Name string }{"x"}, time.Time{}} {
+		if value, err := Bind(short, other); err == nil {
+			t.Errorf("%T: %v", other, value)
+		}
 	}
 }
