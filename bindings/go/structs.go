@@ -123,8 +123,15 @@ func (r *RowReader) scanRecord(to any) error {
 		if field == nil {
 			continue
 		}
+		v := value.FieldByIndex(field.index)
+		// a cell on the heap costs more than most scalars do, as in Scan
+		if e := &r.cells.events[r.cells.starts[i]]; e.Tag == TagLeaf {
+			if done, err := putLeaf(e, v.Addr().Interface()); done && err == nil {
+				continue
+			}
+		}
 		cell := r.cells.cell(i)
-		if err := cell.into(value.FieldByIndex(field.index)); err != nil {
+		if err := cell.into(v); err != nil {
 			return r.scanError(i, field.path, field.typ, err)
 		}
 	}
