@@ -156,6 +156,32 @@ func BenchmarkScan(b *testing.B) {
 	})
 }
 
+// BenchmarkScanStruct puts the rows into a struct.
+func BenchmarkScanStruct(b *testing.B) {
+	var row struct {
+		ID   int32  `cqlp:"column0"`
+		Big  int64  `cqlp:"column1"`
+		Name string `cqlp:"column2"`
+		Is   bool   `cqlp:"column3"`
+	}
+	each(b, func(b *testing.B, kind string, stream []byte) (rows int) {
+		if kind != "rows" {
+			b.Skip(kind, " have other columns")
+		}
+		r, err := NewRowReader(bytes.NewReader(stream), DefaultLimits())
+		if err != nil {
+			b.Fatal(err)
+		}
+		defer r.Close()
+		for ; r.Next(); rows++ {
+			if err := r.Scan(&row); err != nil {
+				b.Fatal(err)
+			}
+		}
+		return rows
+	})
+}
+
 // BenchmarkValues makes the values of each row.
 func BenchmarkValues(b *testing.B) {
 	each(b, func(b *testing.B, _ string, stream []byte) (rows int) {

@@ -17,9 +17,9 @@ import (
 
 // Bind makes a value of this type, as of a Column of Prepared.Bound. It takes what RowReader.Values gives of the type, and what Scan puts
 // it into: integers of any width in whose range they are, floats, strings and []byte, bool, time.Time, time.Duration, UUID, net.IP, netip.Addr,
-// *big.Int, Decimal, slices and maps of these, nil and pointers that are nil for null, Empty, and a Value as it is. A string of a text has to be
-// one, or the error is ErrNotText; []byte is not looked at, since a lenient reading has it of what is none. Another error says what does not go
-// together.
+// *big.Int, Decimal, slices and maps of these, a struct with tags for a UDT, nil and pointers that are nil for null, Empty, and a Value as it
+// is. A string of a text has to be one, or the error is ErrNotText; []byte is not looked at, since a lenient reading has it of what is none.
+// Another error says what does not go together.
 func Bind(typ Type, value any) (Value, error) {
 	if value, ok := value.(Value); ok {
 		return value, nil
@@ -246,6 +246,8 @@ func (w *writer) items(typ Type, value any) bool {
 		return w.fields(typ, len(fields), func(at int) any { return fields[at].Value })
 	case typ.Kind == KindUDT && v.Kind() == reflect.Map && v.Type().Key().Kind() == reflect.String:
 		return w.fieldsOfMap(typ, v)
+	case typ.Kind == KindUDT && v.Kind() == reflect.Struct:
+		return w.fieldsOfStruct(typ, v)
 	case typ.Kind == KindTuple && v.Kind() == reflect.Slice:
 		return w.fields(typ, v.Len(), func(at int) any { return v.Index(at).Interface() })
 	case typ.Kind == KindMap:
@@ -284,6 +286,17 @@ func (w *writer) fieldsOfMap(typ Type, v reflect.Value) bool {
 		known++
 		return field.Interface()
 	}) && known == v.Len()
+}
+
+// fieldsOfStruct writes null for a field whose name no tag has, and refuses a tag that no field has.
+func (w *writer) fieldsOfStruct(typ Type, v reflect.Value) bool {
+	m := membersOf(v.Type())
+	return len(m.fields) > 0 && m.err == nil && m.lacking(typ.Names) == nil && w.fields(typ, len(typ.Names), func(at int) any {
+		if i, is := m.find(typ.Names[at]); is {
+			return v.FieldByIndex(m.fields[i].index).Interface()
+		}
+		return nil
+	})
 }
 
 func (w *writer) pairs(typ Type, value any) bool {

@@ -4,6 +4,7 @@ package cqlp
 import "C"
 
 import (
+	"context"
 	"encoding/binary"
 	"errors"
 	"fmt"
@@ -201,6 +202,12 @@ func (r *ColumnReader) Next() bool {
 		}
 	}
 	return false
+}
+
+// NextContext is Next, but ends once ctx is done, as RowReader.NextContext does.
+func (r *ColumnReader) NextContext(ctx context.Context) bool {
+	defer r.during(ctx)()
+	return r.Next()
 }
 
 // Columns are the arrays of the batch, one for each column of its page, until the next call of Next.

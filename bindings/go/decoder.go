@@ -18,6 +18,7 @@ import (
 	"errors"
 	"fmt"
 	"io"
+	"net"
 	"runtime"
 	"sync/atomic"
 	"unsafe"
@@ -26,8 +27,15 @@ import (
 // ErrMore says that all bytes were used, and that the ones that come after them are wanted.
 var ErrMore = errors.New("cqlp: more bytes are wanted")
 
-// ErrClosed says that the decoder, the core, the table or the page was closed.
-var ErrClosed = errors.New("cqlp: it was closed")
+// ErrClosed says that the decoder, the core, the table or the page was closed. It is a net.ErrClosed.
+var ErrClosed error = closedError{}
+
+type closedError struct{}
+
+func (closedError) Error() string { return "cqlp: it was closed" }
+
+// Is makes it a net.ErrClosed.
+func (closedError) Is(target error) bool { return target == net.ErrClosed }
 
 // ErrNoMemory says that there is not as much memory as the limits allow to be held.
 var ErrNoMemory = errors.New("cqlp: there is not enough memory")

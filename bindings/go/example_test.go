@@ -64,7 +64,7 @@ func ExampleRowReader_Scan() {
 	// 1 true
 	// 2 false
 	// [0 1 2 3 4 5 6 7] map[0000000000000000:0 0000000000000001:1 0000000000000002:2] <nil>
-	// cqlp: column 1: map does not go into string
+	// cqlp: row 0, column 1 (column1 map<varchar, int>) into string: map does not go into string
 }
 
 func ExampleColumnReader() {

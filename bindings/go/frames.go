@@ -3,6 +3,7 @@
 package cqlp
 
 import (
+	"context"
 	"errors"
 	"fmt"
 	"io"
@@ -116,6 +117,13 @@ func (f *Frames) Next() (*Frame, error) {
 	}
 }
 
+// NextContext is Next, but ends once ctx is done, as Reader.NextContext does. Where that is between two frames the next call reads on; within a frame
+// the frames have ended.
+func (f *Frames) NextContext(ctx context.Context) (*Frame, error) {
+	defer f.during(ctx)()
+	return f.Next()
+}
+
 // rows reads the rows of a page whose metadata were read.
 func (f *Frames) rows(page *Rows) {
 	for f.cells.begin(&page.Metadata, f.typing); f.cells.next(); {
@@ -131,11 +139,16 @@ type parser struct {
 	reader *Reader
 	event  Event
 	failed error
+	// whether it failed between two frames since a context was done, so that the next call reads on
+	lapsed bool
 }
 
 // enter begins a call of its reader, and says whether it may go on; where it may not, it has failed.
 func (p *parser) enter() bool {
 	is := p.reader.decoder.enter()
+	if p.lapsed {
+		p.failed, p.lapsed = nil, false
+	}
 	if !is && (p.failed == nil || p.failed == errPassed) {
 		p.failed = ErrClosed
 	}
@@ -164,6 +177,7 @@ func (p *parser) begin() (Event, error) {
 		return p.event, nil
 	case nil:
 		p.failed = p.reader.next(&p.event)
+		p.lapsed = p.failed != nil && p.failed == p.reader.ctx.Err()
 	}
 	return p.event, p.failed
 }

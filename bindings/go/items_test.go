@@ -2,6 +2,7 @@ package cqlp
 
 import (
 	"bytes"
+	"errors"
 	"fmt"
 	"reflect"
 	"strings"
@@ -39,8 +40,8 @@ func scanned(r *RowReader, to any) string {
 	err := r.Scan(to)
 	value := fmt.Sprint(reflect.ValueOf(to).Elem().Interface())
 	if err != nil {
-		fault, _, _ := strings.Cut(err.Error(), " go into ")
-		return value + ", " + fault
+		fault, _, _ := strings.Cut(errors.Unwrap(err).Error(), " go into ")
+		return value + ", cqlp: " + fault
 	}
 	return value
 }

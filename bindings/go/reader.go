@@ -3,6 +3,7 @@
 package cqlp
 
 import (
+	"context"
 	"errors"
 	"io"
 )
@@ -21,8 +22,10 @@ type Reader struct {
 	Types func(frame Event) *Types
 
 	decoder *Decoder
-	source  io.Reader
-	buffer  []byte
+	source  *source
+	// the context of the call that is under way
+	ctx    context.Context
+	buffer []byte
 	// the bytes of the buffer that were read and not used
 	rest []byte
 	// how many bytes are still to come of the header or the body under way: none after them is given to the decoder before its event came
@@ -60,7 +63,7 @@ func newReader(source io.Reader, limits Limits, newDecoder func(Limits) (*Decode
 	if err != nil {
 		return nil, err
 	}
-	r := &Reader{decoder: decoder, source: source, buffer: make([]byte, space), room: room}
+	r := &Reader{decoder: decoder, source: newSource(source), ctx: context.Background(), buffer: make([]byte, space), room: room}
 	r.beginHeader()
 	return r, nil
 }
@@ -76,6 +79,20 @@ func (r *Reader) Next() (event Event, err error) {
 	defer r.decoder.leave()
 	err = r.next(&event)
 	return event, err
+}
+
+// NextContext is Next, but where it has to read it ends with the error of ctx once ctx is done; the next call reads on. A Read that waits is ended
+// by the read deadline of the io.Reader, as a net.Conn has one, and the reader removes that deadline. An io.Reader without read deadlines is not
+// interrupted: ctx is looked at before each Read. No goroutine is left.
+func (r *Reader) NextContext(ctx context.Context) (event Event, err error) {
+	defer r.during(ctx)()
+	return r.Next()
+}
+
+// during sets the context of a call, up to the function that it returns.
+func (r *Reader) during(ctx context.Context) (leave func()) {
+	r.ctx = ctx
+	return func() { r.ctx = context.Background() }
 }
 
 func (r *Reader) next(event *Event) error {
@@ -111,7 +128,9 @@ func (r *Reader) fill() error {
 		case r.err != nil:
 			return r.ending()
 		default:
-			r.read()
+			if err := r.read(); err != nil {
+				return err
+			}
 		}
 	}
 }
@@ -213,16 +232,22 @@ func (r *Reader) pass(refusal error) error {
 	return nil
 }
 
-func (r *Reader) read() {
+// read reads bytes into the buffer. The error says why that was ended; other errors are for after the bytes.
+func (r *Reader) read() error {
 	n := 0
 	for empty := 0; n == 0 && r.err == nil; empty++ {
 		if empty == 100 {
 			r.err = io.ErrNoProgress
 			break
 		}
-		n, r.err = r.source.Read(r.buffer)
+		n, r.err = r.source.read(r.ctx, r.buffer)
 	}
 	r.rest = r.buffer[:n]
+	if by, is := r.err.(interrupted); is {
+		r.err = nil
+		return by.error
+	}
+	return nil
 }
 
 // ending is the error after the last event.
@@ -246,6 +271,11 @@ func (r *Reader) TypesOf() (*Types, error) { return r.decoder.TypesOf() }
 // Held says how much is held of the stream.
 func (r *Reader) Held() (Held, error) { return r.decoder.Held() }
 
-// Close frees the decoder; a second time does nothing. Any goroutine may call it at any time: a call that is under way answers ErrClosed, once the
-// io.Reader has answered it, which Close does not close.
-func (r *Reader) Close() error { return r.decoder.Close() }
+// Close frees the decoder; a second time does nothing. Any goroutine may call it at any time: a call that is under way answers ErrClosed. If that
+// call waits for the io.Reader, which Close does not close, it answers at once where that has read deadlines, as a net.Conn has, and else once a
+// Read has returned.
+func (r *Reader) Close() error {
+	err := r.decoder.Close()
+	r.source.close()
+	return err
+}

@@ -3,11 +3,11 @@
 package cqlp
 
 import (
-	"errors"
+	"context"
+	"fmt"
 	"io"
+	"reflect"
 )
-
-var errCount = errors.New("Scan has pointers for another number of columns")
 
 // A RowReader gives the rows of the pages that an io.Reader reads, one at a time. It holds one row, and what its Limits say. Of frames that are
 // no page it tells nothing.
@@ -28,6 +28,8 @@ type RowReader struct {
 	// whether a page is under way, and what is told of the last one
 	within bool
 	page   Page
+	// the struct that Scan put a row into last
+	record record
 }
 
 // A Page is what is told of the page of a row.
@@ -77,6 +79,13 @@ func (r *RowReader) Next() bool {
 			return false
 		}
 	}
+}
+
+// NextContext is Next, but ends once ctx is done, as Reader.NextContext does: Err is then the error of ctx. Where that is between two frames the next
+// call reads on; within a page the rows have ended.
+func (r *RowReader) NextContext(ctx context.Context) bool {
+	defer r.during(ctx)()
+	return r.Next()
 }
 
 // enter begins a call, and says whether it may go on; where it may not, there is no row.
@@ -151,12 +160,29 @@ func (r *RowReader) Columns() []Column { return r.cells.columns }
 //   - time.Time, time.Duration, UUID, [16]byte, net.IP, netip.Addr, big.Int, Decimal
 //   - a pointer to one of these, which is nil where the value is null; else null is ErrNull, but that slices and maps are nil
 //   - a slice of one of these, of a list, a set or a tuple; a map, of a map, or of a UDT by its fields' names; []Pair and []NamedValue
+//   - a struct with tags, of a UDT by its fields' names
 //   - an sql.Scanner.
+//
+// A single pointer to a struct with tags takes the row by the columns' names:
+//
+//	type user struct {
+//		ID   int32   `cqlp:"id"`
+//		Name *string `cqlp:"name"` // nil for null
+//	}
+//
+// Columns and fields of a UDT without a tag are passed over, and a tag that none of them has is ErrNoColumn. Fields without a tag stay as they are;
+// those of a struct that is embedded count too.
 //
 // A timestamp in an integer is milliseconds from 1970, a time nanoseconds since midnight. The error is a *ScanError, and the reading may go on.
 func (r *RowReader) Scan(to ...any) error {
+	if len(r.cells.starts) == 0 {
+		return r.rowError(ErrNoRow)
+	}
+	if len(to) == 1 && r.isRecord(to[0]) {
+		return r.scanRecord(to[0])
+	}
 	if len(to) != len(r.cells.starts) {
-		return &ScanError{len(r.cells.starts), errCount}
+		return r.rowError(fmt.Errorf("Scan has %d pointers for %d columns", len(to), len(r.cells.starts)))
 	}
 	for i, to := range to {
 		// most cells are scalars, so this stands here
@@ -167,10 +193,33 @@ func (r *RowReader) Scan(to ...any) error {
 		}
 		cell := r.cells.cell(i)
 		if err := cell.scan(to); err != nil {
-			return &ScanError{i, err}
+			into := reflect.TypeOf(to)
+			if into.Kind() == reflect.Pointer {
+				into = into.Elem()
+			}
+			return r.scanError(i, "", into, err)
 		}
 	}
 	return nil
+}
+
+// rowError is an error of no column.
+func (r *RowReader) rowError(err error) *ScanError {
+	failed := &ScanError{Column: len(r.cells.starts), Err: err}
+	if len(r.cells.events) > 0 {
+		failed.Row = int(r.cells.events[0].Row)
+	}
+	return failed
+}
+
+// scanError is the error of a column that does not go into a variable, or a field, of this type.
+func (r *RowReader) scanError(column int, field string, into reflect.Type, err error) *ScanError {
+	failed := r.rowError(err)
+	failed.Column, failed.Field, failed.Into = column, field, into
+	if column < len(r.cells.columns) {
+		failed.Name, failed.Type = r.cells.columns[column].Name, r.cells.columns[column].Type
+	}
+	return failed
 }
 
 // Values are those of the row, one for each column, which live on: of a scalar Event.Value, nil where it is null, Empty where it has no bytes

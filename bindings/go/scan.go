@@ -10,6 +10,7 @@ import (
 	"net"
 	"net/netip"
 	"reflect"
+	"strings"
 	"time"
 )
 
@@ -22,15 +23,42 @@ var ErrEmpty = errors.New("the value has no bytes")
 // ErrRange says that a number does not fit into what it was to be put into.
 var ErrRange = errors.New("the number is out of range")
 
-// A ScanError says that Scan cannot put the value of a column into what was asked for. It wraps ErrNull, ErrEmpty, ErrRange, an error of a
-// Scan method, or another one where the types do not go together.
+// ErrNoRow says that there is no row: Next was not called, or found none.
+var ErrNoRow = errors.New("there is no row")
+
+// A ScanError says that Scan cannot put the value of a column into what was asked for. It wraps ErrNull, ErrEmpty, ErrRange, ErrNoColumn, ErrNoRow,
+// an error of a Scan method, or another one where the types do not go together.
 type ScanError struct {
-	// Column counts from 0.
-	Column int
-	Err    error
+	// Row and Column count from 0 within the page. Where the fault is of no column, Column is how many there are.
+	Row, Column int
+	// Name and Type are those of the column; Name is empty where nobody said them.
+	Name string
+	Type Type
+	// Field is that of a struct, as User.Age, and empty where Scan has variables.
+	Field string
+	// Into is the type of the variable or of the field, or nil where the fault is of none.
+	Into reflect.Type
+	Err  error
 }
 
-func (e *ScanError) Error() string { return fmt.Sprintf("cqlp: column %d: %v", e.Column, e.Err) }
+func (e *ScanError) Error() string {
+	place := fmt.Sprintf("cqlp: row %d", e.Row)
+	switch {
+	case errors.Is(e.Err, ErrNoColumn) && e.Name == "":
+		place += fmt.Sprintf(", field %s %v", e.Field, e.Into)
+	case e.Into != nil:
+		place += fmt.Sprintf(", column %d%s into %s", e.Column, e.column(), strings.TrimSpace(fmt.Sprint(e.Field, " ", e.Into)))
+	}
+	return fmt.Sprintf("%s: %v", place, e.Err)
+}
+
+// column is the name of the column with its type, where they are known.
+func (e *ScanError) column() string {
+	if e.Name == "" {
+		return ""
+	}
+	return fmt.Sprintf(" (%s %v)", e.Name, e.Type)
+}
 
 // Unwrap is the error.
 func (e *ScanError) Unwrap() error { return e.Err }
@@ -344,6 +372,8 @@ func (c *cell) intoItems(v reflect.Value) error {
 		return c.intoMap(v, begin, typ)
 	case v.Kind() == reflect.Map && v.Type().Key().Kind() == reflect.String && begin.Kind == KindUDT && typ != nil:
 		return c.intoFields(v, begin, typ)
+	case v.Kind() == reflect.Struct && begin.Kind == KindUDT && typ != nil:
+		return c.intoStruct(v, begin, typ)
 	}
 	return mismatch(begin, v.Interface())
 }

@@ -105,6 +105,7 @@
 //!
 //! # A page
 //!
+//! [`rows`] reads pages into structs and tuples, whole or in pieces, and binds Rust values to statements; it is written by hand, and not proved.
 //! A [`Frame`](frame::Frame) is written whole by [`encode`](frame::encode), or cell by cell, without ever being held:
 //!
 #![cfg_attr(feature = "std", doc = "```")]
@@ -273,6 +274,7 @@ mod errors;
 mod hex;
 mod itoa;
 mod jiff_core;
+pub mod rows;
 mod uuid;
 
 #[cfg(feature = "cli")]

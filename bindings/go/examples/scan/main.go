@@ -1,14 +1,20 @@
-// Sums the second column of the pages of orders in a file: go run ./examples/scan FILE
+// Sums the amounts of the orders in a file of pages: go run ./examples/scan FILE
 package main
 
 import (
-	"errors"
 	"fmt"
 	"log"
 	"os"
 
 	"cqlp.example.org/cqlp"
 )
+
+// An order is a row, by the names of the columns.
+type order struct {
+	ID     int32   `cqlp:"column0"`
+	Amount int64   `cqlp:"column1"`
+	Name   *string `cqlp:"column2"` // nil for null
+}
 
 func main() {
 	file, err := os.Open(os.Args[1])
@@ -21,23 +27,18 @@ func main() {
 		log.Fatal(err)
 	}
 	defer rows.Close()
-	var (
-		id     int32
-		amount int64
-		name   string
-		sum    int64
-	)
+	sum := int64(0)
 	for rows.Next() {
-		var bad *cqlp.ScanError
-		if err := rows.Scan(&id, &amount, &name, nil); errors.As(err, &bad) {
-			fmt.Println("left out:", err)
+		var o order
+		if err := rows.Scan(&o); err != nil {
+			fmt.Println("left out:", err) // a *cqlp.ScanError
 			continue
 		}
-		fmt.Println(id, name)
-		sum += amount
+		fmt.Println(o.ID, *o.Name)
+		sum += o.Amount
 	}
 	if err := rows.Err(); err != nil {
-		log.Fatal(err)
+		log.Fatal(err) // a *cqlp.Refusal, a *cqlp.Cut, or what the file answered
 	}
 	fmt.Println("the sum is", sum)
 }

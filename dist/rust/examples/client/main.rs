@@ -5,15 +5,19 @@
 //! `cargo run --release --example client PORT QUERIES`
 #![forbid(unsafe_code)]
 
-mod connection;
-mod reply;
-mod request;
-
-use connection::{Connection, Result, SLOTS};
-use cqlp::TypeTable;
-use reply::Reply;
-use request::{Request, batch, bound, execute, options, paged, plain, prepare, query, register, startup};
+use cqlp::frame::{BatchEntry, BuildLimits, Frame, FrameBuilder, Message, QueryParams, encode};
+use cqlp::rows::{BoundValues, PageReader};
+use cqlp::session::{ClientOf, ReplyOf, RequestKind};
+use cqlp::text::{opcode_name, render_rows};
+use cqlp::{Decoder, Global, Header, Limits, OfStd, Step, bind, row};
+use std::io::{BufReader, Read, Write, stdout};
+use std::net::{Ipv4Addr, TcpStream};
 use std::time::Instant;
+
+type Result<T> = std::result::Result<T, Box<dyn std::error::Error>>;
+
+/// How many requests may be open at a time.
+const SLOTS: u16 = 256;
 
 /// How many keys the table has.
 const KEYS: u32 = 100;
@@ -21,113 +25,185 @@ const KEYS: u32 = 100;
 /// How many rows a page has.
 const PAGE: i32 = 10;
 
-fn main() -> Result<()> {
-    let words: Vec<String> = std::env::args().skip(1).collect();
-    let [port, queries] = &words[..] else {
-        return Err("client PORT QUERIES".into());
-    };
-    let (port, queries) = (port.parse()?, queries.parse()?);
-    let mut connection = Connection::open(port)?;
-    converse(&mut connection)?;
-    measure(&mut connection, queries)
+/// The consistency ONE.
+const ONE: u16 = 0x0001;
+
+row! {
+    /// A row of the table ks.t.
+    struct Item { k: i32, c: i32, t: String, l: Option<Vec<i32>> }
 }
 
-/// Makes a request, and prints its reply.
-fn show(connection: &mut Connection, request: Request) -> Result<Reply> {
-    let reply = connection.exchange(request)?;
-    print!("{reply}");
-    Ok(reply)
+/// A connection to a server: what is known of the requests that are open on it, and of the replies that come.
+struct Connection {
+    stream: BufReader<TcpStream>,
+    /// Pairs each reply with its request, and carries a number of the caller's from the one to the other.
+    core: ClientOf<u32>,
+    decoder: Decoder,
+    pages: PageReader,
+    /// The bytes of the requests that are made and not yet sent.
+    unsent: OfStd<Vec<u8>>,
 }
 
-/// All that is asked one after the other.
-fn converse(connection: &mut Connection) -> Result<()> {
-    for request in [options(), startup(), register("STATUS_CHANGE")] {
-        show(connection, request)?;
+impl Connection {
+    /// Connects to a port of the loopback interface. Nothing is said.
+    fn open(port: u16) -> Result<Connection> {
+        let stream = TcpStream::connect((Ipv4Addr::LOCALHOST, port))?;
+        stream.set_nodelay(true)?;
+        let decoder = Decoder::new(Global, Limits::DEFAULT)?;
+        let (core, pages) = (ClientOf::new(Global, SLOTS)?, PageReader::new(Limits::DEFAULT)?);
+        Ok(Connection { stream: BufReader::new(stream), core, decoder, pages, unsent: OfStd::new(Vec::new()) })
     }
-    for text in ["SELECT * FROM system.local WHERE key='local'", "SELECT * FROM system.peers"] {
-        show(connection, query(text, plain()))?;
-    }
-    show_pages(connection, "SELECT * FROM ks.t WHERE k = 3")?;
-    let statement = Statement::prepare(connection, "SELECT * FROM ks.t WHERE k = ?")?;
-    statement.show_pages(connection, 7)?;
-    show(connection, batch("INSERT INTO ks.t (k, c) VALUES (1, 1)"))?;
-    show(connection, execute(b"none", plain()))?;
-    for text in ["SELECT * FROM ks.nothing", "BAD"] {
-        show(connection, query(text, plain()))?;
-    }
-    Ok(())
-}
 
-/// Asks for the rows of a query, and prints them page after page.
-fn show_pages(connection: &mut Connection, text: &str) -> Result<()> {
-    let mut state = Vec::new();
-    loop {
-        state = show(connection, query(text, paged(PAGE, state)))?.paging_state;
-        if state.is_empty() {
-            return Ok(());
+    /// Makes a request, which is sent with the others by the next [`Connection::hear`]. The core gives it its stream id.
+    fn ask(&mut self, kind: RequestKind, message: Message, number: u32) -> Result<()> {
+        let ticket = self.core.begin(kind, number)?;
+        encode(&Frame::plain(ticket.id, message), &mut self.unsent)?;
+        Ok(())
+    }
+
+    /// The frame of the next reply, and the number of its request.
+    fn hear(&mut self) -> Result<(Vec<u8>, u32)> {
+        self.stream.get_mut().write_all(&self.unsent.inner)?;
+        self.unsent.inner.clear();
+        loop {
+            let mut frame = vec![0; 9];
+            self.stream.read_exact(&mut frame)?;
+            let header = Header::from_bytes(frame[..].try_into()?)?;
+            self.stream.by_ref().take(header.length.into()).read_to_end(&mut frame)?;
+            if let ReplyOf::Answer { carried, .. } = self.core.reply(&header)? {
+                return Ok((frame, carried));
+            }
         }
     }
-}
 
-/// A prepared statement with one key to be bound, and the types of its columns, which its pages do not tell.
-struct Statement {
-    id: Vec<u8>,
-    types: TypeTable,
-}
-
-impl Statement {
-    fn prepare(connection: &mut Connection, text: &str) -> Result<Statement> {
-        let id = show(connection, prepare(text))?.statement_id;
-        Ok(Statement { id, types: connection.told_types()? })
+    /// Makes a request and prints its reply: its opcode, what an error or a warning says, and the rows of a page.
+    fn show(&mut self, kind: RequestKind, message: Message) -> Result<Frame> {
+        self.ask(kind, message, 0)?;
+        let (bytes, _) = self.hear()?;
+        let frame = self.build(&bytes)?;
+        let words: String = frame.warnings.iter().flat_map(|all| all.iter()).map(|text| format!(": {}", text.as_str())).collect();
+        let opcode = opcode_name(Header::from_bytes(bytes[..9].try_into()?)?.opcode);
+        match &frame.message {
+            Message::Error { code, message, .. } => println!("{opcode} {code:04x}: {}{words}", message.as_str()),
+            _ => println!("{opcode}{words}"),
+        }
+        self.decoder.restart();
+        render_rows(&mut self.decoder, &mut OfStd::new(&bytes[..]), OfStd::new(stdout()), u64::MAX);
+        Ok(frame)
     }
 
-    /// Asks for the rows with this key, and prints them page after page.
-    fn show_pages(&self, connection: &mut Connection, key: i32) -> Result<()> {
-        let mut state = Vec::new();
+    /// The value of a frame.
+    fn build(&mut self, bytes: &[u8]) -> Result<Frame> {
+        let mut builder = FrameBuilder::new(Global, BuildLimits { fields: 10_000, depth: 8, bytes: 1 << 20 });
+        self.decoder.restart();
+        let mut rest = bytes;
         loop {
-            connection.type_next_page(&self.types)?;
-            state = show(connection, execute(&self.id, bound(key, paged(PAGE, state))))?.paging_state;
-            if state.is_empty() {
+            match self.decoder.next(rest) {
+                Step::Event { used, event, .. } => {
+                    rest = &rest[used..];
+                    if let Some(built) = builder.take(&event)? {
+                        return Ok(built.frame);
+                    }
+                }
+                Step::More { .. } => return Err("the connection ended before a reply".into()),
+                Step::Refused(refusal) => return Err(refusal.into()),
+            }
+        }
+    }
+
+    fn query(&mut self, text: &str, params: QueryParams) -> Result<Frame> {
+        self.show(RequestKind::Query, Message::Query { text: text.to_string().into(), params })
+    }
+
+    /// Asks for the rows with this key by a prepared statement, and prints them page after page. The pages have no metadata.
+    fn execute(&mut self, text: &str, key: i32) -> Result<()> {
+        let Message::Prepared(statement) = self.show(RequestKind::Prepare, Message::Prepare(text.to_string().into()))?.message else {
+            return Err("no PREPARED result".into());
+        };
+        self.pages.give(statement.result.specs.as_deref().unwrap_or_default())?;
+        let mut state = None;
+        loop {
+            let (id, values) = (statement.id.to_vec().into(), bind!(&statement.specs; key)?);
+            let params = params(Some(values), Some(PAGE), state);
+            self.ask(RequestKind::Execute, Message::Execute { id, params }, 0)?;
+            let (frame, _) = self.hear()?;
+            let rows = self.pages.rows(&frame)?;
+            state = rows.head().paging_state.clone();
+            println!("RESULT\npage {} columns {} rows", rows.head().columns, rows.head().rows);
+            for item in rows {
+                let Item { k, c, t, l } = item?;
+                println!("{k} | {c} | {t:?} | {}", l.map_or("null".to_string(), |list| format!("{list:?}")));
+            }
+            if state.is_none() {
                 return Ok(());
             }
         }
     }
 }
 
-/// What came of many queries.
-#[derive(Default)]
-struct Tally {
-    queries: u32,
-    rows: u64,
-    /// How many replies came in the order of their requests.
-    in_order: u32,
+/// Parameters with these values, of a page of this size from where a paging state says; without a size all rows are in one page. Section
+/// 4.1.4 of `native_protocol_v4.spec`.
+fn params(values: Option<BoundValues>, page_size: Option<i32>, state: Option<Vec<u8>>) -> QueryParams {
+    let flags = [(values.is_some(), 0x01 | 0x02), (page_size.is_some(), 0x04), (state.is_some(), 0x08)];
+    let flags = flags.iter().filter(|flag| flag.0).map(|flag| flag.1).sum();
+    let paging = state.map(|state| Some(state.into()));
+    QueryParams { consistency: ONE, flags, values, page_size, paging, serial: None, timestamp: None }
 }
 
-/// Sends this many queries, and prints what came of them, and how fast.
-fn measure(connection: &mut Connection, queries: u32) -> Result<()> {
-    let start = Instant::now();
-    let tally = pipeline(connection, queries)?;
-    let speed = f64::from(queries) / start.elapsed().as_secs_f64();
-    println!("{} queries, {} rows, {} replies in order", tally.queries, tally.rows, tally.in_order);
-    eprintln!("{speed:.0} queries per second");
+fn main() -> Result<()> {
+    let words: Vec<String> = std::env::args().skip(1).collect();
+    let [port, queries] = &words[..] else {
+        return Err("client PORT QUERIES".into());
+    };
+    let (mut connection, queries) = (Connection::open(port.parse()?)?, queries.parse()?);
+    converse(&mut connection)?;
+    measure(&mut connection, queries)
+}
+
+/// All that is asked one after the other.
+fn converse(connection: &mut Connection) -> Result<()> {
+    let version = ("CQL_VERSION".to_string().into(), "3.0.0".to_string().into());
+    connection.show(RequestKind::Options, Message::Options)?;
+    connection.show(RequestKind::Startup, Message::Startup(vec![version].into()))?;
+    connection.show(RequestKind::Register, Message::Register(vec!["STATUS_CHANGE".to_string().into()].into()))?;
+    for text in ["SELECT * FROM system.local WHERE key='local'", "SELECT * FROM system.peers"] {
+        connection.query(text, params(None, None, None))?;
+    }
+    let mut state = None;
+    while let Message::Rows(page) = connection.query("SELECT * FROM ks.t WHERE k = 3", params(None, Some(PAGE), state))?.message {
+        state = page.meta.paging.flatten().map(|state| state.into_std());
+        if state.is_none() {
+            break;
+        }
+    }
+    connection.execute("SELECT * FROM ks.t WHERE k = ?", 7)?;
+    let entries = vec![BatchEntry::Text("INSERT INTO ks.t (k, c) VALUES (1, 1)".to_string().into(), vec![].into())].into();
+    connection.show(RequestKind::Batch, Message::Batch { kind: 0, entries, consistency: ONE, flags: 0, serial: None, timestamp: None })?;
+    let unknown = Message::Execute { id: b"none".to_vec().into(), params: params(None, None, None) };
+    connection.show(RequestKind::Execute, unknown)?;
+    for text in ["SELECT * FROM ks.nothing", "BAD"] {
+        connection.query(text, params(None, None, None))?;
+    }
     Ok(())
 }
 
-/// Sends queries, as many as may be open at a time before the first reply. Each carries its number to its reply.
-fn pipeline(connection: &mut Connection, queries: u32) -> Result<Tally> {
-    let mut tally = Tally::default();
+/// Sends queries, as many as may be open at a time before the first reply, and prints what came of them, and how fast. Each carries its
+/// number to its reply.
+fn measure(connection: &mut Connection, queries: u32) -> Result<()> {
+    let (start, mut rows, mut in_order) = (Instant::now(), 0, 0);
     for first in (0..queries).step_by(SLOTS.into()) {
         let window = first..queries.min(first.saturating_add(SLOTS.into()));
         for number in window.clone() {
-            let text = format!("SELECT * FROM ks.t WHERE k = {}", number % KEYS);
-            connection.ask(query(&text, plain()), number)?;
+            let text = format!("SELECT * FROM ks.t WHERE k = {}", number % KEYS).into();
+            connection.ask(RequestKind::Query, Message::Query { text, params: params(None, None, None) }, number)?;
         }
         for place in window {
-            let (reply, number) = connection.hear()?;
-            tally.queries += 1;
-            tally.rows += u64::from(reply.rows);
-            tally.in_order += u32::from(number == place);
+            let (frame, number) = connection.hear()?;
+            rows += connection.pages.rows(&frame)?.collect::<std::result::Result<Vec<Item>, _>>()?.len();
+            in_order += u32::from(number == place);
         }
     }
-    Ok(tally)
+    println!("{queries} queries, {rows} rows, {in_order} replies in order");
+    eprintln!("{:.0} queries per second", f64::from(queries) / start.elapsed().as_secs_f64());
+    Ok(())
 }

@@ -1,0 +1,139 @@
+//! Rust types, read from rows.
+
+use crate::rows::cell::LentCell;
+use crate::rows::error::Mismatch;
+use crate::rows::from_cell::FromCell;
+
+/// A type that a row becomes, field by field as its cells come. [`row!`](crate::row) implements it for a struct, whose fields are found by
+/// the names of columns; tuples of up to 12 fields have it by the places of columns, of which a page may have more.
+pub trait Row: Sized {
+    /// The fields that came.
+    type Partial: Default;
+    /// How many fields there are.
+    const WIDTH: usize;
+    /// The names of their columns, in the order of the fields; None where fields are read by the places of columns.
+    const NAMES: Option<&'static [&'static str]>;
+
+    /// The row of these fields, which it takes; None where one did not come.
+    fn finish(partial: &mut Self::Partial) -> Option<Self>;
+}
+
+/// A [`Row`] whose fields are read from cells that are lent for `'a`.
+pub trait FromRow<'a>: Row {
+    /// Sets the field with this number. A number from [`Row::WIDTH`] on is no field's, and sets nothing.
+    ///
+    /// # Errors
+    ///
+    /// Why the cell is no value of the field's type.
+    fn set(partial: &mut Self::Partial, field: usize, cell: LentCell<'a, '_>) -> Result<(), Mismatch>;
+}
+
+/// Implements both traits for tuples of these types.
+macro_rules! tuples {
+    ($($type:ident $place:tt)+; $width:literal) => {
+        impl<$($type),+> Row for ($($type,)+) {
+            type Partial = ($(Option<$type>,)+);
+            const WIDTH: usize = $width;
+            const NAMES: Option<&'static [&'static str]> = None;
+
+            #[inline(always)]
+            fn finish(partial: &mut Self::Partial) -> Option<Self> {
+                Some(($(partial.$place.take()?,)+))
+            }
+        }
+
+        impl<'a, $($type: FromCell<'a>),+> FromRow<'a> for ($($type,)+) {
+            #[inline(always)]
+            fn set(partial: &mut Self::Partial, field: usize, cell: LentCell<'a, '_>) -> Result<(), Mismatch> {
+                match field {
+                    $($place => partial.$place = Some($type::from_cell(cell)?),)+
+                    _ => {}
+                }
+                Ok(())
+            }
+        }
+    };
+}
+
+tuples! { A 0; 1 }
+tuples! { A 0 B 1; 2 }
+tuples! { A 0 B 1 C 2; 3 }
+tuples! { A 0 B 1 C 2 D 3; 4 }
+tuples! { A 0 B 1 C 2 D 3 E 4; 5 }
+tuples! { A 0 B 1 C 2 D 3 E 4 F 5; 6 }
+tuples! { A 0 B 1 C 2 D 3 E 4 F 5 G 6; 7 }
+tuples! { A 0 B 1 C 2 D 3 E 4 F 5 G 6 H 7; 8 }
+tuples! { A 0 B 1 C 2 D 3 E 4 F 5 G 6 H 7 I 8; 9 }
+tuples! { A 0 B 1 C 2 D 3 E 4 F 5 G 6 H 7 I 8 J 9; 10 }
+tuples! { A 0 B 1 C 2 D 3 E 4 F 5 G 6 H 7 I 8 J 9 K 10; 11 }
+tuples! { A 0 B 1 C 2 D 3 E 4 F 5 G 6 H 7 I 8 J 9 K 10 L 11; 12 }
+
+/// A struct that rows become. Each field is read from the column of its name, or of the name after `=`, wherever that is among the
+/// columns of a page; other columns are passed over. The struct may have one lifetime, for what it lends from a page in memory.
+///
+/// ```
+/// cqlp::row! {
+///     /// A user of the shop.
+///     #[derive(Debug, PartialEq)]
+///     pub struct User<'a> {
+///         pub id: i32,
+///         pub name: &'a str,
+///         pub friends: Option<Vec<i32>> = "friends of",
+///     }
+/// }
+/// ```
+#[macro_export]
+macro_rules! row {
+    ($(#[$meta:meta])* $vis:vis struct $name:ident {
+        $($(#[$of:meta])* $seen:vis $field:ident : $type:ty $(= $column:literal)?),+ $(,)?
+    }) => {
+        $(#[$meta])*
+        $vis struct $name { $($(#[$of])* $seen $field: $type),+ }
+        $crate::row! { @ $name [] ['cell] $($field $type, ($($column)?)),+ }
+    };
+    ($(#[$meta:meta])* $vis:vis struct $name:ident<$life:lifetime> {
+        $($(#[$of:meta])* $seen:vis $field:ident : $type:ty $(= $column:literal)?),+ $(,)?
+    }) => {
+        $(#[$meta])*
+        $vis struct $name<$life> { $($(#[$of])* $seen $field: $type),+ }
+        $crate::row! { @ $name [$life] [$life] $($field $type, ($($column)?)),+ }
+    };
+    (@ $name:ident [$($life:lifetime)?] [$cell:lifetime] $($field:ident $type:ty, $column:tt),+) => {
+        const _: () = {
+            #[allow(non_camel_case_types)]
+            enum __Field { $($field),+ }
+
+            #[derive(Default)]
+            pub struct __Partial<$($life)?> { $($field: ::core::option::Option<$type>),+ }
+
+            impl<$($life)?> $crate::rows::Row for $name<$($life)?> {
+                type Partial = __Partial<$($life)?>;
+                const WIDTH: usize = [$($crate::row!(= $field $column)),+].len();
+                const NAMES: ::core::option::Option<&'static [&'static str]> =
+                    ::core::option::Option::Some(&[$($crate::row!(= $field $column)),+]);
+
+                #[inline(always)]
+                fn finish(partial: &mut Self::Partial) -> ::core::option::Option<Self> {
+                    ::core::option::Option::Some($name { $($field: partial.$field.take()?),+ })
+                }
+            }
+
+            impl<$cell> $crate::rows::FromRow<$cell> for $name<$($life)?> {
+                #[inline(always)]
+                fn set(
+                    partial: &mut Self::Partial,
+                    field: usize,
+                    cell: $crate::rows::LentCell<$cell, '_>,
+                ) -> ::core::result::Result<(), $crate::rows::Mismatch> {
+                    $(if field == __Field::$field as usize {
+                        partial.$field = ::core::option::Option::Some($crate::rows::FromCell::from_cell(cell)?);
+                        return ::core::result::Result::Ok(());
+                    })+
+                    ::core::result::Result::Ok(())
+                }
+            }
+        };
+    };
+    (= $field:ident ()) => { stringify!($field) };
+    (= $field:ident ($column:literal)) => { $column };
+}

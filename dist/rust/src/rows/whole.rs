@@ -1,0 +1,268 @@
+//! Rows of a page that is whole in memory.
+
+use alloc::vec::{self, Vec};
+
+use crate::cqlp_build_cells::CellLimits;
+use crate::cqlp_decode::{Decoder, NewError};
+use crate::cqlp_grammar::{Event, SinkFault};
+use crate::cqlp_kind::Scalar;
+use crate::cqlp_message::Spec;
+use crate::cqlp_note::{Address, Header, Limits};
+use crate::cqlp_skip::Fed;
+use crate::cqlp_type_tables::{TableError, table_of_specs};
+use crate::kit_std::alloc::Global;
+use crate::rows::cell::{LentCell, Place, lend};
+use crate::rows::error::RowError;
+use crate::rows::feed::{TakesCells, feed, for_kinds, implement};
+use crate::rows::from_row::{FromRow, Row};
+use crate::rows::reading::{Names, PageHead, Reading, Taken};
+use crate::rows::sink::CELL_LIMITS;
+
+/// How many rows are made at a time.
+const BATCH: usize = 64;
+
+/// The bytes of a header.
+const HEADER: usize = 9;
+
+/// The rows of a page: a frame that is whole in memory, its header first, of which the rows may lend texts and blobs. It is read by a
+/// decoder with [`Limits::DEFAULT`]. A [`PageReader`] reads many pages with the memory of one decoder, and pages without metadata.
+///
+/// # Errors
+///
+/// As [`PageReader::rows`], and [`RowError::NoMemory`] where there is none for a decoder.
+pub fn page_rows<'a, T: FromRow<'a>>(frame: &'a [u8]) -> Result<PageRows<'a, PageReader, T>, RowError> {
+    let reader = PageReader::new(Limits::DEFAULT).map_err(|_| RowError::NoMemory)?;
+    PageRows::begin(reader, None, frame)
+}
+
+/// Reads pages that are whole in memory, one after the other.
+pub struct PageReader {
+    decoder: Decoder,
+    limits: CellLimits,
+    given: Option<Names>,
+}
+
+impl PageReader {
+    /// A reader with the memory that these limits say, all of which it takes.
+    ///
+    /// # Errors
+    ///
+    /// As [`Decoder::new`].
+    pub fn new(limits: Limits) -> Result<PageReader, NewError> {
+        Ok(PageReader { decoder: Decoder::new(Global, limits)?, limits: CELL_LIMITS, given: None })
+    }
+
+    /// This reader, with limits on a cell with items: how many values are in it, and how many bytes.
+    #[must_use]
+    pub fn with_cell_limits(self, limits: CellLimits) -> PageReader {
+        PageReader { limits, ..self }
+    }
+
+    /// Gives the columns of pages that come without metadata, from now on: those of
+    /// [`Prepared::result`](crate::frame::Prepared::result). Section 4.2.5.2 of `native_protocol_v4.spec`.
+    ///
+    /// # Errors
+    ///
+    /// [`TableError`], also where the types pass the limits of the decoder.
+    pub fn give(&mut self, columns: &[Spec]) -> Result<(), TableError> {
+        let table = table_of_specs(Global, columns)?;
+        let names = Names::of_specs(columns).map_err(|_| TableError::NoMemory)?;
+        self.decoder.restart();
+        self.decoder.give(table).map_err(|_| TableError::TooLong)?;
+        self.given = Some(names);
+        Ok(())
+    }
+
+    /// The rows of a frame, its header first. Bytes after the frame are not looked at.
+    ///
+    /// # Errors
+    ///
+    /// [`RowError::Refused`] where the decoder refuses what is before the rows, [`RowError::Cut`] where the bytes end there;
+    /// [`RowError::Server`] for an ERROR, [`RowError::NoPage`] for another frame that is no page; and [`RowError::MissingColumn`],
+    /// [`RowError::TwoFields`], [`RowError::TooFewColumns`] or [`RowError::NoNames`] where the columns are none of `T`. Each row may have
+    /// another error.
+    pub fn rows<'a, 'r, T: FromRow<'a>>(&'r mut self, frame: &'a [u8]) -> Result<PageRows<'a, &'r mut PageReader, T>, RowError> {
+        PageRows::begin(self, None, frame)
+    }
+
+    /// The rows of the body of a frame with this header.
+    ///
+    /// # Errors
+    ///
+    /// As [`PageReader::rows`]; and [`RowError::NoPage`] where the header is not [`lawful`](Header::lawful).
+    pub fn body_rows<'a, 'r, T: FromRow<'a>>(
+        &'r mut self,
+        header: &Header,
+        body: &'a [u8],
+    ) -> Result<PageRows<'a, &'r mut PageReader, T>, RowError> {
+        let header = header.to_bytes().ok_or(RowError::NoPage)?;
+        PageRows::begin(self, Some(header), body)
+    }
+}
+
+impl AsMut<PageReader> for PageReader {
+    fn as_mut(&mut self) -> &mut PageReader {
+        self
+    }
+}
+
+/// The rows of a page, and an error where one cannot be made, which is the last then. Up to 64 rows are made at a time.
+#[must_use = "rows are made when they are asked for"]
+pub struct PageRows<'a, R, T: Row> {
+    reader: R,
+    sink: WholeSink<'a, T>,
+    /// The bytes that the decoder has not used.
+    rest: &'a [u8],
+    /// The rows of a batch that were not asked for yet.
+    ready: vec::IntoIter<T>,
+    error: Option<RowError>,
+}
+
+impl<'a, R: AsMut<PageReader>, T: FromRow<'a>> PageRows<'a, R, T> {
+    /// Reads up to the first row.
+    fn begin(mut reader: R, header: Option<[u8; HEADER]>, bytes: &'a [u8]) -> Result<Self, RowError> {
+        let PageReader { decoder, limits, given } = reader.as_mut();
+        if let Some(table) = decoder.restart() {
+            decoder.give(table).map_err(|_| RowError::NoNames)?;
+        }
+        let mut reading = Reading::new(*limits);
+        reading.name_columns(given.clone());
+        let base = header.map_or(0, |_| HEADER as u64);
+        let mut sink = WholeSink { reading, page: bytes, base, made: Vec::new(), over: false };
+        if let Some(header) = header {
+            let _ = feed(decoder, &header, &mut sink);
+        }
+        let mut rows = PageRows { reader, sink, rest: bytes, ready: Vec::new().into_iter(), error: None };
+        if !rows.sink.over {
+            rows.read_on();
+        }
+        match rows.error.take() {
+            Some(error) => Err(error),
+            None => rows.check_head(),
+        }
+    }
+
+    /// Itself, if the frame is a page.
+    fn check_head(self) -> Result<Self, RowError> {
+        match &self.sink.reading.head {
+            head if head.is_page() => Ok(self),
+            PageHead { error: Some((code, message)), .. } => Err(RowError::Server { code: *code, message: message.clone() }),
+            _ => Err(RowError::NoPage),
+        }
+    }
+
+    /// What the frame says beside its cells.
+    #[must_use]
+    pub fn head(&self) -> &PageHead {
+        &self.sink.reading.head
+    }
+
+    /// Reads on, until rows are ready or the frame ends.
+    #[inline(never)]
+    fn read_on(&mut self) {
+        let rest = self.rest;
+        match feed(&mut self.reader.as_mut().decoder, rest, &mut self.sink) {
+            Fed::More => self.error = Some(RowError::Cut { len: self.sink.page.len() }),
+            Fed::Refused { refusal, .. } => self.error = Some(refusal.into()),
+            Fed::Fault { used } => {
+                self.rest = &rest[used..];
+                self.error = self.sink.reading.error.take();
+            }
+        }
+        self.sink.over |= self.error.is_some();
+        self.ready = core::mem::take(&mut self.sink.made).into_iter();
+    }
+}
+
+impl<'a, R: AsMut<PageReader>, T: FromRow<'a>> Iterator for PageRows<'a, R, T> {
+    type Item = Result<T, RowError>;
+
+    #[inline]
+    fn next(&mut self) -> Option<Result<T, RowError>> {
+        loop {
+            if let Some(row) = self.ready.next() {
+                return Some(Ok(row));
+            }
+            if self.sink.over {
+                return self.error.take().map(Err);
+            }
+            self.read_on();
+        }
+    }
+}
+
+/// Makes rows of a page, some at a time: it gives up after them, after the head of the page, and at the end of the frame.
+struct WholeSink<'a, T: Row> {
+    reading: Reading<T>,
+    page: &'a [u8],
+    /// The offset at which the page begins.
+    base: u64,
+    /// The rows that were made, up to a batch.
+    made: Vec<T>,
+    over: bool,
+}
+
+impl<'a, T: FromRow<'a>> WholeSink<'a, T> {
+    /// Where the content of a value at an offset begins, after its length.
+    #[inline(always)]
+    fn content_at(&self, at: u64) -> u32 {
+        (at - self.base) as u32 + 4
+    }
+
+    /// Takes a scalar cell.
+    #[inline(always)]
+    fn take_scalar(&mut self, at: u64, row: u32, column: u32, scalar: Scalar<'_>) -> Result<(), SinkFault> {
+        let scalar = lend(self.page, self.content_at(at), &scalar);
+        match self.reading.take_cell(row, column, LentCell::Scalar(scalar))? {
+            false => Ok(()),
+            true => self.keep_row(),
+        }
+    }
+
+    /// Takes any other event.
+    #[inline(never)]
+    fn take_other(&mut self, at: u64, event: &Event<'_>) -> Result<(), SinkFault> {
+        let is_last = match *event {
+            Event::Null { row, column, level: 0 } => self.reading.take_cell(row, column, LentCell::Null)?,
+            Event::Empty { row, column, level: 0 } => self.reading.take_cell(row, column, LentCell::Empty)?,
+            _ => self.take_part(at, event)?,
+        };
+        if is_last { self.keep_row() } else { Ok(()) }
+    }
+
+    /// Takes an event that is of no cell, or of one with items, and answers whether it ends a row.
+    fn take_part(&mut self, at: u64, event: &Event<'_>) -> Result<bool, SinkFault> {
+        let place = match event {
+            Event::Leaf { .. } => Place::Page(self.content_at(at)),
+            _ => Place::Copied,
+        };
+        match self.reading.take_other(event, place)? {
+            Taken::Part => Ok(false),
+            Taken::Head => Err(SinkFault),
+            Taken::Cell => self.reading.take_items(self.page),
+            Taken::Frame => {
+                self.over = true;
+                Err(SinkFault)
+            }
+        }
+    }
+
+    /// Keeps the row whose last cell came, and gives up where they are enough.
+    #[inline(never)]
+    fn keep_row(&mut self) -> Result<(), SinkFault> {
+        let row = self.reading.end_row()?;
+        if self.made.capacity() == 0 {
+            self.made.try_reserve_exact(BATCH).map_err(|_| self.reading.give_up(RowError::NoMemory))?;
+        }
+        self.made.push(row);
+        if self.made.len() < BATCH { Ok(()) } else { Err(SinkFault) }
+    }
+}
+
+impl<'a, T: FromRow<'a>> TakesCells for WholeSink<'a, T> {
+    for_kinds!(implement);
+
+    fn other(&mut self, at: u64, event: &Event<'_>) -> Result<(), SinkFault> {
+        self.take_other(at, event)
+    }
+}
