@@ -3,11 +3,10 @@
 //! The decoder's loops are compiled once, for a `CellSink`, and not again for each type of rows: a scalar cell goes on by one call of a
 //! method of its kind, with its content in registers.
 
-use crate::cqlp_decode::{Decoder, Step};
+use crate::cqlp_decode::{Decoder, Fed};
 use crate::cqlp_grammar::{Event, Sink, SinkFault};
 use crate::cqlp_kind::Scalar;
 use crate::cqlp_note::Address;
-use crate::cqlp_skip::Fed;
 
 /// Hands the kinds of scalars to a macro: a method for each, its arguments, and the scalar that they make.
 macro_rules! for_kinds {
@@ -79,22 +78,5 @@ pub(crate) struct CellSink<'s>(pub(crate) &'s mut dyn TakesCells);
 
 /// Hands all events that a piece leads to to what makes rows of cells.
 pub(crate) fn feed(decoder: &mut Decoder, piece: &[u8], cells: &mut dyn TakesCells) -> Fed {
-    let mut sink = CellSink(cells);
-    let mut used = 0;
-    loop {
-        match decoder.hand_whole(&piece[used..], &mut sink) {
-            Ok(taken) => used += taken,
-            Err(fault) => return Fed::Fault { used: used + fault.used },
-        }
-        match decoder.next(&piece[used..]) {
-            Step::More { .. } => return Fed::More,
-            Step::Refused(refusal) => return Fed::Refused { used, refusal },
-            Step::Event { at, used: taken, event } => {
-                used += taken;
-                if sink.take(at, &event).is_err() {
-                    return Fed::Fault { used };
-                }
-            }
-        }
-    }
+    decoder.feed(piece, &mut CellSink(cells))
 }
