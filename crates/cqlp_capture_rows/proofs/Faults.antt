@@ -23,9 +23,9 @@ asked_here (Ok u) x = tt
 asked_here (Err f) x = λ is. x
 
 -- the output failed, and no memory was refused
-pub none_refused : {T X : Type 0} (r : Result T TellFault) → IsErr r × IsErrAnd r (λ f. f ≡ fault.Write) → IfErr r (λ f. is_memory f ≡ true → X)
-none_refused (Ok u) stops = tt
-none_refused (Err f) stops = λ memory. absurd (let no : ◌≡◌ {A = Bool} true false = sym memory ∙ ap is_memory stops.1 in cc)
+pub none_refused : {T : Type 0} (X : Type 0) (r : Result T TellFault) → IsErr r × IsErrAnd r (λ f. f ≡ fault.Write) → IfErr r (λ f. is_memory f ≡ true → X)
+none_refused X (Ok u) stops = tt
+none_refused X (Err f) stops = λ memory. absurd (let no : ◌≡◌ {A = Bool} true false = sym memory ∙ ap is_memory stops.1 in cc)
 
 -- what was taken is passed on, and the output fails then
 pub passing_fails : (old mid new : Written) (text : List ℕ) (r : Result (Unit {0}) TellFault) → IsErr r × IsErrAnd r (λ f. f ≡ fault.Write) → Receives old text mid → BreaksOff mid [] new → Takes is_memory old text r new
