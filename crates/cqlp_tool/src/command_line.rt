@@ -34,7 +34,8 @@ use cqlp_text::exit_status::{BAD_COMMAND_LINE, DONE, FAULT};
 use cqlp_text::{Ending, PagePlace, cannot_open_line, put_text};
 use std::alloc::Allocator;
 use std::fs::{File, OpenFile};
-use std::io::{self, Read};
+use std::io;
+use std::io::Read;
 use std::net::{Net, TcpListener, TcpStream};
 use std::rt::Files;
 

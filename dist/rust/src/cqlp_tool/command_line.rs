@@ -22,7 +22,8 @@ use crate::cqlp_text::exit_status::{BAD_COMMAND_LINE, DONE, FAULT};
 use crate::cqlp_text::{Ending, PagePlace, cannot_open_line, put_text};
 use crate::kit_std::alloc::Allocator;
 use crate::kit_host::fs::{File, OpenFile};
-use std::io::{Read};
+use std::io;
+use std::io::Read;
 use crate::kit_host::net::{Net, TcpListener, TcpStream};
 use crate::kit_host::rt::Files;
 
