@@ -8,8 +8,8 @@ use std::io::Read;
 /// status, and have one text on each output; where an output failed, one was given what the other was, and then perhaps more.
 ///
 /// What the outside does is whether a stream's file opens, what it or standard input gives, which calls of that and of the
-/// outputs fail, whether there is memory, and whether the turns run out; of a conversation, whether there is a connection, which bytes come to both ends, and that
-/// it is these that decide how it ends. Where something else ended both in the same way, they still have one status and one
+/// outputs fail, whether there is memory, and whether the turns run out; of a conversation, whether there is a connection, which
+/// bytes come to both ends, and that it is these that decide how it ends. Where something else ended both in the same way, they still have one status and one
 /// line of the fault, and one printed what the other did, and then perhaps more.
 pub fn one_answer_of_execute<F: Read>()
     ensures once { IsExecutedOnce F.Read }
