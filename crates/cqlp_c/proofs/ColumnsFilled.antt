@@ -9,9 +9,9 @@ use Rattle.cqlp_decode.specs.Progress.{StreamState}
 use Rattle.cqlp_decode.specs.Sinks.{Gets, Fails}
 use Rattle.cqlp_decode.specs.Streams.{Decoding, state}
 use Rattle.cqlp_columns.specs.Batches.{Batch}
-use Rattle.cqlp_page_columns.specs.declared.filled.Stop.{Stop}
-use Rattle.cqlp_page_columns.specs.declared.filled.Stop.TheVariants as why
-use Rattle.cqlp_page_columns.specs.Filling.{Fills, StopsBy}
+use Rattle.cqlp_columns.specs.declared.filled.Stop.{Stop}
+use Rattle.cqlp_columns.specs.declared.filled.Stop.TheVariants as why
+use Rattle.cqlp_columns.specs.Filling.{Fills, StopsBy}
 use Rattle.cqlp_c.specs.declared.columns.Beside.{Beside}
 use Rattle.cqlp_c.specs.declared.event.CqlpEvent.{CqlpEvent}
 use Rattle.cqlp_c.specs.Batches.{TellsPut, buffer_in, put_of}

@@ -19,10 +19,10 @@ use Rattle.cqlp_columns.specs.declared.columns.TakeError.TheVariants as fault
 use Rattle.cqlp_columns.specs.Arrays.{Site}
 use Rattle.cqlp_columns.specs.Batches.{Batch, HasTaken, batch_of, fault_among, has_room, is_full}
 use Rattle.cqlp_columns.specs.Findings.{Finding, Nothing, Part, Whole, found_in}
-use Rattle.cqlp_page_columns.specs.declared.filled.Stop.{Stop as Why}
-use Rattle.cqlp_page_columns.specs.declared.filled.Stop.TheVariants as why
-use Rattle.cqlp_page_columns.specs.Filling.{EndsAtEvent, IsRead, StopsBy, TakesCells}
-use Rattle.cqlp_page_columns.specs.Sorting.{takes}
+use Rattle.cqlp_columns.specs.declared.filled.Stop.{Stop as Why}
+use Rattle.cqlp_columns.specs.declared.filled.Stop.TheVariants as why
+use Rattle.cqlp_columns.specs.Filling.{EndsAtEvent, IsRead, StopsBy, TakesCells}
+use Rattle.cqlp_columns.specs.Sorting.{takes}
 use Rattle.cqlp_c.specs.declared.course.CqlpBegun.{CqlpBegun}
 use Rattle.cqlp_c.specs.declared.event.CqlpEvent.{CqlpEvent}
 use Rattle.cqlp_c.specs.Batches.{buffer_in}

@@ -5,16 +5,16 @@ use Rattle.cqlp_message.specs.Owned.{frame_of}
 use Rattle.cqlp_build.specs.declared.error.BuildError.TheVariants as build_error
 use Rattle.cqlp_build_cells.specs.declared.error.CellError.TheVariants as cell_error
 use Rattle.cqlp_compose.specs.Composing.{ComposerState, start}
-use Rattle.cqlp_page_events.specs.declared.error.PageCellError.TheVariants as page_error
-use Rattle.cqlp_page_batches.specs.declared.error.BeginError.{BeginError}
-use Rattle.cqlp_page_batches.specs.declared.error.BeginError.TheVariants as begin_error
-use Rattle.cqlp_page_batches.specs.declared.error.PutError.TheVariants as put_error
-use Rattle.cqlp_page_batches.specs.declared.page.BegunPage.{BegunPage}
-use Rattle.cqlp_page_batches.specs.declared.page.OpenPage.{OpenPage}
-use Rattle.cqlp_page_batches.specs.Begun as page
-use Rattle.cqlp_page_batches.specs.Laws.{AreSame, no_memory}
-use Rattle.cqlp_page_batches.specs.Put.{Answer, PutterState, Puts as CellPuts, fresh_putter}
-use Rattle.cqlp_page_batches.proofs.OneAnswer.{one_answer as one_put, one_answer_of_begin as one_begin}
+use Rattle.cqlp_compose.specs.declared.error.PageCellError.TheVariants as page_error
+use Rattle.cqlp_compose.specs.declared.error.BeginError.{BeginError}
+use Rattle.cqlp_compose.specs.declared.error.BeginError.TheVariants as begin_error
+use Rattle.cqlp_compose.specs.declared.error.PutError.TheVariants as put_error
+use Rattle.cqlp_compose.specs.declared.page.BegunPage.{BegunPage}
+use Rattle.cqlp_compose.specs.declared.page.OpenPage.{OpenPage}
+use Rattle.cqlp_compose.specs.Begun as page
+use Rattle.cqlp_compose.specs.BatchLaws.{AreSame, no_memory}
+use Rattle.cqlp_compose.specs.Put.{Answer, PutterState, Puts as CellPuts, fresh_putter}
+use Rattle.cqlp_compose.proofs.OneAnswerOfBatches.{one_answer as one_put, one_answer_of_begin as one_begin}
 use Rattle.cqlp_c.specs.declared.encode.CqlpEncoded.{CqlpEncoded}
 use Rattle.cqlp_c.specs.declared.encode.Stopped.{Stopped}
 use Rattle.cqlp_c.specs.declared.encode.Unencoded.{Unencoded}

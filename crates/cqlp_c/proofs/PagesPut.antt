@@ -11,15 +11,15 @@ use Rattle.cqlp_c.specs.declared.numbers.TheConstants as numbers
 use Rattle.cqlp_c.specs.declared.page.Unbegun.TheVariants as unbegun
 use Rattle.cqlp_grammar.specs.Events.{Event}
 use Rattle.cqlp_build_cells.specs.Building.{ends_cell}
-use Rattle.cqlp_page_batches.specs.Put.{GoesOn, PutterState, Puts, within}
-use Rattle.cqlp_page_events.specs.Measures.{event_size}
+use Rattle.cqlp_compose.specs.Put.{GoesOn, PutterState, Puts, within}
+use Rattle.cqlp_compose.specs.Measures.{event_size}
 use Rattle.cqlp_c.specs.declared.event.CqlpEvent.{CqlpEvent}
 use Rattle.cqlp_c.specs.declared.page.CqlpPut.{CqlpPut}
 use Rattle.cqlp_c.specs.declared.page.Unput.{Unput}
 use Rattle.cqlp_c.specs.declared.page.Unput.TheVariants as unput
-use Rattle.cqlp_page_batches.specs.declared.error.PutError.TheVariants as put_error
+use Rattle.cqlp_compose.specs.declared.error.PutError.TheVariants as put_error
 use Rattle.cqlp_c.specs.declared.told.NotTold.{NotTold}
-use Rattle.cqlp_page_batches.specs.declared.page.OpenPage.{OpenPage}
+use Rattle.cqlp_compose.specs.declared.page.OpenPage.{OpenPage}
 use Rattle.cqlp_c.specs.declared.encode.CqlpEncoded.{CqlpEncoded}
 use Rattle.cqlp_c.specs.Pages.{Begins, BeginsAnew, BatchState, PutsAll, PutsFrom, PutsOne, after_event, at_begin, gone_on, measured, nothing_put, sized_on, sum_of, told_of, with_all_used}
 use Rattle.cqlp_c.specs.Told.{content_len, event_told}

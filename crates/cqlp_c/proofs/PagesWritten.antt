@@ -20,17 +20,17 @@ use Rattle.cqlp_build_cells.specs.Building.{ends_cell}
 use Rattle.cqlp_compose.specs.Composing.{ComposerState, bound_of, refusal_of, start, with_next}
 use Rattle.cqlp_decode.specs.Reading.{Says, Waits, start as first_state}
 use Rattle.cqlp_laws.proofs.WrittenFrames.{written_is_read}
-use Rattle.cqlp_page_events.specs.declared.place.PagePlace.{PagePlace}
-use Rattle.cqlp_page_events.specs.Cells.{CellsState}
-use Rattle.cqlp_page_batches.specs.declared.error.PutError.TheVariants as put_error
-use Rattle.cqlp_page_batches.specs.declared.error.Unended.{Unended}
-use Rattle.cqlp_page_batches.specs.declared.error.Unended.TheVariants as unended
-use Rattle.cqlp_page_batches.specs.declared.page.BegunPage.{BegunPage}
-use Rattle.cqlp_page_batches.specs.declared.page.OpenPage.{OpenPage}
-use Rattle.cqlp_page_batches.specs.Begun.{ends, rows_event}
-use Rattle.cqlp_page_batches.specs.Laws.{AreBatches, IsBatch, IsFrameWith, PutsAll as CellsPut}
-use Rattle.cqlp_page_batches.specs.Put.{GoesOn, PutterState, Puts as CellPuts, fresh, fresh_putter, within}
-use Rattle.cqlp_page_batches.proofs.Written.{page_is_written}
+use Rattle.cqlp_compose.specs.declared.place.PagePlace.{PagePlace}
+use Rattle.cqlp_compose.specs.Cells.{CellsState}
+use Rattle.cqlp_compose.specs.declared.error.PutError.TheVariants as put_error
+use Rattle.cqlp_compose.specs.declared.error.Unended.{Unended}
+use Rattle.cqlp_compose.specs.declared.error.Unended.TheVariants as unended
+use Rattle.cqlp_compose.specs.declared.page.BegunPage.{BegunPage}
+use Rattle.cqlp_compose.specs.declared.page.OpenPage.{OpenPage}
+use Rattle.cqlp_compose.specs.Begun.{ends, rows_event}
+use Rattle.cqlp_compose.specs.BatchLaws.{AreBatches, IsBatch, IsFrameWith, PutsAll as CellsPut}
+use Rattle.cqlp_compose.specs.Put.{GoesOn, PutterState, Puts as CellPuts, fresh, fresh_putter, within}
+use Rattle.cqlp_compose.proofs.Written.{page_is_written}
 use Rattle.cqlp_c.specs.declared.encode.CqlpEncoded.{CqlpEncoded}
 use Rattle.cqlp_c.specs.declared.encode.Unencoded.{Unencoded}
 use Rattle.cqlp_c.specs.declared.event.CqlpEvent.{CqlpEvent}

@@ -16,10 +16,10 @@ use Rattle.cqlp_decode.specs.Progress.{IsHeld}
 use Rattle.cqlp_decode.specs.Reading.{Event}
 use Rattle.cqlp_decode.specs.Streams.{Decoding, state}
 use Rattle.cqlp_laws.specs.Contents.{content_in}
-use Rattle.cqlp_page_columns.specs.declared.filled.Filled.{Filled}
-use Rattle.cqlp_page_columns.specs.declared.filled.Stop.{Stop as Why}
-use Rattle.cqlp_page_columns.specs.declared.filled.Stop.TheVariants as why
-use Rattle.cqlp_page_columns.specs.Filling.{FillsOn}
+use Rattle.cqlp_columns.specs.declared.filled.Filled.{Filled}
+use Rattle.cqlp_columns.specs.declared.filled.Stop.{Stop as Why}
+use Rattle.cqlp_columns.specs.declared.filled.Stop.TheVariants as why
+use Rattle.cqlp_columns.specs.Filling.{FillsOn}
 use Rattle.cqlp_c.specs.declared.batch.Batch.{Batch as Told}
 use Rattle.cqlp_c.specs.declared.batch.Stop.TheVariants as stop
 use Rattle.cqlp_c.specs.declared.columns.CqlpBatchLimits.{CqlpBatchLimits}

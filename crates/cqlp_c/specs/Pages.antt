@@ -14,19 +14,19 @@ use Rattle.cqlp_build_cells.specs.declared.builder.CellLimits.{CellLimits}
 use Rattle.cqlp_build_cells.specs.declared.error.CellError.{CellError}
 use Rattle.cqlp_build_cells.specs.declared.error.CellError.TheVariants as cell_error
 use Rattle.cqlp_compose.specs.Composing.{ComposerState, start}
-use Rattle.cqlp_page_events.specs.declared.error.PageCellError.TheVariants as page_error
-use Rattle.cqlp_page_events.specs.Measures.{event_size}
-use Rattle.cqlp_page_batches.specs.declared.error.BeginError.{BeginError}
-use Rattle.cqlp_page_batches.specs.declared.error.BeginError.TheVariants as begin_error
-use Rattle.cqlp_page_batches.specs.declared.error.PutError.TheVariants as put_error
-use Rattle.cqlp_page_batches.specs.declared.error.Unended.{Unended}
-use Rattle.cqlp_page_batches.specs.declared.error.Unended.TheVariants as unended
-use Rattle.cqlp_page_batches.specs.declared.page.BegunPage.{BegunPage}
-use Rattle.cqlp_page_batches.specs.declared.page.OpenPage.{OpenPage}
-use Rattle.cqlp_page_batches.specs.Begun.{ends}
-use Rattle.cqlp_page_batches.specs.Begun as page
-use Rattle.cqlp_page_batches.specs.Put.{PutterState, fresh_putter}
-use Rattle.cqlp_page_batches.specs.Put as cells
+use Rattle.cqlp_compose.specs.declared.error.PageCellError.TheVariants as page_error
+use Rattle.cqlp_compose.specs.Measures.{event_size}
+use Rattle.cqlp_compose.specs.declared.error.BeginError.{BeginError}
+use Rattle.cqlp_compose.specs.declared.error.BeginError.TheVariants as begin_error
+use Rattle.cqlp_compose.specs.declared.error.PutError.TheVariants as put_error
+use Rattle.cqlp_compose.specs.declared.error.Unended.{Unended}
+use Rattle.cqlp_compose.specs.declared.error.Unended.TheVariants as unended
+use Rattle.cqlp_compose.specs.declared.page.BegunPage.{BegunPage}
+use Rattle.cqlp_compose.specs.declared.page.OpenPage.{OpenPage}
+use Rattle.cqlp_compose.specs.Begun.{ends}
+use Rattle.cqlp_compose.specs.Begun as page
+use Rattle.cqlp_compose.specs.Put.{PutterState, fresh_putter}
+use Rattle.cqlp_compose.specs.Put as cells
 use Rattle.cqlp_c.specs.declared.encode.CqlpEncoded.{CqlpEncoded}
 use Rattle.cqlp_c.specs.declared.encode.Unencoded.{Unencoded}
 use Rattle.cqlp_c.specs.declared.encode.Unencoded.TheVariants as unencoded

@@ -4,7 +4,7 @@ use Rattle.std.specs.List.{flat_map}
 use Rattle.cqlp_note.specs.declared.header.Header.{Header}
 use Rattle.cqlp_grammar.specs.Events.{Event, Frame}
 use Rattle.cqlp_message.specs.Owned.{frame_of}
-use Rattle.cqlp_page_batches.specs.declared.page.OpenPage.{OpenPage}
+use Rattle.cqlp_compose.specs.declared.page.OpenPage.{OpenPage}
 use Rattle.cqlp_c.specs.declared.encode.CqlpEncoded.{CqlpEncoded}
 use Rattle.cqlp_c.specs.declared.event.CqlpEvent.{CqlpEvent}
 use Rattle.cqlp_c.specs.declared.numbers.TheConstants as numbers

@@ -22,10 +22,9 @@ use crate::handle::{self, CqlpDecoder};
 use crate::loose::Loose;
 use crate::numbers::*;
 use crate::shown::{CqlpBatch, batch_of};
-use cqlp_columns::{BatchLimits, Column, Columns, MakeError};
+use cqlp_columns::{BatchLimits, Column, Columns, Filled, MakeError, PageColumns, Stop as Why};
 use cqlp_decode::{Decoder, Event, Sink, SinkFault};
 use cqlp_kind::Kind;
-use cqlp_page_columns::{Filled, PageColumns, Stop as Why};
 use std::alloc::{AllocError, Global};
 use std::marker::{Model, Send};
 

@@ -7,9 +7,9 @@ ghost use Rattle.std.specs.Coded.{coded_option};
 ghost use Rattle.std.specs.contracts.alloc.Global as heap;
 ghost use Rattle.std.specs.contracts.impls.GlobalAllocator.TheImpl.{ghosts};
 ghost use Rattle.cqlp_compose.specs.Composing.{composed};
-ghost use Rattle.cqlp_page_batches.specs.Put.{putter};
-ghost use Rattle.cqlp_page_batches.specs.declared.page.OpenPage.{OpenPage as Held};
-ghost use Rattle.cqlp_page_batches.specs.contracts.page.OpenPage as page_of;
+ghost use Rattle.cqlp_compose.specs.Put.{putter};
+ghost use Rattle.cqlp_compose.specs.declared.page.OpenPage.{OpenPage as Held};
+ghost use Rattle.cqlp_compose.specs.contracts.page.OpenPage as page_of;
 ghost use Rattle.cqlp_c.specs.Handle.{flag_of, owned_in};
 ghost use Rattle.cqlp_c.specs.Pages as told_of;
 ghost use Rattle.cqlp_c.specs.Pages.{Begins, BeginsAnew, IsPutBy, Measures, Opens, Puts, PutsAll, PutsCells, PutsOne, ReadsHead};
@@ -25,12 +25,13 @@ use crate::told::{NotTold, event_told};
 use crate::versions::put;
 use cqlp_build::BuildError;
 use cqlp_build_cells::{CellError, CellLimits};
-use cqlp_compose::Composer;
+use cqlp_compose::{
+    BeginError, BegunPage, Composer, OpenPage, PageCellError, PutCells, PutError, Unended,
+    event_size,
+};
 use cqlp_grammar::Event;
 use cqlp_message::Unfit;
 use cqlp_note::{Field, Header};
-use cqlp_page_batches::{BeginError, BegunPage, OpenPage, PutCells, PutError, Unended};
-use cqlp_page_events::{PageCellError, event_size};
 use std::alloc::Global;
 use std::marker::Model;
 

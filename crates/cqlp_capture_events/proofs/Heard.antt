@@ -1,13 +1,16 @@
 -- What is known after a saying.
 use Rattle.std.proofs.Common.{◌≡◌, ◌∙◌, ◌++◌, [], ℕ, IsSome, List, Option, Some, None, OnOk, Result, Ok, Err, ap, append-nil, sym, subst, refl}
 use Rattle.std.specs.Io.KnownBytes.{append_known}
-use Rattle.cqlp_grammar.specs.declared.sink.SinkFault.{SinkFault}
-use Rattle.cqlp_text.specs.Outputs.{output}
-use Rattle.cqlp_text.specs.Written.{Writes, Written}
-use Rattle.cqlp_connections.specs.declared.told.Told.{Told}
-use Rattle.cqlp_streams.specs.declared.fault.StreamsFault.{StreamsFault}
-use Rattle.cqlp_streams.specs.Sayings.{Saying}
-use Rattle.cqlp_capture_events.specs.Tables.{Slot, tells}
+use Rattle.cqlp_text.specs.Outputs.{output, with_text}
+use Rattle.cqlp_text.specs.Written.{Receives, Written}
+use Rattle.cqlp_tcp_connections.specs.declared.told.Told.{Told}
+use Rattle.cqlp_capture_streams.specs.declared.fault.StreamsFault.{StreamsFault}
+use Rattle.cqlp_capture_streams.specs.Sayings.{Saying}
+use Rattle.cqlp_capture_frames.specs.declared.fault.TellFault.{TellFault}
+use Rattle.cqlp_capture_frames.specs.declared.fault.TellFault.TheVariants as fault
+use Rattle.cqlp_capture_frames.specs.Faults.{Takes}
+use Rattle.cqlp_capture_frames.specs.Tellings.{is_memory}
+use Rattle.cqlp_capture_events.specs.Tables.{Table, tells}
 use Rattle.cqlp_capture_events.specs.Listening.{Hears, Listening, Tells, change_of, listening, with_saying}
 
 -- it is still known what the output was given
@@ -28,24 +31,28 @@ known_at : (given : Option (List ℕ)) → IsSome given → (text : List ℕ) ×
 known_at None known = cc
 known_at (Some text) known = (text, refl)
 
-pub tells_told : (asked : Option ℕ) (slots slots' : List Slot) (w v : Written) (told : Told) (bytes : List ℕ) (r : Result (Unit {0}) SinkFault) → w.waiting ≡ [] → v.waiting ≡ [] → IsSome w.given → Writes w (tells told bytes slots).text r v → OnOk r (slots' ≡ (tells told bytes slots).slots)
-    → Tells (listening asked slots (output w.given w.failures)) told bytes r (listening asked slots' (output v.given v.failures))
-tells_told asked slots slots' w v told bytes (Ok u) none none' known writes after =
-    let text = (tells told bytes slots).text in
+-- what a writer passed on was written
+passed_on : (w v : Written) (text : List ℕ) → w.waiting ≡ [] → v.waiting ≡ [] → IsSome w.given → Receives w text v → output v.given v.failures ≡ with_text (output w.given w.failures) text
+passed_on w v text none none' known takes =
     let t = known_at w.given known in
-    let p = writes.passed t.0 t.1 in
+    let p = takes.passed t.0 t.1 in
     let all : p.0 ≡ text = sym (append-nil p.0) ∙ ap (λ (z : List ℕ). p.0 ++ z) (sym none') ∙ p.2 ∙ ap (λ (z : List ℕ). z ++ text) none in
     let given : v.given ≡ append_known w.given text = p.1 ∙ ap (λ (z : List ℕ). Some (t.0 ++ z)) all ∙ sym (ap (λ (g : Option (List ℕ)). append_known g text) t.1) in
-    λ i. listening asked (after i) (output (given i) (writes.failures i))
-tells_told asked slots slots' w v told bytes (Err e) none none' known writes after =
-    let text = (tells told bytes slots).text in
+    λ i. output (given i) (takes.failures i)
+
+pub tells_told : (asked : Option ℕ) (table table' : Table) (w v : Written) (told : Told) (bytes : List ℕ) (r : Result (Unit {0}) TellFault) → w.waiting ≡ [] → v.waiting ≡ [] → IsSome w.given → Takes is_memory w (tells told bytes table).text r v → OnOk r (table' ≡ (tells told bytes table).table)
+    → Tells (listening asked table (output w.given w.failures)) told bytes r (listening asked table' (output v.given v.failures))
+tells_told asked table table' w v told bytes (Ok u) none none' known takes after = λ i. listening asked (after i) (passed_on w v (tells told bytes table).text none none' known takes i)
+tells_told asked table table' w v told bytes (Err fault.Write) none none' known breaks after =
+    let text = (tells told bytes table).text in
     let t = known_at w.given known in
-    let p = writes.passed t.0 t.1 in
+    let p = breaks.passed t.0 t.1 in
     record {
       sent = p.0;
-      lost = writes.lost;
-      later = writes.later;
+      lost = breaks.lost;
+      later = breaks.later;
       split = p.2 ∙ ap (λ (z : List ℕ). z ++ text) none;
       given = p.1 ∙ sym (ap (λ (g : Option (List ℕ)). append_known g p.0) t.1);
-      failures = writes.failures;
+      failures = breaks.failures;
     }
+tells_told asked table table' w v told bytes (Err fault.NoMemory) none none' known (front, later, split, takes) after = (front, later, split, passed_on w v front none none' known takes)

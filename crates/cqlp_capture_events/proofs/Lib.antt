@@ -1,4 +1,3 @@
-pub mod Parts
 pub mod Heard
 pub mod WrittenOnce
 pub mod Causes

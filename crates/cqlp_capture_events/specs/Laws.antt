@@ -1,13 +1,12 @@
 -- Laws: two answers are the same.
 use Rattle.std.specs.Prelude.{◌≡◌, ℕ, Option, Ok}
 use Rattle.cqlp_text.specs.Outputs.{Output}
-use Rattle.cqlp_streams.specs.Sayings.{Saying}
+use Rattle.cqlp_capture_streams.specs.Sayings.{Saying}
 use Rattle.cqlp_capture_events.specs.Listening.{Hears, Listening, new_listening}
 
 abbrev pub OneAnswerOfNew : Type 0
 OneAnswerOfNew =
-    (connections : ℕ) (asked : Option ℕ) (out : Output) (e f : Listening)
-    → e ≡ new_listening connections asked out → f ≡ new_listening connections asked out → f ≡ e
+    (asked : Option ℕ) (out : Output) (e f : Listening) → e ≡ new_listening asked out → f ≡ new_listening asked out → f ≡ e
 
 -- where the output does not fail
 abbrev pub OneAnswerOfHear : Type 0

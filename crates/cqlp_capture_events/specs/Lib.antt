@@ -1,4 +1,5 @@
 pub mod Lines
+pub mod Words
 pub mod Tables
 pub mod Listening
 pub mod Capturing

@@ -1,61 +1,42 @@
--- Lines that say of which connection and direction they are: its number, and `>` for requests, `<` for responses.
-use Rattle.std.specs.Prelude.{ℕ, Bool, if◌then◌else◌, List, [], ◌∷◌, ◌++◌, codes, decimal, None}
-use Rattle.cqlp_note.specs.declared.refusal.Reason.{Reason}
+-- Lines of events.
+use Rattle.std.specs.Prelude.{ℕ, Bool, List, [], ◌∷◌, None}
 use Rattle.cqlp_note.specs.Limits.{Rules, rules_of}
+use Rattle.cqlp_note.specs.Streams.{counted_up}
 use Rattle.cqlp_grammar.specs.Events.{Event}
 use Rattle.cqlp_text.specs.Lines.{line}
-use Rattle.cqlp_text.specs.Names.{reason_name}
-use Rattle.cqlp_capture_frames.specs.Happenings.{Happening, Manner, Begins, Says, Fails, Compressed, Gap, Ends, Closes}
+use Rattle.cqlp_capture_frames.specs.declared.lines.LinePlace.{LinePlace}
+use Rattle.cqlp_capture_frames.specs.Lines.{compressed_line, gap_line, joined, line_place, place_text, refused_line, unread_line}
+use Rattle.cqlp_capture_frames.specs.Happenings.{Happening, Manner, Begins, Says, Fails, Compressed, Unread, Gap, Ends, Closes}
 use Rattle.cqlp_capture_events.specs.declared.limits.TheConstants.{LIMITS}
 use Rattle.cqlp_capture_events.specs.declared.lines.Lines.{Lines}
 
 abbrev pub rules : Rules
 rules = rules_of LIMITS
 
-abbrev pub joined : List (List ℕ) → List ℕ
-joined [] = []
-joined (x ∷ xs) = x ++ joined xs
+-- those of one direction of the connection with this number, where so many frames were not read so far
+abbrev pub lines_of : (number : ℕ) → (responses : Bool) → (unread : ℕ) → Lines
+lines_of number responses unread = record { place = line_place number responses; unread = unread }
 
-abbrev pub arrow : (responses : Bool) → List ℕ
-arrow responses = if responses then codes " < " else codes " > "
-
--- those of one direction of the connection with this number
-abbrev pub lines_of : (number : ℕ) → (responses : Bool) → Lines
-lines_of number responses = record { number = number; responses = responses }
-
-abbrev pub place_text : Lines → List ℕ
-place_text s = joined (decimal s.number ∷ arrow s.responses ∷ [])
-
--- ---- each says an offset in the direction
-
--- an event
-abbrev pub event_line : Lines → (at : ℕ) → Event → List ℕ
+-- an event at an offset in the direction
+abbrev pub event_line : LinePlace → (at : ℕ) → Event → List ℕ
 event_line s at e = joined (place_text s ∷ line at e ∷ [])
-
--- a frame is refused
-abbrev pub refused_line : Lines → (at : ℕ) → Reason → List ℕ
-refused_line s at why =
-    joined (place_text s ∷ decimal at ∷ codes " refused " ∷ reason_name why ∷ codes "\n" ∷ [])
-
--- a frame is compressed
-abbrev pub compressed_line : Lines → (at : ℕ) → List ℕ
-compressed_line s at = joined (place_text s ∷ decimal at ∷ codes " compressed\n" ∷ [])
-
--- this many bytes are missing
-abbrev pub gap_line : Lines → (at length : ℕ) → List ℕ
-gap_line s at n = joined (place_text s ∷ decimal at ∷ codes " gap " ∷ decimal n ∷ codes "\n" ∷ [])
 
 -- ---- what is written of what happens: a frame that begins, ends or closes has no line but that of its event
 
 abbrev pub line_of : Lines → Happening → List ℕ
 line_of s (Begins at h) = []
-line_of s (Says at e) = event_line s at e
-line_of s (Fails at why) = refused_line s at why
-line_of s (Compressed at h) = compressed_line s at
-line_of s (Gap at n) = gap_line s at n
+line_of s (Says at e) = event_line s.place at e
+line_of s (Fails at why) = refused_line s.place at why
+line_of s (Compressed at h) = compressed_line s.place at
+line_of s (Unread at h) = unread_line s.place at
+line_of s (Gap at n cause) = gap_line s.place at n cause
 line_of s (Ends types) = []
 line_of s Closes = []
 
+abbrev pub counted : Lines → Happening → Lines
+counted s (Unread at h) = record { place = s.place; unread = counted_up 1 s.unread }
+counted s h = s
+
 -- No types are given, so that a page without metadata has its cells as they are.
 abbrev pub line_manner : Manner Lines
-line_manner = record { text = line_of; after = λ s h. s; types = λ s at h. None }
+line_manner = record { text = line_of; after = counted; types = λ s at h. None }

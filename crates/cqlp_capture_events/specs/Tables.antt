@@ -1,25 +1,29 @@
--- The connections that are watched, each in a slot of a table.
-use Rattle.std.specs.Prelude.{◌≡◌, ℕ, ◌==◌, Bool, true, false, List, [], Option, Some, None, slice_index_or, slice_set}
-use Rattle.std.specs.List.{position}
-use Rattle.cqlp_connections.specs.declared.ends.Way.{Way}
-use Rattle.cqlp_connections.specs.declared.ends.Way.TheVariants.{Requests, Responses}
-use Rattle.cqlp_connections.specs.declared.told.Told.{Told}
+-- The connections that are watched, by their numbers.
+use Rattle.std.specs.Prelude.{◌≡◌, ℕ, ◌+◌, ◌-◌, ◌||◌, nat_lt, Bool, true, false, List, [], Option, Some, None, is_some, if◌then◌else◌}
+use Rattle.std.specs.BTreeMap.{insert_entry, is_at}
+use Rattle.std.specs.Map.{lookup, remove_entry, set_value}
+use Rattle.std.specs.Ordering.{nat_cmp}
+use Rattle.cqlp_note.specs.Streams.{counted_up}
+use Rattle.cqlp_tcp_connections.specs.declared.ends.Way.{Way}
+use Rattle.cqlp_tcp_connections.specs.declared.ends.Way.TheVariants.{Requests, Responses}
+use Rattle.cqlp_tcp_connections.specs.declared.told.Told.{Told}
 use Rattle.cqlp_capture_frames.specs.Directions.{Direction, Telling, begun, step_told}
+use Rattle.cqlp_capture_events.specs.declared.limits.TheConstants.{OPEN_FRAMES}
 use Rattle.cqlp_capture_events.specs.declared.lines.Lines.{Lines}
 use Rattle.cqlp_capture_events.specs.Lines.{line_manner, lines_of, rules}
 
--- a connection's number, if the slot is not free, and its two directions
+-- ---- one connection: its two directions
+
 pub record Slot : Type 0 where
-  pub number : Option ℕ
   pub requests : Direction
   pub responses : Direction
 
-abbrev pub slot : Option ℕ → (requests responses : Direction) → Slot
-slot number requests responses = record { number = number; requests = requests; responses = responses }
+abbrev pub slot : (requests responses : Direction) → Slot
+slot requests responses = record { requests = requests; responses = responses }
 
 -- a connection of which nothing came
-abbrev pub fresh : Option ℕ → Slot
-fresh number = slot number (begun rules false false) (begun rules true false)
+abbrev pub fresh : Slot
+fresh = slot (begun rules false false) (begun rules true false)
 
 -- Both are read by the limits.
 pub record IsSlot (requests responses : Direction) : Type 0 where
@@ -28,67 +32,83 @@ pub record IsSlot (requests responses : Direction) : Type 0 where
   pub requests_go : requests.responses ≡ false
   pub responses_go : responses.responses ≡ true
 
-abbrev pub is_same : Option ℕ → Option ℕ → Bool
-is_same None None = true
-is_same (Some a) (Some b) = a == b
-is_same a b = false
+-- how many of its directions read a frame
+abbrev pub one_if : Bool → ℕ
+one_if b = if b then 1 else 0
 
--- the first slot of this number, or the first that is free
-abbrev pub has_number : Option ℕ → Slot → Bool
-has_number number s = is_same s.number number
-
-abbrev pub place_of : Option ℕ → List Slot → Option ℕ
-place_of number slots = position (has_number number) slots
-
--- the lines of what is told of a connection, and the table after it
-pub record Change : Type 0 where
-  pub text : List ℕ
-  pub slots : List Slot
-
-abbrev pub change : List ℕ → List Slot → Change
-change text slots = record { text = text; slots = slots }
-
-abbrev pub slot_at : List Slot → ℕ → Slot
-slot_at slots at = slice_index_or slots at (fresh None)
-
--- ---- a connection begins, its streams tell something, it leaves
-
-abbrev pub begins_at : Option ℕ → (number : ℕ) → List Slot → List Slot
-begins_at None n slots = slots
-begins_at (Some at) n slots = slice_set slots at (fresh (Some n))
-
-abbrev pub begins : (number : ℕ) → List Slot → List Slot
-begins n slots = begins_at (place_of None slots) n slots
+abbrev pub open_in : Slot → ℕ
+open_in s = one_if (is_some s.requests.frame) + one_if (is_some s.responses.frame)
 
 -- what one direction of a connection tells
 pub record Heard : Type 0 where
   pub text : List ℕ
   pub slot : Slot
+  pub unread : ℕ
 
 abbrev pub of_requests : Telling Lines → Slot → Heard
-of_requests t s = record { text = t.text; slot = slot s.number t.after s.responses }
+of_requests t s = record { text = t.text; slot = slot t.after s.responses; unread = t.known.unread }
 
 abbrev pub of_responses : Telling Lines → Slot → Heard
-of_responses t s = record { text = t.text; slot = slot s.number s.requests t.after }
+of_responses t s = record { text = t.text; slot = slot s.requests t.after; unread = t.known.unread }
 
-abbrev pub heard_of : Way → Told → List ℕ → Slot → Heard
-heard_of Requests t b s = of_requests (step_told line_manner t.step t.at b (lines_of t.number false) s.requests) s
-heard_of Responses t b s = of_responses (step_told line_manner t.step t.at b (lines_of t.number true) s.responses) s
+-- Where there is no room for one more decoder, only a direction that reads a frame reads others.
+abbrev pub heard_of : Way → (room : Bool) → Told → List ℕ → (unread : ℕ) → Slot → Heard
+heard_of Requests room t b unread s =
+    of_requests (step_told line_manner (room || is_some s.requests.frame) t.step t.at b (lines_of t.number false unread) s.requests) s
+heard_of Responses room t b unread s =
+    of_responses (step_told line_manner (room || is_some s.responses.frame) t.step t.at b (lines_of t.number true unread) s.responses) s
 
-abbrev pub heard : Told → List ℕ → Slot → Heard
-heard t b s = heard_of t.way t b s
+abbrev pub heard : (room : Bool) → Told → List ℕ → (unread : ℕ) → Slot → Heard
+heard room t b unread s = heard_of t.way room t b unread s
 
-abbrev pub tells_at : Option ℕ → Told → List ℕ → List Slot → Change
-tells_at None t b slots = change [] slots
-tells_at (Some at) t b slots =
-    let h = heard t b (slot_at slots at) in change h.text (slice_set slots at h.slot)
+-- ---- all of them: the connections, the one with the least number first; how many directions read a frame; and how many frames were not read
 
-abbrev pub tells : Told → List ℕ → List Slot → Change
-tells t b slots = tells_at (place_of (Some t.number) slots) t b slots
+pub record Table : Type 0 where
+  pub slots : List (ℕ × Slot)
+  pub reading : ℕ
+  pub unread : ℕ
 
-abbrev pub leaves_at : Option ℕ → List Slot → List Slot
-leaves_at None slots = slots
-leaves_at (Some at) slots = let s = slot_at slots at in slice_set slots at (slot None s.requests s.responses)
+abbrev pub table : List (ℕ × Slot) → (reading unread : ℕ) → Table
+table slots reading unread = record { slots = slots; reading = reading; unread = unread }
 
-abbrev pub leaves : (number : ℕ) → List Slot → List Slot
-leaves n slots = leaves_at (place_of (Some n) slots) slots
+abbrev pub new_table : Table
+new_table = table [] 0 0
+
+abbrev pub slot_of : (number : ℕ) → Table → Option Slot
+slot_of n w = lookup (is_at (nat_cmp n)) w.slots
+
+-- of a connection `before` directions read a frame, and `now` they do
+abbrev pub reading_after : (before now : ℕ) → (reading : ℕ) → ℕ
+reading_after before now reading = counted_up now (reading - before)
+
+-- the lines of what is told, and the table after it
+pub record Change : Type 0 where
+  pub text : List ℕ
+  pub table : Table
+
+abbrev pub change : List ℕ → Table → Change
+change text w = record { text = text; table = w }
+
+-- a connection begins
+abbrev pub begins : (number : ℕ) → Table → Table
+begins n w = table (insert_entry nat_cmp w.slots n fresh) w.reading w.unread
+
+-- its streams tell something; where it is not watched, there is no line
+abbrev pub becomes : (number : ℕ) → Slot → Heard → Table → Change
+becomes n s h w =
+    change h.text (table (set_value (is_at (nat_cmp n)) w.slots h.slot) (reading_after (open_in s) (open_in h.slot) w.reading) h.unread)
+
+abbrev pub tells_at : Option Slot → Told → List ℕ → Table → Change
+tells_at None t b w = change [] w
+tells_at (Some s) t b w = becomes t.number s (heard (nat_lt w.reading OPEN_FRAMES) t b w.unread s) w
+
+abbrev pub tells : Told → List ℕ → Table → Change
+tells t b w = tells_at (slot_of t.number w) t b w
+
+-- it leaves
+abbrev pub leaves_at : Option Slot → (number : ℕ) → Table → Table
+leaves_at None n w = w
+leaves_at (Some s) n w = table (remove_entry (is_at (nat_cmp n)) w.slots) (reading_after (open_in s) 0 w.reading) w.unread
+
+abbrev pub leaves : (number : ℕ) → Table → Table
+leaves n w = leaves_at (slot_of n w) n w

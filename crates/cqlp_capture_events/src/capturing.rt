@@ -1,56 +1,65 @@
 //! A capture whose frames are written.
 
-ghost use Rattle.std.specs.Prelude.{◌≡◌, ℕ, List, IsSome, Some};
+ghost use Rattle.std.specs.Prelude.{◌≡◌, ℕ, true, List, IsSome, Some};
 ghost use Rattle.cqlp_text.specs.Endings.{IsStatusOfTask};
 ghost use Rattle.cqlp_text.specs.Outputs.{written};
-ghost use Rattle.cqlp_streams.specs.Captures.{AreCounted, ReadsMade, read_counts};
+ghost use Rattle.cqlp_tcp_connections.specs.Limits.{is_in_range};
+ghost use Rattle.cqlp_capture_streams.specs.Captures.{AreCounted, ReadsMade, read_counts};
 ghost use Rattle.cqlp_capture_events.specs.Capturing.{Listens, WritesEvents};
 
 use crate::events::Events;
-use crate::limits::CONNECTION_LIMITS;
+use crate::words::EventsWords;
+use cqlp_capture_streams::{
+    CaptureRead, StreamsFault, StreamsLimits, conclude_capture, read_capture,
+};
 use cqlp_note::{Source, Target};
-use cqlp_streams::{CaptureRead, LastWord, StreamsFault, conclude_capture, read_capture};
 use std::alloc::Global;
 
-/// Reads the frames on the connections of a capture with nodes that listen on these ports: on the connection with this number, or on all. Writes
-/// a line for each event to `out`, and what the capture was, or the fault line, to `err`. Answers the exit status and the two outputs.
+/// Reads the frames on the connections of a capture with nodes that listen on these ports, within these limits: on the connection with this
+/// number, or on all. Writes a line for each event to `out`, and what the capture was, or the fault line, to `err`. Answers the exit status
+/// and the two outputs.
 ///
 /// After a fault nothing more is asked of what failed.
 pub fn write_events<R: Source, O: Target, E: Target>(
     alloc: Global,
+    limits: StreamsLimits,
     ports: &[u16],
     connection: Option<u64>,
     input: &mut R,
     out: O,
     err: E,
 ) -> (u8, O, E)
+    requires { is_in_range limits.connections ≡ true }
     ensures task { IsStatusOfTask result.0 }
     ensures events { (xs : List ℕ) → R.left input.old ≡ Some xs → IsSome (O.contents out) → IsSome (E.contents err) →
         (m : ReadsMade) × AreCounted m (read_counts R.Source input.old) (read_counts R.Source input.new)
-        × WritesEvents connection ports.now xs m (R.left input.new) (written O.Target out) (written E.Target err)
+        × WritesEvents limits connection ports.now xs m (R.left input.new) (written O.Target out) (written E.Target err)
         result.0 (written O.Target result.1) (written E.Target result.2) }
 {
-    let (answer, out) = listen(alloc, ports, connection, input, out);
-    let (status, err) = conclude_capture(&answer, &LastWord("events"), err);
+    let (answer, unread, out) = listen(alloc, limits, ports, connection, input, out);
+    let (status, err) = conclude_capture(&answer, ports, &EventsWords { unread }, err);
     (status, out, err)
 }
 
-/// Reads the capture, and writes the lines. Answers what it was, and the output.
+/// Reads the capture, and writes the lines. Answers what it was, how many frames were not read, and the output.
 fn listen<R: Source, O: Target>(
     alloc: Global,
+    limits: StreamsLimits,
     ports: &[u16],
     connection: Option<u64>,
     input: &mut R,
     out: O,
-) -> (Result<CaptureRead, StreamsFault>, O)
+) -> (Result<CaptureRead, StreamsFault>, u64, O)
+    requires { is_in_range limits.connections ≡ true }
     ensures { (xs : List ℕ) → R.left input.old ≡ Some xs → IsSome (O.contents out) →
         (m : ReadsMade) × AreCounted m (read_counts R.Source input.old) (read_counts R.Source input.new)
-        × Listens connection ports.now xs m result.0 (R.left input.new) (written O.Target out) (written O.Target result.1) }
+        × Listens limits connection ports.now xs m result.0 (R.left input.new) (written O.Target out) result.1 (written O.Target result.2) }
 {
     let mut events = match Events::new(alloc, connection, out) {
         Ok(events) => events,
-        Err(out) => return (Err(StreamsFault::NoMemory), out),
+        Err(out) => return (Err(StreamsFault::NoMemory), 0, out),
     };
-    let answer = read_capture(alloc, CONNECTION_LIMITS, ports, input, &mut events);
-    (answer, events.into_output())
+    let answer = read_capture(alloc, limits, ports, input, &mut events);
+    let (out, unread) = events.into_parts();
+    (answer, unread, out)
 }

@@ -1,17 +1,16 @@
 //! What listens to the connections of a capture.
 
-ghost use Rattle.std.specs.Prelude.{◌≡◌, ◌≤◌, [], IfErr, IfOk, IsSome, OnOk, vec_len, replicate, None};
+ghost use Rattle.std.specs.Prelude.{◌≡◌, ◌≤◌, [], IfErr, IfOk, IsSome, OnOk, vec_len};
 ghost use Rattle.cqlp_text.specs.Outputs.{written};
-ghost use Rattle.cqlp_text.specs.Written.{Writes};
-ghost use Rattle.cqlp_capture_events.specs.Tables.{fresh, tells};
-ghost use Rattle.cqlp_capture_events.specs.declared.limits.TheConstants.{CONNECTIONS};
+ghost use Rattle.cqlp_capture_frames.specs.Faults.{Takes};
+ghost use Rattle.cqlp_capture_frames.specs.Tellings.{is_memory};
+ghost use Rattle.cqlp_capture_events.specs.Tables.{new_table, tells};
 
-use crate::limits::CONNECTIONS;
 use crate::table::Table;
-use cqlp_connections::Told;
-use cqlp_grammar::SinkFault;
+use cqlp_capture_frames::TellFault;
+use cqlp_capture_streams::{Listener, Saying, StreamsFault};
 use cqlp_note::Target;
-use cqlp_streams::{Listener, Saying, StreamsFault};
+use cqlp_tcp_connections::Told;
 use cqlp_text::{Buffered, TextWriter};
 use std::alloc::{AllocError, Allocator, Global};
 use std::marker::Model;
@@ -19,8 +18,9 @@ use std::marker::Model;
 /// How many bytes of lines wait at most.
 const ROOM: usize = 65_536;
 
-/// Reads the frames on the connections of a capture, and writes a line for each event, when its last byte is there. A connection that begins
-/// where as many are watched as there may be is not. All memory is taken in `new`.
+/// Reads the frames on the connections of a capture, and writes a line for each event, when its last byte is there. Memory for a connection is
+/// taken as it begins, and for the decoder of a frame as that does, and is given back. A frame that begins while as many are read as there may
+/// be is passed over, and counted.
 #[derive(Drop)]
 pub struct Events<O: Target, A: Allocator = Global> {
     /// The connection whose lines are written, if only one's are.
@@ -41,16 +41,14 @@ impl<O: Target, A: Allocator> Model for Events<O, A> {
     ghost invariant = { λ e. e.writer.waiting ≡ [] };
 }
 
-impl<O: Target, A: Allocator> Events<O, A> {
-    ghost use Rattle.cqlp_streams.specs.Sayings.{Of, saying_of};
+impl<O: Target, A: Allocator + Clone> Events<O, A> {
+    ghost use Rattle.cqlp_capture_streams.specs.Sayings.{New, Of, saying_of};
     ghost use Rattle.cqlp_capture_events.specs.Listening.{Hears, Tells, is_asked, new_listening};
 
-    /// Nothing is watched, and lines go to this output: those of the connection with this number, or of all. All memory is taken here, in
-    /// eight requests for each connection and two more; where it is not granted, the output is given back.
+    /// Nothing is watched, and lines go to this output: those of the connection with this number, or of all. Takes memory for lines; where it is
+    /// not granted, the output is given back.
     pub fn new(alloc: A, asked: Option<u64>, out: O) -> Result<Self, O>
-    where
-        A: Clone,
-        ensures ok { IfOk result (λ e. e ≡ new_listening CONNECTIONS asked (written O.Target out)) }
+        ensures ok { IfOk result (λ e. e ≡ new_listening asked (written O.Target out)) }
         ensures err { IfErr result (λ o. written O.Target o ≡ written O.Target out) }
     {
         match take_memory(alloc) {
@@ -63,16 +61,17 @@ impl<O: Target, A: Allocator> Events<O, A> {
         }
     }
 
-    /// The output.
-    pub fn into_output(self) -> O
-        ensures { written O.Target result ≡ self.output }
+    /// The output, and how many frames were not read.
+    pub fn into_parts(self) -> (O, u64)
+        ensures output { written O.Target result.0 ≡ self.output }
+        ensures unread { result.1 ≡ self.table.unread }
     {
         let Events {
             asked: _,
-            table: _,
+            table,
             writer,
         } = self;
-        writer.into_inner().into_inner()
+        (writer.into_inner().into_inner(), table.unread())
     }
 
     /// Whether the lines of the connection with this number are written.
@@ -91,12 +90,7 @@ impl<O: Target, A: Allocator> Events<O, A> {
     {
         match saying {
             Saying::Packet { .. } => Ok(()),
-            Saying::New { number } => {
-                if self.is_asked(*number) {
-                    self.table.begin(*number);
-                }
-                Ok(())
-            }
+            Saying::New { number } => self.begin(*number),
             Saying::Of { told, bytes } => self.hear_told(told, bytes),
             Saying::Left(totals) => {
                 self.table.leave(totals.number);
@@ -105,49 +99,69 @@ impl<O: Target, A: Allocator> Events<O, A> {
         }
     }
 
+    fn begin(&mut self, number: u64) -> Result<(), StreamsFault>
+        ensures { Hears self.old (New number) result self.new }
+    {
+        if !self.is_asked(number) {
+            return Ok(());
+        }
+        match self.table.begin(number) {
+            Ok(()) => Ok(()),
+            Err(AllocError) => Err(StreamsFault::NoMemory),
+        }
+    }
+
     fn hear_told(&mut self, told: &Told, bytes: &[u8]) -> Result<(), StreamsFault>
         ensures { IsSome self.old.output.given → Hears self.old (Of told.now bytes.now) result self.new }
     {
         match self.tell(told, bytes) {
             Ok(()) => Ok(()),
-            Err(SinkFault) => Err(StreamsFault::Write),
+            Err(TellFault::Write) => Err(StreamsFault::Write),
+            Err(TellFault::NoMemory) => Err(StreamsFault::NoMemory),
         }
     }
 
     /// Writes the lines of what is told.
-    fn tell(&mut self, told: &Told, bytes: &[u8]) -> Result<(), SinkFault>
+    fn tell(&mut self, told: &Told, bytes: &[u8]) -> Result<(), TellFault>
         ensures { IsSome self.old.output.given → Tells self.old told.now bytes.now result self.new }
     {
         put_told(&mut self.table, told, bytes, &mut self.writer)
     }
 }
 
-/// Takes the lines of what is told, and passes them on.
-fn put_told<W: Target, A: Allocator, B: Allocator>(
+/// Takes the lines of what is told, and passes them on, also where memory was refused.
+#[tactic(auto, using(cqlp_capture_frames::proofs::Tellings::passing_fails, cqlp_capture_frames::proofs::Tellings::passing_front_fails))]
+fn put_told<W: Target, A: Allocator + Clone, B: Allocator>(
     table: &mut Table<A>,
     told: &Told,
     bytes: &[u8],
     writer: &mut TextWriter<Buffered<W, B>>,
-) -> Result<(), SinkFault>
-    ensures text { Writes writer.old (tells told.now bytes.now table.old).text result writer.new }
+) -> Result<(), TellFault>
+    ensures text { Takes is_memory writer.old (tells told.now bytes.now table.old).text result writer.new }
     ensures passed { writer.new.waiting ≡ [] }
-    ensures after { OnOk result (table.new ≡ (tells told.now bytes.now table.old).slots) }
+    ensures after { OnOk result (table.new ≡ (tells told.now bytes.now table.old).table) }
 {
-    table.hear(told, bytes, writer)?;
-    writer.pass_on()
+    match table.hear(told, bytes, writer) {
+        Ok(()) => Ok(writer.pass_on()?),
+        Err(TellFault::Write) => Err(TellFault::Write),
+        Err(TellFault::NoMemory) => {
+            writer.pass_on()?;
+            Err(TellFault::NoMemory)
+        }
+    }
 }
 
-/// A table of free slots, and a buffer.
+/// A table without connections, and a buffer.
 fn take_memory<A: Allocator + Clone>(alloc: A) -> Result<(Table<A>, Vec<u8, A>), AllocError>
-    ensures table { IfOk result (λ p. p.0 ≡ replicate CONNECTIONS (fresh None)) }
+    ensures table { IfOk result (λ p. p.0 ≡ new_table) }
     ensures buffer { IfOk result (λ p. 128 ≤ vec_len p.1) }
 {
-    let table = Table::new(alloc.clone()?, CONNECTIONS)?;
+    let table = Table::new(alloc.clone()?)?;
     let buffer = vec![in alloc; 0; ROOM]?;
     Ok((table, buffer))
 }
 
-impl<O: Target, A: Allocator> Listener for Events<O, A> {
+impl<O: Target, A: Allocator + Clone> Listener for Events<O, A> {
     ghost use Rattle.cqlp_capture_events.specs.Listening.{Listening, StopsAt, with_saying};
 
     ghost View = { Listening };

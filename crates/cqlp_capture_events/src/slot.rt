@@ -1,24 +1,21 @@
 //! One connection that is watched.
 
-ghost use Rattle.std.specs.Prelude.{◌≡◌, false, IfOk, OnOk};
-ghost use Rattle.cqlp_text.specs.Written.{Writes};
-ghost use Rattle.cqlp_capture_frames.specs.Directions.{begun};
+ghost use Rattle.std.specs.Prelude.{◌≡◌, ◌||◌, is_some, false, IfOk, OnOk};
+ghost use Rattle.cqlp_capture_frames.specs.Faults.{Takes};
+ghost use Rattle.cqlp_capture_frames.specs.Tellings.{is_memory};
 ghost use Rattle.cqlp_capture_events.specs.Lines.{lines_of, rules};
 
 use crate::limits::LIMITS;
 use crate::lines::Lines;
-use cqlp_capture_frames::Direction;
-use cqlp_connections::{Told, Way};
-use cqlp_decode::NewError;
-use cqlp_grammar::SinkFault;
+use cqlp_capture_frames::{Direction, LinePlace, TellFault};
+use cqlp_tcp_connections::{Told, Way};
 use cqlp_text::{Pen, TextWriter};
 use std::alloc::{AllocError, Allocator, Global};
 use std::marker::Model;
 
-/// A connection's number, if the slot is not free, and its two directions.
+/// The two directions of a connection.
 #[derive(Drop)]
 pub(crate) struct Slot<A: Allocator = Global> {
-    number: Option<u64>,
     requests: Direction<A>,
     responses: Direction<A>,
 }
@@ -28,99 +25,102 @@ impl<A: Allocator> Model for Slot<A> {
 
     ghost Value = { Slot };
 
-    ghost view = { λ s. slot s.number s.requests s.responses };
+    ghost view = { λ s. slot s.requests s.responses };
 
     ghost invariant = { λ s. IsSlot s.requests s.responses };
 }
 
 impl<A: Allocator + Clone> Slot<A> {
-    ghost use Rattle.std.specs.Prelude.{None};
-    ghost use Rattle.cqlp_capture_events.specs.Tables.{fresh};
+    ghost use Rattle.cqlp_capture_events.specs.Tables.{fresh, heard, open_in};
 
-    /// A free slot. All memory is taken here.
+    /// A connection of which nothing came.
     pub(crate) fn new(alloc: A) -> Result<Self, AllocError>
-        ensures { IfOk result (λ s. s ≡ fresh None) }
+        ensures { IfOk result (λ s. s ≡ fresh) }
     {
         Ok(Slot {
-            number: None,
-            requests: new_direction(alloc.clone()?, false)?,
-            responses: new_direction(alloc, true)?,
+            requests: Direction::new(alloc.clone()?, LIMITS, false),
+            responses: Direction::new(alloc, LIMITS, true),
         })
     }
-}
 
-/// A direction of which nothing came. All memory is taken here.
-fn new_direction<A: Allocator + Clone>(
-    alloc: A,
-    responses: bool,
-) -> Result<Direction<A>, AllocError>
-    ensures { IfOk result (λ d. d ≡ begun rules responses false) }
-{
-    match Direction::new(alloc, LIMITS, responses) {
-        Ok(direction) => Ok(direction),
-        Err(NewError::NoMemory | NewError::BadLimits(_)) => Err(AllocError),
-    }
-}
-
-impl<A: Allocator> Slot<A> {
-    ghost use Rattle.cqlp_capture_events.specs.Tables.{fresh, has_number, heard, slot};
-    ghost use Rattle.std.specs.Prelude.{None, Some};
-
-    /// Whether it has this number, or is free where there is none.
-    pub(crate) fn has_number(&self, number: Option<u64>) -> bool
-        ensures { result ≡ has_number number self.now }
+    /// How many of its directions read a frame.
+    pub(crate) fn open(&self) -> usize
+        ensures { result ≡ open_in self.now }
     {
-        match (self.number, number) {
-            (None, None) => true,
-            (Some(own), Some(other)) => own == other,
-            _ => false,
-        }
+        usize::from(self.requests.is_open()) + usize::from(self.responses.is_open())
     }
 
-    /// The connection with this number begins.
-    pub(crate) fn begin(&mut self, number: u64)
-        ensures { self.new ≡ fresh (Some number) }
-    {
-        self.number = Some(number);
-        self.requests.restart(false);
-        self.responses.restart(false);
-    }
-
-    /// The connection leaves, and the slot is free.
-    pub(crate) fn leave(&mut self)
-        ensures { self.new ≡ slot None self.old.requests self.old.responses }
-    {
-        self.number = None;
-    }
-
-    /// Takes what is told of one of its directions, with its bytes.
+    /// Takes what is told of one of its directions, with its bytes, and counts the frames that are not read. Where there is no room for one
+    /// more decoder, only a direction that reads a frame reads others.
     pub(crate) fn hear<P: Pen>(
         &mut self,
+        has_room: bool,
         told: &Told,
         bytes: &[u8],
+        unread: &mut u64,
         writer: &mut TextWriter<P>,
-    ) -> Result<(), SinkFault>
-        ensures text { Writes writer.old (heard told.now bytes.now self.old).text result writer.new }
-        ensures after { OnOk result (self.new ≡ (heard told.now bytes.now self.old).slot) }
+    ) -> Result<(), TellFault>
+        ensures text { Takes is_memory writer.old (heard has_room told.now bytes.now unread.old self.old).text result writer.new }
+        ensures slot { OnOk result (self.new ≡ (heard has_room told.now bytes.now unread.old self.old).slot) }
+        ensures unread { OnOk result (unread.new ≡ (heard has_room told.now bytes.now unread.old self.old).unread) }
     {
         match told.way {
             Way::Requests => {
-                let mut lines = lines_of(told.number, false);
-                self.requests
-                    .hear(told.step, told.at, bytes, &mut lines, writer)
+                let mut lines = lines_of(told.number, false, *unread);
+                hear_in(
+                    &mut self.requests,
+                    has_room,
+                    told,
+                    bytes,
+                    &mut lines,
+                    writer,
+                )?;
+                *unread = lines.unread;
+                Ok(())
             }
             Way::Responses => {
-                let mut lines = lines_of(told.number, true);
-                self.responses
-                    .hear(told.step, told.at, bytes, &mut lines, writer)
+                let mut lines = lines_of(told.number, true, *unread);
+                hear_in(
+                    &mut self.responses,
+                    has_room,
+                    told,
+                    bytes,
+                    &mut lines,
+                    writer,
+                )?;
+                *unread = lines.unread;
+                Ok(())
             }
         }
     }
 }
 
-/// The lines of a direction of the connection with this number.
-fn lines_of(number: u64, responses: bool) -> Lines
-    ensures { result ≡ lines_of number responses }
+ghost use Rattle.cqlp_capture_frames.specs.Directions.{IsSame, IsTold, step_told};
+ghost use Rattle.cqlp_capture_events.specs.Lines.{line_manner};
+
+/// Takes what is told of this direction.
+fn hear_in<A: Allocator + Clone, P: Pen>(
+    direction: &mut Direction<A>,
+    has_room: bool,
+    told: &Told,
+    bytes: &[u8],
+    lines: &mut Lines,
+    writer: &mut TextWriter<P>,
+) -> Result<(), TellFault>
+    ensures told { IsTold is_memory (step_told line_manner (has_room || is_some direction.old.frame) told.now.step told.now.at bytes.now lines.old direction.old)
+        result writer.old writer.new direction.new lines.new }
+    ensures same { IsSame direction.old direction.new }
 {
-    Lines { number, responses }
+    let has_room = has_room || direction.is_open();
+    direction.hear(has_room, told.step, told.at, bytes, lines, writer)
+}
+
+/// The lines of a direction of the connection with this number, where so many frames were not read so far.
+fn lines_of(number: u64, responses: bool, unread: u64) -> Lines
+    ensures { result ≡ lines_of number responses unread }
+{
+    Lines {
+        place: LinePlace { number, responses },
+        unread,
+    }
 }

@@ -1,60 +1,70 @@
 //! The connections that are watched.
 
-ghost use Rattle.std.specs.Prelude.{◌≡◌, IfOk, OnOk, length, position, replicate, vec_capacity, None};
-ghost use Rattle.cqlp_text.specs.Written.{Writes};
-ghost use Rattle.cqlp_capture_events.specs.Tables.{fresh, has_number};
+ghost use Rattle.std.specs.Prelude.{◌≡◌, nat_lt, IfOk, OnErr, OnOk};
+ghost use Rattle.cqlp_capture_frames.specs.Faults.{Takes};
+ghost use Rattle.cqlp_capture_frames.specs.Tellings.{is_memory};
 
+use crate::limits::OPEN_FRAMES;
 use crate::slot::Slot;
-use cqlp_connections::Told;
-use cqlp_grammar::SinkFault;
+use cqlp_capture_frames::TellFault;
+use cqlp_tcp_connections::Told;
 use cqlp_text::{Pen, TextWriter};
 use std::alloc::{AllocError, Allocator, Global};
+use std::collections::BTreeMap;
 use std::marker::Model;
 
-/// The connections that are watched, each in a slot. All memory is taken in `new`.
+/// The connections that are watched, by their numbers. Memory is taken for each as it begins, and for the decoder of a frame as that does, and
+/// is given back.
 #[derive(Drop)]
 pub(crate) struct Table<A: Allocator = Global> {
-    slots: Vec<Slot<A>, A>,
+    alloc: A,
+    slots: BTreeMap<u64, Slot<A>, A>,
+    /// How many directions read a frame.
+    reading: usize,
+    /// How many frames were not read, as there was no room for their decoders.
+    unread: u64,
 }
 
 impl<A: Allocator> Model for Table<A> {
-    ghost use Rattle.std.specs.Prelude.{◌≡◌, List, length, vec_capacity};
-    ghost use Rattle.cqlp_capture_events.specs.Tables.{Slot};
+    ghost use Rattle.cqlp_capture_events.specs.Tables.{Table, table};
 
-    ghost Value = { List Slot };
+    ghost Value = { Table };
 
-    ghost view = { λ t. t.slots.items };
-
-    ghost invariant = { λ t. vec_capacity t.slots ≡ length t.slots.items };
+    ghost view = { λ t. table t.slots.entries t.reading t.unread };
 }
 
-impl<A: Allocator> Table<A> {
-    ghost use Rattle.cqlp_capture_events.specs.Tables.{begins, leaves, place_of, tells};
+impl<A: Allocator + Clone> Table<A> {
+    ghost use Rattle.cqlp_capture_events.specs.Tables.{begins, leaves, new_table, tells};
 
-    /// So many free slots.
-    pub(crate) fn new(alloc: A, slots: usize) -> Result<Self, AllocError>
-    where
-        A: Clone,
-        ensures { IfOk result (λ t. t ≡ replicate slots (fresh None)) }
+    /// No connections.
+    pub(crate) fn new(alloc: A) -> Result<Self, AllocError>
+        ensures { IfOk result (λ t. t ≡ new_table) }
     {
+        let slots = BTreeMap::new(alloc.clone()?);
         Ok(Table {
-            slots: make_slots(alloc, slots)?,
+            alloc,
+            slots,
+            reading: 0,
+            unread: 0,
         })
     }
 
-    /// The place of the first slot with this number, or of the first that is free.
-    fn place_of(&self, number: Option<u64>) -> Option<usize>
-        ensures { result ≡ place_of number self.now }
+    /// How many frames were not read.
+    pub(crate) fn unread(&self) -> u64
+        ensures { result ≡ self.now.unread }
     {
-        place_of(&self.slots, number)
+        self.unread
     }
 
-    /// The connection with this number begins, where a slot is free.
-    pub(crate) fn begin(&mut self, number: u64)
-        ensures { self.new ≡ begins number self.old }
+    /// The connection with this number begins. Where memory is refused, nothing changes.
+    pub(crate) fn begin(&mut self, number: u64) -> Result<(), AllocError>
+        ensures ok { OnOk result (self.new ≡ begins number self.old) }
+        ensures err { OnErr result (self.new ≡ self.old) }
     {
-        if let Some(at) = self.place_of(None) {
-            self.slots[at].begin(number);
+        let slot = Slot::new(self.alloc.clone()?)?;
+        match self.slots.insert(number, slot) {
+            Ok(_) => Ok(()),
+            Err(_) => Err(AllocError),
         }
     }
 
@@ -64,12 +74,19 @@ impl<A: Allocator> Table<A> {
         told: &Told,
         bytes: &[u8],
         writer: &mut TextWriter<P>,
-    ) -> Result<(), SinkFault>
-        ensures text { Writes writer.old (tells told.now bytes.now self.old).text result writer.new }
-        ensures after { OnOk result (self.new ≡ (tells told.now bytes.now self.old).slots) }
+    ) -> Result<(), TellFault>
+        ensures text { Takes is_memory writer.old (tells told.now bytes.now self.old).text result writer.new }
+        ensures after { OnOk result (self.new ≡ (tells told.now bytes.now self.old).table) }
     {
-        match self.place_of(Some(told.number)) {
-            Some(at) => self.slots[at].hear(told, bytes, writer),
+        match self.slots.get_mut(&told.number) {
+            Some(slot) => hear_in(
+                slot,
+                &mut self.reading,
+                &mut self.unread,
+                told,
+                bytes,
+                writer,
+            ),
             None => Ok(()),
         }
     }
@@ -78,26 +95,39 @@ impl<A: Allocator> Table<A> {
     pub(crate) fn leave(&mut self, number: u64)
         ensures { self.new ≡ leaves number self.old }
     {
-        if let Some(at) = self.place_of(Some(number)) {
-            self.slots[at].leave();
+        if let Some(slot) = self.slots.remove(&number) {
+            self.reading = reading_after(self.reading, slot.open(), 0);
         }
     }
 }
 
-/// The place of the first slot with this number, or of the first that is free.
-fn place_of<A: Allocator>(slots: &[Slot<A>], number: Option<u64>) -> Option<usize>
-    ensures { result ≡ position (has_number number) slots.now }
+ghost use Rattle.cqlp_capture_events.specs.declared.limits.TheConstants.{OPEN_FRAMES};
+ghost use Rattle.cqlp_capture_events.specs.Tables.{heard, open_in, reading_after};
+
+/// Takes what is told of the streams of this connection.
+fn hear_in<A: Allocator + Clone, P: Pen>(
+    slot: &mut Slot<A>,
+    reading: &mut usize,
+    unread: &mut u64,
+    told: &Told,
+    bytes: &[u8],
+    writer: &mut TextWriter<P>,
+) -> Result<(), TellFault>
+    ensures text { Takes is_memory writer.old (heard (nat_lt reading.old OPEN_FRAMES) told.now bytes.now unread.old slot.old).text result writer.new }
+    ensures slot { OnOk result (slot.new ≡ (heard (nat_lt reading.old OPEN_FRAMES) told.now bytes.now unread.old slot.old).slot) }
+    ensures reading { OnOk result (reading.new ≡ reading_after (open_in slot.old) (open_in slot.new) reading.old) }
+    ensures unread { OnOk result (unread.new ≡ (heard (nat_lt reading.old OPEN_FRAMES) told.now bytes.now unread.old slot.old).unread) }
 {
-    slots.iter().position(|slot| slot.has_number(number))
+    let before = slot.open();
+    let has_room = *reading < OPEN_FRAMES;
+    slot.hear(has_room, told, bytes, unread, writer)?;
+    *reading = reading_after(*reading, before, slot.open());
+    Ok(())
 }
 
-fn make_slots<A: Allocator + Clone>(alloc: A, count: usize) -> Result<Vec<Slot<A>, A>, AllocError>
-    ensures slots { IfOk result (λ slots. slots.items ≡ replicate count (fresh None)) }
-    ensures capacity { IfOk result (λ slots. vec_capacity slots ≡ length slots.items) }
+/// How many directions read a frame where so many did, of which `before` were those of a connection that are `now` so many.
+fn reading_after(reading: usize, before: usize, now: usize) -> usize
+    ensures { result ≡ reading_after before now reading }
 {
-    let mut slots = Vec::with_capacity(alloc.clone()?, count)?;
-    for _ in 0..count {
-        slots.push_reserved(Slot::new(alloc.clone()?)?);
-    }
-    Ok(slots)
+    reading.saturating_sub(before).saturating_add(now)
 }

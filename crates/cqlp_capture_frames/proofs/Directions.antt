@@ -4,11 +4,12 @@ use Rattle.std.proofs.lemmas.Grind.{common_steps}
 use Rattle.cqlp_note.specs.declared.refusal.Refusal.{Refusal}
 use Rattle.cqlp_note.specs.Limits.{Rules}
 use Rattle.cqlp_kind.specs.declared.node.Node.{Node}
-use Rattle.cqlp_watch.specs.declared.heads.Heads.{Heads}
-use Rattle.cqlp_watch.specs.declared.heads.Heard.{Heard}
-use Rattle.cqlp_watch.specs.declared.heads.HeardStep.{HeardStep}
-use Rattle.cqlp_watch.specs.Directions as watch
-use Rattle.cqlp_watch.specs.Directions.{Steps, stepping}
+use Rattle.cqlp_tcp_reassembly.specs.declared.step.GapCause.{GapCause}
+use Rattle.cqlp_observer.specs.declared.heads.Heads.{Heads}
+use Rattle.cqlp_observer.specs.declared.heads.Heard.{Heard}
+use Rattle.cqlp_observer.specs.declared.heads.HeardStep.{HeardStep}
+use Rattle.cqlp_observer.specs.Directions as watch
+use Rattle.cqlp_observer.specs.Directions.{Steps, stepping}
 use Rattle.cqlp_text.specs.Written.{Receives, Written}
 use Rattle.cqlp_text.proofs.Writing.{Progress, progress_ends, progress_goes_on, progress_starts, takes_then_takes}
 use Rattle.cqlp_decode.specs.Reading.{Verdict, Waits}
@@ -26,18 +27,18 @@ use Rattle.cqlp_capture_frames.proofs.Reading.{after_more, texts_and_one, texts_
 abbrev pub next : {S : Type 0} → Heard → Telling S → Telling S → Telling S
 next h t k = if is_done h then t else before t.text k
 
-module _ {S : Type 0} (m : Manner S) where
+module _ {S : Type 0} (m : Manner S) (room : Bool) where
   -- the bytes that are used, and those after them
   pub step_is : (left at : ℕ) (begins : Bool) (b : List ℕ) (s : S) (d : Direction) (x : HeardStep) (v : Heads) (end : ℕ) → 0 < left → end ≡ behind at x.used → stepping x v ≡ watch.heard None begins b d.heads
-      → all_told m left at begins b s d ≡ next x.heard (tells m end (take x.used b) x.heard s (with_heads v d))
-      (all_told m (left - 1) end (begins && x.used == 0) (drop x.used b) (tells m end (take x.used b) x.heard s (with_heads v d)).known (tells m end (take x.used b) x.heard s (with_heads v d)).after)
+      → all_told m room left at begins b s d ≡ next x.heard (tells m room end (take x.used b) x.heard s (with_heads v d))
+      (all_told m room (left - 1) end (begins && x.used == 0) (drop x.used b) (tells m room end (take x.used b) x.heard s (with_heads v d)).known (tells m room end (take x.used b) x.heard s (with_heads v d)).after)
   step_is zero at begins b s d x v end some es e = absurd (omega arith)
   step_is (suc n) at begins b s d x v end some es e =
       let less : suc n - 1 ≡ n = omega arith in
-      rw (less, es) (ap (λ (z : Steps). next z.step.heard (tells m (behind at z.step.used) (take z.step.used b) z.step.heard s (with_heads z.after d))
-      (all_told m n (behind at z.step.used) (begins && z.step.used == 0) (drop z.step.used b) (tells m (behind at z.step.used) (take z.step.used b) z.step.heard s (with_heads z.after d)).known (tells m (behind at z.step.used) (take z.step.used b) z.step.heard s (with_heads z.after d)).after)) (sym e))
+      rw (less, es) (ap (λ (z : Steps). next z.step.heard (tells m room (behind at z.step.used) (take z.step.used b) z.step.heard s (with_heads z.after d))
+      (all_told m room n (behind at z.step.used) (begins && z.step.used == 0) (drop z.step.used b) (tells m room (behind at z.step.used) (take z.step.used b) z.step.heard s (with_heads z.after d)).known (tells m room (behind at z.step.used) (take z.step.used b) z.step.heard s (with_heads z.after d)).after)) (sym e))
 
-  pub told_none : (left at : ℕ) (begins : Bool) (b : List ℕ) (s : S) (d : Direction) → left ≤ 0 → all_told m left at begins b s d ≡ telling [] d s
+  pub told_none : (left at : ℕ) (begins : Bool) (b : List ℕ) (s : S) (d : Direction) → left ≤ 0 → all_told m room left at begins b s d ≡ telling [] d s
   told_none zero at begins b s d none = refl
   told_none (suc n) at begins b s d none = absurd (omega arith)
 
@@ -199,15 +200,15 @@ module _ {S F : Type 0} (refuses : F → Bool) (m : Manner S) (first : StreamSta
 
 -- ---- a gap, after the end of the frame that is read
 
-module _ {S F : Type 0} (refuses : F → Bool) (m : Manner S) (at n : ℕ) (closed : Telling S) (d : Direction) (w u new : Written) where
-  pub gap_stops : (s : S) (r : Result (Unit {0}) F) (e : F) → IsErr r × IsErrAnd r (λ f. f ≡ e) → Stops (refuses e) w closed.text new → IsTold refuses (gap_told m at n closed) r w new d s
+module _ {S F : Type 0} (refuses : F → Bool) (m : Manner S) (at n : ℕ) (cause : GapCause) (closed : Telling S) (d : Direction) (w u new : Written) where
+  pub gap_stops : (s : S) (r : Result (Unit {0}) F) (e : F) → IsErr r × IsErrAnd r (λ f. f ≡ e) → Stops (refuses e) w closed.text new → IsTold refuses (gap_told m at n cause closed) r w new d s
   gap_stops s (Ok x) e stops breaks = cc
-  gap_stops s (Err f) e stops breaks = stops_in_more (refuses f) w new closed.text (m.text closed.known (happening.Gap at n)) (subst (λ (z : F). Stops (refuses z) w closed.text new) (sym stops.1) breaks)
+  gap_stops s (Err f) e stops breaks = stops_in_more (refuses f) w new closed.text (m.text closed.known (happening.Gap at n cause)) (subst (λ (z : F). Stops (refuses z) w closed.text new) (sym stops.1) breaks)
 
-  pub gap_writes : (s t : S) (r : Result (Unit {0}) F) → IsTold refuses closed (Ok tt) w u d s → Takes refuses u (m.text s (happening.Gap at n)) r new → OnOk r (t ≡ m.after s (happening.Gap at n)) → IsTold refuses (gap_told m at n closed) r w new d t
+  pub gap_writes : (s t : S) (r : Result (Unit {0}) F) → IsTold refuses closed (Ok tt) w u d s → Takes refuses u (m.text s (happening.Gap at n cause)) r new → OnOk r (t ≡ m.after s (happening.Gap at n cause)) → IsTold refuses (gap_told m at n cause closed) r w new d t
   gap_writes s t (Ok x) told writes after = (
-    takes_then_takes w u new closed.text (m.text closed.known (happening.Gap at n)) told.0 (subst (λ (z : S). Receives u (m.text z (happening.Gap at n)) new) told.2 writes),
+    takes_then_takes w u new closed.text (m.text closed.known (happening.Gap at n cause)) told.0 (subst (λ (z : S). Receives u (m.text z (happening.Gap at n cause)) new) told.2 writes),
     told.1,
-    after ∙ ap (λ (z : S). m.after z (happening.Gap at n)) told.2,
+    after ∙ ap (λ (z : S). m.after z (happening.Gap at n cause)) told.2,
   )
-  gap_writes s t (Err e) told writes after = takes_then_stops (refuses e) w u new closed.text (m.text closed.known (happening.Gap at n)) told.0 (subst (λ (z : S). Stops (refuses e) u (m.text z (happening.Gap at n)) new) told.2 writes)
+  gap_writes s t (Err e) told writes after = takes_then_stops (refuses e) w u new closed.text (m.text closed.known (happening.Gap at n cause)) told.0 (subst (λ (z : S). Stops (refuses e) u (m.text z (happening.Gap at n cause)) new) told.2 writes)

@@ -1,5 +1,5 @@
 -- Texts that end early.
-use Rattle.std.proofs.Common.{◌≡◌, ◌∙◌, ℕ, Bool, true, false, List, ◌++◌, Result, Ok, Err, IsErr, IsErrAnd, sym, ap, append_assoc}
+use Rattle.std.proofs.Common.{◌≡◌, ◌∙◌, ℕ, Bool, true, false, List, ◌++◌, Result, Ok, Err, sym, ap, append_assoc}
 use Rattle.cqlp_grammar.specs.declared.sink.SinkFault.{SinkFault}
 use Rattle.cqlp_text.specs.Written.{Receives, Writes, Written}
 use Rattle.cqlp_text.proofs.Writing.{Progress, breaks_in_more, progress_breaks, takes_then_breaks, takes_then_takes}

@@ -1,4 +1,6 @@
 pub mod Faults
+pub mod Parts
+pub mod Tellings
 pub mod Reading
 pub mod Given
 pub mod Directions

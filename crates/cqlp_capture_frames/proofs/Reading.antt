@@ -9,7 +9,6 @@ use Rattle.cqlp_note.specs.Reader.{Said, More, Got, Bad, says as told}
 use Rattle.cqlp_note.specs.Step.{Emitted}
 use Rattle.cqlp_note.proofs.Runs.{runs_stay}
 use Rattle.cqlp_kind.specs.declared.node.Node.{Node}
-use Rattle.cqlp_type.specs.Table.{Table}
 use Rattle.cqlp_decode.specs.Reading.{Event, Place, Read, Reads, Verdict, Waits, Refused, Ends, Says, reading, start_with, step, then_read}
 use Rattle.cqlp_decode.specs.Progress.{StreamState}
 use Rattle.cqlp_decode.specs.Streams.{AfterBy, AfterGifts, Stands}

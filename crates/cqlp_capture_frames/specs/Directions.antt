@@ -6,15 +6,16 @@ use Rattle.cqlp_note.specs.declared.header.TheConstants.Header.{LONGEST_BODY}
 use Rattle.cqlp_note.specs.Heading.{answers, has, header_bytes, same}
 use Rattle.cqlp_note.specs.Limits.{Rules}
 use Rattle.cqlp_text.specs.Written.{Receives, Written}
-use Rattle.cqlp_reassembly.specs.declared.stream.StreamStep.{StreamStep}
-use Rattle.cqlp_reassembly.specs.declared.stream.StreamStep.TheVariants as step
-use Rattle.cqlp_watch.specs.declared.heads.Heads.{Heads}
-use Rattle.cqlp_watch.specs.declared.heads.Heard.{Heard}
-use Rattle.cqlp_watch.specs.declared.heads.Heard.TheVariants as heard_as
-use Rattle.cqlp_watch.specs.Directions as watch
-use Rattle.cqlp_watch.specs.Directions.{Steps, anew}
+use Rattle.cqlp_tcp_reassembly.specs.declared.step.GapCause.{GapCause}
+use Rattle.cqlp_tcp_reassembly.specs.declared.step.StreamStep.{StreamStep}
+use Rattle.cqlp_tcp_reassembly.specs.declared.step.StreamStep.TheVariants as step
+use Rattle.cqlp_observer.specs.declared.heads.Heads.{Heads}
+use Rattle.cqlp_observer.specs.declared.heads.Heard.{Heard}
+use Rattle.cqlp_observer.specs.declared.heads.Heard.TheVariants as heard_as
+use Rattle.cqlp_observer.specs.Directions as watch
+use Rattle.cqlp_observer.specs.Directions.{Steps, anew}
 use Rattle.cqlp_capture_frames.specs.Faults.{Stops}
-use Rattle.cqlp_capture_frames.specs.Happenings.{Happening, Manner, Begins, Compressed, Closes, Ends, Gap, after_all, texts}
+use Rattle.cqlp_capture_frames.specs.Happenings.{Happening, Manner, Begins, Compressed, Unread, Closes, Ends, Gap, after_all, texts}
 use Rattle.cqlp_capture_frames.specs.Frames.{Open, behind, more_of, open_after, opened, taken, types_read}
 
 -- The rules that its frames are read by, whether they are responses, where they begin and end, and the frame of which bytes are read, if there
@@ -92,45 +93,49 @@ module _ {S : Type 0} (m : Manner S) where
       before (m.text s (Begins at h))
       (goes_on (header_bytes h) (opened at (taken d.rules (m.types s at h)) []) (m.after s (Begins at h)) d)
 
-  abbrev pub begins : (at : ℕ) → Header → S → Direction → Telling S
-  begins at h s d = if is_plain h then begins_plain at h s d else happens (Compressed at h) s (with_frame None d)
+  -- a frame is read only where there is room for its memory
+  abbrev pub begins : (room : Bool) → (at : ℕ) → Header → S → Direction → Telling S
+  begins room at h s d =
+      if is_plain h then (if room then begins_plain at h s d else happens (Unread at h) s (with_frame None d))
+      else happens (Compressed at h) s (with_frame None d)
 
   abbrev pub body : List ℕ → Option Open → S → Direction → Telling S
   body b None s d = telling [] (with_frame None d) s
   body b (Some f) s d = goes_on b f s d
 
   -- the bytes that lie before this offset, and what they are
-  abbrev pub tells : (end : ℕ) → List ℕ → Heard → S → Direction → Telling S
-  tells end b (heard_as.Begins h) s d = begins (end - 9) h s d
-  tells end b heard_as.Body s d = body b d.frame s d
-  tells end b (heard_as.Ends f) s d = ends d.frame s d
-  tells end b heard_as.Stray s d = closes d.frame s d
-  tells end b heard_as.More s d = telling [] d s
+  abbrev pub tells : (room : Bool) → (end : ℕ) → List ℕ → Heard → S → Direction → Telling S
+  tells room end b (heard_as.Begins h) s d = begins room (end - 9) h s d
+  tells room end b heard_as.Body s d = body b d.frame s d
+  tells room end b (heard_as.Ends f) s d = ends d.frame s d
+  tells room end b heard_as.Stray s d = closes d.frame s d
+  tells room end b heard_as.More s d = telling [] d s
 
   -- ---- bytes, step by step. Their first one begins a segment or not.
 
-  abbrev pub all_told : (steps at : ℕ) → (begins : Bool) → List ℕ → S → Direction → Telling S
-  all_told zero at begins b s d = telling [] d s
-  all_told (suc n) at begins b s d =
+  abbrev pub all_told : (room : Bool) → (steps at : ℕ) → (begins : Bool) → List ℕ → S → Direction → Telling S
+  all_told room zero at begins b s d = telling [] d s
+  all_told room (suc n) at begins b s d =
       let x = watch.heard None begins b d.heads in
-      let t = tells (behind at x.step.used) (take x.step.used b) x.step.heard s (with_heads x.after d) in
+      let t = tells room (behind at x.step.used) (take x.step.used b) x.step.heard s (with_heads x.after d) in
       if is_done x.step.heard then t
-      else before t.text (all_told n (behind at x.step.used) (begins && x.step.used == 0) (drop x.step.used b) t.known t.after)
+      else before t.text (all_told room n (behind at x.step.used) (begins && x.step.used == 0) (drop x.step.used b) t.known t.after)
 
   -- as many steps as they can take: each uses some byte, or ends a frame
-  abbrev pub bytes_told : (at : ℕ) → (begins : Bool) → List ℕ → S → Direction → Telling S
-  bytes_told at begins b s d = all_told (2 * length b + 2) at begins b s d
+  abbrev pub bytes_told : (room : Bool) → (at : ℕ) → (begins : Bool) → List ℕ → S → Direction → Telling S
+  bytes_told room at begins b s d = all_told room (2 * length b + 2) at begins b s d
 
   -- ---- what a stream tells: the first bytes of a segment's payload begin it
 
-  abbrev pub gap_told : (at length : ℕ) → Telling S → Telling S
-  gap_told at n t = before t.text (happens (Gap at n) t.known t.after)
+  abbrev pub gap_told : (at length : ℕ) → GapCause → Telling S → Telling S
+  gap_told at n cause t = before t.text (happens (Gap at n cause) t.known t.after)
 
-  abbrev pub step_told : StreamStep → (at : ℕ) → List ℕ → S → Direction → Telling S
-  step_told (step.Began syn) at b s d = closes d.frame s (begun d.rules d.responses syn)
-  step_told (step.Payload from count) at b s d = bytes_told at (from == 0) b s d
-  step_told (step.Held count) at b s d = bytes_told at false b s d
-  step_told (step.Gap n) at b s d = gap_told at n (closes d.frame s (with_heads (watch.after_gap n d.heads).after d))
-  step_told step.Ended at b s d = closes d.frame s (with_heads (watch.after_end d.heads).after d)
-  step_told step.Reset at b s d = closes d.frame s (with_heads (watch.after_end d.heads).after d)
-  step_told step.Done at b s d = telling [] d s
+  abbrev pub step_told : (room : Bool) → StreamStep → (at : ℕ) → List ℕ → S → Direction → Telling S
+  step_told room (step.Began syn) at b s d = closes d.frame s (begun d.rules d.responses syn)
+  step_told room (step.Payload from count) at b s d = bytes_told room at (from == 0) b s d
+  step_told room (step.Held time begins) at b s d = bytes_told room at begins b s d
+  step_told room (step.Gap n cause time) at b s d = gap_told at n cause (closes d.frame s (with_heads (watch.after_gap n None d.heads).after d))
+  step_told room step.Kept at b s d = telling [] d s
+  step_told room step.Ended at b s d = closes d.frame s (with_heads (watch.after_end d.heads).after d)
+  step_told room step.Reset at b s d = closes d.frame s (with_heads (watch.after_end d.heads).after d)
+  step_told room step.Done at b s d = telling [] d s

@@ -4,16 +4,18 @@ use Rattle.cqlp_note.specs.declared.header.Header.{Header}
 use Rattle.cqlp_note.specs.declared.refusal.Reason.{Reason}
 use Rattle.cqlp_kind.specs.declared.node.Node.{Node}
 use Rattle.cqlp_grammar.specs.Events.{Event}
+use Rattle.cqlp_tcp_reassembly.specs.declared.step.GapCause.{GapCause}
 
 -- At an offset of the direction: a frame with this header begins, of which the bytes are read; it says an event; it is refused; a frame with this
--- header begins that is compressed; this many bytes are missing. Or the frame came whole, and these are the types of the metadata that it
--- described last; or no more is read of it.
+-- header begins that is compressed; one begins that there is no room to read; this many bytes are missing, for this cause. Or the frame came
+-- whole, and these are the types of the metadata that it described last; or no more is read of it.
 pub data Happening : Type 0 where
   Begins : (at : ℕ) → Header → Happening
   Says : (at : ℕ) → Event → Happening
   Fails : (at : ℕ) → Reason → Happening
   Compressed : (at : ℕ) → Header → Happening
-  Gap : (at length : ℕ) → Happening
+  Unread : (at : ℕ) → Header → Happening
+  Gap : (at length : ℕ) → GapCause → Happening
   Ends : (types : List Node) → Happening
   Closes : Happening
 

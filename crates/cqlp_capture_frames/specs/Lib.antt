@@ -1,5 +1,8 @@
 pub mod Faults
+pub mod Lines
+pub mod Tellings
 pub mod Happenings
 pub mod Frames
 pub mod Reading
+pub mod Readers
 pub mod Directions

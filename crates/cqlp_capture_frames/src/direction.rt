@@ -1,71 +1,68 @@
 //! One direction of a connection.
 
-ghost use Rattle.std.specs.Prelude.{◌≡◌, ◌&&◌, ◌==◌, true, IfOk};
+ghost use Rattle.std.specs.Prelude.{◌≡◌, ◌&&◌, ◌==◌, true, IfOk, OnOk};
 ghost use Rattle.cqlp_note.specs.Limits.{rules_of};
 ghost use Rattle.cqlp_capture_frames.specs.Directions.{is_done, is_plain};
 
-use crate::drain::{begin_frame, behind, drain};
-use crate::noted::Noted;
+use crate::drain::behind;
+use crate::reader::FrameReader;
 use crate::transcript::Transcript;
-use cqlp_decode::{Decoder, NewError};
 use cqlp_note::{Header, Limits};
-use cqlp_reassembly::StreamStep;
+use cqlp_observer::{Heads, Heard, HeardStep};
+use cqlp_tcp_reassembly::StreamStep;
 use cqlp_text::{Pen, TextWriter};
-use cqlp_watch::{Heads, Heard, HeardStep};
-use std::alloc::{Allocator, Global};
+use cqlp_type::TypeTable;
+use std::alloc::{AllocError, Allocator, Global};
 use std::marker::Model;
 
 /// One direction of a connection: where its frames begin and end, and the decoder of the frame of which bytes are read. A frame is read as a
-/// stream of its own, so that a refusal, a gap or a compressed frame does not end the reading. All memory is taken in `new`.
+/// stream of its own, so that a refusal, a gap or a compressed frame does not end the reading. It has memory while a frame is read, for its
+/// decoder.
 #[derive(Drop)]
 pub struct Direction<A: Allocator = Global> {
+    alloc: A,
+    limits: Limits,
     responses: bool,
     heads: Heads,
-    decoder: Decoder<A>,
-    /// Whether the present frame is read; else its bytes are passed over.
-    is_open: bool,
-    /// Where that frame begins.
-    at: u64,
-    /// What the decoder was handed of it.
-    came: Noted,
+    /// The decoder of the present frame; where there is none, its bytes are passed over.
+    reader: Option<Box<FrameReader<A>, A>>,
 }
 
 impl<A: Allocator> Model for Direction<A> {
-    ghost use Rattle.cqlp_decode.specs.Streams.{state};
-    ghost use Rattle.cqlp_capture_frames.specs.Frames.{nodes_of};
-    ghost use Rattle.cqlp_capture_frames.specs.Reading.{IsReady, frame_if};
+    ghost use Rattle.cqlp_note.specs.Limits.{rules_of};
+    ghost use Rattle.cqlp_capture_frames.specs.Readers.{HasRules, frame_of};
     ghost use Rattle.cqlp_capture_frames.specs.Directions.{Direction, direction};
 
     ghost Value = { Direction };
 
-    ghost view = { λ d. direction (state d.decoder).rules d.responses d.heads
-        (frame_if d.is_open d.at (nodes_of (state d.decoder).given) d.came.bytes) };
+    ghost view = { λ d. direction (rules_of d.limits) d.responses d.heads (frame_of d.reader) };
 
-    ghost invariant = { λ d. IsReady d.is_open (state d.decoder) d.came.bytes };
-}
-
-impl<A: Allocator + Clone> Direction<A> {
-    ghost use Rattle.std.specs.Prelude.{false};
-    ghost use Rattle.cqlp_capture_frames.specs.Directions.{begun};
-
-    /// A direction of which nothing came, that of the responses or that of the requests, with the decoder's memory within these limits.
-    pub fn new(alloc: A, limits: Limits, responses: bool) -> Result<Self, NewError>
-        ensures { IfOk result (λ d. d ≡ begun (rules_of limits) responses false) }
-    {
-        let decoder = Decoder::new(alloc, limits)?;
-        Ok(Direction {
-            responses,
-            heads: Heads::new(responses, false),
-            decoder,
-            is_open: false,
-            at: 0,
-            came: Noted::new(),
-        })
-    }
+    ghost invariant = { λ d. HasRules (rules_of d.limits) d.reader };
 }
 
 impl<A: Allocator> Direction<A> {
-    ghost use Rattle.std.specs.Prelude.{None};
+    ghost use Rattle.std.specs.Prelude.{false};
+    ghost use Rattle.cqlp_capture_frames.specs.Directions.{begun};
+
+    /// A direction of which nothing came, that of the responses or that of the requests, whose frames are read within these limits. Takes no
+    /// memory.
+    pub fn new(alloc: A, limits: Limits, responses: bool) -> Self
+        ensures { result ≡ begun (rules_of limits) responses false }
+    {
+        Direction {
+            alloc,
+            limits,
+            responses,
+            heads: Heads::new(responses, false),
+            reader: None,
+        }
+    }
+}
+
+impl<A: Allocator + Clone> Direction<A> {
+    ghost use Rattle.std.specs.Prelude.{[], None, Some, is_some};
+    ghost use Rattle.cqlp_capture_frames.specs.Readers.{frame_reading};
+    ghost use Rattle.cqlp_capture_frames.specs.Frames.{nodes_of, opened, taken};
     ghost use Rattle.cqlp_capture_frames.specs.Directions.{IsSame, IsTold, begins, begins_plain, begun, body};
     ghost use Rattle.cqlp_capture_frames.specs.Directions.{bytes_told, closes, ends, step_told, tells, with_frame};
 
@@ -74,19 +71,31 @@ impl<A: Allocator> Direction<A> {
         ensures { self.new ≡ begun self.old.rules self.old.responses from_start }
     {
         self.heads = Heads::new(self.responses, from_start);
-        self.is_open = false;
+        self.reader = None;
     }
 
-    /// Takes what is told of it at an offset, with its bytes, and tells the transcript what happens.
+    /// Whether a frame is read, for which it has memory.
+    pub fn is_open(&self) -> bool
+        ensures { result ≡ is_some self.now.frame }
+    {
+        match &self.reader {
+            Some(reader) => reader.is_open(),
+            None => false,
+        }
+    }
+
+    /// Takes what is told of it at an offset, with its bytes, and tells the transcript what happens. Where there is no room for the memory of a
+    /// frame, those that begin are passed over.
     pub fn hear<T: Transcript<A>, P: Pen>(
         &mut self,
+        has_room: bool,
         step: StreamStep,
         at: u64,
         bytes: &[u8],
         transcript: &mut T,
         writer: &mut TextWriter<P>,
     ) -> Result<(), T::Fault>
-        ensures told { IsTold T.Transcript.refuses (step_told T.Transcript.manner step at bytes.now (T.Transcript.state transcript.old) self.old)
+        ensures told { IsTold T.Transcript.refuses (step_told T.Transcript.manner has_room step at bytes.now (T.Transcript.state transcript.old) self.old)
             result writer.old writer.new self.new (T.Transcript.state transcript.new) }
         ensures same { IsSame self.old self.new }
     {
@@ -97,20 +106,21 @@ impl<A: Allocator> Direction<A> {
                 Ok(())
             }
             StreamStep::Payload { from, .. } => {
-                self.hear_bytes(at, from == 0, bytes, transcript, writer)
+                self.hear_bytes(has_room, at, from == 0, bytes, transcript, writer)
             }
-            StreamStep::Held { .. } => self.hear_bytes(at, false, bytes, transcript, writer),
-            StreamStep::Gap { length } => {
-                let length = length as u64;
-                let _ = self.heads.gap(length);
+            StreamStep::Held { begins, .. } => {
+                self.hear_bytes(has_room, at, begins, bytes, transcript, writer)
+            }
+            StreamStep::Gap { length, cause, .. } => {
+                let _ = self.heads.gap(length, None);
                 self.close(transcript, writer)?;
-                transcript.gap(at, length, writer)
+                transcript.gap(at, length, cause, writer)
             }
             StreamStep::Ended | StreamStep::Reset => {
                 let _ = self.heads.end();
                 self.close(transcript, writer)
             }
-            StreamStep::Done => Ok(()),
+            StreamStep::Kept | StreamStep::Done => Ok(()),
         }
     }
 
@@ -124,11 +134,10 @@ impl<A: Allocator> Direction<A> {
         ensures told { IsTold T.Transcript.refuses (closes T.Transcript.manner self.old.frame (T.Transcript.state transcript.old) self.old)
             result writer.old writer.new self.new (T.Transcript.state transcript.new) }
     {
-        if !self.is_open {
-            return Ok(());
+        match self.reader.take() {
+            Some(reader) => reader.close(transcript, writer),
+            None => Ok(()),
         }
-        self.is_open = false;
-        transcript.close(writer)
     }
 
     /// The frame that is read came whole, if one is.
@@ -141,23 +150,23 @@ impl<A: Allocator> Direction<A> {
         ensures told { IsTold T.Transcript.refuses (ends T.Transcript.manner self.old.frame (T.Transcript.state transcript.old) self.old)
             result writer.old writer.new self.new (T.Transcript.state transcript.new) }
     {
-        if !self.is_open {
-            return Ok(());
+        match self.reader.take() {
+            Some(reader) => reader.end(transcript, writer),
+            None => Ok(()),
         }
-        self.is_open = false;
-        transcript.end(self.decoder.table(), writer)
     }
 
     /// Takes bytes from an offset on, the first of which begins a segment or not.
     fn hear_bytes<T: Transcript<A>, P: Pen>(
         &mut self,
+        has_room: bool,
         at: u64,
         begins: bool,
         bytes: &[u8],
         transcript: &mut T,
         writer: &mut TextWriter<P>,
     ) -> Result<(), T::Fault>
-        ensures told { IsTold T.Transcript.refuses (bytes_told T.Transcript.manner at begins bytes.now (T.Transcript.state transcript.old) self.old)
+        ensures told { IsTold T.Transcript.refuses (bytes_told T.Transcript.manner has_room at begins bytes.now (T.Transcript.state transcript.old) self.old)
             result writer.old writer.new self.new (T.Transcript.state transcript.new) }
         ensures same { IsSame self.old self.new }
     {
@@ -168,7 +177,7 @@ impl<A: Allocator> Direction<A> {
         while steps > 0 {
             let HeardStep { used, heard } = self.heads.take(rest, None, is_first);
             end = behind(end, used as u64);
-            self.tell(end, heard, &rest[..used], transcript, writer)?;
+            self.tell(has_room, end, heard, &rest[..used], transcript, writer)?;
             if is_done(heard) {
                 return Ok(());
             }
@@ -182,19 +191,21 @@ impl<A: Allocator> Direction<A> {
     /// Takes bytes that end at an offset, and what they are.
     fn tell<T: Transcript<A>, P: Pen>(
         &mut self,
+        has_room: bool,
         end: u64,
         heard: Heard,
         bytes: &[u8],
         transcript: &mut T,
         writer: &mut TextWriter<P>,
     ) -> Result<(), T::Fault>
-        ensures told { IsTold T.Transcript.refuses (tells T.Transcript.manner end bytes.now heard (T.Transcript.state transcript.old) self.old)
+        ensures told { IsTold T.Transcript.refuses (tells T.Transcript.manner has_room end bytes.now heard (T.Transcript.state transcript.old) self.old)
             result writer.old writer.new self.new (T.Transcript.state transcript.new) }
         ensures same { IsSame self.old self.new }
     {
         match heard {
             Heard::Begins(header) => {
-                self.begin(end.saturating_sub(9), &header, transcript, writer)
+                let at = end.saturating_sub(9);
+                self.begin(has_room, at, &header, transcript, writer)
             }
             Heard::Body => self.take_body(bytes, transcript, writer),
             Heard::Ends(_) => self.end(transcript, writer),
@@ -206,20 +217,24 @@ impl<A: Allocator> Direction<A> {
     /// A frame begins at an offset with this header.
     fn begin<T: Transcript<A>, P: Pen>(
         &mut self,
+        has_room: bool,
         at: u64,
         header: &Header,
         transcript: &mut T,
         writer: &mut TextWriter<P>,
     ) -> Result<(), T::Fault>
-        ensures told { IsTold T.Transcript.refuses (begins T.Transcript.manner at header.now (T.Transcript.state transcript.old) self.old)
+        ensures told { IsTold T.Transcript.refuses (begins T.Transcript.manner has_room at header.now (T.Transcript.state transcript.old) self.old)
             result writer.old writer.new self.new (T.Transcript.state transcript.new) }
         ensures same { IsSame self.old self.new }
     {
-        if is_plain(header) {
+        if !is_plain(header) {
+            self.reader = None;
+            transcript.compressed(at, header, writer)
+        } else if has_room {
             self.begin_plain(at, header, transcript, writer)
         } else {
-            self.is_open = false;
-            transcript.compressed(at, header, writer)
+            self.reader = None;
+            transcript.unread(at, header, writer)
         }
     }
 
@@ -237,11 +252,32 @@ impl<A: Allocator> Direction<A> {
         ensures same { IsSame self.old self.new }
     {
         let types = transcript.begin(at, header, writer)?;
-        begin_frame(&mut self.decoder, types);
-        self.came = Noted::new();
-        self.at = at;
-        self.is_open = true;
-        self.take_body(&header.write(), transcript, writer)
+        match self.begin_reader(at, types) {
+            Ok(()) => self.take_body(&header.write(), transcript, writer),
+            Err(AllocError) => Err(T::no_memory()),
+        }
+    }
+
+    /// A frame begins at an offset, whose bytes are read, with these types.
+    fn begin_reader(&mut self, at: u64, types: Option<TypeTable<A>>) -> Result<(), AllocError>
+        ensures begun { OnOk result (self.new ≡ with_frame (Some (opened at (taken self.old.rules (nodes_of types)) [])) self.old) }
+        ensures same { IsSame self.old self.new }
+    {
+        let reader = self.new_reader(at, types)?;
+        self.reader = Some(reader);
+        Ok(())
+    }
+
+    /// The decoder of a frame that begins at an offset, with these types.
+    fn new_reader(
+        &self,
+        at: u64,
+        types: Option<TypeTable<A>>,
+    ) -> Result<Box<FrameReader<A>, A>, AllocError>
+        ensures { IfOk result (λ b. b.value ≡ frame_reading self.now.rules (Some (opened at (taken self.now.rules (nodes_of types)) []))) }
+    {
+        let reader = FrameReader::new(self.alloc.clone()?, self.limits, at, types)?;
+        Ok(Box::new(self.alloc.clone()?, reader)?)
     }
 
     /// Takes bytes which come next of the frame that is read, if one is.
@@ -255,20 +291,14 @@ impl<A: Allocator> Direction<A> {
             result writer.old writer.new self.new (T.Transcript.state transcript.new) }
         ensures same { IsSame self.old self.new }
     {
-        if !self.is_open {
+        let Some(mut reader) = self.reader.take() else {
             return Ok(());
+        };
+        let taken = reader.take(bytes, transcript, writer);
+        if reader.is_open() {
+            self.reader = Some(reader);
         }
-        self.is_open = false;
-        self.came.note(bytes);
-        match drain(&mut self.decoder, bytes, self.at, transcript, writer)? {
-            None => {
-                self.is_open = true;
-                Ok(())
-            }
-            Some(refusal) => {
-                transcript.refusal(behind(self.at, refusal.at), refusal.why, writer)
-            }
-        }
+        taken
     }
 }
 

@@ -1,10 +1,11 @@
 //! How what happens in a direction is written.
 
-ghost use Rattle.std.specs.Prelude.{◌≡◌, IfOk, OnOk, option_map, Bool};
+ghost use Rattle.std.specs.Prelude.{◌≡◌, IfOk, OnOk, option_map, Bool, true};
 ghost use Rattle.cqlp_capture_frames.specs.Faults.{Takes};
 
 use cqlp_grammar::Event;
 use cqlp_note::{Header, Reason};
+use cqlp_tcp_reassembly::GapCause;
 use cqlp_text::{Pen, TextWriter};
 use cqlp_type::TypeTable;
 use std::alloc::Allocator;
@@ -13,7 +14,7 @@ use std::alloc::Allocator;
 /// offsets count from the start of the direction. After a fault nothing more is told.
 pub trait Transcript<A: Allocator> {
     ghost use Rattle.cqlp_grammar.specs.Events.{event_of};
-    ghost use Rattle.cqlp_capture_frames.specs.Happenings.{Manner, Begins, Says, Fails, Compressed, Ends, Closes, outcome};
+    ghost use Rattle.cqlp_capture_frames.specs.Happenings.{Manner, Begins, Says, Fails, Compressed, Unread, Ends, Closes, outcome};
     ghost use Rattle.cqlp_capture_frames.specs.Happenings as happening;
 
     /// What ends the text early: a fault of the output, or that memory is refused.
@@ -29,6 +30,10 @@ pub trait Transcript<A: Allocator> {
 
     /// How what happens is written.
     ghost manner: { Manner State };
+
+    /// That memory is refused.
+    fn no_memory() -> Self::Fault
+        ensures { refuses result ≡ true };
 
     /// A frame with this header begins at an offset, and its bytes are read. Answers the types for its page, should that not describe its columns
     /// (flag No_metadata, section 4.2.5.2 of `native_protocol_v4.spec`).
@@ -72,15 +77,26 @@ pub trait Transcript<A: Allocator> {
         ensures text { Takes refuses writer.old (manner.text (state self.old) (Compressed at header.now)) result writer.new }
         ensures after { OnOk result (state self.new ≡ manner.after (state self.old) (Compressed at header.now)) };
 
-    /// So many bytes are missing at an offset.
+    /// A frame with this header begins at an offset, and there is no room to read it, so that its bytes are passed over.
+    fn unread<P: Pen>(
+        &mut self,
+        at: u64,
+        header: &Header,
+        writer: &mut TextWriter<P>,
+    ) -> Result<(), Self::Fault>
+        ensures text { Takes refuses writer.old (manner.text (state self.old) (Unread at header.now)) result writer.new }
+        ensures after { OnOk result (state self.new ≡ manner.after (state self.old) (Unread at header.now)) };
+
+    /// So many bytes are missing at an offset, for this cause.
     fn gap<P: Pen>(
         &mut self,
         at: u64,
         length: u64,
+        cause: GapCause,
         writer: &mut TextWriter<P>,
     ) -> Result<(), Self::Fault>
-        ensures text { Takes refuses writer.old (manner.text (state self.old) (happening.Gap at length)) result writer.new }
-        ensures after { OnOk result (state self.new ≡ manner.after (state self.old) (happening.Gap at length)) };
+        ensures text { Takes refuses writer.old (manner.text (state self.old) (happening.Gap at length cause)) result writer.new }
+        ensures after { OnOk result (state self.new ≡ manner.after (state self.old) (happening.Gap at length cause)) };
 
     /// The frame that began last came whole. These are the types of the metadata that it described last: of a PREPARED those of its statement's
     /// result (section 4.2.5.4 of `native_protocol_v4.spec`).

@@ -1,13 +1,14 @@
 -- A fault has its cause.
 use Rattle.std.proofs.Common.{ℕ, List, codes, Option, Result, Ok, Err, refl, sym, subst}
 use Rattle.cqlp_text.specs.Outputs.{Output}
-use Rattle.cqlp_streams.specs.declared.capturing.CaptureRead.{CaptureRead}
-use Rattle.cqlp_streams.specs.declared.fault.StreamsFault.{StreamsFault}
-use Rattle.cqlp_streams.specs.declared.fault.StreamsFault.TheVariants as fault
-use Rattle.cqlp_streams.specs.Captures.{ReadsMade}
-use Rattle.cqlp_streams.specs.Sayings.{Saying}
-use Rattle.cqlp_streams.specs.Streams.{ReadsCapture, streams_limits}
-use Rattle.cqlp_streams.proofs.Causes.{EndedIfFault, FailsSo, ended_by, fault_cause}
+use Rattle.cqlp_capture_streams.specs.declared.capturing.CaptureRead.{CaptureRead}
+use Rattle.cqlp_capture_streams.specs.declared.fault.StreamsFault.{StreamsFault}
+use Rattle.cqlp_capture_streams.specs.declared.fault.StreamsFault.TheVariants as fault
+use Rattle.cqlp_capture_streams.specs.declared.limits.StreamsLimits.{StreamsLimits}
+use Rattle.cqlp_capture_streams.specs.Captures.{ReadsMade}
+use Rattle.cqlp_capture_streams.specs.Sayings.{Saying}
+use Rattle.cqlp_capture_streams.specs.Streams.{ReadsCapture}
+use Rattle.cqlp_capture_streams.proofs.Causes.{EndedIfFault, FailsSo, ended_by, fault_cause}
 use Rattle.cqlp_capture_rows.specs.Listening.{Listening, StopsAt, new_listening, with_saying}
 use Rattle.cqlp_capture_rows.specs.Capturing.{FaultsHaveCauses}
 
@@ -21,10 +22,10 @@ stops v w s fault.NoMemory a = tt
 stops v w s fault.TooManyTurns a = absurd a
 stops v w s (fault.File f) a = absurd a
 
-ended : (asked : ℕ) (ports xs : List ℕ) (m : ReadsMade) (left : Option (List ℕ)) (out : Output) (w : Listening) (r : Result CaptureRead StreamsFault) → ReadsCapture with_saying StopsAt streams_limits ports xs m r left (new_listening asked out) w → EndedIfFault m r out.failures w.output.failures
-ended asked ports xs m left out w (Ok x) a = tt
-ended asked ports xs m left out w (Err e) a = fault_cause with_saying StopsAt failures_of (λ v s. refl) stops streams_limits ports xs m e left (new_listening asked out) w a
+ended : (l : StreamsLimits) (asked : ℕ) (ports xs : List ℕ) (m : ReadsMade) (left : Option (List ℕ)) (out : Output) (w : Listening) (r : Result CaptureRead StreamsFault) → ReadsCapture with_saying StopsAt l ports xs m r left (new_listening asked out) w → EndedIfFault m r out.failures w.output.failures
+ended l asked ports xs m left out w (Ok x) a = tt
+ended l asked ports xs m left out w (Err e) a = fault_cause with_saying StopsAt failures_of (λ v s. refl) stops l ports xs m e left (new_listening asked out) w a
 
 pub rows_causes : FaultsHaveCauses
-rows_causes asked ports xs m left out err out' err' (r, (w, reads, is), ends) =
-    ended_by (codes "rows") m r out err out' err' (subst (λ (o : Output). EndedIfFault m r out.failures o.failures) (sym is) (ended asked ports xs m left out w r reads)) ends
+rows_causes l asked ports xs m left out err out' err' (r, (w, reads, is), ends) =
+    ended_by ports (codes "rows") m r out err out' err' (subst (λ (o : Output). EndedIfFault m r out.failures o.failures) (sym is) (ended l asked ports xs m left out w r reads)) ends

@@ -3,14 +3,14 @@ use Rattle.std.proofs.Common.{◌≡◌, ◌∙◌, ◌++◌, [], ℕ, IsSome, L
 use Rattle.std.specs.Io.KnownBytes.{append_known}
 use Rattle.cqlp_text.specs.Outputs.{output, with_text}
 use Rattle.cqlp_text.specs.Written.{Receives, Written}
-use Rattle.cqlp_prepared.specs.declared.requests.Requests.{Requests}
-use Rattle.cqlp_streams.specs.declared.fault.StreamsFault.{StreamsFault}
-use Rattle.cqlp_streams.specs.Sayings.{Saying}
-use Rattle.cqlp_capture_rows.specs.declared.fault.TellFault.{TellFault}
-use Rattle.cqlp_capture_rows.specs.declared.fault.TellFault.TheVariants as fault
+use Rattle.cqlp_capture_prepared.specs.declared.requests.Requests.{Requests}
+use Rattle.cqlp_capture_streams.specs.declared.fault.StreamsFault.{StreamsFault}
+use Rattle.cqlp_capture_streams.specs.Sayings.{Saying}
+use Rattle.cqlp_capture_frames.specs.declared.fault.TellFault.{TellFault}
+use Rattle.cqlp_capture_frames.specs.declared.fault.TellFault.TheVariants as fault
 use Rattle.cqlp_capture_frames.specs.Directions.{Direction}
 use Rattle.cqlp_capture_frames.specs.Faults.{Takes}
-use Rattle.cqlp_capture_rows.specs.Faults.{is_memory}
+use Rattle.cqlp_capture_frames.specs.Tellings.{is_memory}
 use Rattle.cqlp_capture_rows.specs.Responses.{Responses}
 use Rattle.cqlp_capture_rows.specs.Listening.{Change, Hears, Listening, Tells, change_of, listening, with_saying}
 

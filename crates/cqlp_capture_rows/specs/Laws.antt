@@ -1,7 +1,7 @@
 -- Laws: two answers are the same.
 use Rattle.std.specs.Prelude.{◌≡◌, ℕ, Ok}
 use Rattle.cqlp_text.specs.Outputs.{Output}
-use Rattle.cqlp_streams.specs.Sayings.{Saying}
+use Rattle.cqlp_capture_streams.specs.Sayings.{Saying}
 use Rattle.cqlp_capture_rows.specs.Listening.{Hears, Listening, new_listening}
 
 abbrev pub OneAnswerOfNew : Type 0

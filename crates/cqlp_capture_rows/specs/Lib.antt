@@ -1,6 +1,5 @@
 pub mod Spots
 pub mod Pages
-pub mod Faults
 pub mod Responses
 pub mod Listening
 pub mod Capturing

@@ -1,18 +1,18 @@
 -- What listens to what is told of the connections of a capture, and writes the pages of one of them.
 use Rattle.std.specs.Prelude.{◌≡◌, ℕ, ◌==◌, true, false, List, [], Result, Ok, Err, if◌then◌else◌}
-use Rattle.cqlp_connections.specs.declared.ends.Way.{Way}
-use Rattle.cqlp_connections.specs.declared.ends.Way.TheVariants.{Requests as ByClient, Responses as ByNode}
-use Rattle.cqlp_connections.specs.declared.told.Told.{Told}
+use Rattle.cqlp_tcp_connections.specs.declared.ends.Way.{Way}
+use Rattle.cqlp_tcp_connections.specs.declared.ends.Way.TheVariants.{Requests as ByClient, Responses as ByNode}
+use Rattle.cqlp_tcp_connections.specs.declared.told.Told.{Told}
 use Rattle.cqlp_text.specs.Outputs.{Output, StopsWithin, with_text}
-use Rattle.cqlp_streams.specs.declared.fault.StreamsFault.{StreamsFault}
-use Rattle.cqlp_streams.specs.declared.fault.StreamsFault.TheVariants as fault
-use Rattle.cqlp_streams.specs.Sayings.{Saying, Packet, New, Of, Left}
-use Rattle.cqlp_prepared.specs.declared.requests.Requests.{Requests}
-use Rattle.cqlp_prepared.specs.Keeping.{new_keeping}
-use Rattle.cqlp_prepared.specs.Requests.{Asked, asked, silent, step_asked}
-use Rattle.cqlp_capture_rows.specs.declared.fault.TellFault.{TellFault}
+use Rattle.cqlp_capture_streams.specs.declared.fault.StreamsFault.{StreamsFault}
+use Rattle.cqlp_capture_streams.specs.declared.fault.StreamsFault.TheVariants as fault
+use Rattle.cqlp_capture_streams.specs.Sayings.{Saying, Packet, New, Of, Left}
+use Rattle.cqlp_capture_prepared.specs.declared.requests.Requests.{Requests}
+use Rattle.cqlp_capture_prepared.specs.Keeping.{new_keeping}
+use Rattle.cqlp_capture_prepared.specs.Requests.{Asked, asked, silent, step_asked}
+use Rattle.cqlp_capture_frames.specs.declared.fault.TellFault.{TellFault}
 use Rattle.cqlp_capture_rows.specs.declared.limits.TheConstants.{EXECUTES, STATEMENTS}
-use Rattle.cqlp_capture_rows.specs.Faults.{Faults, WritesFront}
+use Rattle.cqlp_capture_frames.specs.Tellings.{Faults, WritesFront}
 use Rattle.cqlp_capture_frames.specs.Directions.{Direction, Telling, begun, closes, step_told}
 use Rattle.cqlp_capture_rows.specs.Responses.{Responses, new_responses, page_manner, rules, with_known}
 
@@ -51,7 +51,7 @@ hears_responses requests x = change x.text requests x.after x.known
 
 abbrev pub heard_of : Way → Told → List ℕ → Requests → Direction → Responses → Change
 heard_of ByClient t b requests d r = hears_requests (step_asked t.step b (asked requests r.known)) d r
-heard_of ByNode t b requests d r = hears_responses requests (step_told page_manner t.step t.at b r d)
+heard_of ByNode t b requests d r = hears_responses requests (step_told page_manner true t.step t.at b r d)
 
 abbrev pub heard : Told → List ℕ → Requests → Direction → Responses → Change
 heard t b requests d r = heard_of t.way t b requests d r

@@ -7,7 +7,7 @@ use Rattle.cqlp_note.specs.Field as value
 use Rattle.cqlp_grammar.specs.Events.{Event}
 use Rattle.cqlp_grammar.specs.Events as reading
 use Rattle.cqlp_text.specs.PageText.{PagePlace, is_rows, no_page, page_part, place_after}
-use Rattle.cqlp_prepared.specs.Keeping.{short_enough}
+use Rattle.cqlp_capture_prepared.specs.Keeping.{short_enough}
 use Rattle.cqlp_capture_rows.specs.declared.spot.FrameSpot.{FrameSpot}
 use Rattle.cqlp_capture_rows.specs.Spots.{page_line}
 

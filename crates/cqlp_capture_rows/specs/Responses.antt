@@ -5,12 +5,13 @@ use Rattle.cqlp_note.specs.declared.opcode.Opcode.{Opcode}
 use Rattle.cqlp_note.specs.declared.opcode.Opcode.TheVariants as opcode
 use Rattle.cqlp_note.specs.Limits.{Rules, rules_of}
 use Rattle.cqlp_kind.specs.declared.node.Node.{Node}
-use Rattle.cqlp_prepared.specs.Keeping.{Keeping, answered, prepared, types_for}
-use Rattle.cqlp_capture_frames.specs.Happenings.{Happening, Manner, Begins, Says, Fails, Compressed, Gap, Ends, Closes}
+use Rattle.cqlp_capture_prepared.specs.Keeping.{Keeping, answered, prepared, types_for}
+use Rattle.cqlp_capture_frames.specs.Happenings.{Happening, Manner, Begins, Says, Fails, Compressed, Unread, Gap, Ends, Closes}
 use Rattle.cqlp_capture_rows.specs.declared.limits.TheConstants.{LIMITS}
 use Rattle.cqlp_capture_rows.specs.declared.responses.TheConstants.{NO_HEADER}
 use Rattle.cqlp_capture_rows.specs.declared.spot.FrameSpot.{FrameSpot}
-use Rattle.cqlp_capture_rows.specs.Spots.{compressed_line, frame_spot, gap_line, refused_line, spot}
+use Rattle.cqlp_capture_frames.specs.Lines.{compressed_line, gap_line, line_place, refused_line, unread_line}
+use Rattle.cqlp_capture_rows.specs.Spots.{frame_spot, spot}
 use Rattle.cqlp_capture_rows.specs.Pages.{Page, cut_text, no_rows, page_after, rows_part}
 
 abbrev pub rules : Rules
@@ -54,9 +55,10 @@ known_by h p types known = if is_result h.opcode then prepared_as p.id types kno
 abbrev pub text_of : Responses → Happening → List ℕ
 text_of r (Begins at h) = []
 text_of r (Says at e) = rows_part r.begun r.page e
-text_of r (Fails at why) = cut_text r.page ++ refused_line (spot r.number at) why
-text_of r (Compressed at h) = compressed_line (spot r.number at)
-text_of r (Gap at n) = gap_line (spot r.number at) n
+text_of r (Fails at why) = cut_text r.page ++ refused_line (line_place r.number true) at why
+text_of r (Compressed at h) = compressed_line (line_place r.number true) at
+text_of r (Unread at h) = unread_line (line_place r.number true) at
+text_of r (Gap at n cause) = gap_line (line_place r.number true) at n cause
 text_of r (Ends types) = cut_text r.page
 text_of r Closes = cut_text r.page
 
@@ -66,7 +68,8 @@ after r (Begins at h) = responses r.number (answered h.stream r.known) (frame_sp
 after r (Says at e) = with_page (page_after r.page e) r
 after r (Fails at why) = with_page no_rows r
 after r (Compressed at h) = with_known (answered h.stream r.known) r
-after r (Gap at n) = r
+after r (Unread at h) = with_known (answered h.stream r.known) r
+after r (Gap at n cause) = r
 after r (Ends types) = with_known (known_by r.begun.header r.page types r.known) (with_page no_rows r)
 after r Closes = with_page no_rows r
 

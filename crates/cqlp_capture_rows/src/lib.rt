@@ -2,7 +2,6 @@
 #![tactic(auto)]
 
 mod capturing;
-mod fault;
 pub mod laws;
 mod limits;
 mod page;

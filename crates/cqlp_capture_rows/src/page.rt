@@ -9,9 +9,9 @@ ghost use Rattle.cqlp_capture_rows.specs.Pages.{begins_page, cut_text, ends_fram
 ghost use Rattle.cqlp_capture_rows.specs.Pages.{no_rows, page_after, page_line_if, rows_part};
 
 use crate::spot::{FrameSpot, put_page_line};
+use cqlp_capture_prepared::StatementId;
 use cqlp_grammar::{Event, SinkFault};
 use cqlp_note::Field;
-use cqlp_prepared::StatementId;
 use cqlp_text::{PagePlace, Pen, TextWriter};
 use std::marker::Model;
 

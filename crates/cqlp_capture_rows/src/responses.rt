@@ -2,21 +2,23 @@
 
 ghost use Rattle.std.specs.Prelude.{◌≡◌, true, IfErr, IfOk, IsSome, OnErr, OnOk, option_map};
 ghost use Rattle.cqlp_text.specs.Written.{Writes};
-ghost use Rattle.cqlp_prepared.specs.Keeping.{new_keeping};
-ghost use Rattle.cqlp_prepared.specs.Requests.{asked, step_asked};
+ghost use Rattle.cqlp_capture_prepared.specs.Keeping.{new_keeping};
+ghost use Rattle.cqlp_capture_prepared.specs.Requests.{asked, step_asked};
 ghost use Rattle.cqlp_capture_rows.specs.Pages.{cut_text, no_rows};
+ghost use Rattle.cqlp_capture_frames.specs.Lines.{line_place};
 ghost use Rattle.cqlp_capture_rows.specs.Spots.{spot};
 ghost use Rattle.cqlp_capture_rows.specs.Responses.{is_result, known_by, new_responses, with_known, with_page};
 
-use crate::fault::TellFault;
 use crate::limits::{EXECUTES, STATEMENTS};
 use crate::page::Page;
-use crate::spot::{FrameSpot, Spot, put_compressed, put_gap, put_refused};
-use cqlp_capture_frames::Transcript;
+use crate::spot::{FrameSpot, Spot};
+use cqlp_capture_frames::{
+    LinePlace, TellFault, Transcript, put_compressed, put_gap, put_refused, put_unread,
+};
+use cqlp_capture_prepared::{NewPreparedError, PreparedTypes, Requests};
 use cqlp_grammar::{Event, SinkFault};
 use cqlp_note::{Header, NoMemory, Opcode, Reason};
-use cqlp_prepared::{NewPreparedError, PreparedTypes, Requests};
-use cqlp_reassembly::StreamStep;
+use cqlp_tcp_reassembly::{GapCause, StreamStep};
 use cqlp_text::{Pen, TextWriter};
 use cqlp_type::TypeTable;
 use std::alloc::{AllocError, Allocator, Global};
@@ -90,6 +92,16 @@ impl<A: Allocator> Responses<A> {
         }
     }
 
+    /// The direction of its lines.
+    fn place(&self) -> LinePlace
+        ensures { result ≡ line_place self.now.number true }
+    {
+        LinePlace {
+            number: self.number,
+            responses: true,
+        }
+    }
+
     /// No more is read of the frame. Takes the end of its page, if that has not ended.
     fn cut<P: Pen>(&mut self, writer: &mut TextWriter<P>) -> Result<(), SinkFault>
         ensures text { Writes writer.old (cut_text self.old.page) result writer.new }
@@ -122,7 +134,7 @@ impl<A: Allocator> Responses<A> {
 impl<A: Allocator + Clone> Transcript<A> for Responses<A> {
     ghost use Rattle.cqlp_capture_frames.specs.Faults.{Takes};
     ghost use Rattle.cqlp_capture_frames.specs.Happenings.{Begins, Ends, outcome};
-    ghost use Rattle.cqlp_capture_rows.specs.Faults.{is_memory};
+    ghost use Rattle.cqlp_capture_frames.specs.Tellings.{is_memory};
     ghost use Rattle.cqlp_capture_rows.specs.Responses.{AsksFor, Responses, page_manner};
 
     type Fault = TellFault;
@@ -135,7 +147,11 @@ impl<A: Allocator + Clone> Transcript<A> for Responses<A> {
 
     ghost manner = { page_manner };
 
-    #[tactic(auto, using(crate::proofs::Faults::asked_here, crate::proofs::Faults::refused_here))]
+    fn no_memory() -> TellFault {
+        TellFault::NoMemory
+    }
+
+    #[tactic(auto, using(cqlp_capture_frames::proofs::Tellings::asked_here, cqlp_capture_frames::proofs::Tellings::refused_here))]
     fn begin<P: Pen>(
         &mut self,
         at: u64,
@@ -156,7 +172,7 @@ impl<A: Allocator + Clone> Transcript<A> for Responses<A> {
         Ok(types)
     }
 
-    #[tactic(auto, using(crate::proofs::Faults::breaks_here))]
+    #[tactic(auto, using(cqlp_capture_frames::proofs::Tellings::breaks_here))]
     fn event<P: Pen>(
         &mut self,
         _at: u64,
@@ -166,7 +182,7 @@ impl<A: Allocator + Clone> Transcript<A> for Responses<A> {
         Ok(self.page.put_event(event, self.begun, writer)?)
     }
 
-    #[tactic(auto, using(crate::proofs::Faults::first_breaks, crate::proofs::Faults::then_breaks))]
+    #[tactic(auto, using(cqlp_capture_frames::proofs::Tellings::first_breaks, cqlp_capture_frames::proofs::Tellings::then_breaks))]
     fn refusal<P: Pen>(
         &mut self,
         at: u64,
@@ -174,10 +190,10 @@ impl<A: Allocator + Clone> Transcript<A> for Responses<A> {
         writer: &mut TextWriter<P>,
     ) -> Result<(), TellFault> {
         self.cut(writer)?;
-        Ok(put_refused(writer, self.spot(at), why)?)
+        Ok(put_refused(writer, self.place(), at, why)?)
     }
 
-    #[tactic(auto, using(crate::proofs::Faults::breaks_here))]
+    #[tactic(auto, using(cqlp_capture_frames::proofs::Tellings::breaks_here))]
     fn compressed<P: Pen>(
         &mut self,
         at: u64,
@@ -185,20 +201,32 @@ impl<A: Allocator + Clone> Transcript<A> for Responses<A> {
         writer: &mut TextWriter<P>,
     ) -> Result<(), TellFault> {
         self.known.forget(header.stream);
-        Ok(put_compressed(writer, self.spot(at))?)
+        Ok(put_compressed(writer, self.place(), at)?)
     }
 
-    #[tactic(auto, using(crate::proofs::Faults::breaks_here))]
+    #[tactic(auto, using(cqlp_capture_frames::proofs::Tellings::breaks_here))]
+    fn unread<P: Pen>(
+        &mut self,
+        at: u64,
+        header: &Header,
+        writer: &mut TextWriter<P>,
+    ) -> Result<(), TellFault> {
+        self.known.forget(header.stream);
+        Ok(put_unread(writer, self.place(), at)?)
+    }
+
+    #[tactic(auto, using(cqlp_capture_frames::proofs::Tellings::breaks_here))]
     fn gap<P: Pen>(
         &mut self,
         at: u64,
         length: u64,
+        cause: GapCause,
         writer: &mut TextWriter<P>,
     ) -> Result<(), TellFault> {
-        Ok(put_gap(writer, self.spot(at), length)?)
+        Ok(put_gap(writer, self.place(), at, length, cause)?)
     }
 
-    #[tactic(auto, using(crate::proofs::Faults::asked_here, crate::proofs::Faults::breaks_here, crate::proofs::Faults::none_refused, crate::proofs::Faults::refused_here))]
+    #[tactic(auto, using(cqlp_capture_frames::proofs::Tellings::asked_here, cqlp_capture_frames::proofs::Tellings::breaks_here, cqlp_capture_frames::proofs::Tellings::none_refused, cqlp_capture_frames::proofs::Tellings::refused_here))]
     fn end<P: Pen>(
         &mut self,
         types: &TypeTable<A>,
@@ -212,7 +240,7 @@ impl<A: Allocator + Clone> Transcript<A> for Responses<A> {
         Ok(self.cut(writer)?)
     }
 
-    #[tactic(auto, using(crate::proofs::Faults::breaks_here))]
+    #[tactic(auto, using(cqlp_capture_frames::proofs::Tellings::breaks_here))]
     fn close<P: Pen>(&mut self, writer: &mut TextWriter<P>) -> Result<(), TellFault> {
         Ok(self.cut(writer)?)
     }

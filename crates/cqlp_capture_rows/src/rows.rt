@@ -2,22 +2,20 @@
 
 ghost use Rattle.std.specs.Prelude.{◌≡◌, ◌≤◌, true, false, [], IfErr, IfOk, IsSome, OnOk, vec_len};
 ghost use Rattle.cqlp_text.specs.Outputs.{written};
-ghost use Rattle.cqlp_prepared.specs.Keeping.{new_keeping};
+ghost use Rattle.cqlp_capture_prepared.specs.Keeping.{new_keeping};
 ghost use Rattle.cqlp_capture_frames.specs.Directions.{begun, closes};
 ghost use Rattle.cqlp_capture_frames.specs.Faults.{Takes};
-ghost use Rattle.cqlp_capture_rows.specs.Faults.{is_memory};
+ghost use Rattle.cqlp_capture_frames.specs.Tellings.{is_memory};
 ghost use Rattle.cqlp_capture_rows.specs.Responses.{new_responses, page_manner, rules};
 ghost use Rattle.cqlp_capture_rows.specs.Listening.{heard, leaves};
 
-use crate::fault::TellFault;
 use crate::limits::{EXECUTES, LIMITS, STATEMENTS};
 use crate::responses::Responses;
-use cqlp_capture_frames::Direction;
-use cqlp_connections::{Told, Way};
-use cqlp_decode::NewError;
+use cqlp_capture_frames::{Direction, TellFault};
+use cqlp_capture_prepared::Requests;
+use cqlp_capture_streams::{Listener, Saying, StreamsFault};
 use cqlp_note::Target;
-use cqlp_prepared::Requests;
-use cqlp_streams::{Listener, Saying, StreamsFault};
+use cqlp_tcp_connections::{Told, Way};
 use cqlp_text::{Buffered, Pen, TextWriter};
 use std::alloc::{AllocError, Allocator, Global};
 use std::marker::Model;
@@ -28,8 +26,8 @@ const ROOM: usize = 65_536;
 /// Reads the frames of one connection of a capture, and writes the text of the pages among them, each part of it when its last byte is there.
 /// A page without metadata has the types that PREPARE said of the statement whose EXECUTE it answers.
 ///
-/// Memory is taken in `new`, and after it for the types of a statement that is prepared, and of a page that answers an EXECUTE: one request each,
-/// of `LIMITS.entries` nodes. At most [`STATEMENTS`] statements are known, and the types of one page.
+/// Memory is taken in `new`; after it for the decoder of a frame, some 1.1 MiB, which is given back behind the frame; and for the types of a statement
+/// that is prepared, and of a page that answers an EXECUTE: one request each, of `LIMITS.entries` nodes. At most [`STATEMENTS`] statements are known, and the types of one page.
 #[derive(Drop)]
 pub struct Rows<O: Target, A: Allocator = Global> {
     /// The number of the connection.
@@ -69,11 +67,11 @@ impl<O: Target, A: Allocator> Rows<O, A> {
 }
 
 impl<O: Target, A: Allocator + Clone> Rows<O, A> {
-    ghost use Rattle.cqlp_streams.specs.Sayings.{Of, saying_of};
+    ghost use Rattle.cqlp_capture_streams.specs.Sayings.{Of, saying_of};
     ghost use Rattle.cqlp_capture_rows.specs.Listening.{Changes, Hears, Tells, if_asked, new_listening};
 
-    /// Nothing came of the connection with this number, and its pages go to this output. Memory for all but types is taken here, in seven
-    /// requests; where it is not granted, the output is given back.
+    /// Nothing came of the connection with this number, and its pages go to this output. Memory for all but types and frames is taken here; where it
+    /// is not granted, the output is given back.
     pub fn new(alloc: A, asked: u64, out: O) -> Result<Self, O>
         ensures ok { IfOk result (λ r. r ≡ new_listening asked (written O.Target out)) }
         ensures err { IfErr result (λ o. written O.Target o ≡ written O.Target out) }
@@ -152,7 +150,7 @@ impl<O: Target, A: Allocator + Clone> Rows<O, A> {
 }
 
 /// Takes the text of what is told, and passes it on, also where memory was refused.
-#[tactic(auto, using(crate::proofs::Faults::passing_fails, crate::proofs::Faults::passing_front_fails))]
+#[tactic(auto, using(cqlp_capture_frames::proofs::Tellings::passing_fails, cqlp_capture_frames::proofs::Tellings::passing_front_fails))]
 fn put_told<W: Target, A: Allocator + Clone, B: Allocator>(
     requests: &mut Requests,
     direction: &mut Direction<A>,
@@ -196,12 +194,12 @@ fn put_heard<P: Pen, A: Allocator + Clone>(
             responses.hear_requests(told.step, bytes, requests);
             Ok(())
         }
-        Way::Responses => { direction.hear(told.step, told.at, bytes, responses, writer) }
+        Way::Responses => { direction.hear(true, told.step, told.at, bytes, responses, writer) }
     }
 }
 
 /// Takes the text of the end of a connection, and passes it on.
-#[tactic(auto, using(crate::proofs::Faults::passing_fails, crate::proofs::Faults::passing_front_fails))]
+#[tactic(auto, using(cqlp_capture_frames::proofs::Tellings::passing_fails, cqlp_capture_frames::proofs::Tellings::passing_front_fails))]
 fn put_left<W: Target, A: Allocator + Clone, B: Allocator>(
     direction: &mut Direction<A>,
     responses: &mut Responses<A>,
@@ -232,19 +230,9 @@ fn take_memory<A: Allocator + Clone>(
     ensures buffer { IfOk result (λ p. 128 ≤ vec_len p.2) }
 {
     let responses = Responses::new(alloc.clone()?, asked)?;
-    let direction = new_direction(alloc.clone()?)?;
+    let direction = Direction::new(alloc.clone()?, LIMITS, true);
     let buffer = vec![in alloc; 0; ROOM]?;
     Ok((direction, responses, buffer))
-}
-
-/// Responses of which nothing came. All memory is taken here.
-fn new_direction<A: Allocator + Clone>(alloc: A) -> Result<Direction<A>, AllocError>
-    ensures { IfOk result (λ d. d ≡ begun rules true false) }
-{
-    match Direction::new(alloc, LIMITS, true) {
-        Ok(direction) => Ok(direction),
-        Err(NewError::NoMemory | NewError::BadLimits(_)) => Err(AllocError),
-    }
 }
 
 impl<O: Target, A: Allocator + Clone> Listener for Rows<O, A> {

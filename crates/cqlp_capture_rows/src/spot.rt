@@ -1,13 +1,13 @@
-//! Lines of responses.
+//! Lines of pages.
 
 ghost use Rattle.std.specs.Prelude.{◌≡◌};
 ghost use Rattle.std.specs.Fmt.{signed_decimal};
 ghost use Rattle.cqlp_text.specs.Written.{Writes};
-ghost use Rattle.cqlp_capture_rows.specs.Spots.{compressed_line, gap_line, page_line, place_text, refused_line};
+ghost use Rattle.cqlp_capture_rows.specs.Spots.{page_line};
 
 use cqlp_grammar::SinkFault;
-use cqlp_note::{Header, Reason};
-use cqlp_text::{Pen, TextWriter, reason_name};
+use cqlp_note::Header;
+use cqlp_text::{Pen, TextWriter};
 
 /// A place in the responses of a connection.
 #[derive(Clone, Copy, Debug, PartialEq, Eq)]
@@ -23,14 +23,6 @@ pub(crate) struct Spot {
 pub(crate) struct FrameSpot {
     pub(crate) spot: Spot,
     pub(crate) header: Header,
-}
-
-/// Takes the number of the connection, and that it is a response.
-fn put_place<P: Pen>(writer: &mut TextWriter<P>, spot: Spot) -> Result<(), SinkFault>
-    ensures { Writes writer.old (place_text spot) result writer.new }
-{
-    writer.put_number(spot.number)?;
-    writer.put(b" < ")
 }
 
 /// Takes the line of the page of the frame that begins there.
@@ -52,46 +44,4 @@ fn put_stream<P: Pen>(writer: &mut TextWriter<P>, begun: FrameSpot) -> Result<()
     ensures { Writes writer.old (signed_decimal begun.header.stream) result writer.new }
 {
     writer.put_signed(i64::from(begun.header.stream))
-}
-
-/// Takes the line of a frame that is refused there.
-pub(crate) fn put_refused<P: Pen>(
-    writer: &mut TextWriter<P>,
-    spot: Spot,
-    why: Reason,
-) -> Result<(), SinkFault>
-    ensures { Writes writer.old (refused_line spot why) result writer.new }
-{
-    put_place(writer, spot)?;
-    writer.put_number(spot.at)?;
-    writer.put(b" refused ")?;
-    writer.put_str(reason_name(why))?;
-    writer.put(b"\n")
-}
-
-/// Takes the line of a compressed frame that begins there.
-pub(crate) fn put_compressed<P: Pen>(
-    writer: &mut TextWriter<P>,
-    spot: Spot,
-) -> Result<(), SinkFault>
-    ensures { Writes writer.old (compressed_line spot) result writer.new }
-{
-    put_place(writer, spot)?;
-    writer.put_number(spot.at)?;
-    writer.put(b" compressed\n")
-}
-
-/// Takes the line of a gap there.
-pub(crate) fn put_gap<P: Pen>(
-    writer: &mut TextWriter<P>,
-    spot: Spot,
-    length: u64,
-) -> Result<(), SinkFault>
-    ensures { Writes writer.old (gap_line spot length) result writer.new }
-{
-    put_place(writer, spot)?;
-    writer.put_number(spot.at)?;
-    writer.put(b" gap ")?;
-    writer.put_number(length)?;
-    writer.put(b"\n")
 }

@@ -6,3 +6,5 @@ pub mod Ready
 pub mod Taking
 pub mod Turns
 pub mod BatchLaws
+pub mod SoFar
+pub mod OneRead

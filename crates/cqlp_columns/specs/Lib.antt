@@ -7,3 +7,6 @@ pub mod Findings
 pub mod Batches
 pub mod Turns
 pub mod Laws
+pub mod Sorting
+pub mod Filling
+pub mod PageLaws

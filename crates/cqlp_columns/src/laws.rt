@@ -1,6 +1,9 @@
-//! The laws of columns.
+//! The laws of columns, and of pages that are read into them.
 
 ghost use Rattle.cqlp_columns.specs.Laws.{FullWhereRowsBegin, OneAnswerOfBatch, OneAnswerOfBytes, OneAnswerOfTake, RoomForOne};
+ghost use Rattle.cqlp_columns.specs.PageLaws.{OneAnswerOfRead};
+
+use cqlp_grammar::Sink;
 
 /// Of the same cells before, one cell is taken by one column, or refused for one reason; of the same events before, one event by one batch, or for
 /// one reason; and bits are spelled by one array of bytes.
@@ -15,4 +18,10 @@ pub fn one_answer()
 pub fn whole_rows()
     ensures full { FullWhereRowsBegin }
     ensures room { RoomForOne }
+{}
+
+/// At one place of a stream, over the same input and with the same columns, `read` has one answer: it uses as many bytes and stops for one reason, the columns
+/// have taken the same cells, the other sink was handed the same event, and the decoder stands at one place. Whether that sink fails is its own.
+pub fn one_answer_of_read<S: Sink>()
+    ensures { OneAnswerOfRead S.Sink }
 {}

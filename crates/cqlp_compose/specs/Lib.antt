@@ -1,2 +1,9 @@
 pub mod Composing
 pub mod Laws
+pub mod Places
+pub mod Cells
+pub mod Measures
+pub mod PageLaws
+pub mod Begun
+pub mod Put
+pub mod BatchLaws

@@ -1,6 +1,6 @@
 //! Bytes that are written into memory.
 
-ghost use Rattle.std.specs.Prelude.{◌≡◌, Some};
+ghost use Rattle.std.specs.Prelude.{◌≡◌, Some, length, take};
 
 use cqlp_note::{IoFault, Target};
 
@@ -24,6 +24,20 @@ impl InMemory {
             failures: 0,
             writes: 0,
         }
+    }
+
+    /// How many bytes it has.
+    pub fn len(&self) -> usize
+        ensures { result ≡ length self.now.bytes.items }
+    {
+        self.bytes.len()
+    }
+
+    /// Keeps the first bytes, this many, if it has more.
+    pub fn truncate(&mut self, len: usize)
+        ensures { self.new.bytes.items ≡ take len self.old.bytes.items }
+    {
+        self.bytes.truncate(len);
     }
 
     /// The bytes.

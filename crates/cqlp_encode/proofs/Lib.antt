@@ -21,3 +21,7 @@ pub mod Attempts
 pub mod PageAnswers
 pub mod RestAnswers
 pub mod PageWhole
+pub mod Measured
+pub mod LentPages
+pub mod Fronts
+pub mod LentAnswers

@@ -8,3 +8,7 @@ pub mod PageWriting
 pub mod UntoldPages
 pub mod PagePlaces
 pub mod Laws
+pub mod LentCells
+pub mod Tallies
+pub mod Adding
+pub mod LentLaws

@@ -4,6 +4,7 @@ ghost use Rattle.cqlp_encode.specs.Laws.{AttemptsAreOne, BoundIsAsWritten, CellI
 ghost use Rattle.cqlp_encode.specs.Laws.{OneAnswerOfAppend, OneAnswerOfBindValue, OneAnswerOfCell, OneAnswerOfResume};
 ghost use Rattle.cqlp_encode.specs.Laws.{OneAnswerOfEncode, OneAnswerOfEncodeFrom};
 ghost use Rattle.cqlp_encode.specs.Laws.{OneAnswerOfFinish, OneAnswerOfRawValue, OneAnswerOfWriteValue, PageIsAsEncoded};
+ghost use Rattle.cqlp_encode.specs.LentLaws.{OneAnswerOfEncodePage, SameAreNotChanged};
 
 /// One answer of [`encode`](crate::encode) meets its clause, given how many bytes the target took.
 pub fn one_answer_of_encode()
@@ -84,4 +85,14 @@ pub fn one_answer_of_finish()
 /// [`encode`](crate::encode) writes it.
 pub fn page_is_as_encoded()
     ensures { PageIsAsEncoded }
+{}
+
+/// [`encode_page`](crate::encode_page) never says Changed of cells that are the same both times.
+pub fn same_are_not_changed()
+    ensures { SameAreNotChanged }
+{}
+
+/// One answer of [`encode_page`](crate::encode_page) meets its clause, given the bytes that the target got.
+pub fn one_answer_of_encode_page()
+    ensures { OneAnswerOfEncodePage }
 {}

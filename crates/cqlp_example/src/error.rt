@@ -3,7 +3,7 @@
 use cqlp_decode::NewError;
 use cqlp_encode::{EncodeError, PageError, ValueError};
 use cqlp_note::IoFault;
-use cqlp_read::ReadError;
+use cqlp_read_value::ReadError;
 use cqlp_session::{AnswerError, BeginError, ServerRefusal, SlotsOrMemory, Stray};
 use std::alloc::AllocError;
 use std::io;

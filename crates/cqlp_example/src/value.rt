@@ -3,7 +3,7 @@
 use crate::error::ExampleError;
 use cqlp_encode::write_value;
 use cqlp_note::{Limits, OfStd};
-use cqlp_read::read_value;
+use cqlp_read_value::read_value;
 use cqlp_type::{Kind, TypeTree};
 use cqlp_value::{Atom, Value};
 use std::alloc::{AllocError, Global};

@@ -1,16 +1,17 @@
 -- What a command line asks for, with its numbers.
 use Rattle.std.specs.Prelude.{◌≡◌, ◌≤◌, Ok}
 use Rattle.cqlp_note.specs.Limits.{first_bad}
+use Rattle.cqlp_options.specs.CaptureLimits.{AreWithin as AreWithinRanges}
 use Rattle.cqlp_options.specs.Ports.{AreWithin}
 use Rattle.cqlp_options.specs.declared.command_line.CommandLine.{CommandLine}
 use Rattle.cqlp_options.specs.declared.command_line.CommandLine.TheVariants as line
 use Rattle.cqlp_options.specs.declared.command_line.TheConstants.{QUERIES}
 
--- its numbers are in their ranges: a conversation has 1 to 1,000 queries, and 1 to 16 ports are named for a capture
+-- its numbers are in their ranges: those of limits, a conversation has 1 to 1,000 queries, and 1 to 16 ports are named for a capture
 abbrev pub IsWithin : CommandLine → Type 0
 IsWithin (line.Stream options) = first_bad options.limits ≡ Ok tt
 IsWithin (line.Loop queries) = (1 ≤ queries) × (queries ≤ 1000)
-IsWithin (line.Capture options) = AreWithin options.ports
+IsWithin (line.Capture options) = AreWithin options.ports × AreWithinRanges options.limits
 
 -- how many queries a conversation may have
 abbrev pub RangeOfQueries : Type 0

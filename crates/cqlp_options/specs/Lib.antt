@@ -1,3 +1,4 @@
+pub mod CaptureLimits
 pub mod CommandLines
 pub mod Matched
 pub mod NoTasks

@@ -62,6 +62,11 @@ capture =
     ∷ bound (flag (codes "summary"))
     ∷ bound (flag (codes "events"))
     ∷ bound (flag (codes "rows"))
+    ∷ in_range 1 1048576 (named (codes "connections"))
+    ∷ in_range 1 16777216 (named (codes "open"))
+    ∷ in_range 1 4096 (named (codes "early"))
+    ∷ in_range 1 4096 (named (codes "text"))
+    ∷ in_range 0 65536 (named (codes "order"))
     ∷ []
 
 abbrev pub task : (name : Text) → List Rule → Shape

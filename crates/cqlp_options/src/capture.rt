@@ -3,8 +3,10 @@
 ghost use Rattle.std.specs.Prelude.{◌≡◌, ◌≤◌, IfSome, length};
 ghost use Rattle.clap.specs.Words.{found_of, rows_of};
 ghost use Rattle.cqlp_options.specs.Matched.{AreCaptureOptions, AreExchanges, IsCaptureTask, IsExchangesForm};
+ghost use Rattle.cqlp_options.specs.CaptureLimits.{AreWithin as AreWithinRanges};
 ghost use Rattle.cqlp_options.specs.Ports.{AreWithin, named};
 
+use crate::limits::CaptureLimits;
 use crate::matched::{flag, long_number, number, path};
 use clap::ArgMatches;
 
@@ -144,21 +146,28 @@ impl<'a> CaptureTask<'a> {
 #[derive(Clone, Copy, Debug, PartialEq, Eq)]
 pub struct CaptureOptions<'a> {
     pub task: CaptureTask<'a>,
+    pub limits: CaptureLimits,
     pub ports: Ports,
     /// The path of the capture's file, or `-` for standard input.
     pub file: &'a str,
 }
 
 impl<'a> CaptureOptions<'a> {
-    /// What the words were matched to, if there are not too many ports.
+    /// What the words were matched to, if the limits are in their ranges and there are not too many ports.
     pub(crate) fn matched(matches: &ArgMatches<'a>) -> Option<CaptureOptions<'a>>
-        ensures within { IfSome result (λ options. AreWithin options.ports) }
+        ensures within { IfSome result (λ options. AreWithin options.ports × AreWithinRanges options.limits) }
         ensures words { IfSome result (AreCaptureOptions (rows_of (found_of matches.now))) }
     {
         let file = path(matches, "file")?;
         let task = CaptureTask::matched(matches)?;
+        let limits = CaptureLimits::matched(matches, file)?;
         let ports = ports_of(matches)?;
-        Some(CaptureOptions { task, ports, file })
+        Some(CaptureOptions {
+            task,
+            limits,
+            ports,
+            file,
+        })
     }
 }
 

@@ -4,6 +4,7 @@
 mod capture;
 mod command_line;
 pub mod laws;
+mod limits;
 mod matched;
 mod no_task;
 mod options;
@@ -12,5 +13,6 @@ mod reported;
 
 pub use capture::{CaptureOptions, CaptureTask, ExchangeOptions, ExchangesAs, MOST_PORTS, Ports};
 pub use command_line::{CommandLine, QUERIES};
+pub use limits::CaptureLimits;
 pub use no_task::NoTask;
 pub use options::{AtRefusal, DEFAULT_LIMITS, EventsAs, Options, RowsAs, Task};

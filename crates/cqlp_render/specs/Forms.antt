@@ -6,9 +6,9 @@ use Rattle.cqlp_render.specs.declared.text_form.TextForm.TheVariants as form
 use Rattle.cqlp_json.specs.Lines.{json_line, json_lines}
 use Rattle.cqlp_text.specs.Lines.{line, lines}
 use Rattle.cqlp_text.specs.PageText.{page_part, page_text, place_after}
-use Rattle.cqlp_tables.specs.CsvRows.{csv_part, csv_rows}
-use Rattle.cqlp_tables.specs.JsonRows.{json_part, json_rows}
-use Rattle.cqlp_tables.specs.Places.{table_after}
+use Rattle.cqlp_row_text.specs.CsvRows.{csv_part, csv_rows}
+use Rattle.cqlp_row_text.specs.JsonRows.{json_part, json_rows}
+use Rattle.cqlp_row_text.specs.Places.{table_after}
 
 -- the text of an event at an offset
 abbrev pub text_of : TextForm → (at : ℕ) → Event → List ℕ

@@ -10,7 +10,7 @@ ghost use Rattle.cqlp_render.specs.declared.text_form.TextForm.TheVariants as fo
 use cqlp_decode::{Event, SinkFault};
 use cqlp_json::{json_line, put_json_line};
 use cqlp_note::Target;
-use cqlp_tables::{TablePlace, csv_part, json_part, put_csv_part, put_json_part};
+use cqlp_row_text::{TablePlace, csv_part, json_part, put_csv_part, put_json_part};
 use cqlp_text::{PagePlace, Pen, TextWriter, event_line, page_part};
 
 /// A form of text. Each has a type of its own, so that no event asks for its form.

@@ -1,6 +1,6 @@
 //! Forms of text.
 
-use cqlp_tables::TablePlace;
+use cqlp_row_text::TablePlace;
 use cqlp_text::PagePlace;
 
 /// What is written of the events of a stream. The clauses of the calls of this crate speak of it.

@@ -10,9 +10,9 @@ use Rattle.cqlp_skip.specs.Stretches.{Stretch, base_after, told, told_at}
 use Rattle.cqlp_text.specs.Lines.{spaced}
 use Rattle.cqlp_text.specs.Names.{reason_name}
 use Rattle.cqlp_text.specs.PageText.{no_page}
-use Rattle.cqlp_tables.specs.CsvRows.{csv_break}
-use Rattle.cqlp_tables.specs.JsonRows.{json_break}
-use Rattle.cqlp_tables.specs.Places.{no_table}
+use Rattle.cqlp_row_text.specs.CsvRows.{csv_break}
+use Rattle.cqlp_row_text.specs.JsonRows.{json_break}
+use Rattle.cqlp_row_text.specs.Places.{no_table}
 
 -- ---- to the output
 

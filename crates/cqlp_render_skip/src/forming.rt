@@ -9,7 +9,7 @@ ghost use Rattle.cqlp_render_skip.specs.Texts.{afresh, break_of};
 use cqlp_decode::{Event, SinkFault};
 use cqlp_json::put_json_line;
 use cqlp_render::TextForm;
-use cqlp_tables::{TablePlace, csv_break, json_break, put_csv_part, put_json_part};
+use cqlp_row_text::{TablePlace, csv_break, json_break, put_csv_part, put_json_part};
 use cqlp_text::{PagePlace, Pen, TextWriter};
 
 /// Takes the text of the event at an offset.

@@ -2,8 +2,7 @@
 
 use cqlp_decode::{Decoder, run};
 use cqlp_note::Limits;
-use cqlp_test_fakes::{Pieces, Takes, bytes_of};
-use cqlp_test_heaps::{Rationed, Refusals};
+use cqlp_test_fakes::{Pieces, Rationed, Refusals, Takes, bytes_of};
 use std::alloc::Global;
 use std::test::Fail;
 

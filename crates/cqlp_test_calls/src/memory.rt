@@ -1,15 +1,14 @@
 //! Memory that is refused, of each call that asks for it.
 
 use cqlp_capture::{CaptureLimits, CaptureReader, CaptureStep, NewReaderError};
+use cqlp_capture_prepared::{NewPreparedError, PreparedTypes};
 use cqlp_decode::{Decoder, NewError, run};
 use cqlp_kind::{Kind, Node};
 use cqlp_message::Frame;
 use cqlp_note::{Limits, NoMemory, Partial};
-use cqlp_prepared::{NewPreparedError, PreparedTypes};
 use cqlp_round_trip::{RoundTripError, write_and_read};
 use cqlp_session::{Client, ClientOf, Server, ServerOf, SlotsOrMemory};
-use cqlp_test_fakes::{Pieces, Takes};
-use cqlp_test_heaps::{Rationed, Refusals};
+use cqlp_test_fakes::{Pieces, Rationed, Refusals, Takes};
 use cqlp_type::{TypeReader, TypeTable};
 use cqlp_value::CellReader;
 use linked_list_allocator::LocalHeap;

@@ -6,17 +6,21 @@ use Rattle.cqlp_options.specs.declared.capture.CaptureTask.TheVariants as task
 use Rattle.cqlp_options.specs.declared.capture.ExchangeOptions.{ExchangeOptions}
 use Rattle.cqlp_options.specs.declared.capture.ExchangesAs.{ExchangesAs}
 use Rattle.cqlp_options.specs.declared.capture.ExchangesAs.TheVariants as asked_as
+use Rattle.cqlp_options.specs.declared.limits.CaptureLimits.{CaptureLimits}
 use Rattle.cqlp_text.specs.Endings.{cannot_open_line}
 use Rattle.cqlp_render.specs.Streams.{Input, Streams, IfKnown}
-use Rattle.cqlp_streams.specs.Captures.{AreCounted, ReadCounts, ReadsMade}
-use Rattle.cqlp_streams.specs.Streams.{WritesStreamsBy}
-use Rattle.cqlp_exchanges.specs.declared.filter.ExchangeFilter.{ExchangeFilter}
-use Rattle.cqlp_exchanges.specs.declared.form.ExchangeForm.{ExchangeForm}
-use Rattle.cqlp_exchanges.specs.declared.form.ExchangeForm.TheVariants as form
-use Rattle.cqlp_exchanges.specs.Capturing.{WritesExchanges}
+use Rattle.cqlp_capture_streams.specs.declared.limits.StreamsLimits.{StreamsLimits}
+use Rattle.cqlp_capture_streams.specs.Captures.{AreCounted, ReadCounts, ReadsMade}
+use Rattle.cqlp_capture_streams.specs.Streams.{WritesStreamsBy}
+use Rattle.cqlp_capture_exchanges.specs.declared.filter.ExchangeFilter.{ExchangeFilter}
+use Rattle.cqlp_capture_exchanges.specs.declared.form.ExchangeForm.{ExchangeForm}
+use Rattle.cqlp_capture_exchanges.specs.declared.form.ExchangeForm.TheVariants as form
+use Rattle.cqlp_capture_exchanges.specs.declared.pool.ExchangeLimits.{ExchangeLimits}
+use Rattle.cqlp_capture_exchanges.specs.Capturing.{WritesExchanges}
 use Rattle.cqlp_capture_events.specs.Capturing.{WritesEvents}
 use Rattle.cqlp_capture_rows.specs.Capturing.{WritesRows}
 use Rattle.cqlp_tool.specs.Faults.{ReportsFault}
+use Rattle.cqlp_tool.specs.Limits.{exchange_limits_of, streams_limits_of}
 
 -- the capture is the input, and no file
 abbrev pub IsCaptureOfInput : CaptureOptions → Type 0
@@ -31,11 +35,11 @@ ReadsInput m before after = AreCounted m (counts_of before.input) (counts_of aft
 
 -- The streams of the input's connections were written to a folder, of whose files nothing is known; the lines went to the output, and how
 -- it ended was reported with its status, after so many reads.
-abbrev pub SplitsToFolder : (ports : List ℕ) → (before : Streams) → (status : ℕ) → (after : Streams) → Type 0
-SplitsToFolder ports before status after =
+abbrev pub SplitsToFolder : StreamsLimits → (ports : List ℕ) → (before : Streams) → (status : ℕ) → (after : Streams) → Type 0
+SplitsToFolder l ports before status after =
     IfKnown before.input before.out (λ xs. IsSome before.err.given →
     (m : ReadsMade) × ReadsInput m before after
-    × WritesStreamsBy m ports xs after.input.left None before.out before.err status None after.out after.err)
+    × WritesStreamsBy m l ports xs after.input.left None before.out before.err status None after.out after.err)
 
 -- There is no such folder: nothing was read and nothing printed, and this was reported.
 abbrev pub MissesFolder : (folder : List ℕ) → (before : Streams) → (status : ℕ) → (after : Streams) → Type 0
@@ -44,9 +48,9 @@ MissesFolder folder before status after =
     × (IsSome before.err.given → ReportsFault (cannot_open_line folder) before.err status after.err)
 
 -- The streams of the input's connections were written to a folder, if there is one with this path.
-abbrev pub SplitsCapture : (folder ports : List ℕ) → (before : Streams) → (status : ℕ) → (after : Streams) → Type 0
-SplitsCapture folder ports before status after =
-    MissesFolder folder before status after ⊎ SplitsToFolder ports before status after
+abbrev pub SplitsCapture : StreamsLimits → (folder ports : List ℕ) → (before : Streams) → (status : ℕ) → (after : Streams) → Type 0
+SplitsCapture l folder ports before status after =
+    MissesFolder folder before status after ⊎ SplitsToFolder l ports before status after
 
 -- what is asked of exchanges, with the time in nanoseconds
 abbrev pub filter_of : ExchangeOptions → ExchangeFilter
@@ -60,30 +64,31 @@ form_of asked_as.Json = form.Json
 form_of asked_as.Summary = form.Summary
 
 -- The input's exchanges that were asked for went to the output, and how it ended was reported with its status, after so many reads.
-abbrev pub TellsExchanges : ExchangeOptions → (ports : List ℕ) → (before : Streams) → (status : ℕ) → (after : Streams) → Type 0
-TellsExchanges asked ports before status after =
+abbrev pub TellsExchanges : StreamsLimits → ExchangeLimits → ExchangeOptions → (ports : List ℕ) → (before : Streams) → (status : ℕ) → (after : Streams) → Type 0
+TellsExchanges l most asked ports before status after =
     IfKnown before.input before.out (λ xs. IsSome before.err.given →
     (m : ReadsMade) × ReadsInput m before after
-    × WritesExchanges (filter_of asked) (form_of asked.form) ports xs m after.input.left before.out before.err status after.out after.err)
+    × WritesExchanges l most (filter_of asked) (form_of asked.form) ports xs m after.input.left before.out before.err status after.out after.err)
 
 -- The lines of the input's frames went to the output, those of one connection if one is asked for, and how it ended was reported with its
 -- status, after so many reads.
-abbrev pub TellsEvents : (asked : Option ℕ) → (ports : List ℕ) → (before : Streams) → (status : ℕ) → (after : Streams) → Type 0
-TellsEvents asked ports before status after =
+abbrev pub TellsEvents : StreamsLimits → (asked : Option ℕ) → (ports : List ℕ) → (before : Streams) → (status : ℕ) → (after : Streams) → Type 0
+TellsEvents l asked ports before status after =
     IfKnown before.input before.out (λ xs. IsSome before.err.given →
     (m : ReadsMade) × ReadsInput m before after
-    × WritesEvents asked ports xs m after.input.left before.out before.err status after.out after.err)
+    × WritesEvents l asked ports xs m after.input.left before.out before.err status after.out after.err)
 
 -- The pages of the input's connection with this number went to the output, and how it ended was reported with its status, after so many reads.
-abbrev pub TellsRows : (asked : ℕ) → (ports : List ℕ) → (before : Streams) → (status : ℕ) → (after : Streams) → Type 0
-TellsRows asked ports before status after =
+abbrev pub TellsRows : StreamsLimits → (asked : ℕ) → (ports : List ℕ) → (before : Streams) → (status : ℕ) → (after : Streams) → Type 0
+TellsRows l asked ports before status after =
     IfKnown before.input before.out (λ xs. IsSome before.err.given →
     (m : ReadsMade) × ReadsInput m before after
-    × WritesRows asked ports xs m after.input.left before.out before.err status after.out after.err)
+    × WritesRows l asked ports xs m after.input.left before.out before.err status after.out after.err)
 
--- What a task does with a capture, the input, of nodes that listen on these ports.
-abbrev pub DoesCaptureTask : CaptureTask → (ports : List ℕ) → (before : Streams) → (status : ℕ) → (after : Streams) → Type 0
-DoesCaptureTask (task.Streams folder) ports before status after = SplitsCapture folder.now ports before status after
-DoesCaptureTask (task.Exchanges asked) ports before status after = TellsExchanges asked ports before status after
-DoesCaptureTask (task.Events asked) ports before status after = TellsEvents asked ports before status after
-DoesCaptureTask (task.Rows asked) ports before status after = TellsRows asked ports before status after
+-- What a task does with a capture, the input, of nodes that listen on these ports, within these limits.
+abbrev pub DoesCaptureTask : CaptureLimits → CaptureTask → (ports : List ℕ) → (before : Streams) → (status : ℕ) → (after : Streams) → Type 0
+DoesCaptureTask l (task.Streams folder) ports before status after = SplitsCapture (streams_limits_of l) folder.now ports before status after
+DoesCaptureTask l (task.Exchanges asked) ports before status after =
+    TellsExchanges (streams_limits_of l) (exchange_limits_of l) asked ports before status after
+DoesCaptureTask l (task.Events asked) ports before status after = TellsEvents (streams_limits_of l) asked ports before status after
+DoesCaptureTask l (task.Rows asked) ports before status after = TellsRows (streams_limits_of l) asked ports before status after

@@ -19,7 +19,7 @@ use Rattle.cqlp_options.specs.declared.options.Task.TheVariants as task
 use Rattle.cqlp_text.specs.declared.ending.Ending.TheVariants as ending
 use Rattle.cqlp_text.specs.Outputs.{Output, with_text, StopsWithin}
 use Rattle.cqlp_text.specs.PageText.{no_page}
-use Rattle.cqlp_tables.specs.Places.{no_table}
+use Rattle.cqlp_row_text.specs.Places.{no_table}
 use Rattle.cqlp_render.specs.declared.text_form.TextForm.{TextForm}
 use Rattle.cqlp_render.specs.declared.text_form.TextForm.TheVariants as forms
 use Rattle.cqlp_render.specs.Showing.{ChecksAndReports, Concludes, ShowsAndReports}
@@ -106,7 +106,7 @@ Executes files (Ok (line.Stream options)) before status after =
 Executes files (Ok (line.Loop queries)) before status after =
     ConversesAndReports queries before.out before.err status after.out after.err
 Executes files (Ok (line.Capture options)) before status after =
-    IsCaptureOfInput options → DoesCaptureTask options.task (named options.ports) before status after
+    IsCaptureOfInput options → DoesCaptureTask options.limits options.task (named options.ports) before status after
 Executes files (Err reason) before status after =
     Tells reason before.out before.err status after.out after.err
 

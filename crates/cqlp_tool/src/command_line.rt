@@ -1,10 +1,12 @@
 //! The command line, from its words to the exit status.
 
-ghost use Rattle.std.specs.Prelude.{◌≡◌, ◌≢◌, ◌<◌, ◌≤◌, [], IfOk, IfSome, IsSome, codes};
+ghost use Rattle.std.specs.Prelude.{◌≡◌, ◌≢◌, ◌<◌, ◌≤◌, [], true, IfOk, IfSome, IsSome, codes};
 ghost use Rattle.cqlp_note.specs.Limits.{first_bad};
 ghost use Rattle.cqlp_options.specs.CommandLines.{IsWithin};
+ghost use Rattle.cqlp_options.specs.CaptureLimits.{AreWithin as AreWithinRanges};
 ghost use Rattle.cqlp_options.specs.Ports.{AreWithin, named};
 ghost use Rattle.cqlp_options.specs.declared.capture.CaptureTask.TheVariants as tasks;
+ghost use Rattle.cqlp_tcp_connections.specs.Limits.{is_in_range};
 ghost use Rattle.cqlp_tool.specs.Capturing.{DoesCaptureTask, IsCaptureOfInput, SplitsToFolder, filter_of, form_of};
 ghost use Rattle.cqlp_tool.specs.CommandLines.{Complains, DoesTask, Executes, Helps, NeedsNoInput, Performs, ReadsNoCapture};
 ghost use Rattle.cqlp_tool.specs.CommandLines.{ReportsFault, ReportsWrong, Tells, form_of_events, form_of_rows, rules_for};
@@ -16,20 +18,22 @@ ghost use Rattle.cqlp_text.specs.declared.ending.Ending.{Ending};
 
 use crate::conversing::converse;
 use crate::folder::{Folder, is_folder};
+use crate::limits::{exchange_limits_of, streams_limits_of};
+use crate::marks::MARK;
+use crate::progress::Progress;
 use cqlp_capture_events::write_events;
+use cqlp_capture_exchanges::{ExchangeFilter, ExchangeForm, write_exchanges};
 use cqlp_capture_rows::write_rows;
+use cqlp_capture_streams::{StreamsLimits, write_streams};
 use cqlp_decode::SinkFault;
-use cqlp_exchanges::{ExchangeFilter, ExchangeForm, write_exchanges};
 use cqlp_note::{OfStd, Source, Target};
 use cqlp_options::{
     AtRefusal, CaptureOptions, CaptureTask, CommandLine, DEFAULT_LIMITS, EventsAs, ExchangeOptions,
     ExchangesAs, NoTask, Options, RowsAs, Task,
 };
-use cqlp_progress::{MARK, Progress};
 use cqlp_render::{TextForm, check, conclude, show, show_as};
 use cqlp_render_skip::{check_skipping, show_skipping};
-use cqlp_streams::write_streams;
-use cqlp_tables::TablePlace;
+use cqlp_row_text::TablePlace;
 use cqlp_text::exit_status::{BAD_COMMAND_LINE, DONE, FAULT};
 use cqlp_text::{Ending, PagePlace, cannot_open_line, put_text};
 use std::alloc::Allocator;
@@ -171,9 +175,10 @@ fn capture<R: Files + AllocGlobal, I: Source, O: Target, E: Target, N: Target + 
     err: E,
     notes: &mut Option<N>,
 ) -> (u8, O, E)
-    requires { AreWithin options.ports }
+    requires ports { AreWithin options.ports }
+    requires limits { AreWithinRanges options.limits }
     ensures captures { let view = streams I.Source O.Target E.Target in
-        IsCaptureOfInput options.entry → DoesCaptureTask options.entry.task (named options.entry.ports)
+        IsCaptureOfInput options.entry → DoesCaptureTask options.entry.limits options.entry.task (named options.entry.ports)
         (view input.old out err) result.0 (view input.new result.1 result.2) }
     ensures status { IsStatusOfTask result.0 }
     ensures untouched { options.entry.file.now ≢ codes "-" → input.new ≡ input.old }
@@ -217,7 +222,8 @@ fn read_file<R: Files + AllocGlobal, O: Target, E: Target, N: Target + Drop>(
     out: O,
     err: E,
 ) -> (u8, O, E)
-    requires { AreWithin options.now.ports }
+    requires ports { AreWithin options.now.ports }
+    requires limits { AreWithinRanges options.now.limits }
     ensures status { IsStatusOfTask result.0 }
 {
     match (notes, long_length(&file)) {
@@ -247,18 +253,24 @@ fn read_capture<R: Files + AllocGlobal, I: Source, O: Target, E: Target>(
     out: O,
     err: E,
 ) -> (u8, O, E)
-    requires { AreWithin options.now.ports }
+    requires ports { AreWithin options.now.ports }
+    requires limits { AreWithinRanges options.now.limits }
     ensures task { let view = streams I.Source O.Target E.Target in
-        DoesCaptureTask options.now.task (named options.now.ports)
+        DoesCaptureTask options.now.limits options.now.task (named options.now.ports)
         (view input.old out err) result.0 (view input.new result.1 result.2) }
     ensures status { IsStatusOfTask result.0 }
 {
     let ports = options.ports.as_slice();
+    let limits = streams_limits_of(&options.limits);
     match options.task {
-        CaptureTask::Streams { folder } => split_to_folder(rt, folder, ports, input, out, err),
+        CaptureTask::Streams { folder } => {
+            split_to_folder(rt, folder, limits, ports, input, out, err)
+        }
         CaptureTask::Exchanges(asked) => {
             write_exchanges(
                 rt.alloc(),
+                limits,
+                exchange_limits_of(&options.limits),
                 ports,
                 filter_of(asked),
                 form_of(asked.form),
@@ -268,10 +280,10 @@ fn read_capture<R: Files + AllocGlobal, I: Source, O: Target, E: Target>(
             )
         }
         CaptureTask::Events { connection } => {
-            write_events(rt.alloc(), ports, connection, input, out, err)
+            write_events(rt.alloc(), limits, ports, connection, input, out, err)
         }
         CaptureTask::Rows { connection } => {
-            write_rows(rt.alloc(), ports, connection, input, out, err)
+            write_rows(rt.alloc(), limits, ports, connection, input, out, err)
         }
     }
 }
@@ -280,17 +292,19 @@ fn read_capture<R: Files + AllocGlobal, I: Source, O: Target, E: Target>(
 fn split_to_folder<R: Files + AllocGlobal, I: Source, O: Target, E: Target>(
     rt: &R,
     folder: &str,
+    limits: StreamsLimits,
     ports: &[u16],
     input: &mut I,
     out: O,
     err: E,
 ) -> (u8, O, E)
+    requires { is_in_range limits.connections ≡ true }
     ensures splits { let view = streams I.Source O.Target E.Target in
-        SplitsToFolder ports.now (view input.old out err) result.0 (view input.new result.1 result.2) }
+        SplitsToFolder limits ports.now (view input.old out err) result.0 (view input.new result.1 result.2) }
     ensures status { IsStatusOfTask result.0 }
 {
     let folder = Folder::new(rt, rt.alloc(), folder);
-    let (status, _, out, err) = write_streams(rt.alloc(), ports, input, folder, out, err);
+    let (status, _, out, err) = write_streams(rt.alloc(), limits, ports, input, folder, out, err);
     (status, out, err)
 }
 

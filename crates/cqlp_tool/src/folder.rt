@@ -2,8 +2,8 @@
 
 ghost use Rattle.std.specs.Prelude.{◌<◌, IfSome, vec_len};
 
-use cqlp_connections::Way;
-use cqlp_streams::{FileFault, StreamFile, StreamFiles};
+use cqlp_capture_streams::{FileFault, StreamFile, StreamFiles};
+use cqlp_tcp_connections::Way;
 use std::alloc::{AllocError, Global};
 use std::fs::{self, File};
 use std::io::{self, ErrorKind, Write};

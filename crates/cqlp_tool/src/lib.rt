@@ -1,10 +1,15 @@
-//! What the program cqlp does.
+//! What the program cqlp does; and the progress that it reports while it reads a long file.
 #![tactic(auto)]
 
 mod command_line;
 mod connection;
 mod conversing;
 mod folder;
+pub mod laws;
+mod limits;
+mod line;
+mod marks;
+mod progress;
 
 pub use command_line::{command, command_with_notes, execute};
 pub use conversing::converse;

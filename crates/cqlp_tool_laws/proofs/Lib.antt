@@ -9,6 +9,12 @@ mod QuietFrames
 mod PageTexts
 mod RowTexts
 mod LastRead
+mod SkippedEnds
 mod SkippedOnce
+mod TalkFronts
+mod Receipts
+mod TalkTurns
+mod TalkStops
+mod Conversations
 mod CommandLines
 mod Turns

@@ -9,7 +9,7 @@ use Rattle.cqlp_render.specs.Showing.{Concludes, ConcludesCheck}
 use Rattle.cqlp_render.specs.Streams.{Streams}
 use Rattle.cqlp_render_skip.specs.Reporting.{Outputs}
 use Rattle.cqlp_render_skip.specs.Showing.{ChecksBytes, ShowsBytes, outputs_of, status_after}
-use Rattle.cqlp_render_skip_laws.proofs.Ended.{one_answer, one_check, one_report}
+use Rattle.cqlp_tool_laws.proofs.SkippedEnds.{one_answer, one_check, one_report}
 use Rattle.cqlp_tool.specs.CommandLines.{turns}
 use Rattle.cqlp_tool_laws.specs.CommandLines.{ChecksPlainly, EndsPlainly, IsOneAnswer}
 

@@ -21,16 +21,19 @@ use Rattle.cqlp_text.specs.declared.ending.Ending.TheVariants as ending
 use Rattle.cqlp_text.specs.Outputs.{HasFailed, Output, with_text}
 use Rattle.cqlp_loop.specs.declared.fault.LoopFault.{LoopFault}
 use Rattle.cqlp_loop.specs.Script.{Wires}
-use Rattle.cqlp_loop_laws.specs.OneAnswer.{IsDecided}
+use Rattle.cqlp_tool_laws.specs.Conversations.{IsDecided}
 use Rattle.cqlp_render.specs.declared.text_form.TextForm.{TextForm}
 use Rattle.cqlp_render.specs.declared.text_form.TextForm.TheVariants as forms
 use Rattle.cqlp_render.specs.Showing.{ShowsBytes, ChecksBytes}
 use Rattle.cqlp_render.specs.Streams.{Input, Streams}
 use Rattle.cqlp_render_skip.specs.Showing as skipping
 use Rattle.cqlp_render_skip.specs.Showing.{outputs_of}
-use Rattle.cqlp_render_skip_laws.specs.Laws.{IsPlain}
-use Rattle.cqlp_streams.specs.declared.fault.StreamsFault.TheVariants as fault
-use Rattle.cqlp_streams.specs.Endings.{fault_line, no_memory_line}
+use Rattle.cqlp_tool_laws.specs.Skipping.{IsPlain}
+use Rattle.cqlp_capture_streams.specs.declared.fault.StreamsFault.TheVariants as fault
+use Rattle.cqlp_capture_streams.specs.Endings.{fault_line, no_memory_line}
+use Rattle.cqlp_options.specs.declared.limits.CaptureLimits.{CaptureLimits}
+use Rattle.cqlp_capture_streams.specs.declared.limits.StreamsLimits.{StreamsLimits}
+use Rattle.cqlp_tool.specs.Limits.{streams_limits_of}
 use Rattle.cqlp_tool.specs.Capturing.{DoesCaptureTask, IsCaptureOfInput, SplitsCapture}
 use Rattle.cqlp_tool.specs.CommandLines.{DoesTask, Executes, Shows, form_of_events, form_of_rows, rules_for, turns}
 use Rattle.cqlp_tool.specs.Files.{DoesOn, DoesWithFile, opened}
@@ -198,18 +201,18 @@ LoopGoesOn = (queries : ℕ) (before : Streams) (status status' : ℕ) (after af
 -- To two executions of a task with the same capture the outside did the same: there was no folder in both; or nothing failed, so that no
 -- status is that of a fault.
 module _ (before : Streams) (status status' : ℕ) (after after' : Streams) where
-  abbrev pub AreSplitAlike : (folder ports : List ℕ) → SplitsCapture folder ports before status after
-      → SplitsCapture folder ports before status' after' → Type 0
-  AreSplitAlike folder ports (inl misses) (inl misses') = FailsAlike before.err after.err after'.err
-  AreSplitAlike folder ports (inr splits) (inr splits') = (status ≢ 3) × (status' ≢ 3)
-  AreSplitAlike folder ports does does' = ⊥
+  abbrev pub AreSplitAlike : (l : StreamsLimits) (folder ports : List ℕ) → SplitsCapture l folder ports before status after
+      → SplitsCapture l folder ports before status' after' → Type 0
+  AreSplitAlike l folder ports (inl misses) (inl misses') = FailsAlike before.err after.err after'.err
+  AreSplitAlike l folder ports (inr splits) (inr splits') = (status ≢ 3) × (status' ≢ 3)
+  AreSplitAlike l folder ports does does' = ⊥
 
-  abbrev pub IsCaptureMetAlike : (t : CaptureTask) (ports : List ℕ) → DoesCaptureTask t ports before status after
-      → DoesCaptureTask t ports before status' after' → Type 0
-  IsCaptureMetAlike (capture_task.Streams folder) ports does does' = AreSplitAlike folder.now ports does does'
-  IsCaptureMetAlike (capture_task.Exchanges asked) ports does does' = (status ≢ 3) × (status' ≢ 3)
-  IsCaptureMetAlike (capture_task.Events asked) ports does does' = (status ≢ 3) × (status' ≢ 3)
-  IsCaptureMetAlike (capture_task.Rows asked) ports does does' = (status ≢ 3) × (status' ≢ 3)
+  abbrev pub IsCaptureMetAlike : (l : CaptureLimits) (t : CaptureTask) (ports : List ℕ) → DoesCaptureTask l t ports before status after
+      → DoesCaptureTask l t ports before status' after' → Type 0
+  IsCaptureMetAlike l (capture_task.Streams folder) ports does does' = AreSplitAlike (streams_limits_of l) folder.now ports does does'
+  IsCaptureMetAlike l (capture_task.Exchanges asked) ports does does' = (status ≢ 3) × (status' ≢ 3)
+  IsCaptureMetAlike l (capture_task.Events asked) ports does does' = (status ≢ 3) × (status' ≢ 3)
+  IsCaptureMetAlike l (capture_task.Rows asked) ports does does' = (status ≢ 3) × (status' ≢ 3)
 
 -- A read of the input failed, or the output, or the error output; or the line that was written says that there was no memory, or too
 -- many turns: all reads were made that may be, or there was no end to what is told.
@@ -231,8 +234,8 @@ IsCaused (capture_task.Rows asked) before after = HasFault before after
 -- The status of a task with a capture is that of a fault only where one came.
 abbrev pub CaptureFaultsHaveCauses : Type 0
 CaptureFaultsHaveCauses =
-    (t : CaptureTask) (ports : List ℕ) (before after : Streams)
-    → AreKnown before → DoesCaptureTask t ports before 3 after → IsCaused t before after
+    (l : CaptureLimits) (t : CaptureTask) (ports : List ℕ) (before after : Streams)
+    → AreKnown before → DoesCaptureTask l t ports before 3 after → IsCaused t before after
 
 -- ---- a command line
 
@@ -247,7 +250,7 @@ module _ {F : Type 0} (files : Ghosts F) (before : Streams) (status status' : �
   AreMetAlike (Ok (line.Loop queries)) does does' = AreLoopsMetAlike queries before status status' after after' does does'
   AreMetAlike (Ok (line.Capture options)) does does' =
       (is : IsCaptureOfInput options) × (known : AreKnown before)
-      × IsCaptureMetAlike before status status' after after' options.task (named options.ports) (does is) (does' is)
+      × IsCaptureMetAlike before status status' after after' options.limits options.task (named options.ports) (does is) (does' is)
   AreMetAlike (Err (no_task.Help text)) does does' = AreOutputsMetAlike before after after'
   AreMetAlike (Err (no_task.Mistake text)) does does' = IsErrorMetAlike before after after'
   AreMetAlike (Err no_task.NoMemory) does does' = IsErrorMetAlike before after after'

@@ -1,15 +1,14 @@
 -- The numbers that are promised of captures.
-use Rattle.std.specs.Prelude.{◌≡◌, true, ℕ, List, Option, Result, Err, ◌⊎◌}
+use Rattle.std.specs.Prelude.{◌≡◌, ◌≤◌, true, ℕ, List, Option, Result, Err, ◌⊎◌}
 use Rattle.cqlp_capture.specs.declared.event.CaptureEnd.{CaptureEnd}
-use Rattle.cqlp_connections.specs.declared.limits.ConnectionLimits.{ConnectionLimits}
-use Rattle.cqlp_streams.specs.declared.capturing.CaptureRead.{CaptureRead}
-use Rattle.cqlp_streams.specs.declared.capturing.TheConstants as streams
-use Rattle.cqlp_streams.specs.declared.fault.StreamsFault.{StreamsFault}
-use Rattle.cqlp_streams.specs.declared.fault.StreamsFault.TheVariants as fault
-use Rattle.cqlp_streams.specs.Captures.{ReadsMade, SplitsTo}
-use Rattle.cqlp_streams.specs.Packets.{SplitState}
-use Rattle.cqlp_streams.specs.Recordings.{Recording, StopsAt, with_saying}
-use Rattle.cqlp_streams.specs.Streams.{ReadsCapture, default_limits, no_connections, read_of}
+use Rattle.cqlp_capture_streams.specs.declared.capturing.CaptureRead.{CaptureRead}
+use Rattle.cqlp_capture_streams.specs.declared.fault.StreamsFault.{StreamsFault}
+use Rattle.cqlp_capture_streams.specs.declared.fault.StreamsFault.TheVariants as fault
+use Rattle.cqlp_capture_streams.specs.declared.limits.StreamsLimits.{StreamsLimits}
+use Rattle.cqlp_capture_streams.specs.Captures.{ReadsMade, SplitsTo}
+use Rattle.cqlp_capture_streams.specs.Packets.{SplitState}
+use Rattle.cqlp_capture_streams.specs.Recordings.{Recording, StopsAt, with_saying}
+use Rattle.cqlp_capture_streams.specs.Streams.{ReadsCapture, default_limits, no_connections, read_of, with_files}
 use Rattle.cqlp_capture_events.specs.declared.limits.TheConstants as events
 use Rattle.cqlp_capture_rows.specs.declared.limits.TheConstants as rows
 
@@ -17,21 +16,21 @@ use Rattle.cqlp_capture_rows.specs.declared.limits.TheConstants as rows
 -- no memory for it.
 abbrev pub TurnsOfCaptures : Type 0
 TurnsOfCaptures =
-    (limits : ConnectionLimits) (ports xs : List ℕ) (m : ReadsMade) (r : Result CaptureRead StreamsFault) (left : Option (List ℕ))
+    (limits : StreamsLimits) (ports xs : List ℕ) (m : ReadsMade) (r : Result CaptureRead StreamsFault) (left : Option (List ℕ))
     (before v : Recording)
     → ReadsCapture with_saying StopsAt limits ports xs m r left before v
     → ((e : Result CaptureEnd StreamsFault) × (u : SplitState)
     × SplitsTo with_saying StopsAt default_limits (no_connections limits ports) 4294967296 m before xs e left u v × (r ≡ read_of e u))
     ⊎ (r ≡ Err fault.NoMemory)
 
--- Where its streams are split, and where pages are written, there are so many connections at one time, with so many early bytes of each direction.
+-- Where its streams are split there are at most 256 connections at one time, as each has two open files.
 abbrev pub ConnectionsOfStreams : Type 0
-ConnectionsOfStreams = streams.LIMITS ≡ record { connections = 256; early = 32768 }
+ConnectionsOfStreams = (l : StreamsLimits) → (with_files l).connections.connections ≤ 256
 
--- Where the lines of its frames are written, so many are watched, with so many early bytes, and each frame is read within these limits.
+-- Where the lines of its frames are written, so many frames are read at one time, each within these limits.
 abbrev pub NumbersOfEvents : Type 0
 NumbersOfEvents =
-    (events.CONNECTIONS ≡ 256) × (events.CONNECTION_LIMITS ≡ record { connections = 256; early = 16384 })
+    (events.OPEN_FRAMES ≡ 128)
     × (events.LIMITS ≡ record { text = 65536; cell = 65536; entries = 1024; depth = 16; types = true; parts = true })
 
 -- Where its pages are written, so many statements are known, so many EXECUTEs wait, and each frame is read within these limits.

@@ -10,9 +10,9 @@ use Rattle.cqlp_text.specs.Endings.{ending_line, cannot_open_line}
 use Rattle.cqlp_text.specs.Lines.{line}
 use Rattle.cqlp_text.specs.Outputs.{Offered, Output, with_text, WritesText}
 use Rattle.cqlp_text.specs.PageText.{PagePlace, page_part}
-use Rattle.cqlp_tables.specs.CsvRows.{csv_part}
-use Rattle.cqlp_tables.specs.JsonRows.{json_part}
-use Rattle.cqlp_tables.specs.Places.{TablePlace}
+use Rattle.cqlp_row_text.specs.CsvRows.{csv_part}
+use Rattle.cqlp_row_text.specs.JsonRows.{json_part}
+use Rattle.cqlp_row_text.specs.Places.{TablePlace}
 
 -- The target failed in both of two calls or in neither: it counts as many failures, and had not counted all
 -- that it can.

@@ -2,8 +2,8 @@
 
 ghost use Rattle.cqlp_tool_laws.specs.Numbers.{ConnectionsOfStreams, NumbersOfEvents, NumbersOfRows, TurnsOfCaptures};
 
-/// The numbers that are promised of captures: how many reads are made at most, 2^32; how many connections there are, how many bytes that came early
-/// they hold, and within which limits frames are read.
+/// The numbers that are promised of captures: how many reads are made at most, 2^32; how many connections there are where each has files, how many
+/// frames are read at one time, and within which limits.
 pub fn promised_numbers()
     ensures turns { TurnsOfCaptures }
     ensures streams { ConnectionsOfStreams }

@@ -1,6 +1,6 @@
 use Rattle.std.proofs.Common.{ℕ, ◌+◌, ◌-◌, length, sym, subst}
 use borrow.Rule.Slice.PartMut.{put_mid}
-use Rattle.cqlp_page_batches.specs.Put.{putter}
+use Rattle.cqlp_compose.specs.Put.{putter}
 use Rattle.cqlp_c.specs.declared.page.CqlpPut.{CqlpPut}
 use Rattle.cqlp_c.specs.Pages.{PutsAll}
 use Rattle.cqlp_c.proofs.PagesPut.{PutSoFar, all_cut, all_done, more_in_part, none_put, short_by, some_in_part}

@@ -1,4 +1,4 @@
-use Rattle.cqlp_page_batches.specs.Put.{putter}
+use Rattle.cqlp_compose.specs.Put.{putter}
 use Rattle.cqlp_c.proofs.PagesPut.{PutSoFar}
 use Rattle.cqlp_c.proofs.page.put_all.Given as goal
 

@@ -1,25 +1,24 @@
-use Rattle.std.proofs.Common.{arith, IsSome, refl, sym, subst, inr}
+use Rattle.std.proofs.Common.{◌∙◌, arith, IsSome, refl, sym, subst, inr}
 use Rattle.cqlp_text.specs.Outputs.{written}
-use Rattle.cqlp_streams.specs.Captures.{no_reads}
-use Rattle.cqlp_streams.specs.Streams.{ReadsCapture}
-use Rattle.cqlp_capture_events.specs.declared.limits.TheConstants.{CONNECTIONS, CONNECTION_LIMITS}
+use Rattle.cqlp_capture_streams.specs.Captures.{no_reads}
+use Rattle.cqlp_capture_streams.specs.Streams.{ReadsCapture}
 use Rattle.cqlp_capture_events.specs.Listening.{Listening, StopsAt, new_listening, with_saying}
 use Rattle.cqlp_capture_events.proofs.capturing.listen.Goals as goal
 
 pub returns-in-Err : goal.returns-in-Err
 returns-in-Err g c = λ xs is known.
-    (no_reads, (λ fits. omega arith, refl, λ fits. omega arith), (new_listening CONNECTIONS c.args.connection (written g.O.Target c.args.out), inr (refl, refl, is, refl), c.in-Err.ensures.err))
+    (no_reads, (λ fits. omega arith, refl, λ fits. omega arith), (new_listening c.args.connection (written g.O.Target c.args.out), inr (refl, refl, is, refl), refl, c.in-Err.ensures.err))
 
 pub returns : goal.returns
 returns g c = λ xs is known.
-    let first = new_listening CONNECTIONS c.args.connection (written g.O.Target c.args.out) in
     let tells = subst (λ (w : Listening). IsSome w.output.given) (sym c.in-Ok.ensures.ok) known in
     let a = c.read_capture-answer.ensures.reads xs is tells in (
       a.0,
       a.1,
       (
         c.read_capture-answer.new.listener,
-        subst (λ (w : Listening). ReadsCapture with_saying StopsAt CONNECTION_LIMITS c.args.ports.now xs a.0 c.read_capture-answer.result (g.R.Source.left c.read_capture-answer.new.input) w c.read_capture-answer.new.listener) c.in-Ok.ensures.ok a.2,
-        c.into_output.ensures,
+        subst (λ (w : Listening). ReadsCapture with_saying StopsAt c.args.limits c.args.ports.now xs a.0 c.read_capture-answer.result (g.R.Source.left c.read_capture-answer.new.input) w c.read_capture-answer.new.listener) c.in-Ok.ensures.ok a.2,
+        c.into_parts-out.ensures.unread,
+        c.into_parts-out.ensures.output,
       ),
     )

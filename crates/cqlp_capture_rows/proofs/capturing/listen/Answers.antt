@@ -1,7 +1,7 @@
 use Rattle.std.proofs.Common.{arith, IsSome, refl, sym, subst, inr}
 use Rattle.cqlp_text.specs.Outputs.{written}
-use Rattle.cqlp_streams.specs.Captures.{no_reads}
-use Rattle.cqlp_streams.specs.Streams.{ReadsCapture, streams_limits}
+use Rattle.cqlp_capture_streams.specs.Captures.{no_reads}
+use Rattle.cqlp_capture_streams.specs.Streams.{ReadsCapture}
 use Rattle.cqlp_capture_rows.specs.Listening.{Listening, StopsAt, new_listening, with_saying}
 use Rattle.cqlp_capture_rows.proofs.capturing.listen.Goals as goal
 
@@ -18,7 +18,7 @@ returns g c = λ xs is known.
       a.1,
       (
         c.read_capture-answer.new.listener,
-        subst (λ (w : Listening). ReadsCapture with_saying StopsAt streams_limits c.args.ports.now xs a.0 c.read_capture-answer.result (g.R.Source.left c.read_capture-answer.new.input) w c.read_capture-answer.new.listener) c.in-Ok.ensures.ok a.2,
+        subst (λ (w : Listening). ReadsCapture with_saying StopsAt c.args.limits c.args.ports.now xs a.0 c.read_capture-answer.result (g.R.Source.left c.read_capture-answer.new.input) w c.read_capture-answer.new.listener) c.in-Ok.ensures.ok a.2,
         c.into_output.ensures,
       ),
     )

@@ -1,6 +1,6 @@
 use Rattle.std.proofs.Common.{refl}
 use Rattle.cqlp_text.proofs.Writing.{progress_starts}
-use Rattle.cqlp_capture_rows.proofs.Parts.{part_last, part_stops, part_taken}
+use Rattle.cqlp_capture_frames.proofs.Parts.{part_last, part_stops, part_taken}
 use Rattle.cqlp_capture_rows.proofs.spot.put_page_line.Goals as goal
 
 pub returns-in_err-put_number : goal.returns-in_err-put_number

@@ -6,7 +6,7 @@ pub returns-clause-turns : goal.returns-clause-turns
 returns-clause-turns c = turns_of_captures
 
 pub returns-clause-events : goal.returns-clause-events
-returns-clause-events c = (refl, refl, refl)
+returns-clause-events c = (refl, refl)
 
 pub returns-clause-rows : goal.returns-clause-rows
 returns-clause-rows c = (refl, refl, refl)

@@ -26,7 +26,7 @@ use Rattle.std.specs.contracts.alloc.Global as heap
 use Rattle.std.proofs.alloc.Global.TheLaws as heap_laws
 use Rattle.std.specs.contracts.impls.GlobalAllocator.TheImpl.{ghosts}
 use Rattle.std.proofs.raw_atomic.Walks.{proved_at, leaves}
-use Rattle.cqlp_page_batches.specs.contracts.page.OpenPage as held
+use Rattle.cqlp_compose.specs.contracts.page.OpenPage as held
 use Rattle.cqlp_c.proofs.Values.{both, loose_good, loose_in}
 use Rattle.cqlp_c.proofs.PagesHeld.{word, page_out}
 use Rattle.cqlp_c.specs.contracts.page.CqlpPagePlace as place

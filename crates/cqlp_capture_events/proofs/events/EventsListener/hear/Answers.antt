@@ -1,4 +1,4 @@
-use Rattle.cqlp_streams.specs.Sayings.{saying_of}
+use Rattle.cqlp_capture_streams.specs.Sayings.{saying_of}
 use Rattle.cqlp_capture_events.proofs.Heard.{tells_what_it_heard}
 use Rattle.cqlp_capture_events.proofs.events.EventsListener.hear.Goals as goal
 

@@ -1,9 +1,9 @@
-use Rattle.std.proofs.Common.{◌≡◌, ◌∙◌, [], None, subst}
-use Rattle.cqlp_decode.specs.Streams.{state}
+use Rattle.std.proofs.Common.{◌≡◌, ◌∙◌, [], ◌++◌, Bool, Some, refl, subst, sym}
 use Rattle.cqlp_note.specs.Heading.{header_bytes}
+use Rattle.cqlp_capture_frames.specs.Faults.{Stops}
 use Rattle.cqlp_capture_frames.specs.Happenings.{Begins}
 use Rattle.cqlp_capture_frames.specs.Frames.{nodes_of, opened, taken}
-use Rattle.cqlp_capture_frames.specs.Directions.{Direction, IsTold, Telling, begins_plain, direction, goes_on}
+use Rattle.cqlp_capture_frames.specs.Directions.{IsTold, Telling, body, goes_on, with_frame}
 use Rattle.cqlp_capture_frames.proofs.Directions.{first_stops, then_told}
 use Rattle.cqlp_capture_frames.proofs.direction.Direction.begin_plain.Goals as goal
 
@@ -16,22 +16,29 @@ returns-in_err-types-clause-told g c =
     (goes_on t.manner (header_bytes a.header.now) (opened a.at (taken a.self.now.rules (t.manner.types known a.at a.header.now)) []) (t.manner.after known (Begins a.at a.header.now)) a.self.now)
     _ _ c.from_residual.result _ c.from_residual.ensures c.in_err-types.ensures.text
 
--- the header's nine bytes are the first of a frame
-pub returns-clause-told : goal.returns-clause-told
-returns-clause-told g c =
+pub returns-in-Err-clause-told : goal.returns-in-Err-clause-told
+returns-in-Err-clause-told g c =
     let t = g.T.Transcript in
     let a = c.args in
-    let old = c.self.inside in
-    let first = state old.decoder in
-    let new = state c.begin_frame.new.decoder in
     let known = t.state a.transcript.now in
-    let types = t.manner.types known a.at a.header.now in
-    let given : nodes_of new.given ≡ taken first.rules types = c.begin_frame.ensures.new.given ∙ (λ i. taken (c.begin_frame.ensures.rules i) (c.in_ok-types.ensures.types i)) in
-    let is : goes_on t.manner c.write.result (opened a.at (nodes_of new.given) c.new-self-inside.result.bytes) (t.state c.begin.new.self) (direction new.rules old.responses old.heads None)
-    ≡ goes_on t.manner (header_bytes a.header.now) (opened a.at (taken first.rules types) []) (t.manner.after known (Begins a.at a.header.now)) (direction first.rules old.responses old.heads None) =
-    λ i. goes_on t.manner (c.write.ensures.bytes i) (opened a.at (given i) (c.new-self-inside.ensures i)) (c.in_ok-types.ensures.after i) (direction (c.begin_frame.ensures.rules i) old.responses old.heads None) in
-    subst (λ (d : Direction). IsTold t.refuses (begins_plain t.manner a.at a.header.now known d) c.take_body.result a.writer.now c.take_body.new.writer c.take_body.new.self (t.state c.take_body.new.transcript)) c.self.view_is
-    (then_told t.refuses a.writer.now c.begin.new.writer c.take_body.new.writer (t.manner.text known (Begins a.at a.header.now))
-    (goes_on t.manner (header_bytes a.header.now) (opened a.at (taken first.rules types) []) (t.manner.after known (Begins a.at a.header.now)) (direction first.rules old.responses old.heads None))
+    let first = t.manner.text known (Begins a.at a.header.now) in
+    let rest = (goes_on t.manner (header_bytes a.header.now) (opened a.at (taken a.self.now.rules (t.manner.types known a.at a.header.now)) []) (t.manner.after known (Begins a.at a.header.now)) a.self.now).text in
+    subst (λ (b : Bool). Stops b a.writer.now (first ++ rest) c.begin.new.writer) (sym c.no_memory.ensures) (first, rest, refl, c.in_ok-types.ensures.text)
+
+-- the header's nine bytes are the first of a frame
+pub returns-in-Ok-clause-told : goal.returns-in-Ok-clause-told
+returns-in-Ok-clause-told g c =
+    let t = g.T.Transcript in
+    let a = c.args in
+    let old = a.self.now in
+    let new = c.begin_reader.new.self in
+    let known = t.state a.transcript.now in
+    let begun : new ≡ with_frame (Some (opened a.at (taken old.rules (nodes_of c.in_ok-types.types)) [])) old = c.in-Ok.ensures.begun in
+    let is : body t.manner c.write.result new.frame (t.state c.begin.new.self) new
+    ≡ goes_on t.manner (header_bytes a.header.now) (opened a.at (taken old.rules (t.manner.types known a.at a.header.now)) []) (t.manner.after known (Begins a.at a.header.now)) old =
+    (λ i. body t.manner (c.write.ensures.bytes i) (begun i).frame (c.in_ok-types.ensures.after i) (begun i))
+    ∙ (λ i. goes_on t.manner (header_bytes a.header.now) (opened a.at (taken old.rules (c.in_ok-types.ensures.types i)) []) (t.manner.after known (Begins a.at a.header.now)) old) in
+    then_told t.refuses a.writer.now c.begin.new.writer c.take_body.new.writer (t.manner.text known (Begins a.at a.header.now))
+    (goes_on t.manner (header_bytes a.header.now) (opened a.at (taken old.rules (t.manner.types known a.at a.header.now)) []) (t.manner.after known (Begins a.at a.header.now)) old)
     c.take_body.new.self (t.state c.take_body.new.transcript) c.take_body.result c.in_ok-types.ensures.text
-    (subst (λ (z : Telling t.State). IsTold t.refuses z c.take_body.result c.begin.new.writer c.take_body.new.writer c.take_body.new.self (t.state c.take_body.new.transcript)) is c.take_body.ensures.told))
+    (subst (λ (z : Telling t.State). IsTold t.refuses z c.take_body.result c.begin.new.writer c.take_body.new.writer c.take_body.new.self (t.state c.take_body.new.transcript)) is c.take_body.ensures.told)

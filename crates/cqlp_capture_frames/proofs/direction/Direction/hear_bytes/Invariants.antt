@@ -5,8 +5,8 @@ use Rattle.cqlp_capture_frames.proofs.direction.Direction.hear_bytes.Given as go
 abbrev pub invariant-loop-steps : goal.invariant-loop-steps
 invariant-loop-steps g l =
     let t = g.T.Transcript in
-    (Goes (bytes_told t.manner l.at l.begins l.bytes (t.state l.fn.transcript) l.fn.self)
-    (all_told t.manner l.steps l.end l.is_first l.rest (t.state l.transcript) l.self) l.fn.writer l.writer) × IsSame l.fn.self l.self
+    (Goes (bytes_told t.manner l.has_room l.at l.begins l.bytes (t.state l.fn.transcript) l.fn.self)
+    (all_told t.manner l.has_room l.steps l.end l.is_first l.rest (t.state l.transcript) l.self) l.fn.writer l.writer) × IsSame l.fn.self l.self
 
 abbrev pub decreases-loop-steps : goal.decreases-loop-steps
 decreases-loop-steps g l = l.steps

@@ -1,4 +1,4 @@
-use Rattle.cqlp_streams.specs.Sayings.{saying_of}
+use Rattle.cqlp_capture_streams.specs.Sayings.{saying_of}
 use Rattle.cqlp_capture_rows.proofs.Heard.{tells_what_it_heard}
 use Rattle.cqlp_capture_rows.proofs.rows.RowsListener.hear.Goals as goal
 

@@ -1,0 +1,6 @@
+use Rattle.cqlp_capture_streams.specs.Sayings.{saying_of}
+use Rattle.cqlp_capture_exchanges.proofs.Heard.{tells_what_it_heard}
+use Rattle.cqlp_capture_exchanges.proofs.exchanges.ExchangesListener.hear.Goals as goal
+
+pub returns-clause-ok : goal.returns-clause-ok
+returns-clause-ok g c = tells_what_it_heard c.args.self.now c.take.new.self (saying_of c.args.saying.now) c.take.result c.take.ensures

@@ -1,0 +1,27 @@
+use Rattle.std.proofs.Common.{◌∙◌, ap, refl}
+use Rattle.cqlp_capture_exchanges.specs.Lines.{compressed_mark, cut_mark}
+use Rattle.cqlp_text.proofs.Writing.{progress_starts}
+use Rattle.cqlp_capture_exchanges.proofs.Texts.{said_last, said_next, said_stops}
+use Rattle.cqlp_capture_exchanges.proofs.lines.put_frame.Goals as goal
+
+pub returns-in_err-put : goal.returns-in_err-put
+returns-in_err-put g c =
+    said_stops _ c.from_residual.result c.from_residual.ensures.0 (progress_starts _ _) refl refl c.in_err-put.ensures
+
+pub returns-in_err-put_number : goal.returns-in_err-put_number
+returns-in_err-put_number g c =
+    let s1 = said_next _ (progress_starts _ _) refl refl c.in_ok-put.ensures in
+    said_stops _ c.from_residual-in_err-put_number.result c.from_residual-in_err-put_number.ensures.0 s1 refl refl c.in_err-put_number.ensures
+
+pub returns-in_err-put_str : goal.returns-in_err-put_str
+returns-in_err-put_str g c =
+    let s1 = said_next _ (progress_starts _ _) refl refl c.in_ok-put.ensures in
+    let s2 = said_next _ s1 refl refl c.in_ok-put_number.ensures in
+    said_stops _ c.from_residual-in_err-put_str.result c.from_residual-in_err-put_str.ensures.0 s2 refl (c.cut_mark.ensures ∙ ap cut_mark c.is_whole.ensures) c.in_err-put_str.ensures
+
+pub returns : goal.returns
+returns g c =
+    let s1 = said_next _ (progress_starts _ _) refl refl c.in_ok-put.ensures in
+    let s2 = said_next _ s1 refl refl c.in_ok-put_number.ensures in
+    let s3 = said_next _ s2 refl (c.cut_mark.ensures ∙ ap cut_mark c.is_whole.ensures) c.in_ok-put_str.ensures in
+    said_last _ _ c.put_str-2.result s3 refl (c.compressed_mark.ensures ∙ ap compressed_mark c.has.ensures) c.put_str-2.ensures

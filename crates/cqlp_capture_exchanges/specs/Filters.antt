@@ -1,0 +1,60 @@
+-- Which exchanges are shown.
+use Rattle.std.specs.Prelude.{ℕ, Bool, true, false, not, ◌&&◌, ◌||◌, ◌==◌, nat_le, Option, Some, None}
+use Rattle.cqlp_note.specs.declared.opcode.Opcode.{Opcode}
+use Rattle.cqlp_note.specs.declared.opcode.Opcode.TheVariants as opcode
+use Rattle.cqlp_observer.specs.Keeping.{Kept}
+use Rattle.cqlp_observer.specs.declared.message.Frame.{Frame}
+use Rattle.cqlp_observer.specs.declared.paired.Paired.{Paired}
+use Rattle.cqlp_observer.specs.declared.paired.Paired.TheVariants.{Exchange, Unanswered, Unasked, Event}
+use Rattle.cqlp_capture_exchanges.specs.declared.filter.ExchangeFilter.{ExchangeFilter}
+use Rattle.cqlp_capture_exchanges.specs.Reports.{Report, Messages, Unread}
+use Rattle.cqlp_capture_exchanges.specs.declared.span.Span.{Span}
+use Rattle.cqlp_capture_exchanges.specs.Spans.{is_short, took}
+
+-- ---- of the connection that is asked for
+
+abbrev pub is_of : (asked : Option ℕ) → (number : ℕ) → Bool
+is_of None number = true
+is_of (Some n) number = n == number
+
+-- ---- The reply's last byte came at least so long after the request's first.
+
+abbrev pub is_at_least : (least : ℕ) → Option Span → Bool
+is_at_least least None = false
+is_at_least least (Some s) = not s.is_before && nat_le least s.nanoseconds
+
+abbrev pub took_at_least : (least : ℕ) → Paired Kept → Bool
+took_at_least least (Exchange request response) = is_at_least least (took request.frame response.frame)
+took_at_least least t = false
+
+abbrev pub reported_slow : (least : ℕ) → Report → Bool
+reported_slow least (Messages t end) = took_at_least least t
+reported_slow least (Unread time o) = false
+
+abbrev pub is_slow : (least : Option ℕ) → Report → Bool
+is_slow None r = true
+is_slow (Some least) r = reported_slow least r
+
+-- ---- The reply is an ERROR, or did not come to its end, or there is none; or the connection is not read.
+
+abbrev pub is_error : Opcode → Bool
+is_error opcode.Error = true
+is_error o = false
+
+abbrev pub is_failure : Frame → Bool
+is_failure f = is_error f.header.opcode || is_short f.extent
+
+abbrev pub has_failed : Paired Kept → Bool
+has_failed (Exchange request response) = is_failure response.frame
+has_failed (Unanswered request) = true
+has_failed (Unasked response) = false
+has_failed (Event event) = false
+
+abbrev pub is_trouble : Report → Bool
+is_trouble (Messages t end) = has_failed t
+is_trouble (Unread time o) = true
+
+-- ---- all that is asked for
+
+abbrev pub shows : ExchangeFilter → (number : ℕ) → Report → Bool
+shows f number r = is_of f.connection number && is_slow f.slow r && (not f.errors || is_trouble r)

@@ -1,0 +1,194 @@
+//! A capture whose exchanges are written.
+
+ghost use Rattle.std.specs.Prelude.{◌≡◌, ℕ, true, List, IsSome, OnOk, Some};
+ghost use Rattle.cqlp_text.specs.Endings.{IsStatusOfTask};
+ghost use Rattle.cqlp_text.specs.Outputs.{written};
+ghost use Rattle.cqlp_text.specs.Written.{Writes};
+ghost use Rattle.cqlp_tcp_connections.specs.Limits.{is_in_range};
+ghost use Rattle.cqlp_capture_streams.specs.Captures.{AreCounted, ReadsMade, read_counts};
+ghost use Rattle.cqlp_observer.specs.Misses.{none_missed};
+ghost use Rattle.cqlp_capture_exchanges.specs.Accounts.{no_sums};
+ghost use Rattle.cqlp_capture_exchanges.specs.Capturing.{Closes, ConcludesSums, Listens, WritesExchanges, sums_words, words_of};
+ghost use Rattle.cqlp_capture_exchanges.specs.Losses.{note_text};
+
+use crate::exchanges::Exchanges;
+use crate::filter::ExchangeFilter;
+use crate::form::ExchangeForm;
+use crate::losses::{Losses, losses_of, put_losses};
+use crate::pool::ExchangeLimits;
+use crate::sums::ExchangeSums;
+use cqlp_capture_streams::{
+    CaptureRead, LastWords, StreamsFault, StreamsLimits, conclude_capture, read_capture,
+};
+use cqlp_grammar::SinkFault;
+use cqlp_note::{Source, Target};
+use cqlp_observer::Missed;
+use cqlp_text::{Pen, TextWriter};
+use std::alloc::Global;
+
+/// Pairs the requests on the connections of a capture with their responses, of nodes that listen on these ports, within these limits. Writes each that the
+/// filter shows to `out` in this form, and what the capture was, or the fault line, to `err`. Answers the exit status and the two outputs.
+///
+/// After a fault nothing more is asked of what failed.
+pub fn write_exchanges<R: Source, O: Target, E: Target>(
+    alloc: Global,
+    streams: StreamsLimits,
+    limits: ExchangeLimits,
+    ports: &[u16],
+    filter: ExchangeFilter,
+    form: ExchangeForm,
+    input: &mut R,
+    out: O,
+    err: E,
+) -> (u8, O, E)
+    requires { is_in_range streams.connections ≡ true }
+    ensures task { IsStatusOfTask result.0 }
+    ensures exchanges { (xs : List ℕ) → R.left input.old ≡ Some xs → IsSome (O.contents out) → IsSome (E.contents err) →
+        (m : ReadsMade) × AreCounted m (read_counts R.Source input.old) (read_counts R.Source input.new)
+        × WritesExchanges streams limits filter form ports.now xs m (R.left input.new) (written O.Target out) (written E.Target err)
+        result.0 (written O.Target result.1) (written E.Target result.2) }
+{
+    let (answer, counts, out) = listen(alloc, streams, limits, ports, filter, form, input, out);
+    let (status, err) = conclude(streams, limits, ports, &answer, &counts, err);
+    (status, out, err)
+}
+
+/// What was told of a capture's connections, and what was missed.
+#[derive(Clone, Copy, Debug, PartialEq, Eq)]
+struct Counts {
+    sums: ExchangeSums,
+    missed: Missed,
+}
+
+impl Counts {
+    /// Nothing.
+    fn none() -> Self
+        ensures sums { result.sums ≡ no_sums }
+        ensures missed { result.missed ≡ none_missed }
+    {
+        Counts {
+            sums: ExchangeSums::none(),
+            missed: Missed::NONE,
+        }
+    }
+}
+
+/// Reads the capture, and writes the lines. Answers what it was, what was told, and the output.
+fn listen<R: Source, O: Target>(
+    alloc: Global,
+    streams: StreamsLimits,
+    limits: ExchangeLimits,
+    ports: &[u16],
+    filter: ExchangeFilter,
+    form: ExchangeForm,
+    input: &mut R,
+    out: O,
+) -> (Result<CaptureRead, StreamsFault>, Counts, O)
+    requires { is_in_range streams.connections ≡ true }
+    ensures { (xs : List ℕ) → R.left input.old ≡ Some xs → IsSome (O.contents out) →
+        (m : ReadsMade) × AreCounted m (read_counts R.Source input.old) (read_counts R.Source input.new)
+        × Listens streams limits filter form ports.now xs m result.0 (R.left input.new) (written O.Target out) result.1.sums result.1.missed
+        (written O.Target result.2) }
+{
+    let mut exchanges = match Exchanges::new(alloc, limits, filter, form, out) {
+        Ok(exchanges) => exchanges,
+        Err(out) => return (Err(StreamsFault::NoMemory), Counts::none(), out),
+    };
+    let read = read_capture(alloc, streams, ports, input, &mut exchanges);
+    let answer = finish(&mut exchanges, read);
+    let missed = exchanges.missed();
+    let (out, sums) = exchanges.into_parts();
+    (answer, Counts { sums, missed }, out)
+}
+
+/// Where the capture was read, writes what stands at the end.
+fn finish<O: Target>(
+    exchanges: &mut Exchanges<O>,
+    read: Result<CaptureRead, StreamsFault>,
+) -> Result<CaptureRead, StreamsFault>
+    ensures closes { OnOk read (IsSome exchanges.old.account.output.given) →
+        Closes exchanges.old.account read result exchanges.new.account.output }
+    ensures sums { OnOk read (IsSome exchanges.old.account.output.given) → exchanges.new.account.sums ≡ exchanges.old.account.sums }
+    ensures table { exchanges.new.table ≡ exchanges.old.table }
+{
+    match read {
+        Ok(read) => match exchanges.finish() {
+            Ok(()) => Ok(read),
+            Err(SinkFault) => Err(StreamsFault::Write),
+        },
+        Err(fault) => Err(fault),
+    }
+}
+
+/// Writes the lines of how the reading ended. Answers the exit status.
+fn conclude<E: Target>(
+    streams: StreamsLimits,
+    limits: ExchangeLimits,
+    ports: &[u16],
+    answer: &Result<CaptureRead, StreamsFault>,
+    counts: &Counts,
+    err: E,
+) -> (u8, E)
+    ensures task { IsStatusOfTask result.0 }
+    ensures concludes { IsSome (E.contents err) →
+        ConcludesSums streams limits ports.now counts.now.sums counts.now.missed answer.now (written E.Target err) result.0 (written E.Target result.1) }
+{
+    let last = LastCounts {
+        sums: counts.sums,
+        losses: losses_of(streams, limits, answer, &counts.missed),
+    };
+    conclude_capture(answer, ports, &last, err)
+}
+
+/// What the last line says of the connections: the sums, and what was missed.
+#[derive(Clone, Copy, Debug, PartialEq, Eq)]
+struct LastCounts {
+    sums: ExchangeSums,
+    losses: Losses,
+}
+
+impl LastWords for LastCounts {
+    ghost note = { λ last. note_text last.losses };
+
+    ghost words = { λ last. words_of last.sums last.losses };
+
+    #[tactic(auto, using(crate::proofs::Missing::some_noted))]
+    fn has_note(&self) -> bool {
+        self.losses.are_some()
+    }
+
+    fn put_note<P: Pen>(&self, writer: &mut TextWriter<P>) -> Result<(), SinkFault> {
+        self.losses.put_note(writer)
+    }
+
+    fn put_words<P: Pen>(&self, writer: &mut TextWriter<P>) -> Result<(), SinkFault> {
+        put_words(writer, &self.sums, &self.losses)
+    }
+}
+
+fn put_words<P: Pen>(
+    writer: &mut TextWriter<P>,
+    sums: &ExchangeSums,
+    losses: &Losses,
+) -> Result<(), SinkFault>
+    ensures { Writes writer.old (words_of sums.now losses.now) result writer.new }
+{
+    put_sums(writer, sums)?;
+    put_losses(writer, losses)
+}
+
+/// Takes the words of the sums.
+fn put_sums<P: Pen>(writer: &mut TextWriter<P>, sums: &ExchangeSums) -> Result<(), SinkFault>
+    ensures { Writes writer.old (sums_words sums.now) result writer.new }
+{
+    writer.put(b"exchanges ")?;
+    writer.put_number(sums.exchanges)?;
+    writer.put(b" unanswered ")?;
+    writer.put_number(sums.unanswered)?;
+    writer.put(b" unasked ")?;
+    writer.put_number(sums.unasked)?;
+    writer.put(b" events ")?;
+    writer.put_number(sums.events)?;
+    writer.put(b" cut ")?;
+    writer.put_number(sums.cut)
+}

@@ -1,0 +1,199 @@
+//! What listens to the connections of a capture.
+
+ghost use Rattle.std.specs.Prelude.{◌≡◌, ◌≤◌, [], IfErr, IfOk, IsSome, vec_capacity, vec_len};
+ghost use Rattle.cqlp_text.specs.Outputs.{written};
+ghost use Rattle.cqlp_capture_summary.specs.Summaries.{new_summary};
+ghost use Rattle.cqlp_capture_exchanges.specs.Forms.{statements_in};
+ghost use Rattle.cqlp_capture_exchanges.specs.Tables.{new_table};
+
+use crate::filter::ExchangeFilter;
+use crate::form::ExchangeForm;
+use crate::pool::ExchangeLimits;
+use crate::prepared::{MOST, Preparation};
+use crate::sums::ExchangeSums;
+use crate::table::Table;
+use crate::teller::Teller;
+use cqlp_capture_streams::{Listener, Saying, StreamsFault};
+use cqlp_capture_summary::Summary;
+use cqlp_grammar::SinkFault;
+use cqlp_note::Target;
+use cqlp_observer::Missed;
+use cqlp_tcp_connections::{ConnectionTotals, Told};
+use std::alloc::{AllocError, Allocator, Global};
+use std::marker::Model;
+
+/// How many bytes of a line wait at most.
+const ROOM: usize = 4096;
+
+/// Pairs the requests on the connections of a capture with their responses, and writes each that its filter shows, when the last byte of
+/// the response is there. Memory for a connection is taken as it begins, for a message as it waits, and is given back.
+#[derive(Drop)]
+pub struct Exchanges<O: Target, A: Allocator = Global> {
+    table: Table<A>,
+    /// When the present packet was captured, in nanoseconds since 1970-01-01 00:00:00 UTC.
+    present: Option<u64>,
+    teller: Teller<O, A>,
+}
+
+impl<O: Target, A: Allocator> Model for Exchanges<O, A> {
+    ghost use Rattle.cqlp_capture_exchanges.specs.Listening.{Listening, listening};
+
+    ghost Value = { Listening };
+
+    ghost view = { λ e. listening e.table e.present e.teller };
+}
+
+impl<O: Target, A: Allocator + Clone> Exchanges<O, A> {
+    ghost use Rattle.cqlp_capture_streams.specs.Sayings.{Left, New, Of, Packet, saying_of};
+    ghost use Rattle.cqlp_capture_exchanges.specs.Accounts.{Finishes};
+    ghost use Rattle.cqlp_capture_exchanges.specs.Listening.{Hears, new_listening, with_saying};
+
+    /// Nothing is watched, and exchanges go to this output in this form. Takes memory for a line, for 256 statements and for a summary; where it is not
+    /// granted, the output is given back.
+    pub fn new(
+        alloc: A,
+        limits: ExchangeLimits,
+        filter: ExchangeFilter,
+        form: ExchangeForm,
+        out: O,
+    ) -> Result<Self, O>
+        ensures ok { IfOk result (λ e. e ≡ new_listening limits filter form (written O.Target out)) }
+        ensures err { IfErr result (λ o. written O.Target o ≡ written O.Target out) }
+    {
+        match take_memory(alloc, limits, form) {
+            Ok(
+                Room {
+                    table,
+                    buffer,
+                    known,
+                    summary,
+                },
+            ) => Ok(Exchanges {
+                table,
+                present: None,
+                teller: Teller::new(filter, form, out, buffer, known, summary),
+            }),
+            Err(AllocError) => Err(out),
+        }
+    }
+
+    /// Writes what stands at the end: the lines of a summary.
+    pub fn finish(&mut self) -> Result<(), SinkFault>
+        ensures ends { IsSome self.old.account.output.given → Finishes self.old.account result self.new.account }
+        ensures table { self.new.table ≡ self.old.table }
+    {
+        self.teller.finish()
+    }
+
+    /// The output, and what was reported.
+    pub fn into_parts(self) -> (O, ExchangeSums)
+        ensures output { written O.Target result.0 ≡ self.account.output }
+        ensures sums { result.1 ≡ self.account.sums }
+    {
+        let Exchanges {
+            table: _,
+            present: _,
+            teller,
+        } = self;
+        teller.into_parts()
+    }
+
+    /// What was missed of the connections that have left.
+    pub fn missed(&self) -> Missed
+        ensures { result ≡ self.now.table.missed }
+    {
+        self.table.missed()
+    }
+
+    /// Takes what is told next of the connections.
+    fn take(&mut self, saying: &Saying<'_>) -> Result<(), StreamsFault>
+        ensures { IsSome self.old.account.output.given → Hears self.old (saying_of saying.now) result self.new }
+    {
+        match saying {
+            Saying::Packet { time } => {
+                self.note_time(*time);
+                Ok(())
+            }
+            Saying::New { number } => self.begin(*number),
+            Saying::Of { told, bytes } => self.hear_told(told, bytes),
+            Saying::Left(totals) => self.let_leave(totals),
+        }
+    }
+
+    fn note_time(&mut self, time: Option<u64>)
+        ensures { self.new ≡ with_saying self.old (Packet time) }
+    {
+        self.present = time;
+        self.teller.note_time(time);
+    }
+
+    fn begin(&mut self, number: u64) -> Result<(), StreamsFault>
+        ensures { Hears self.old (New number) result self.new }
+    {
+        match self.table.begin(number) {
+            Ok(()) => Ok(()),
+            Err(AllocError) => Err(StreamsFault::NoMemory),
+        }
+    }
+
+    fn hear_told(&mut self, told: &Told, bytes: &[u8]) -> Result<(), StreamsFault>
+        ensures { IsSome self.old.account.output.given → Hears self.old (Of told.now bytes.now) result self.new }
+    {
+        (self.table).hear(self.present, told, bytes, &mut self.teller)
+    }
+
+    fn let_leave(&mut self, totals: &ConnectionTotals) -> Result<(), StreamsFault>
+        ensures { IsSome self.old.account.output.given → Hears self.old (Left totals.now) result self.new }
+    {
+        self.table.leave(totals, &mut self.teller)
+    }
+}
+
+/// A table of no connections, the buffer of a line, room for statements that are prepared, and a summary of those that are asked for.
+#[derive(Drop)]
+struct Room<A: Allocator> {
+    table: Table<A>,
+    buffer: Vec<u8, A>,
+    known: Vec<Preparation<A>, A>,
+    summary: Summary<A>,
+}
+
+fn take_memory<A: Allocator + Clone>(
+    alloc: A,
+    limits: ExchangeLimits,
+    form: ExchangeForm,
+) -> Result<Room<A>, AllocError>
+    ensures table { IfOk result (λ p. p.table ≡ new_table limits) }
+    ensures buffer { IfOk result (λ p. 128 ≤ vec_len p.buffer) }
+    ensures known { IfOk result (λ p. (p.known.items ≡ []) × (vec_capacity p.known ≡ 256)) }
+    ensures summary { IfOk result (λ p. p.summary ≡ new_summary (statements_in form)) }
+{
+    let table = Table::new(alloc.clone()?, limits)?;
+    let buffer = vec![in alloc.clone()?; 0; ROOM]?;
+    let known = Vec::with_capacity(alloc.clone()?, MOST)?;
+    let summary = Summary::new(alloc, form.statements())?;
+    Ok(Room {
+        table,
+        buffer,
+        known,
+        summary,
+    })
+}
+
+impl<O: Target, A: Allocator + Clone> Listener for Exchanges<O, A> {
+    ghost use Rattle.cqlp_capture_exchanges.specs.Listening.{Listening, StopsAt, with_saying};
+
+    ghost View = { Listening };
+
+    ghost view = { λ e. e };
+
+    ghost tells = { λ e. IsSome e.account.output.given };
+
+    ghost after = { with_saying };
+
+    ghost faulted = { StopsAt };
+
+    fn hear(&mut self, saying: &Saying<'_>) -> Result<(), StreamsFault> {
+        self.take(saying)
+    }
+}

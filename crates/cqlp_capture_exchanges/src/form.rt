@@ -1,0 +1,28 @@
+//! How exchanges are written.
+
+ghost use Rattle.std.specs.Prelude.{◌≡◌};
+ghost use Rattle.cqlp_capture_exchanges.specs.Forms.{statements_in};
+
+/// How exchanges are written.
+#[derive(Clone, Copy, Debug, PartialEq, Eq)]
+pub enum ExchangeForm {
+    /// A line for each, as soon as the last byte of the response is there.
+    Lines,
+    /// A JSON object in a line for each, as soon as the last byte of the response is there.
+    Json,
+    /// A line for each statement at the end of the capture: how often it was asked for, and how long that took.
+    Summary,
+}
+
+impl ExchangeForm {
+    /// How many statements a summary tells apart.
+    pub(crate) fn statements(self) -> usize
+        ensures { result ≡ statements_in self }
+    {
+        match self {
+            ExchangeForm::Lines => 0,
+            ExchangeForm::Json => 0,
+            ExchangeForm::Summary => 256,
+        }
+    }
+}

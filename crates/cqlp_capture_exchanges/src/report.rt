@@ -1,0 +1,70 @@
+//! What is reported of a connection.
+
+ghost use Rattle.std.specs.Prelude.{◌≡◌};
+ghost use Rattle.cqlp_capture_exchanges.specs.Reports.{end_of, is_fin, is_reset, is_unread};
+
+use cqlp_observer::{Kept, Opening, Paired};
+use cqlp_tcp_connections::{ConnectionTotals, End};
+use std::alloc::{Allocator, Global};
+
+/// How the connection of a request without a response ended.
+#[derive(Clone, Copy, Debug, PartialEq, Eq)]
+pub enum ConnectionEnd {
+    /// By RST, in one direction at least.
+    Reset,
+    /// By FIN, in one direction at least.
+    Closed,
+    /// It did not, as far as the capture goes.
+    Open,
+}
+
+/// What is reported of a connection.
+#[derive(Drop)]
+pub enum Report<A: Allocator = Global> {
+    /// A request, a response, or both; of those that wait when their connection is finished also how that ended.
+    Messages {
+        paired: Paired<Kept<A>>,
+        end: Option<ConnectionEnd>,
+    },
+    /// The first bytes of a direction, captured at this time, are no frame of version 4.
+    Unread {
+        time: Option<u64>,
+        opening: Opening,
+    },
+}
+
+/// How a connection ended, of which this was told.
+pub(crate) fn end_of(totals: &ConnectionTotals) -> ConnectionEnd
+    ensures { result ≡ end_of totals.now }
+{
+    let (requests, responses) = (totals.requests.end, totals.responses.end);
+    if is_reset(requests) || is_reset(responses) {
+        ConnectionEnd::Reset
+    } else if is_fin(requests) || is_fin(responses) {
+        ConnectionEnd::Closed
+    } else {
+        ConnectionEnd::Open
+    }
+}
+
+fn is_reset(end: End) -> bool
+    ensures { result ≡ is_reset end }
+{
+    end == End::Reset
+}
+
+fn is_fin(end: End) -> bool
+    ensures { result ≡ is_fin end }
+{
+    end == End::Fin
+}
+
+/// Whether a direction that begins so has no frames of version 4.
+pub(crate) fn is_unread(opening: Opening) -> bool
+    ensures { result ≡ is_unread opening }
+{
+    match opening {
+        Opening::Frames => false,
+        Opening::OtherVersion(_) | Opening::Tls | Opening::Http => true,
+    }
+}

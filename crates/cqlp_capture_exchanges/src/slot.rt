@@ -1,0 +1,331 @@
+//! One connection that is watched.
+
+ghost use Rattle.std.specs.Prelude.{◌≡◌, ◌&&◌, ◌||◌, ◌==◌, ◌++◌, IfOk, IsSome, None, OnOk, false};
+ghost use Rattle.cqlp_capture_exchanges.specs.Accounts.{ToldAll};
+ghost use Rattle.cqlp_capture_exchanges.specs.Reports.{is_unread, messages, unread};
+ghost use Rattle.cqlp_capture_exchanges.specs.Talks.{bytes_heard, ended, is_responses, remaining, slot, told_heard};
+ghost use Rattle.cqlp_observer.specs.Watches.{after_end, after_gap};
+
+use crate::report::{ConnectionEnd, is_unread};
+use crate::teller::Teller;
+use cqlp_capture_streams::StreamsFault;
+use cqlp_note::Target;
+use cqlp_observer::{Kept, Missed, Opening, Paired, Watch, WatchRoom, WatchStep};
+use cqlp_tcp_connections::{Told, Way};
+use cqlp_tcp_reassembly::StreamStep;
+use std::alloc::{AllocError, Allocator, Global};
+use std::marker::Model;
+
+/// What is watched of a connection.
+#[derive(Drop)]
+pub(crate) struct Slot<A: Allocator = Global> {
+    watch: Box<Watch<A>, A>,
+    /// Whether it was reported that the connection is not read.
+    is_reported: bool,
+}
+
+impl<A: Allocator> Model for Slot<A> {
+    ghost use Rattle.cqlp_capture_exchanges.specs.Talks.{Slot, slot};
+
+    ghost Value = { Slot };
+
+    ghost view = { λ s. slot s.watch.value s.is_reported };
+}
+
+impl<A: Allocator + Clone> Slot<A> {
+    ghost use Rattle.cqlp_capture_exchanges.specs.Pools.{held_in};
+    ghost use Rattle.cqlp_capture_exchanges.specs.Talks.{new_slot};
+
+    /// Nothing was seen of the connection.
+    pub(crate) fn new(alloc: A) -> Result<Self, AllocError>
+        ensures { IfOk result (λ s. s ≡ new_slot) }
+    {
+        let watch = Watch::new(alloc.clone()?)?;
+        match Box::new(alloc, watch) {
+            Ok(watch) => Ok(Slot {
+                watch,
+                is_reported: false,
+            }),
+            Err(_) => Err(AllocError),
+        }
+    }
+
+    /// How much of it waits.
+    pub(crate) fn held(&self) -> WatchRoom
+        ensures { result ≡ held_in self.now }
+    {
+        WatchRoom {
+            messages: self.watch.waiting(),
+            text: self.watch.text(),
+        }
+    }
+
+    /// What was missed of the connection.
+    pub(crate) fn missed(&self) -> Missed
+        ensures { result ≡ self.now.watch.missed }
+    {
+        self.watch.missed()
+    }
+
+    /// Takes what is told of its streams while the present packet came at this time, with its bytes; so much may wait.
+    pub(crate) fn hear<O: Target>(
+        &mut self,
+        present: Option<u64>,
+        told: &Told,
+        room: WatchRoom,
+        bytes: &[u8],
+        teller: &mut Teller<O, A>,
+    ) -> Result<(), StreamsFault>
+        ensures reports { ToldAll told.now.number (told_heard present told.now room bytes.now self.old).reports teller.old result teller.new }
+        ensures after { IsSome teller.old.output.given → OnOk result (self.new ≡ (told_heard present told.now room bytes.now self.old).after) }
+    {
+        hear_told(
+            &mut self.watch,
+            &mut self.is_reported,
+            present,
+            told,
+            room,
+            bytes,
+            teller,
+        )
+    }
+
+    /// The streams of the connection end: reports what that tells.
+    pub(crate) fn end<O: Target>(
+        &mut self,
+        number: u64,
+        room: WatchRoom,
+        teller: &mut Teller<O, A>,
+    ) -> Result<(), StreamsFault>
+        ensures reports { ToldAll number (ended room self.old).reports teller.old result teller.new }
+        ensures after { IsSome teller.old.output.given → OnOk result (self.new ≡ (ended room self.old).after) }
+    {
+        end_watch(&mut self.watch, number, room, teller)
+    }
+
+    /// Reports the messages that wait, of a connection that ended so.
+    pub(crate) fn let_go<O: Target>(
+        &mut self,
+        number: u64,
+        end: ConnectionEnd,
+        teller: &mut Teller<O, A>,
+    ) -> Result<(), StreamsFault>
+        ensures { ToldAll number (remaining end self.old.watch.waiting) teller.old result teller.new }
+    {
+        let_go(&mut self.watch, number, end, teller)
+    }
+}
+
+/// Takes what is told of the streams of a connection while the present packet came at this time, with its bytes.
+fn hear_told<O: Target, A: Allocator + Clone>(
+    watch: &mut Watch<A>,
+    is_reported: &mut bool,
+    present: Option<u64>,
+    told: &Told,
+    room: WatchRoom,
+    bytes: &[u8],
+    teller: &mut Teller<O, A>,
+) -> Result<(), StreamsFault>
+    ensures reports { let t = told_heard present told.now room bytes.now (slot watch.old is_reported.old) in
+        ToldAll told.now.number t.reports teller.old result teller.new }
+    ensures after { let t = told_heard present told.now room bytes.now (slot watch.old is_reported.old) in
+        IsSome teller.old.output.given → OnOk result (slot watch.new is_reported.new ≡ t.after) }
+{
+    let responses = is_responses(told.way);
+    let number = told.number;
+    match told.step {
+        StreamStep::Began { syn } => {
+            watch.begin(responses, syn);
+            Ok(())
+        }
+        StreamStep::Payload { from, .. } => {
+            let piece = Piece {
+                responses,
+                time: present,
+                begins: from == 0,
+                bytes,
+            };
+            hear_bytes(watch, is_reported, number, piece, room, teller)
+        }
+        StreamStep::Held { time, begins } => {
+            let piece = Piece {
+                responses,
+                time,
+                begins,
+                bytes,
+            };
+            hear_bytes(watch, is_reported, number, piece, room, teller)
+        }
+        StreamStep::Gap { length, time, .. } => {
+            hear_gap(watch, number, responses, length, time, room, teller)
+        }
+        StreamStep::Ended | StreamStep::Reset => {
+            end_direction(watch, number, responses, room, teller)
+        }
+        StreamStep::Kept | StreamStep::Done => Ok(()),
+    }
+}
+
+/// Whether bytes that go this way are those of responses.
+fn is_responses(way: Way) -> bool
+    ensures { result ≡ is_responses way }
+{
+    match way {
+        Way::Requests => false,
+        Way::Responses => true,
+    }
+}
+
+/// Bytes of one direction, which were captured at this time; the first of them begins a segment or not.
+#[derive(Clone, Copy)]
+struct Piece<'a> {
+    responses: bool,
+    time: Option<u64>,
+    begins: bool,
+    bytes: &'a [u8],
+}
+
+/// Takes bytes of one direction.
+fn hear_bytes<O: Target, A: Allocator + Clone>(
+    watch: &mut Watch<A>,
+    is_reported: &mut bool,
+    number: u64,
+    piece: Piece<'_>,
+    room: WatchRoom,
+    teller: &mut Teller<O, A>,
+) -> Result<(), StreamsFault>
+    ensures reports { let p = piece.entry in
+        let t = bytes_heard p.responses p.time p.begins room p.bytes.now (slot watch.old is_reported.old) in
+        ToldAll number t.reports teller.old result teller.new }
+    ensures after { let p = piece.entry in
+        let t = bytes_heard p.responses p.time p.begins room p.bytes.now (slot watch.old is_reported.old) in
+        IsSome teller.old.output.given → OnOk result (slot watch.new is_reported.new ≡ t.after) }
+{
+    let Piece {
+        responses,
+        time,
+        begins,
+        bytes,
+    } = piece;
+    let mut steps = 2 * bytes.len() as u128 + 2;
+    let mut rest = bytes;
+    let mut is_first = begins;
+    while steps > 0 {
+        let Ok(step) = watch.take(responses, rest, time, is_first, room) else {
+            return Err(StreamsFault::NoMemory);
+        };
+        let WatchStep {
+            used,
+            is_done,
+            opening,
+            told,
+        } = step;
+        report_step(teller, number, time, *is_reported, opening, told)?;
+        *is_reported = is_reported_after(*is_reported, opening);
+        if is_done {
+            return Ok(());
+        }
+        is_first = still_first(is_first, used);
+        rest = &rest[used..];
+        steps -= 1;
+    }
+    Ok(())
+}
+
+/// Reports what a step of bytes tells that were captured at this time.
+fn report_step<O: Target, A: Allocator>(
+    teller: &mut Teller<O, A>,
+    number: u64,
+    time: Option<u64>,
+    was_reported: bool,
+    opening: Opening,
+    told: Option<Paired<Kept<A>>>,
+) -> Result<(), StreamsFault>
+    ensures { ToldAll number (unread time was_reported opening ++ messages None told) teller.old result teller.new }
+{
+    match teller.report_opening(number, time, was_reported, opening) {
+        Ok(()) => teller.report_messages(number, None, told),
+        Err(fault) => Err(fault),
+    }
+}
+
+/// Whether it was reported that a connection is not read, after a direction that begins so, or goes on.
+fn is_reported_after(was_reported: bool, opening: Opening) -> bool
+    ensures { result ≡ (was_reported || is_unread opening) }
+{
+    was_reported || is_unread(opening)
+}
+
+/// Whether what follows the bytes that were used still begins a segment.
+fn still_first(is_first: bool, used: usize) -> bool
+    ensures { result ≡ (is_first && used == 0) }
+{
+    is_first && used == 0
+}
+
+/// So many bytes of a direction are missing, which passed at this time, where that is known.
+fn hear_gap<O: Target, A: Allocator + Clone>(
+    watch: &mut Watch<A>,
+    number: u64,
+    responses: bool,
+    length: u64,
+    time: Option<u64>,
+    room: WatchRoom,
+    teller: &mut Teller<O, A>,
+) -> Result<(), StreamsFault>
+    ensures reports { ToldAll number (messages None (after_gap responses length time room watch.old).told) teller.old result teller.new }
+    ensures after { IsSome teller.old.output.given → OnOk result (watch.new ≡ (after_gap responses length time room watch.old).after) }
+{
+    match watch.gap(responses, length, time, room) {
+        Ok(told) => teller.report_messages(number, None, told),
+        Err(AllocError) => Err(StreamsFault::NoMemory),
+    }
+}
+
+/// No more bytes of either direction come.
+fn end_watch<O: Target, A: Allocator + Clone>(
+    watch: &mut Watch<A>,
+    number: u64,
+    room: WatchRoom,
+    teller: &mut Teller<O, A>,
+) -> Result<(), StreamsFault>
+    ensures reports { ToldAll number (ended room (slot watch.old false)).reports teller.old result teller.new }
+    ensures after { IsSome teller.old.output.given → OnOk result (watch.new ≡ (ended room (slot watch.old false)).after.watch) }
+{
+    match end_direction(watch, number, false, room, teller) {
+        Ok(()) => end_direction(watch, number, true, room, teller),
+        Err(fault) => Err(fault),
+    }
+}
+
+/// No more bytes of a direction come.
+fn end_direction<O: Target, A: Allocator + Clone>(
+    watch: &mut Watch<A>,
+    number: u64,
+    responses: bool,
+    room: WatchRoom,
+    teller: &mut Teller<O, A>,
+) -> Result<(), StreamsFault>
+    ensures reports { ToldAll number (messages None (after_end responses room watch.old).told) teller.old result teller.new }
+    ensures after { IsSome teller.old.output.given → OnOk result (watch.new ≡ (after_end responses room watch.old).after) }
+{
+    match watch.end(responses, room) {
+        Ok(told) => teller.report_messages(number, None, told),
+        Err(AllocError) => Err(StreamsFault::NoMemory),
+    }
+}
+
+/// Reports the messages that wait, of a connection that ended so.
+fn let_go<O: Target, A: Allocator + Clone>(
+    watch: &mut Watch<A>,
+    number: u64,
+    end: ConnectionEnd,
+    teller: &mut Teller<O, A>,
+) -> Result<(), StreamsFault>
+    ensures { ToldAll number (remaining end watch.old.waiting) teller.old result teller.new }
+{
+    while let Some(told) = watch.finish() {
+        teller.report_messages(number, Some(end), Some(told))?;
+    }
+    Ok(())
+}

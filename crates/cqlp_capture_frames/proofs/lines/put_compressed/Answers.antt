@@ -1,0 +1,19 @@
+use Rattle.std.proofs.Common.{refl}
+use Rattle.cqlp_text.proofs.Writing.{progress_starts}
+use Rattle.cqlp_capture_frames.proofs.Parts.{part_last, part_stops, part_taken}
+use Rattle.cqlp_capture_frames.proofs.lines.put_compressed.Goals as goal
+
+pub returns-in_err-put_place : goal.returns-in_err-put_place
+returns-in_err-put_place g c =
+    part_stops _ c.from_residual.result c.from_residual.ensures.0 (progress_starts _ _) refl refl c.in_err-put_place.ensures
+
+pub returns-in_err-put_number : goal.returns-in_err-put_number
+returns-in_err-put_number g c =
+    let s1 = part_taken _ (progress_starts _ _) refl refl c.in_ok-put_place.ensures in
+    part_stops _ c.from_residual-in_err-put_number.result c.from_residual-in_err-put_number.ensures.0 s1 refl refl c.in_err-put_number.ensures
+
+pub returns : goal.returns
+returns g c =
+    let s1 = part_taken _ (progress_starts _ _) refl refl c.in_ok-put_place.ensures in
+    let s2 = part_taken _ s1 refl refl c.in_ok-put_number.ensures in
+    part_last _ _ c.put.result s2 refl refl c.put.ensures

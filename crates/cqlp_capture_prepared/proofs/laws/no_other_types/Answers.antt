@@ -1,0 +1,5 @@
+use Rattle.cqlp_capture_prepared.proofs.Told.{no_others}
+use Rattle.cqlp_capture_prepared.proofs.laws.no_other_types.Goals as goal
+
+pub returns : goal.returns
+returns c = no_others

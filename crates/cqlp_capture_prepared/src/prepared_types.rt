@@ -1,0 +1,138 @@
+//! The types of statements that were prepared, for the pages that answer EXECUTEs.
+
+ghost use Rattle.std.specs.Prelude.{◌≡◌, ◌↔◌, ◌⊎◌, IfOk, IsErrOf, IsSome, OnErr, OnOk, option_map};
+
+use crate::error::NewPreparedError;
+use crate::latest::Latest;
+use crate::statement_id::StatementId;
+use crate::statement_types::StatementTypes;
+use cqlp_note::NoMemory;
+use cqlp_type::TypeTable;
+use std::alloc::{Allocator, Global};
+use std::marker::Model;
+
+/// The types of the statements that were prepared on one connection, and the statements that EXECUTEs name which wait for their responses.
+///
+/// A page whose metadata the server left out (flag No_metadata, section 4.2.5.2 of `native_protocol_v4.spec`) has the types that the PREPARED
+/// response of its statement had. `new` takes memory for both lists, in two requests; after it only `prepared` and `types_for` ask for some,
+/// one request each, for a copy of a table with the room that the table has.
+#[derive(Drop)]
+pub struct PreparedTypes<A: Allocator = Global> {
+    known: Latest<StatementId, StatementTypes<A>, A>,
+    awaited: Latest<i16, StatementId, A>,
+}
+
+impl<A: Allocator> Model for PreparedTypes<A> {
+    ghost use Rattle.cqlp_capture_prepared.specs.Keeping.{Keeping, keeping};
+
+    ghost Value = { Keeping };
+
+    ghost view = { λ p. keeping p.known p.awaited };
+}
+
+impl<A: Allocator> PreparedTypes<A> {
+    ghost use Rattle.cqlp_capture_prepared.specs.Keeping.{answered, executed, named_under, new_keeping, types_of};
+
+    /// Says that an EXECUTE under this stream id names the statement with this id. It takes the place of one that waits under the same stream
+    /// id, and where too many wait, of the one that waits longest. An id of more than [`StatementId::MOST`] bytes names nothing that is known.
+    pub fn executed(&mut self, stream: i16, id: &[u8])
+        ensures { self.new ≡ executed stream id.now self.old }
+    {
+        match StatementId::new(id) {
+            Some(id) => {
+                self.known.touch(&id);
+                self.awaited.put(stream, id);
+            }
+            None => self.forget(stream),
+        }
+    }
+
+    /// Says that a response came under this stream id. It answers the EXECUTE that waits under it, if one does: the id of the statement that
+    /// this one names.
+    pub fn answered(&mut self, stream: i16) -> Option<StatementId>
+        ensures is { result ≡ named_under stream self.old }
+        ensures left { self.new ≡ answered stream self.old }
+    {
+        self.awaited.take(&stream)
+    }
+
+    /// Says that a request of another kind came under this stream id: no EXECUTE waits under it.
+    pub fn forget(&mut self, stream: i16)
+        ensures { self.new ≡ answered stream self.old }
+    {
+        let _ = self.answered(stream);
+    }
+
+    /// The types that the last PREPARED response said which named this id, if they are still known.
+    pub fn types_of(&self, id: &StatementId) -> Option<&TypeTable<A>>
+        ensures { option_map (λ table. table.now.nodes) result ≡ types_of id.now self.now }
+    {
+        let types = self.known.get(id)?;
+        Some(&types.table)
+    }
+
+    /// Begins with another connection, of which nothing is known, with the memory for both lists that it has.
+    pub fn clear(&mut self)
+        ensures { self.new ≡ new_keeping self.old.known.limit self.old.awaited.limit }
+    {
+        self.known.clear();
+        self.awaited.clear();
+    }
+}
+
+impl<A: Allocator + Clone> PreparedTypes<A> {
+    ghost use Rattle.cqlp_capture_prepared.specs.Keeping.{answered, new_keeping, prepared, short_enough, types_for, types_of};
+
+    /// Nothing is known. At most `statements` statements will be, and at most `executes` EXECUTEs wait, 1 to 65,535 each.
+    pub fn new(alloc: A, statements: u16, executes: u16) -> Result<Self, NewPreparedError>
+        ensures bad { IsErrOf result NewPreparedError.BadLimit ↔ ((statements ≡ 0) ⊎ (executes ≡ 0)) }
+        ensures fresh { IfOk result (λ p. p ≡ new_keeping statements executes) }
+    {
+        if statements == 0 || executes == 0 {
+            return Err(NewPreparedError::BadLimit);
+        }
+        Ok(PreparedTypes {
+            known: Latest::new(alloc.clone()?, statements)?,
+            awaited: Latest::new(alloc, executes)?,
+        })
+    }
+
+    /// Says that a PREPARED response named a statement with this id, and has these types of its result. It takes the place of the statement
+    /// that had the id, and where all places are taken, of the one that was prepared or executed longest ago. A statement with an id of more
+    /// than [`StatementId::MOST`] bytes is not kept, and no memory is asked for. Where memory for the copy of the table is refused, nothing
+    /// changes.
+    pub fn prepared(&mut self, id: &[u8], types: &TypeTable<A>) -> Result<(), NoMemory>
+        ensures kept { OnOk result (self.new ≡ prepared id.now types.now.nodes self.old) }
+        ensures unchanged { OnErr result (self.new ≡ self.old) }
+        ensures asks { OnErr result (IsSome (short_enough id.now)) }
+    {
+        if let Some(id) = StatementId::new(id) {
+            let table = types.clone_table()?;
+            self.known.put(id, StatementTypes { table });
+        }
+        Ok(())
+    }
+
+    /// Says that a response came under this stream id, as [`PreparedTypes::answered`] does, and copies the types of the statement for
+    /// `Decoder::give`. Memory is asked for only where there are types.
+    pub fn types_for(&mut self, stream: i16) -> Result<Option<TypeTable<A>>, NoMemory>
+        ensures is { IfOk result (λ types. option_map (λ table. table.nodes) types ≡ types_for stream self.old) }
+        ensures left { self.new ≡ answered stream self.old }
+        ensures asks { OnErr result (IsSome (types_for stream self.old)) }
+    {
+        match self.answered(stream) {
+            Some(id) => self.copy_of(&id),
+            None => Ok(None),
+        }
+    }
+
+    fn copy_of(&self, id: &StatementId) -> Result<Option<TypeTable<A>>, NoMemory>
+        ensures is { IfOk result (λ types. option_map (λ table. table.nodes) types ≡ types_of id.now self.now) }
+        ensures asks { OnErr result (IsSome (types_of id.now self.now)) }
+    {
+        match self.types_of(id) {
+            Some(types) => Ok(Some(types.clone_table()?)),
+            None => Ok(None),
+        }
+    }
+}

@@ -1,0 +1,14 @@
+pub mod Paths
+pub mod Getting
+pub mod Parts
+pub mod Written
+pub mod Told
+pub mod Events
+pub mod Draining
+pub mod Splitting
+pub mod Once
+pub mod Gotten
+pub mod OneAnswer
+pub mod Causes
+pub mod Ports
+pub mod Leaving

@@ -1,0 +1,204 @@
+-- What the packets of a capture tell.
+use Rattle.std.specs.Prelude.{◌≡◌, ℕ, Bool, true, false, ◌&&◌, nat_lt, is_some, if◌then◌else◌, List, [], ◌∷◌, ◌++◌, Option, Some, None, Result, Ok, Err, ◌⊎◌}
+use Rattle.cqlp_capture.specs.declared.event.SkipReason.{SkipReason}
+use Rattle.cqlp_capture.specs.declared.event.SkipReason.TheVariants as skip
+use Rattle.cqlp_capture.specs.Reading.{Event, Section, Interface, Packet, Bytes, Skipped}
+use Rattle.cqlp_tcp_segment.specs.declared.link.LinkType.{LinkType}
+use Rattle.cqlp_tcp_segment.specs.declared.reason.NoSegment.{NoSegment}
+use Rattle.cqlp_tcp_segment.specs.declared.reason.NoSegment.TheVariants as reason
+use Rattle.cqlp_tcp_segment.specs.Link.{link_of}
+use Rattle.cqlp_tcp_segment.specs.Segment.{Seen, segment_of}
+use Rattle.cqlp_packet_order.specs.Packets as kept
+use Rattle.cqlp_packet_order.specs.Packets.{packet}
+use Rattle.cqlp_packet_order.specs.Orders.{Order, Release, arrived, due_left, first_left, releasing}
+use Rattle.cqlp_tcp_connections.specs.Ends.{first_way}
+use Rattle.cqlp_tcp_connections.specs.Totals.{counted}
+use Rattle.cqlp_tcp_connections.specs.Tables.{Table}
+use Rattle.cqlp_capture_streams.specs.declared.packets.PacketCounts.{PacketCounts}
+use Rattle.cqlp_capture_streams.specs.declared.packets.WithoutCounts.{WithoutCounts}
+use Rattle.cqlp_capture_streams.specs.declared.skipped.SkippedCounts.{SkippedCounts}
+use Rattle.cqlp_capture_streams.specs.Sayings.{Saying}
+use Rattle.cqlp_capture_streams.specs.Tellings.{FinishesAll, TellsTimed}
+
+-- the connections; the packets that wait; of the packet that began the number of the link type, when it was captured, and how many bytes
+-- it had; and what packets were
+pub record SplitState : Type 0 where
+  pub table : Table
+  pub order : Order
+  pub link : ℕ
+  pub time : Option ℕ
+  pub original : ℕ
+  pub counts : PacketCounts
+
+abbrev pub split_state : Table → Order → (link : ℕ) → (time : Option ℕ) → (original : ℕ) → PacketCounts → SplitState
+split_state t o link time original counts =
+    record { table = t; order = o; link = link; time = time; original = original; counts = counts }
+
+abbrev pub none_without : WithoutCounts
+none_without = record {
+  unknown_link = 0;
+  cut_in_link = 0;
+  not_ip = 0;
+  cut_in_ip = 0;
+  bad_ip_length = 0;
+  fragment = 0;
+  not_tcp = 0;
+  cut_in_tunnel = 0;
+  too_many_tunnels = 0;
+  cut_in_tcp = 0;
+  bad_tcp_length = 0;
+}
+
+abbrev pub none_skipped : SkippedCounts
+none_skipped = record {
+  short_block = 0;
+  bad_option_length = 0;
+  unknown_time_unit = 0;
+  negative_time_offset = 0;
+  too_many_interfaces = 0;
+  unknown_interface = 0;
+  unread_interface = 0;
+  time_too_large = 0;
+  packet_beyond_block = 0;
+  packet_too_long = 0;
+}
+
+abbrev pub none_counted : PacketCounts
+none_counted = record { packets = 0; segments = 0; snapped = 0; without = none_without; skipped = none_skipped }
+
+abbrev pub new_split : Table → Order → SplitState
+new_split t o = split_state t o 0 None 0 none_counted
+
+-- ---- what packets were
+
+-- of a connection and cut, or not
+abbrev pub with_segment : (is_snapped : Bool) → PacketCounts → PacketCounts
+with_segment is_snapped c = record c {
+  packets = counted c.packets 1;
+  segments = counted c.segments 1;
+  snapped = if is_snapped then counted c.snapped 1 else c.snapped;
+}
+
+-- one more for this reason
+abbrev pub with_reason : NoSegment → WithoutCounts → WithoutCounts
+with_reason reason.UnknownLink w = record w { unknown_link = counted w.unknown_link 1 }
+with_reason reason.CutInLink w = record w { cut_in_link = counted w.cut_in_link 1 }
+with_reason reason.NotIp w = record w { not_ip = counted w.not_ip 1 }
+with_reason reason.CutInIp w = record w { cut_in_ip = counted w.cut_in_ip 1 }
+with_reason reason.BadIpLength w = record w { bad_ip_length = counted w.bad_ip_length 1 }
+with_reason reason.Fragment w = record w { fragment = counted w.fragment 1 }
+with_reason reason.NotTcp w = record w { not_tcp = counted w.not_tcp 1 }
+with_reason reason.CutInTunnel w = record w { cut_in_tunnel = counted w.cut_in_tunnel 1 }
+with_reason reason.TooManyTunnels w = record w { too_many_tunnels = counted w.too_many_tunnels 1 }
+with_reason reason.CutInTcp w = record w { cut_in_tcp = counted w.cut_in_tcp 1 }
+with_reason reason.BadTcpLength w = record w { bad_tcp_length = counted w.bad_tcp_length 1 }
+
+abbrev pub without_segment : NoSegment → PacketCounts → PacketCounts
+without_segment why c = record c { packets = counted c.packets 1; without = with_reason why c.without }
+
+-- What the reader of the capture passes over is counted by the reason too.
+abbrev pub with_skip : SkipReason → SkippedCounts → SkippedCounts
+with_skip skip.ShortBlock k = record k { short_block = counted k.short_block 1 }
+with_skip skip.BadOptionLength k = record k { bad_option_length = counted k.bad_option_length 1 }
+with_skip skip.UnknownTimeUnit k = record k { unknown_time_unit = counted k.unknown_time_unit 1 }
+with_skip skip.NegativeTimeOffset k = record k { negative_time_offset = counted k.negative_time_offset 1 }
+with_skip skip.TooManyInterfaces k = record k { too_many_interfaces = counted k.too_many_interfaces 1 }
+with_skip skip.UnknownInterface k = record k { unknown_interface = counted k.unknown_interface 1 }
+with_skip skip.UnreadInterface k = record k { unread_interface = counted k.unread_interface 1 }
+with_skip skip.TimeTooLarge k = record k { time_too_large = counted k.time_too_large 1 }
+with_skip skip.PacketBeyondBlock k = record k { packet_beyond_block = counted k.packet_beyond_block 1 }
+with_skip skip.PacketTooLong k = record k { packet_too_long = counted k.packet_too_long 1 }
+
+abbrev pub with_skipped : SkipReason → PacketCounts → PacketCounts
+with_skipped why c = record c { skipped = with_skip why c.skipped }
+
+-- ---- a packet
+
+-- the segment in a packet on a link
+abbrev pub segment_on : Result LinkType NoSegment → (packet : List ℕ) → (original : ℕ) → Result Seen NoSegment
+segment_on (Ok link) packet original = segment_of link packet original
+segment_on (Err why) packet original = Err why
+
+abbrev pub segment_in : kept.Packet → Result Seen NoSegment
+segment_in p = segment_on (link_of p.link) p.bytes p.original
+
+-- It is of a connection, and not all of its payload was captured.
+abbrev pub is_snapped : Table → Seen → Bool
+is_snapped t g = nat_lt 0 g.missing && is_some (first_way t.ports g.head)
+
+-- A packet of this time with a segment tells what that does, and is counted; one without is counted by the reason.
+abbrev pub TellsRead : Result Seen NoSegment → (time : Option ℕ) → (all : Bool) → SplitState → List Saying → SplitState → Type 0
+TellsRead (Ok g) time all s ss u =
+    TellsTimed all time g s.table ss u.table × (u ≡ record s { table = u.table; counts = with_segment (is_snapped s.table g) s.counts })
+TellsRead (Err why) time all s ss u = (ss ≡ []) × (u ≡ record s { counts = without_segment why s.counts })
+
+abbrev pub TellsPacket : kept.Packet → (all : Bool) → SplitState → List Saying → SplitState → Type 0
+TellsPacket p all s ss u = TellsRead (segment_in p) p.time all s ss u
+
+-- ---- packets that leave the window
+
+abbrev pub with_order : Order → SplitState → SplitState
+with_order o s = record s { order = o }
+
+module _ (leaves : Order → Release) where
+  -- a packet leaves, and tells what it does
+  abbrev pub Hands : (all : Bool) → SplitState → kept.Packet → List Saying → SplitState → Type 0
+  Hands all s p ss u = (o : Order) × (releasing (Some p) o ≡ leaves s.order) × TellsPacket p all (with_order o s) ss u
+
+  -- these do, one after the other
+  abbrev pub HandsEach : SplitState → List kept.Packet → List Saying → SplitState → Type 0
+  HandsEach s [] ss u = (ss ≡ []) × (u ≡ s)
+  HandsEach s (p ∷ ps) ss u =
+      (m : SplitState) × (first : List Saying) × (rest : List Saying) × (ss ≡ first ++ rest)
+      × Hands true s p first m × HandsEach m ps rest u
+
+  -- so do all that leave, or all but the last, in which something failed
+  abbrev pub HandsAll : (all : Bool) → SplitState → List Saying → SplitState → Type 0
+  HandsAll true s ss u = (ps : List kept.Packet) × HandsEach s ps ss u × (releasing None u.order ≡ leaves u.order)
+  HandsAll false s ss u =
+      (ps : List kept.Packet) × (p : kept.Packet) × (m : SplitState) × (front : List Saying) × (rest : List Saying)
+      × (ss ≡ front ++ rest) × HandsEach s ps front m × Hands false m p rest u
+
+-- A packet comes to the window, and those leave that have to.
+abbrev pub TellsArrived : (all : Bool) → SplitState → kept.Packet → List Saying → SplitState → Type 0
+TellsArrived all s p ss u = HandsAll due_left all (with_order (arrived p s.order) s) ss u
+
+-- unless memory for it is refused
+abbrev pub TellsCome : (all : Bool) → SplitState → kept.Packet → List Saying → SplitState → Type 0
+TellsCome true s p ss u = TellsArrived true s p ss u
+TellsCome false s p ss u = ((ss ≡ []) × (u ≡ s)) ⊎ TellsArrived false s p ss u
+
+-- ---- events
+
+-- the packet that began, with its bytes
+abbrev pub packet_begun : SplitState → (bytes : List ℕ) → kept.Packet
+packet_begun s bytes = packet s.link s.time s.original bytes
+
+abbrev pub TellsEvent : (all : Bool) → SplitState → Event → List Saying → SplitState → Type 0
+TellsEvent all s (Section form) ss u = (ss ≡ []) × (u ≡ s)
+TellsEvent all s (Interface head) ss u = (ss ≡ []) × (u ≡ s)
+TellsEvent all s (Packet head) ss u = (ss ≡ []) × (u ≡ record s { link = head.link; time = head.time; original = head.original })
+TellsEvent all s (Bytes bytes) ss u = TellsCome all s (packet_begun s bytes) ss u
+TellsEvent all s (Skipped why) ss u = (ss ≡ []) × (u ≡ record s { counts = with_skipped why s.counts })
+
+-- events, in order
+abbrev pub TellsEvents : SplitState → List (ℕ × Event) → List Saying → SplitState → Type 0
+TellsEvents s [] ss u = (ss ≡ []) × (u ≡ s)
+TellsEvents s (e ∷ es) ss u =
+    (m : SplitState) × (first : List Saying) × (rest : List Saying) × (ss ≡ first ++ rest)
+    × TellsEvent true s e.1 first m × TellsEvents m es rest u
+
+-- ---- the end
+
+abbrev pub with_table : Table → SplitState → SplitState
+with_table t s = record s { table = t }
+
+-- The packets leave that wait, and then all connections do.
+abbrev pub LeavesLast : (all : Bool) → SplitState → List Saying → SplitState → Type 0
+LeavesLast all s ss u =
+    (m : SplitState) × (front : List Saying) × (last : List Saying) × (ss ≡ front ++ last)
+    × HandsAll first_left true s front m × FinishesAll all m.table last u.table × (u ≡ with_table u.table m)
+
+abbrev pub Finishes : (all : Bool) → SplitState → List Saying → SplitState → Type 0
+Finishes true s ss u = LeavesLast true s ss u
+Finishes false s ss u = HandsAll first_left false s ss u ⊎ LeavesLast false s ss u

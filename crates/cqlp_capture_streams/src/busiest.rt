@@ -1,0 +1,102 @@
+//! The line where no packet is of the ports that are asked for.
+
+ghost use Rattle.std.specs.Prelude.{◌≡◌};
+ghost use Rattle.cqlp_text.specs.Written.{Writes};
+ghost use Rattle.cqlp_capture_streams.specs.Endings.{behind_words, busy_line, busy_words, more_port, more_ports, next_words, port_words, ports_words};
+
+use crate::capturing::CaptureRead;
+use cqlp_grammar::SinkFault;
+use cqlp_text::{Pen, TextWriter};
+
+/// Takes the ports that most segments have, in a line, where there was no connection. There is none, where there was no segment.
+pub(crate) fn put_busiest<P: Pen>(
+    writer: &mut TextWriter<P>,
+    read: &CaptureRead,
+    ports: &[u16],
+) -> Result<(), SinkFault>
+    ensures { Writes writer.old (busy_line ports.now read.now) result writer.new }
+{
+    let busiest = read.busiest;
+    if read.connections.connections > 0 {
+        writer.put(b"")
+    } else if busiest[0].1 == 0 {
+        writer.put(b"")
+    } else {
+        put_busy(writer, ports, busiest[0], busiest[1], busiest[2])
+    }
+}
+
+fn put_busy<P: Pen>(
+    writer: &mut TextWriter<P>,
+    ports: &[u16],
+    first: (u16, u64),
+    second: (u16, u64),
+    third: (u16, u64),
+) -> Result<(), SinkFault>
+    ensures { Writes writer.old (busy_words ports.now first second third) result writer.new }
+{
+    writer.put(b"cqlp: no packet of port ")?;
+    put_ports(writer, ports)?;
+    writer.put(b"; most went to ")?;
+    put_port(writer, first)?;
+    put_next(writer, second)?;
+    put_next(writer, third)?;
+    writer.put(b"\n")
+}
+
+/// Takes ports, with commas between them.
+fn put_ports<P: Pen>(writer: &mut TextWriter<P>, ports: &[u16]) -> Result<(), SinkFault>
+    ensures { Writes writer.old (ports_words ports.now) result writer.new }
+{
+    let Some((first, more)) = ports.split_first() else {
+        return writer.put(b"");
+    };
+    writer.put_number(*first as u64)?;
+    put_more(writer, more)
+}
+
+/// Takes ports, each behind a comma.
+fn put_more<P: Pen>(writer: &mut TextWriter<P>, ports: &[u16]) -> Result<(), SinkFault>
+    ensures { Writes writer.old (more_ports ports.now) result writer.new }
+{
+    for port in ports {
+        put_more_port(writer, *port)?;
+    }
+    Ok(())
+}
+
+/// Takes a port behind a comma.
+fn put_more_port<P: Pen>(writer: &mut TextWriter<P>, port: u16) -> Result<(), SinkFault>
+    ensures { Writes writer.old (more_port port) result writer.new }
+{
+    writer.put(b", ")?;
+    writer.put_number(port as u64)
+}
+
+/// Takes a port, and how many segments had it.
+fn put_port<P: Pen>(writer: &mut TextWriter<P>, port: (u16, u64)) -> Result<(), SinkFault>
+    ensures { Writes writer.old (port_words port) result writer.new }
+{
+    writer.put_number(port.0 as u64)?;
+    writer.put(b" (")?;
+    writer.put_number(port.1)?;
+    writer.put(b")")
+}
+
+/// Takes one more, behind a comma, if some segments had it.
+fn put_next<P: Pen>(writer: &mut TextWriter<P>, port: (u16, u64)) -> Result<(), SinkFault>
+    ensures { Writes writer.old (next_words port) result writer.new }
+{
+    if port.1 == 0 {
+        writer.put(b"")
+    } else {
+        put_behind(writer, port)
+    }
+}
+
+fn put_behind<P: Pen>(writer: &mut TextWriter<P>, port: (u16, u64)) -> Result<(), SinkFault>
+    ensures { Writes writer.old (behind_words port) result writer.new }
+{
+    writer.put(b", ")?;
+    put_port(writer, port)
+}

@@ -1,0 +1,27 @@
+//! Why a capture is not read to its end.
+
+use crate::files::FileFault;
+
+/// What ends the reading of a capture early.
+#[derive(Clone, Copy, Debug, PartialEq, Eq)]
+pub enum StreamsFault {
+    /// The input failed.
+    Read,
+    /// The output failed.
+    Write,
+    File(FileFault),
+    NoMemory,
+    /// The input was not at its end after the greatest number of reads, or there was no end to what is told.
+    TooManyTurns,
+}
+
+impl From<FileFault> for StreamsFault {
+    ghost use Rattle.std.specs.Prelude.{◌≡◌};
+    ghost use Rattle.cqlp_capture_streams.specs.declared.fault.StreamsFault.TheVariants.{File};
+
+    ghost from_gives = { λ fault result. result ≡ File fault };
+
+    fn from(fault: FileFault) -> StreamsFault {
+        StreamsFault::File(fault)
+    }
+}

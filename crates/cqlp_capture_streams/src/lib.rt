@@ -1,0 +1,35 @@
+//! The bytes of each direction of each connection of a capture, apart, and a line for each connection.
+#![tactic(auto)]
+
+mod busiest;
+mod capturing;
+mod ending;
+mod fault;
+mod files;
+mod last_words;
+pub mod laws;
+mod limits;
+mod lines;
+mod listener;
+mod packets;
+mod recorder;
+mod running;
+mod saying;
+mod skipped;
+mod splitter;
+mod summary;
+mod telling;
+mod writing;
+
+pub use capturing::{CaptureRead, LIMITS, read_capture};
+pub use ending::conclude_capture;
+pub use fault::StreamsFault;
+pub use files::{FileFault, StreamFile, StreamFiles};
+pub use last_words::{LastWord, LastWords};
+pub use limits::StreamsLimits;
+pub use listener::Listener;
+pub use packets::{PacketCounts, WithoutCounts};
+pub use saying::Saying;
+pub use skipped::SkippedCounts;
+pub use summary::put_count;
+pub use writing::write_streams;

@@ -1,0 +1,74 @@
+-- What a summary says.
+use Rattle.std.specs.Prelude.{ℕ, ◌==◌, Bool, true, false, List, [], ◌∷◌, Option, Some, None, codes, length, slice_index_or, take, if◌then◌else◌}
+use Rattle.std.specs.List.{flat_map}
+use Rattle.std.specs.Str.Lossy.{utf8_valid_len}
+use Rattle.cqlp_capture_summary.specs.declared.tally.Figures.{Figures}
+use Rattle.cqlp_capture_summary.specs.declared.tally.Times.{Times}
+use Rattle.cqlp_capture_summary.specs.Columns.{joined, number_column, share_of, share_text, text_column, time_column}
+use Rattle.cqlp_capture_summary.specs.Counts.{Tally}
+use Rattle.cqlp_capture_summary.specs.Names.{Name, name}
+use Rattle.cqlp_capture_summary.specs.Order.{rank_of, tally_at, upto}
+use Rattle.cqlp_capture_summary.specs.Shown.{shown_text}
+use Rattle.cqlp_capture_summary.specs.Summaries.{Summary}
+use Rattle.cqlp_capture_summary.specs.Tallies.{counted, figures_of}
+
+abbrev pub header : List ℕ
+header = codes "share          %    time_ms    count errors      rows       bytes   p50_ms   p99_ms    max_ms statement\n"
+
+-- two points behind what is not all of a name
+abbrev pub more : (is_whole : Bool) → List ℕ
+more true = []
+more false = codes ".."
+
+-- the longest front that is UTF-8
+abbrev pub text_front : List ℕ → List ℕ
+text_front bytes = take (utf8_valid_len bytes) bytes
+
+abbrev pub name_text : Name → List ℕ
+name_text n = joined (codes " " ∷ shown_text (text_front n.bytes) ∷ more n.is_whole ∷ codes "\n" ∷ [])
+
+abbrev pub counts_text : Figures → List ℕ
+counts_text f =
+    joined (time_column 6 f.time ∷ number_column 8 f.count ∷ number_column 6 f.errors ∷ number_column 9 f.rows ∷ number_column 11 f.bytes ∷ [])
+
+-- where no time is known a dash stands for each
+abbrev pub times_text : Option Times → List ℕ
+times_text None = joined (text_column 8 (codes "-") ∷ text_column 8 (codes "-") ∷ text_column 9 (codes "-") ∷ [])
+times_text (Some t) = joined (time_column 4 t.median ∷ time_column 4 t.percentile_99 ∷ time_column 5 t.greatest ∷ [])
+
+abbrev pub figures_line : (total : ℕ) → Name → Figures → List ℕ
+figures_line total n f = joined (share_text (share_of f.time total) ∷ counts_text f ∷ times_text f.times ∷ name_text n ∷ [])
+
+abbrev pub line : (total : ℕ) → Name → Tally → List ℕ
+line total n t = figures_line total n (figures_of t)
+
+-- ---- the lines of the statements that are told apart, by their ranks, and the line of the others if there are any
+
+abbrev pub line_at : (total : ℕ) → List Name → List Tally → (place : ℕ) → List ℕ
+line_at total names ts place = line total (slice_index_or names place (name [] true)) (tally_at ts place)
+
+abbrev pub line_if : (total : ℕ) → List Name → List Tally → (rank place : ℕ) → List ℕ
+line_if total names ts rank place = if rank_of place ts == rank then line_at total names ts place else []
+
+abbrev pub lines_of_rank : (total : ℕ) → List Name → List Tally → (rank : ℕ) → List ℕ
+lines_of_rank total names ts rank = flat_map (line_if total names ts rank) (upto 0 (length ts))
+
+abbrev pub lines : (total : ℕ) → List Name → List Tally → List ℕ
+lines total names ts = flat_map (lines_of_rank total names ts) (upto 0 (length ts))
+
+abbrev pub others_line : (total : ℕ) → Tally → List ℕ
+others_line total t = if t.count == 0 then [] else line total (name (codes "others") true) t
+
+-- the time of all of them
+abbrev pub time_with : (sum : ℕ) → List Tally → ℕ
+time_with sum [] = sum
+time_with sum (t ∷ ts) = time_with (counted sum t.time) ts
+
+abbrev pub text_of : (total : ℕ) → List Name → List Tally → (others : Tally) → List ℕ
+text_of total names ts others = joined (header ∷ lines total names ts ∷ others_line total others ∷ [])
+
+abbrev pub known_and_others : List Name → (known : List Tally) → (others : Tally) → List ℕ
+known_and_others names ts others = text_of (time_with others.time ts) names ts others
+
+abbrev pub summary_text : Summary → List ℕ
+summary_text s = known_and_others s.names (take (length s.names) s.tallies) (tally_at s.tallies s.statements)

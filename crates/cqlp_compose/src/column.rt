@@ -1,0 +1,30 @@
+//! The columns of a page.
+
+ghost use Rattle.std.specs.Prelude.{◌≡◌, option_map};
+ghost use Rattle.cqlp_compose.specs.Places as told;
+
+use cqlp_message::{Frame, Message, Spec};
+use cqlp_type::TypeTree;
+
+/// The type of a column of a page, the first of which is 0, where it is told.
+pub fn column_type(frame: &Frame, column: usize) -> Option<&TypeTree>
+    ensures { option_map (λ t. t.now) result ≡ told.told_type frame.now column }
+{
+    match &frame.message {
+        Message::Rows(page) => match &page.meta.specs {
+            Some(specs) => spec_type(specs, column),
+            None => None,
+        },
+        _ => None,
+    }
+}
+
+/// The same of these columns.
+fn spec_type(specs: &[Spec], column: usize) -> Option<&TypeTree>
+    ensures { option_map (λ t. t.now) result ≡ told.type_at specs.now column }
+{
+    match specs.get(column) {
+        Some(spec) => Some(&spec.tree),
+        None => None,
+    }
+}

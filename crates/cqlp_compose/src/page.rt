@@ -1,0 +1,175 @@
+//! Pages that are begun.
+
+ghost use Rattle.std.specs.Prelude.{◌≡◌};
+ghost use Rattle.cqlp_compose.specs.Composing.{composed};
+ghost use Rattle.cqlp_message.specs.Owned.{frame_of, message_of};
+ghost use Rattle.cqlp_compose.specs.Begun as told;
+ghost use Rattle.cqlp_compose.specs.Begun.{Begins, BeginsBare, IsBare, SetsRows, ends, is_page, with_rows};
+
+use crate::composer::Composer;
+use crate::error::{BeginError, HeadError, Unended};
+use crate::head::page_head;
+use crate::place::PagePlace;
+use cqlp_build::BuildError;
+use cqlp_grammar::Event;
+use cqlp_message::{Frame, Message};
+use cqlp_note::Field;
+use std::alloc::Global;
+
+/// A page whose cells come in batches: its frame without cells, and where it stands. Section 4.2.5.2 of `native_protocol_v4.spec`.
+///
+/// This is all that is held of a page of any size between two batches, and as much as the events of its head told. A proxy adds up
+/// [`event_size`](crate::event_size) of the events of the cells, begins the page with its header, its metadata and the count of its rows, and
+/// then hands on the cells as they come:
+///
+/// ```text
+/// let BegunPage { mut page, head } = OpenPage::begin(alloc, composer, rows, cells_len)?;
+/// target.write_all(&head)?;
+/// let mut cells = PutCells::new(alloc, &page, limits);
+/// for event in events {
+///     if let Some(len) = cells.take(event, &mut room)? {
+///         target.write_all(&room[..len])?;
+///     }
+/// }
+/// let place = cells.place();
+/// page.set_place(place);
+/// page.end()?;
+/// ```
+#[derive(Drop)]
+pub struct OpenPage {
+    pub(crate) frame: Frame,
+    pub(crate) place: PagePlace,
+}
+
+/// A page that is begun, and what is to be written of it before its first cell.
+#[derive(Drop)]
+pub struct BegunPage {
+    pub page: OpenPage,
+    pub head: Vec<u8>,
+}
+
+impl OpenPage {
+    /// Begins the page whose head has the events that came to a composer, its header, its metadata and all else before the count of its rows, and then
+    /// this count. Its cells are to have `cells_len` bytes, as [`event_size`](crate::event_size) counts those of their events.
+    ///
+    /// # Errors
+    ///
+    /// [`BeginError::Build`] with what [`Composer::take`] says of a count of rows that comes next, or with what [`Composer::close`] says of the frame
+    /// without rows, and then [`BeginError::NoPage`] where this is another message than a page. Then [`BeginError::Unfit`] with what
+    /// [`Frame::page_unfit`] says of a page of as many rows and bytes. Memory may be refused at any time.
+    #[tactic(auto, using(crate::proofs::Beginning::begun_bare, crate::proofs::Beginning::not_bare))]
+    pub fn begin(
+        alloc: Global,
+        composer: Composer,
+        rows: u32,
+        cells_len: u64,
+    ) -> Result<BegunPage, BeginError>
+        ensures { Begins (composed composer) rows cells_len result }
+    {
+        match bare_page(composer, rows) {
+            Ok(frame) => begun(alloc, frame, said_len(cells_len)),
+            Err(why) => Err(why),
+        }
+    }
+
+    /// Where it stands.
+    #[must_use]
+    pub fn place(&self) -> PagePlace
+        ensures { result ≡ self.now.place }
+    {
+        self.place
+    }
+
+    /// Goes on to the place after cells that were put.
+    pub fn set_place(&mut self, place: PagePlace)
+        ensures { self.new ≡ record self.old { place = place } }
+    {
+        self.place = place;
+    }
+
+    /// Sees that all of its cells have come, and all bytes that they were to have.
+    ///
+    /// # Errors
+    ///
+    /// [`Unended::CellsMissing`] where cells are still to come, and else [`Unended::BytesMissing`] where bytes are.
+    pub fn end(&self) -> Result<(), Unended>
+        ensures { result ≡ ends (frame_of self.now.frame) self.now.place }
+    {
+        if self.place.cells() != self.frame.cells_wanted() {
+            return Err(Unended::CellsMissing);
+        }
+        if self.place.free() != 0 {
+            return Err(Unended::BytesMissing);
+        }
+        Ok(())
+    }
+}
+
+/// How many bytes the cells are said to have. No body has as many as do not fit.
+fn said_len(cells_len: u64) -> u32
+    ensures { result ≡ told.said_len cells_len }
+{
+    cells_len.min(u64::from(u32::MAX)) as u32
+}
+
+/// A page without cells, begun with cells of this many bytes.
+#[tactic(auto, using(crate::proofs::Beginning::no_place, crate::proofs::Beginning::a_place))]
+fn begun(alloc: Global, frame: Frame, cells_len: u32) -> Result<BegunPage, BeginError>
+    ensures { BeginsBare (frame_of frame) cells_len result }
+{
+    let place = match PagePlace::start(&frame, cells_len) {
+        Ok(place) => place,
+        Err(why) => return Err(BeginError::Unfit(why)),
+    };
+    match page_head(alloc, &frame, cells_len) {
+        Ok(head) => Ok(BegunPage {
+            page: OpenPage { frame, place },
+            head,
+        }),
+        Err(HeadError::Unfit(why)) => Err(BeginError::Unfit(why)),
+        Err(HeadError::NoMemory) => Err(BeginError::Build(BuildError::NoMemory)),
+    }
+}
+
+/// The page of as many rows and without cells whose other events came to a composer.
+#[tactic(auto, using(crate::proofs::Beginning::count_refused, crate::proofs::Beginning::closed_ok, crate::proofs::Beginning::closed_err))]
+fn bare_page(mut composer: Composer, rows: u32) -> Result<Frame, BeginError>
+    ensures { IsBare (composed composer) rows result }
+{
+    let none = Event::Count {
+        field: Field::Rows,
+        count: 0,
+    };
+    if let Err(why) = composer.take(&none) {
+        return Err(BeginError::Build(why));
+    }
+    match composer.close() {
+        Ok(frame) => with_rows(frame, rows),
+        Err(why) => Err(BeginError::Build(why)),
+    }
+}
+
+/// The same page with as many rows.
+fn with_rows(mut frame: Frame, rows: u32) -> Result<Frame, BeginError>
+    ensures { SetsRows (frame_of frame) rows result }
+{
+    if set_rows(&mut frame.message, rows) {
+        Ok(frame)
+    } else {
+        Err(BeginError::NoPage)
+    }
+}
+
+/// Sets how many rows a page has, if it is one.
+fn set_rows(message: &mut Message, rows: u32) -> bool
+    ensures is { result ≡ is_page (message_of message.old) }
+    ensures set { message_of message.new ≡ with_rows rows (message_of message.old) }
+{
+    match message {
+        Message::Rows(page) => {
+            page.rows = rows;
+            true
+        }
+        _ => false,
+    }
+}

@@ -1,6 +1,0 @@
-use Rattle.cqlp_exchanges.proofs.capturing.write_exchanges.Goals as goal
-
-pub returns-clause-exchanges : goal.returns-clause-exchanges
-returns-clause-exchanges g c = λ xs is known known'.
-    let a = c.listen-answer.ensures xs is known in
-    (a.0, a.1, (c.listen-answer.result.0, c.listen-answer.result.1.sums, c.listen-answer.result.1.missed, a.2, c.conclude-status.ensures.concludes known'))

@@ -1,6 +1,0 @@
-use Rattle.cqlp_streams.specs.Sayings.{saying_of}
-use Rattle.cqlp_exchanges.proofs.Heard.{tells_what_it_heard}
-use Rattle.cqlp_exchanges.proofs.exchanges.ExchangesListener.hear.Goals as goal
-
-pub returns-clause-ok : goal.returns-clause-ok
-returns-clause-ok g c = tells_what_it_heard c.args.self.now c.take.new.self (saying_of c.args.saying.now) c.take.result c.take.ensures

@@ -1,5 +1,0 @@
-use Rattle.cqlp_exchanges.proofs.Causes.{exchanges_causes}
-use Rattle.cqlp_exchanges.proofs.laws.faults_have_causes.Goals as goal
-
-pub returns : goal.returns
-returns c = exchanges_causes

@@ -1,5 +1,0 @@
-use Rattle.cqlp_exchanges.proofs.WrittenOnce.{exchanges_once}
-use Rattle.cqlp_exchanges.proofs.laws.one_answer_of_write_exchanges.Goals as goal
-
-pub returns : goal.returns
-returns c = exchanges_once

@@ -1,5 +1,0 @@
-use Rattle.cqlp_exchanges.proofs.Texts.{front_of_text}
-use Rattle.cqlp_exchanges.proofs.statement.text_front.Goals as goal
-
-pub returns-in-Ok : goal.returns-in-Ok
-returns-in-Ok c = front_of_text _ _ c.in-Ok.ensures.cases.0 c.in-Ok.ensures.cases.1

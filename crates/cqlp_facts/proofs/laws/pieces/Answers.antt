@@ -1,5 +1,0 @@
-use Rattle.cqlp_facts.proofs.Pieces.{reads_pieces}
-use Rattle.cqlp_facts.proofs.laws.pieces.Goals as goal
-
-pub returns : goal.returns
-returns c = reads_pieces

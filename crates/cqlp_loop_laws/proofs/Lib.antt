@@ -1,5 +1,0 @@
-mod Fronts
-mod Receipts
-mod Turns
-mod Stops
-pub mod Conversations

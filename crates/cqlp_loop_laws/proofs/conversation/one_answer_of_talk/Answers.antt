@@ -1,5 +1,0 @@
-use Rattle.cqlp_loop_laws.proofs.Conversations.{one_answer}
-use Rattle.cqlp_loop_laws.proofs.conversation.one_answer_of_talk.Goals as goal
-
-pub returns : goal.returns
-returns c = one_answer

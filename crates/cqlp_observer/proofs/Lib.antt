@@ -1,0 +1,13 @@
+pub mod Entries
+pub mod Boxes
+pub mod Taken
+pub mod Exchanged
+pub mod Stood
+pub mod Lost
+pub mod Once
+pub mod Counted
+pub mod Settled
+pub mod Came
+pub mod Fed
+pub mod Few
+pub mod Said

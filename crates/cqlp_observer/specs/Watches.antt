@@ -1,0 +1,170 @@
+-- Both sides of one connection, and the messages that wait.
+use Rattle.std.specs.Prelude.{ℕ, ◌+◌, ◌-◌, Bool, true, false, List, length, nat_le, nat_lt, Option, Some, None, if◌then◌else◌}
+use Rattle.cqlp_observer.specs.declared.message.Message.{Message}
+use Rattle.cqlp_observer.specs.declared.paired.Paired.{Paired}
+use Rattle.cqlp_observer.specs.declared.paired.Paired.TheVariants.{Exchange, Unanswered, Unasked, Event}
+use Rattle.cqlp_observer.specs.declared.pairing.Fate.{Fate}
+use Rattle.cqlp_observer.specs.declared.pairing.Fate.TheVariants as fate_is
+use Rattle.cqlp_observer.specs.declared.missed.Missed.{Missed}
+use Rattle.cqlp_observer.specs.declared.opening.Opening.{Opening}
+use Rattle.cqlp_observer.specs.declared.room.WatchRoom.{WatchRoom}
+use Rattle.cqlp_observer.specs.declared.watch.WatchStep.{WatchStep}
+use Rattle.cqlp_observer.specs.Keeping.{Kept, without_text}
+use Rattle.cqlp_observer.specs.Messages.{id_of}
+use Rattle.cqlp_observer.specs.Misses.{none_missed, with_gap, with_opening, with_overtaken, with_text}
+use Rattle.cqlp_observer.specs.Openings.{opening_in}
+use Rattle.cqlp_observer.specs.Pairings.{Pairs, Waiting, fate_of, none_wait, under}
+use Rattle.cqlp_observer.specs.Pairings as pairing
+use Rattle.cqlp_observer.specs.Speakers as side
+use Rattle.cqlp_observer.specs.Speakers.{Endings, Hears, Speaker, silent}
+
+-- Its two sides, the messages that wait, how many first bytes these have, and what was missed.
+pub record Watched : Type 0 where
+  pub requests : Speaker
+  pub responses : Speaker
+  pub waiting : Waiting Kept
+  pub text : ℕ
+  pub missed : Missed
+
+abbrev pub watched : (requests responses : Speaker) → Waiting Kept → (text : ℕ) → Missed → Watched
+watched requests responses waiting text missed = record {
+  requests = requests;
+  responses = responses;
+  waiting = waiting;
+  text = text;
+  missed = missed;
+}
+
+-- nothing was seen
+abbrev pub new_watched : Watched
+new_watched = watched (silent false false) (silent true false) none_wait 0 none_missed
+
+abbrev pub side_of : (responses : Bool) → Watched → Speaker
+side_of responses w = if responses then w.responses else w.requests
+
+abbrev pub with_side : (responses : Bool) → Speaker → Watched → Watched
+with_side true s w = watched w.requests s w.waiting w.text w.missed
+with_side false s w = watched s w.responses w.waiting w.text w.missed
+
+abbrev pub with_missed : Missed → Watched → Watched
+with_missed m w = watched w.requests w.responses w.waiting w.text m
+
+abbrev pub with_count : (text : ℕ) → Watched → Watched
+with_count text w = watched w.requests w.responses w.waiting text w.missed
+
+abbrev pub begun : (responses from_start : Bool) → Watched → Watched
+begun responses from_start w = with_side responses (silent responses from_start) w
+
+-- ---- first bytes of messages that wait
+
+abbrev pub text_in : Option (Message Kept) → ℕ
+text_in None = 0
+text_in (Some m) = length m.kept.front
+
+-- how many wait but for those under a message's id
+abbrev pub text_beside : Message Kept → Watched → ℕ
+text_beside m w = w.text - text_in (under (id_of m) w.waiting)
+
+-- a message as it waits, and the connection then
+pub record Fits : Type 0 where
+  pub message : Message Kept
+  pub after : Watched
+
+abbrev pub fitting : Message Kept → Watched → Fits
+fitting m w = record { message = m; after = w }
+
+abbrev pub bare : Message Kept → Message Kept
+bare m = record { frame = m.frame; kept = without_text m.kept }
+
+-- with its first bytes, if there is room for them beside so many others, or without them
+abbrev pub fitted : Message Kept → (beside : ℕ) → WatchRoom → Watched → Fits
+fitted m beside room w =
+    if nat_le (length m.kept.front) (room.text - beside) then fitting m (with_count (beside + length m.kept.front) w)
+    else fitting (bare m) (with_count beside (with_missed (with_text w.missed) w))
+
+-- ---- a message that has ended is paired: what is told, and the connection after it
+
+pub record Tells : Type 0 where
+  pub told : Option (Paired Kept)
+  pub after : Watched
+
+abbrev pub telling : Option (Paired Kept) → Watched → Tells
+telling told w = record { told = told; after = w }
+
+abbrev pub paired_by : Pairs Kept → Watched → Tells
+paired_by p w = telling p.told (watched w.requests w.responses p.after w.text w.missed)
+
+abbrev pub taken_by : (has_room : Bool) → Fits → Tells
+taken_by has_room x = paired_by (pairing.taken x.message has_room x.after.waiting) x.after
+
+-- As it waits, if it does; one for which there is no room is counted.
+abbrev pub fitted_as : Fate → Message Kept → WatchRoom → Watched → Fits
+fitted_as fate_is.IsTold m room w = fitting m w
+fitted_as fate_is.Meets m room w = fitting m (with_count (text_beside m w) w)
+fitted_as fate_is.Waits m room w = fitted m (text_beside m w) room w
+fitted_as fate_is.IsOvertaken m room w = fitting m (with_missed (with_overtaken w.missed) w)
+
+abbrev pub settled : Message Kept → (has_room : Bool) → WatchRoom → Watched → Fits
+settled m has_room room w = fitted_as (fate_of (under (id_of m) w.waiting) m has_room) m room w
+
+abbrev pub has_room : WatchRoom → Watched → Bool
+has_room room w = nat_lt (length w.waiting) room.messages
+
+abbrev pub paired_if : Option (Message Kept) → WatchRoom → Watched → Tells
+paired_if None room w = telling None w
+paired_if (Some m) room w = taken_by (has_room room w) (settled m (has_room room w) room w)
+
+abbrev pub ended_by : (responses : Bool) → Endings → WatchRoom → Watched → Tells
+ended_by responses e room w = paired_if e.message room (with_side responses e.after w)
+
+abbrev pub after_gap : (responses : Bool) → ℕ → (time : Option ℕ) → WatchRoom → Watched → Tells
+after_gap responses n time room w =
+    ended_by responses (side.after_gap n time (side_of responses w)) room (with_missed (with_gap w.missed) w)
+
+abbrev pub after_end : (responses : Bool) → WatchRoom → Watched → Tells
+after_end responses room w = ended_by responses (side.after_end (side_of responses w)) room w
+
+-- ---- bytes of a piece
+
+pub record Steps : Type 0 where
+  pub used : ℕ
+  pub is_done : Bool
+  pub opening : Opening
+  pub told : Option (Paired Kept)
+  pub after : Watched
+
+abbrev pub stepping : {A : Type 0} → WatchStep A → Watched → Steps
+stepping step w = record { used = step.used; is_done = step.is_done; opening = step.opening; told = step.told; after = w }
+
+abbrev pub told_by : ℕ → (is_done : Bool) → Opening → Tells → Steps
+told_by used is_done opening t = record { used = used; is_done = is_done; opening = opening; told = t.told; after = t.after }
+
+abbrev pub opening_of : (responses : Bool) → List ℕ → Watched → Opening
+opening_of responses b w = opening_in b (side_of responses w).heads
+
+abbrev pub opened : Opening → Watched → Watched
+opened opening w = with_missed (with_opening opening w.missed) w
+
+abbrev pub heard_by : (responses : Bool) → Hears → Opening → WatchRoom → Watched → Steps
+heard_by responses h opening room w =
+    told_by h.used h.is_done opening (paired_if h.message room (with_side responses h.after (opened opening w)))
+
+abbrev pub heard : (responses : Bool) → (time : Option ℕ) → (begins : Bool) → List ℕ → WatchRoom → Watched → Steps
+heard responses time begins b room w =
+    heard_by responses (side.heard time begins b (side_of responses w)) (opening_of responses b w) room w
+
+-- ---- the end of the connection: the message under the least id
+
+-- first bytes of a message that is told alone
+abbrev pub alone_text : Paired Kept → ℕ
+alone_text (Exchange request response) = 0
+alone_text (Unanswered request) = length request.kept.front
+alone_text (Unasked response) = length response.kept.front
+alone_text (Event event) = 0
+
+abbrev pub told_text : Option (Paired Kept) → ℕ
+told_text None = 0
+told_text (Some t) = alone_text t
+
+abbrev pub finished : Watched → Tells
+finished w = let p = pairing.ended w.waiting in paired_by p (with_count (w.text - told_text p.told) w)

@@ -1,0 +1,61 @@
+//! Laws of what is told of requests and responses. No code needs them.
+
+ghost use Rattle.cqlp_observer.specs.Laws.{CountsTheMissing, KeepsThoseThatWait, OneAnswerOfSubject, TellsEachMessage, TellsTheExchanges};
+ghost use Rattle.cqlp_observer.specs.Rooms.{KeepsWithinRoom};
+ghost use Rattle.cqlp_observer.specs.Sent.{TellsEachFrame};
+ghost use Rattle.cqlp_observer.specs.Steps.{TakesFewSteps};
+ghost use Rattle.cqlp_observer.specs.Whole.{TellsWholeFrames};
+
+/// Of any messages in any order: those that a [`Pairing`](crate::Pairing) holds are those that wait, which met none that waited under their
+/// stream id and under which nothing was said since, where there was room always. Each is the last that was said under its id, and at most one waits
+/// under each, whether there was room or not.
+pub fn waiting<T>()
+    ensures { KeepsThoseThatWait T }
+{}
+
+/// The exchanges that it tells are those of the messages, in their order, where there was room always: each message with the one that waits under
+/// its stream id, if they are a request and its response. Where there was not, each is still of a message and the last before it under its id, and
+/// none is told twice.
+pub fn exchanges<T>()
+    ensures { TellsTheExchanges T }
+{}
+
+/// Under each stream id no more of those exchanges are missing than messages were told alone for want of room, which
+/// [`Missed::overtaken`](crate::Missed::overtaken) counts. So none is missing where that is 0.
+pub fn missing<T>()
+    ensures { CountsTheMissing T }
+{}
+
+/// Each message is told once or waits, whether there was room or not.
+pub fn each_message<T>()
+    ensures { TellsEachMessage T }
+{}
+
+/// After each call of a [`Watch`](crate::Watch) no more messages wait, and no more first bytes of them, than there is room for, or did before.
+/// [`Watch::text`](crate::Watch::text) is how many first bytes those have that wait.
+pub fn room()
+    ensures { KeepsWithinRoom }
+{}
+
+/// A frame that [`Heads`](crate::Heads) tells as whole came whole: its header and the bytes of its body lie one after the other from its offset
+/// on, and none in a gap.
+pub fn whole_frames()
+    ensures { TellsWholeFrames }
+{}
+
+/// Of frames that are sent from the start of a direction on, [`Heads`](crate::Heads) tells each where it ends, in order and as whole, in
+/// whatever pieces their bytes come, and tells nothing else.
+pub fn each_frame()
+    ensures { TellsEachFrame }
+{}
+
+/// Each call of [`Heads::take`](crate::Heads::take) that does not say `More` leaves fewer to be made: it uses some byte of the piece, or ends a frame that is
+/// over. So all of a piece of n bytes is told by 2 n + 2 calls.
+pub fn few_steps()
+    ensures { TakesFewSteps }
+{}
+
+/// [`subject_of`](crate::subject_of) has one answer, but for where in the front a content lies. The clauses of all other calls are equations.
+pub fn one_answer_of_subject_of()
+    ensures { OneAnswerOfSubject }
+{}

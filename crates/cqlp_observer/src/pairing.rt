@@ -1,0 +1,215 @@
+//! Which requests wait for their responses, and which responses for their requests.
+
+ghost use Rattle.std.specs.Prelude.{◌≡◌, ◌==◌, IfOk, length};
+ghost use Rattle.std.specs.Option.{option_copied};
+ghost use Rattle.std.specs.Map.{keys_of};
+ghost use Rattle.std.specs.List.Sorted.{IsStrictlySortedBy};
+ghost use Rattle.std.specs.Ordering.{int_cmp};
+ghost use Rattle.cqlp_observer.specs.Pairings.{fate_after, fate_alone, fate_of, is_overtaken};
+
+use crate::message::Message;
+use crate::paired::Paired;
+use std::alloc::{AllocError, Allocator, Global};
+use std::collections::BTreeMap;
+use std::marker::Model;
+
+/// The messages of one connection that wait for the other of their exchange: requests for their responses, and responses that came before
+/// their requests.
+///
+/// It takes the frames of both directions in the order in which they ended, and tells of each request which response it has: the next under
+/// its stream id, or the one before it under that id, if that still waits and the request was begun no later by the capture's times. It has no
+/// limit of its own: who calls it says of each message whether there is room for one more. Memory is taken for each message that waits, and given
+/// back with it.
+#[derive(Drop)]
+pub struct Pairing<T, A: Allocator = Global> {
+    alloc: A,
+    /// The messages that wait, by stream id.
+    waiting: BTreeMap<i16, Box<Message<T>, A>, A>,
+}
+
+/// What becomes of the next message.
+#[derive(Clone, Copy, Debug, PartialEq, Eq)]
+pub(crate) enum Fate {
+    /// It is an event, which is told at once.
+    IsTold,
+    /// It and the one that waits under its stream id are a request and its response.
+    Meets,
+    /// It waits, in the place of the one under its stream id, if one does.
+    Waits,
+    /// It is told alone, since none waits under its stream id and there is no room.
+    IsOvertaken,
+}
+
+impl<T, A: Allocator> Model for Pairing<T, A> {
+    ghost use Rattle.cqlp_observer.specs.Pairings.{Waiting, unboxed};
+
+    ghost Value = { Waiting T };
+
+    ghost view = { λ p. unboxed p.waiting.entries };
+}
+
+impl<T: Drop, A: Allocator + Clone> Pairing<T, A> {
+    ghost use Rattle.std.specs.Prelude.{Some};
+    ghost use Rattle.cqlp_observer.specs.Messages.{id_of};
+    ghost use Rattle.cqlp_observer.specs.Pairings.{ended, met, none_wait, overtakes, paired, taken, under, with_message, without};
+
+    /// No message waits. Takes no memory beside what a clone of `alloc` does.
+    pub fn new(alloc: A) -> Result<Self, AllocError>
+        ensures { IfOk result (λ p. p ≡ none_wait) }
+    {
+        let own = alloc.clone()?;
+        Ok(Pairing {
+            alloc: own,
+            waiting: BTreeMap::new(alloc),
+        })
+    }
+
+    /// How many messages wait.
+    pub fn len(&self) -> usize
+        ensures is { result ≡ length self.now }
+        ensures ordered { IsStrictlySortedBy int_cmp (keys_of self.now) }
+    {
+        self.waiting.len()
+    }
+
+    /// Whether none waits.
+    pub fn is_empty(&self) -> bool
+        ensures { result ≡ (length self.now == 0) }
+    {
+        self.waiting.len() == 0
+    }
+
+    /// The message that waits under a stream id.
+    pub fn under(&self, id: i16) -> Option<&Message<T>>
+        ensures { option_copied result ≡ under id self.now }
+    {
+        match self.waiting.get(&id) {
+            Some(message) => Some(&**message),
+            None => None,
+        }
+    }
+
+    /// Whether `take` tells this message alone for want of room: none waits under its stream id, and there is no room for one more.
+    pub fn overtakes(&self, message: &Message<T>, has_room: bool) -> bool
+        ensures { result ≡ overtakes message.now has_room self.now }
+    {
+        is_overtaken(fate_of(self.under(message.stream()), message, has_room))
+    }
+
+    /// Takes the next frame of either direction. If it and the one that waits under its stream id are a request and its response, that
+    /// exchange is told.
+    ///
+    /// Else it takes the place of that one, and what is told is that the other of its exchange was not seen. Where none waits under its id, and there
+    /// is no room for one more, it is itself told alone.
+    ///
+    /// # Errors
+    ///
+    /// Memory that is refused: then the message is lost, and no other waits under its id.
+    pub fn take(
+        &mut self,
+        message: Message<T>,
+        has_room: bool,
+    ) -> Result<Option<Paired<T>>, AllocError>
+        ensures { IfOk result (λ told. paired told self.new ≡ taken message has_room self.old) }
+    {
+        if message.is_event() {
+            return Ok(Some(Paired::Event { event: message }));
+        }
+        match self.leave(message.stream()) {
+            Some(first) => Ok(Some(self.meet(first, message)?)),
+            None if has_room => {
+                self.wait(message)?;
+                Ok(None)
+            }
+            None => Ok(Some(Paired::alone(message))),
+        }
+    }
+
+    /// Where no more frames come: the message under the least stream id, which waits no more. `None` once none waits.
+    pub fn end(&mut self) -> Option<Paired<T>>
+        ensures { paired result self.new ≡ ended self.old }
+    {
+        match self.waiting.pop_first() {
+            Some((_, message)) => Some(Paired::alone(Box::into_inner(message))),
+            None => None,
+        }
+    }
+
+    /// A message comes after one that waited under its stream id.
+    fn meet(&mut self, first: Message<T>, second: Message<T>) -> Result<Paired<T>, AllocError>
+        ensures { IfOk result (λ told. paired (Some told) self.new ≡ met first second self.old) }
+    {
+        if first.meets(&second) {
+            Ok(Paired::exchange(first, second))
+        } else {
+            self.wait(second)?;
+            Ok(Paired::alone(first))
+        }
+    }
+
+    /// A message waits under its stream id.
+    fn wait(&mut self, message: Message<T>) -> Result<(), AllocError>
+        ensures { IfOk result (λ _. self.new ≡ with_message message self.old) }
+    {
+        let id = message.stream();
+        let boxed = Box::new(self.alloc.clone()?, message)?;
+        self.waiting.insert(id, boxed)?;
+        Ok(())
+    }
+
+    /// The message under a stream id waits no more.
+    fn leave(&mut self, id: i16) -> Option<Message<T>>
+        ensures which { result ≡ under id self.old }
+        ensures others { self.new ≡ without id self.old }
+    {
+        match self.waiting.remove(&id) {
+            Some(message) => Some(Box::into_inner(message)),
+            None => None,
+        }
+    }
+}
+
+/// What becomes of a message after the one that waits under its stream id, if one does, where there is room for one more that waits, or none.
+pub(crate) fn fate_of<T>(first: Option<&Message<T>>, message: &Message<T>, has_room: bool) -> Fate
+    ensures { result ≡ fate_of (option_copied first.entry) message.now has_room }
+{
+    if message.is_event() {
+        return Fate::IsTold;
+    }
+    match first {
+        Some(first) => fate_after(first, message),
+        None => fate_alone(has_room),
+    }
+}
+
+/// What becomes of a message after one that waits under its stream id.
+fn fate_after<T>(first: &Message<T>, second: &Message<T>) -> Fate
+    ensures { result ≡ fate_after first.now second.now }
+{
+    if first.meets(second) {
+        Fate::Meets
+    } else {
+        Fate::Waits
+    }
+}
+
+/// What becomes of a message under whose stream id none waits.
+fn fate_alone(has_room: bool) -> Fate
+    ensures { result ≡ fate_alone has_room }
+{
+    if has_room {
+        Fate::Waits
+    } else {
+        Fate::IsOvertaken
+    }
+}
+
+/// Whether a message is told alone for want of room.
+fn is_overtaken(fate: Fate) -> bool
+    ensures { result ≡ is_overtaken fate }
+{
+    match fate {
+        Fate::IsOvertaken => true,
+        Fate::IsTold | Fate::Meets | Fate::Waits => false,
+    }
+}

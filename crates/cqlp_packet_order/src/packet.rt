@@ -1,0 +1,55 @@
+//! A captured packet, lent or kept.
+
+ghost use Rattle.std.specs.Prelude.{◌≡◌, IfOk};
+
+use std::alloc::{AllocError, Allocator, Global};
+
+/// A captured packet.
+#[derive(Clone, Copy, Debug)]
+pub struct Packet<'a> {
+    /// The number of its link type.
+    pub link: u16,
+    /// When it was captured, in nanoseconds since 1970-01-01 00:00:00 UTC; `None` where the file does not say.
+    pub time: Option<u64>,
+    /// How many bytes it had on the wire.
+    pub original: u32,
+    /// Those that were captured.
+    pub bytes: &'a [u8],
+}
+
+/// A captured packet in memory of its own.
+#[derive(Drop)]
+pub struct KeptPacket<A: Allocator = Global> {
+    pub link: u16,
+    pub time: Option<u64>,
+    pub original: u32,
+    pub bytes: Vec<u8, A>,
+}
+
+impl<A: Allocator> KeptPacket<A> {
+    ghost use Rattle.cqlp_packet_order.specs.Packets.{packet_in, packet_of};
+
+    /// A copy of a packet.
+    pub(crate) fn copy_of(alloc: A, packet: &Packet<'_>) -> Result<Self, AllocError>
+        ensures { IfOk result (λ kept. packet_in kept ≡ packet_of packet.now) }
+    {
+        Ok(KeptPacket {
+            link: packet.link,
+            time: packet.time,
+            original: packet.original,
+            bytes: Vec::from_slice(alloc, packet.bytes)?,
+        })
+    }
+
+    /// The packet, lent.
+    pub fn as_packet(&self) -> Packet<'_>
+        ensures { packet_of result ≡ packet_in self.now }
+    {
+        Packet {
+            link: self.link,
+            time: self.time,
+            original: self.original,
+            bytes: self.bytes.as_slice(),
+        }
+    }
+}

@@ -1,5 +1,0 @@
-use Rattle.cqlp_page_batches.proofs.Written.{page_is_written}
-use Rattle.cqlp_page_batches.proofs.laws.page_is_written.Goals as goal
-
-pub returns : goal.returns
-returns c = λ s h fields rows len b bs end first begins batches ended. page_is_written s h fields rows len b bs end first begins batches ended

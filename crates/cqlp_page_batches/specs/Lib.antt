@@ -1,3 +1,0 @@
-pub mod Begun
-pub mod Put
-pub mod Laws

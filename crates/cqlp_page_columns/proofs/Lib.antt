@@ -1,2 +1,0 @@
-pub mod SoFar
-pub mod OneRead

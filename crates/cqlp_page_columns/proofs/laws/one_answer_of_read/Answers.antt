@@ -1,5 +1,0 @@
-use Rattle.cqlp_page_columns.proofs.OneRead.{one_answer_of_read}
-use Rattle.cqlp_page_columns.proofs.laws.one_answer_of_read.Goals as goal
-
-pub returns : goal.returns
-returns g c = one_answer_of_read g.S.Sink

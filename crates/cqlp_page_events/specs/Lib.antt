@@ -1,4 +1,0 @@
-pub mod Places
-pub mod Cells
-pub mod Measures
-pub mod Laws

@@ -1,4 +1,0 @@
-pub mod Measured
-pub mod LentPages
-pub mod Fronts
-pub mod OneAnswer

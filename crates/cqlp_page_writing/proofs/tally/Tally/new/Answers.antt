@@ -1,6 +1,0 @@
-use Rattle.std.proofs.Common.{refl}
-use Rattle.cqlp_page_writing.proofs.Measured.{counts_none}
-use Rattle.cqlp_page_writing.proofs.tally.Tally.new.Goals as goal
-
-pub returns : goal.returns
-returns c = counts_none _ _ refl refl refl refl refl

@@ -1,4 +1,0 @@
-pub mod LentCells
-pub mod Tallies
-pub mod Adding
-pub mod Laws

@@ -1,5 +1,0 @@
-use Rattle.cqlp_prepared.proofs.Whole.{all}
-use Rattle.cqlp_prepared.proofs.laws.all_types.Goals as goal
-
-pub returns : goal.returns
-returns c = all

@@ -1,5 +1,0 @@
-use Rattle.cqlp_prepared.proofs.Stays.{keeps}
-use Rattle.cqlp_prepared.proofs.laws.latest_stay.Goals as goal
-
-pub returns : goal.returns
-returns c = keeps

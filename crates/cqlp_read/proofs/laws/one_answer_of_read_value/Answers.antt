@@ -1,5 +1,0 @@
-use Rattle.cqlp_read.proofs.OneAnswer.{one_answer}
-use Rattle.cqlp_read.proofs.laws.one_answer_of_read_value.Goals as goal
-
-pub returns : goal.returns
-returns c = one_answer

@@ -1,5 +1,0 @@
-use Rattle.cqlp_read.proofs.OneAnswer.{read_written}
-use Rattle.cqlp_read.proofs.laws.read_is_written.Goals as goal
-
-pub returns : goal.returns
-returns c = read_written

@@ -1,5 +1,0 @@
-use Rattle.cqlp_read.proofs.OneAnswer.{unowned_read}
-use Rattle.cqlp_read.proofs.laws.unowned_is_read.Goals as goal
-
-pub returns : goal.returns
-returns c = unowned_read

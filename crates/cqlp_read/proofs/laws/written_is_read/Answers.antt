@@ -1,5 +1,0 @@
-use Rattle.cqlp_read.proofs.OneAnswer.{written_read}
-use Rattle.cqlp_read.proofs.laws.written_is_read.Goals as goal
-
-pub returns : goal.returns
-returns c = written_read

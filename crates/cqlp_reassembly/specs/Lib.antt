@@ -1,6 +1,0 @@
-pub mod Sequence
-pub mod Cells
-pub mod Windows
-pub mod Streams
-pub mod Laws
-pub mod StreamLaws

@@ -1,6 +1,0 @@
-use Rattle.cqlp_segment.specs.Segment.{segment_of}
-use Rattle.cqlp_segment.proofs.Payload.{one_seen}
-use Rattle.cqlp_segment.proofs.laws.one_answer.Goals as goal
-
-pub returns : goal.returns
-returns c = λ link packet original a b p q. one_seen (segment_of link packet original) a b p q

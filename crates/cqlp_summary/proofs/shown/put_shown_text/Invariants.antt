@@ -1,9 +1,0 @@
-use Rattle.std.specs.Str.{IsUtf8}
-use Rattle.std.specs.Str.Iter.{chars_rest}
-use Rattle.cqlp_text.proofs.Writing.{Progress}
-use Rattle.cqlp_summary.specs.Shown.{shown_text}
-use Rattle.cqlp_summary.proofs.shown.put_shown_text.Given as goal
-
-abbrev pub invariant-loop-c : goal.invariant-loop-c
-invariant-loop-c g l =
-    IsUtf8 (chars_rest l.c-iterator) × Progress l.fn.writer (shown_text l.text) (shown_text (chars_rest l.c-iterator)) l.writer

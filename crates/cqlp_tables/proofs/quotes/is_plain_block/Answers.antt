@@ -1,5 +1,0 @@
-use Rattle.cqlp_tables.proofs.Doubles.{plain_block}
-use Rattle.cqlp_tables.proofs.quotes.is_plain_block.Goals as goal
-
-pub returns : goal.returns
-returns c = plain_block c.args.a c.args.b c.args.bytes.now c.args.at c.lacks.result c.lacks-2.result c.lacks.ensures c.lacks-2.ensures

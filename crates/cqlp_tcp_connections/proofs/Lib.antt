@@ -1,0 +1,4 @@
+pub mod Sizes
+pub mod Entries
+pub mod Apart
+pub mod Firsts

@@ -1,0 +1,9 @@
+pub mod Limits
+pub mod Ends
+pub mod Totals
+pub mod Ports
+pub mod Sides
+pub mod Known
+pub mod Tables
+pub mod Pools
+pub mod Laws

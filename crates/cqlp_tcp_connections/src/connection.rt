@@ -1,0 +1,253 @@
+//! One connection.
+
+ghost use Rattle.std.specs.Prelude.{◌≡◌, ◌+◌, ◌<◌, ◌^◌, IfOk, OnErr, length};
+ghost use Rattle.cqlp_tcp_reassembly.specs.Segments.{captured};
+ghost use Rattle.cqlp_tcp_reassembly.specs.Streams.{held};
+ghost use Rattle.cqlp_tcp_segment.specs.Segment.{seen};
+ghost use Rattle.cqlp_tcp_connections.specs.Known.{IsToldWithin, control_of, tell};
+
+use crate::ends::{Ends, Way};
+use crate::side::{Side, SideStep};
+use crate::told::Told;
+use crate::totals::{Begin, ConnectionTotals, DirectionTotals, End};
+use cqlp_tcp_reassembly::{Control, StreamSegment, StreamStep};
+use cqlp_tcp_segment::{Segment, SegmentHead};
+use std::alloc::{AllocError, Allocator};
+use std::marker::Model;
+
+/// A connection: its number, and both directions.
+#[derive(Drop)]
+pub(crate) struct Connection<A: Allocator> {
+    number: u64,
+    requests: Side<A>,
+    responses: Side<A>,
+}
+
+impl<A: Allocator> Model for Connection<A> {
+    ghost use Rattle.cqlp_tcp_connections.specs.Known.{Flows, flows};
+
+    ghost Value = { Flows };
+
+    ghost view = { λ c. flows c.number c.requests c.responses };
+}
+
+impl<A: Allocator> Connection<A> {
+    ghost use Rattle.cqlp_tcp_connections.specs.Known.{acknowledged, begins_anew, closed, closed_way, counted_on, known, new_flows, passed};
+    ghost use Rattle.cqlp_tcp_connections.specs.Known.{pull_refused, pulled, refused, side_of, size_of, taken, telling, totals_of};
+
+    /// A connection of which nothing was told. It takes no memory.
+    pub(crate) fn new(alloc: A, number: u64) -> Result<Self, AllocError>
+    where
+        A: Clone,
+        ensures { IfOk result (λ f. f ≡ new_flows number) }
+    {
+        Ok(Connection {
+            number,
+            requests: Side::new(alloc.clone()?),
+            responses: Side::new(alloc),
+        })
+    }
+
+    pub(crate) fn number(&self) -> u64
+        ensures { result ≡ self.now.number }
+    {
+        self.number
+    }
+
+    /// How much both directions hold of what came early.
+    pub(crate) fn size(&self) -> usize
+        requires { size_of self.now < 2 ^ 64 }
+        ensures { result ≡ size_of self.now }
+    {
+        self.requests.size() + self.responses.size()
+    }
+
+    /// Whether a segment that goes this way begins another connection between the same ends.
+    pub(crate) fn begins_anew(&self, way: Way, head: &SegmentHead) -> bool
+        ensures { result ≡ begins_anew way head.now self.now }
+    {
+        let own = self.totals_of(way);
+        let others = self.totals_of(way.other());
+        head.flags.syn && !own.may_begin(&others, head.sequence)
+    }
+
+    fn totals_of(&self, way: Way) -> DirectionTotals
+        ensures { result ≡ (side_of way self.now).totals }
+    {
+        match way {
+            Way::Requests => self.requests.totals(),
+            Way::Responses => self.responses.totals(),
+        }
+    }
+
+    /// What was told of it, which is between these ends.
+    pub(crate) fn totals(&self, ends: &Ends) -> ConnectionTotals
+        ensures { result ≡ totals_of (known ends.now self.now) }
+    {
+        ConnectionTotals {
+            number: self.number,
+            client: ends.client,
+            node: ends.node,
+            requests: self.requests.totals(),
+            responses: self.responses.totals(),
+        }
+    }
+
+    /// Counts a segment that goes this way.
+    pub(crate) fn count_segment(&mut self, way: Way)
+        ensures { self.new ≡ counted_on way self.old }
+    {
+        match way {
+            Way::Requests => self.requests.count_segment(),
+            Way::Responses => self.responses.count_segment(),
+        }
+    }
+
+    /// The next that a segment tells which goes this way, captured then: first its acknowledgement, of the other way. Its own way may
+    /// hold this much in all. Nothing is told of its own where memory is refused.
+    pub(crate) fn pull(
+        &mut self,
+        way: Way,
+        segment: &Segment<'_>,
+        time: Option<u64>,
+        room: usize,
+    ) -> Result<Option<Told>, AllocError>
+    where
+        A: Clone,
+        ensures told { IfOk result (λ told. telling told self.new ≡ pulled way (seen segment.now) time room self.old) }
+        ensures within { IfOk result (λ told. IsToldWithin told (length segment.now.payload.now)) }
+        ensures refused { OnErr result (self.new ≡ pull_refused way (seen segment.now) time self.old) }
+    {
+        let head = segment.head;
+        if head.flags.ack {
+            let told = self.acknowledge(way.other(), head.acknowledgement);
+            if told.is_some() {
+                return Ok(told);
+            }
+        }
+        let own = StreamSegment {
+            control: control_of(&head, segment.missing),
+            payload: segment.payload,
+            time,
+        };
+        self.take(way, &own, room)
+    }
+
+    /// The next that a segment tells which goes this way.
+    fn take(
+        &mut self,
+        way: Way,
+        segment: &StreamSegment<'_>,
+        room: usize,
+    ) -> Result<Option<Told>, AllocError>
+    where
+        A: Clone,
+        ensures told { IfOk result (λ told. telling told self.new ≡ taken way (captured segment.now) room self.old) }
+        ensures within { IfOk result (λ told. IsToldWithin told (length segment.now.payload.now)) }
+        ensures refused { OnErr result (self.new ≡ refused way (captured segment.now) self.old) }
+    {
+        let step = match way {
+            Way::Requests => self.requests.take(segment, room)?,
+            Way::Responses => self.responses.take(segment, room)?,
+        };
+        Ok(tell(self.number, way, step))
+    }
+
+    /// The next of this way that an acknowledgement tells.
+    fn acknowledge(&mut self, way: Way, number: u32) -> Option<Told>
+        ensures { telling result self.new ≡ acknowledged way number self.old }
+    {
+        let step = match way {
+            Way::Requests => self.requests.acknowledge(number),
+            Way::Responses => self.responses.acknowledge(number),
+        };
+        tell(self.number, way, step)
+    }
+
+    /// The next that is told where no more segments come: first of the requests.
+    pub(crate) fn close(&mut self) -> Option<Told>
+        ensures { telling result self.new ≡ closed self.old }
+    {
+        let told = self.close_way(Way::Requests);
+        if told.is_some() {
+            return told;
+        }
+        self.close_way(Way::Responses)
+    }
+
+    fn close_way(&mut self, way: Way) -> Option<Told>
+        ensures { telling result self.new ≡ closed_way way self.old }
+    {
+        let step = match way {
+            Way::Requests => self.requests.close(),
+            Way::Responses => self.responses.close(),
+        };
+        tell(self.number, way, step)
+    }
+
+    /// The next bytes of this way, which came before.
+    pub(crate) fn held(&self, way: Way) -> &[u8]
+        ensures { result.now ≡ held (side_of way self.now).stream }
+    {
+        match way {
+            Way::Requests => self.requests.held(),
+            Way::Responses => self.responses.held(),
+        }
+    }
+
+    /// Passes them.
+    pub(crate) fn pass_held(&mut self, way: Way)
+        ensures { self.new ≡ passed way self.old }
+    {
+        match way {
+            Way::Requests => self.requests.pass_held(),
+            Way::Responses => self.responses.pass_held(),
+        }
+    }
+}
+
+impl DirectionTotals {
+    ghost use Rattle.cqlp_tcp_connections.specs.Known.{may_begin};
+
+    /// Whether a SYN of this number is of this direction, beside that of the other way.
+    fn may_begin(&self, other: &DirectionTotals, sequence: u32) -> bool
+        ensures { result ≡ may_begin self.now other.now sequence }
+    {
+        match self.begin {
+            Begin::Syn(number) => number == sequence,
+            Begin::Middle(number) => number == sequence.wrapping_add(1),
+            Begin::Unseen => {
+                let is_open = self.end == End::Open && other.end == End::Open;
+                is_open && !matches!(other.begin, Begin::Middle(_))
+            }
+        }
+    }
+}
+
+/// What a header says of a segment, of whose payload so many bytes were not captured.
+fn control_of(head: &SegmentHead, missing: usize) -> Control
+    ensures { result ≡ control_of head.now missing }
+{
+    Control {
+        sequence: head.sequence,
+        syn: head.flags.syn,
+        fin: head.flags.fin,
+        rst: head.flags.rst,
+        missing: (missing % 0x1_0000_0000) as u32,
+    }
+}
+
+/// What is told of this way of the connection with this number, if that is not `Done`.
+fn tell(number: u64, way: Way, step: SideStep) -> Option<Told>
+    ensures { result ≡ tell number way step }
+{
+    if step.step == StreamStep::Done {
+        return None;
+    }
+    Some(Told {
+        number,
+        way,
+        at: step.at,
+        step: step.step,
+    })
+}

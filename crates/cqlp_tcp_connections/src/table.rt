@@ -1,0 +1,337 @@
+//! The table of connections.
+
+ghost use Rattle.std.specs.Prelude.{◌≡◌, ◌↔◌, ◌==◌, ◌<◌, ◌≤◌, IfOk, IsErrOf, None, OnErr, false, length};
+ghost use Rattle.cqlp_tcp_segment.specs.Segment.{seen};
+ghost use Rattle.cqlp_tcp_connections.specs.Limits.{is_in_range};
+ghost use Rattle.cqlp_tcp_connections.specs.Known.{IsToldWithin};
+ghost use Rattle.cqlp_tcp_connections.specs.Tables.{gives_up};
+
+use crate::ends::{Way, ends_of, first_way};
+use crate::limits::{ConnectionLimits, NewConnectionsError};
+use crate::pool::Pool;
+use crate::ports::PortCounts;
+use crate::told::{Departure, Sight, Told};
+use crate::totals::ConnectionCounts;
+use cqlp_tcp_reassembly::{GapCause, StreamStep};
+use cqlp_tcp_segment::{Segment, SegmentHead};
+use std::alloc::{AllocError, Allocator, Global};
+use std::marker::Model;
+
+/// The connections of a capture, of which there are at most as many at one time as the caller's limit says.
+///
+/// Of each segment `take` says whose it is, and then `pull`, again and again until it says `None`, what it hands on. Where it tells of
+/// `Held`, `held` lends the bytes, and `pass_held` comes before the next call. Where a connection has to leave first, `leave` tells what
+/// it still has, until it says `Left`. At the end of the file `finish` does so for all that are there, until it says `Empty`.
+///
+/// Memory is taken as connections and early bytes come, and given back. A connection that holds nothing takes about 450 bytes.
+#[derive(Drop)]
+pub struct Connections<A: Allocator = Global> {
+    ports: Vec<u16, A>,
+    pool: Pool<A>,
+    counts: ConnectionCounts,
+    /// For each port, how many segments had it of which neither port is asked for.
+    foreign: PortCounts<A>,
+    /// Whether the first connection has begun to leave.
+    leaving: bool,
+}
+
+impl<A: Allocator> Model for Connections<A> {
+    ghost use Rattle.cqlp_tcp_connections.specs.Tables.{Table, table};
+
+    ghost Value = { Table };
+
+    ghost view = { λ c. table c.pool.limits c.ports.items c.pool.known c.counts c.foreign c.leaving };
+}
+
+impl<A: Allocator> Connections<A> {
+    ghost use Rattle.std.specs.Prelude.{is_some};
+    ghost use Rattle.cqlp_tcp_connections.specs.Ends.{ends_of, first_way};
+    ghost use Rattle.cqlp_tcp_connections.specs.Ports.{busiest};
+    ghost use Rattle.cqlp_tcp_connections.specs.Tables.{begun, crowded, departing, early_of, finished, found_in, gone_by, held_of, left, new_table};
+    ghost use Rattle.cqlp_tcp_connections.specs.Tables.{passed, pulled, pulling, refused, seen_first, taken, taking, way_of_first};
+
+    /// A table without connections, for nodes that listen on one of these ports. It takes 512 KiB, to count segments by port.
+    ///
+    /// # Errors
+    ///
+    /// A limit that is out of range, and memory that is refused.
+    pub fn new(
+        alloc: A,
+        limits: ConnectionLimits,
+        ports: &[u16],
+    ) -> Result<Self, NewConnectionsError>
+    where
+        A: Clone,
+        ensures bad { IsErrOf result NewConnectionsError.BadLimits ↔ (is_in_range limits ≡ false) }
+        ensures fresh { IfOk result (λ t. t ≡ new_table limits ports.now) }
+    {
+        if !limits.is_in_range() {
+            return Err(NewConnectionsError::BadLimits);
+        }
+        match Self::with_room(alloc, limits, ports) {
+            Ok(table) => Ok(table),
+            Err(AllocError) => Err(NewConnectionsError::NoMemory),
+        }
+    }
+
+    fn with_room(alloc: A, limits: ConnectionLimits, ports: &[u16]) -> Result<Self, AllocError>
+    where
+        A: Clone,
+        requires { 1 ≤ limits.connections }
+        ensures { IfOk result (λ t. t ≡ new_table limits ports.now) }
+    {
+        let ports = Vec::from_slice(alloc.clone()?, ports)?;
+        let foreign = PortCounts::new(alloc.clone()?)?;
+        let pool = Pool::new(alloc, limits)?;
+        Ok(Connections {
+            ports,
+            pool,
+            counts: ConnectionCounts::NONE,
+            foreign,
+            leaving: false,
+        })
+    }
+
+    /// Whose a segment is.
+    ///
+    /// It is of a connection if one of its ports is asked for. That end is the node; if both are, the first segment goes to it, unless it has
+    /// SYN and ACK. A SYN begins another connection between the same ends, if its direction began with another number; or has
+    /// not begun, where a direction has ended or the other one began from the middle.
+    ///
+    /// # Errors
+    ///
+    /// Memory that is refused for a connection that begins. Then nothing changes.
+    pub fn take(&mut self, head: &SegmentHead) -> Result<Sight, AllocError>
+    where
+        A: Clone,
+        ensures taken { IfOk result (λ sight. taking sight self.new ≡ taken self.old head.now) }
+        ensures refused { OnErr result (self.new ≡ self.old) }
+    {
+        let Some(way) = first_way(&self.ports, head) else {
+            self.go_by(head);
+            return Ok(Sight::Foreign);
+        };
+        if self.pool.bring(&ends_of(way, head)) {
+            return Ok(self.see(way, head));
+        }
+        let turned = way.other();
+        if self.pool.bring(&ends_of(turned, head)) {
+            return Ok(self.see(turned, head));
+        }
+        if self.pool.is_full() {
+            Ok(self.crowd())
+        } else {
+            self.begin(way, head)
+        }
+    }
+
+    /// Whether one of a segment's ports is asked for, so that it is of a connection.
+    pub fn asks_for(&self, head: &SegmentHead) -> bool
+        ensures { result ≡ is_some (first_way self.now.ports head.now) }
+    {
+        first_way(&self.ports, head).is_some()
+    }
+
+    /// The next that a segment tells which was taken, and was captured then. First its acknowledgement tells of the other way, gaps and
+    /// bytes that were held behind them; then its own bytes are told, and where its own way begins and ends. `None` once all is told,
+    /// and of a segment of another connection than the one that was taken last.
+    ///
+    /// A direction holds what comes early while all hold no more than the limit, and it no more than is left and than its own limit.
+    ///
+    /// # Errors
+    ///
+    /// Memory that is refused for what comes early. Then nothing changes but that FIN is noted.
+    pub fn pull(
+        &mut self,
+        segment: &Segment<'_>,
+        time: Option<u64>,
+    ) -> Result<Option<Told>, AllocError>
+    where
+        A: Clone,
+        ensures told { IfOk result (λ told. pulling told self.new ≡ pulled (seen segment.now) time self.old) }
+        ensures within { IfOk result (λ told. IsToldWithin told (length segment.now.payload.now)) }
+        ensures refused { OnErr result (self.new ≡ refused (seen segment.now) time self.old) }
+    {
+        let Some(way) = self.way_of_first(&segment.head) else {
+            return Ok(None);
+        };
+        let told = self.pool.pull(way, segment, time)?;
+        if gives_up(way, &told) {
+            self.counts.given_up = self.counts.given_up.saturating_add(1);
+        }
+        Ok(told)
+    }
+
+    /// The bytes of `Held`: the next of this way of the connection that was told of last.
+    pub fn held(&self, way: Way) -> &[u8]
+        ensures { result.now ≡ held_of way self.now.known }
+    {
+        self.pool.held(way)
+    }
+
+    /// Goes on behind the bytes that `held` lends.
+    pub fn pass_held(&mut self, way: Way)
+        ensures { self.new ≡ passed way self.old }
+    {
+        self.pool.pass_held(way);
+    }
+
+    /// The next that is told of the connection that has to leave: what it still holds, a hole before it as a gap, first of the
+    /// requests. At last that it has left.
+    pub fn leave(&mut self) -> Departure
+        ensures { departing result self.new ≡ left self.old }
+    {
+        if let Some(told) = self.pool.close() {
+            self.leaving = true;
+            return Departure::Told(told);
+        }
+        let totals = match self.pool.first() {
+            Some((ends, first)) => first.totals(ends),
+            None => return Departure::Empty,
+        };
+        self.pool.remove_first();
+        self.leaving = false;
+        Departure::Left(totals)
+    }
+
+    /// At the end of the file: the next that is told of the connection that was silent longest, which leaves. `Empty` once all have
+    /// left.
+    pub fn finish(&mut self) -> Departure
+        ensures { departing result self.new ≡ finished self.old }
+    {
+        if !self.leaving {
+            self.pool.bring_last();
+        }
+        self.leave()
+    }
+
+    /// What was counted.
+    pub fn counts(&self) -> ConnectionCounts
+        ensures { result ≡ self.now.counts }
+    {
+        self.counts
+    }
+
+    /// Of the segments of which neither port is asked for, the three ports that most had, and how many; of ports with as many the lower
+    /// one first. 0 with 0, where there are fewer.
+    pub fn busiest(&self) -> [(u16, u64); 3]
+        ensures { result ≡ busiest self.now.foreign }
+    {
+        self.foreign.busiest()
+    }
+
+    /// How many connections there are: at most as many as the limit.
+    pub fn len(&self) -> usize
+        ensures is { result ≡ length self.now.known }
+        ensures within { result ≤ self.now.limits.connections }
+    {
+        self.pool.len()
+    }
+
+    /// How much all directions hold of what came early: at most as much as the limit.
+    pub fn early(&self) -> usize
+        ensures is { result ≡ early_of self.now.known }
+        ensures within { result ≤ self.now.limits.early }
+    {
+        self.pool.early()
+    }
+
+    /// Whether there are none.
+    pub fn is_empty(&self) -> bool
+        ensures { result ≡ (length self.now.known == 0) }
+    {
+        self.pool.len() == 0
+    }
+
+    /// Counts a segment of which neither port is asked for.
+    fn go_by(&mut self, head: &SegmentHead)
+        ensures { self.new ≡ gone_by head.now self.old }
+    {
+        self.counts.foreign = self.counts.foreign.saturating_add(1);
+        self.foreign.count(head);
+    }
+
+    /// Takes a segment of the first connection, which goes this way.
+    fn see(&mut self, way: Way, head: &SegmentHead) -> Sight
+        ensures { taking result self.new ≡ seen_first way head.now self.old }
+    {
+        let Some((_, first)) = self.pool.first() else {
+            return Sight::Foreign;
+        };
+        let number = first.number();
+        if first.begins_anew(way, head) {
+            return Sight::Crowded {
+                number,
+                is_full: false,
+            };
+        }
+        self.pool.count_segment(way);
+        Sight::Taken {
+            number,
+            way,
+            is_new: false,
+        }
+    }
+
+    /// Begins a connection with a segment that goes this way.
+    fn begin(&mut self, way: Way, head: &SegmentHead) -> Result<Sight, AllocError>
+    where
+        A: Clone,
+        requires room { length self.old.known < self.old.limits.connections }
+        requires absent { found_in (ends_of way head.now) self.old.known ≡ None }
+        ensures begun { IfOk result (λ sight. taking sight self.new ≡ begun way head.now self.old) }
+        ensures refused { OnErr result (self.new ≡ self.old) }
+    {
+        let number = self.counts.connections.saturating_add(1);
+        self.pool.add(ends_of(way, head), number, way)?;
+        self.counts.connections = number;
+        Ok(Sight::Taken {
+            number,
+            way,
+            is_new: true,
+        })
+    }
+
+    /// Has the connection leave that was silent longest.
+    fn crowd(&mut self) -> Sight
+        ensures { taking result self.new ≡ crowded self.old }
+    {
+        self.pool.bring_last();
+        let Some((_, first)) = self.pool.first() else {
+            return Sight::Foreign;
+        };
+        let number = first.number();
+        self.counts.crowded = self.counts.crowded.saturating_add(1);
+        Sight::Crowded {
+            number,
+            is_full: true,
+        }
+    }
+
+    /// Which way a segment goes, if it is of the first connection.
+    fn way_of_first(&self, head: &SegmentHead) -> Option<Way>
+        ensures { result ≡ way_of_first head.now self.now.known }
+    {
+        let (ends, _) = self.pool.first()?;
+        ends.way_of(head)
+    }
+}
+
+/// Whether what a segment of this way told is a gap of its own way, which is declared where there is no room.
+fn gives_up(way: Way, told: &Option<Told>) -> bool
+    ensures { result ≡ gives_up way told.now }
+{
+    match told {
+        Some(told) => {
+            let is_lost = matches!(
+                told.step,
+                StreamStep::Gap {
+                    cause: GapCause::Lost,
+                    ..
+                }
+            );
+            is_lost && told.way == way
+        }
+        None => false,
+    }
+}

@@ -1,0 +1,11 @@
+pub mod Sizes
+pub mod Lasts
+pub mod Settled
+pub mod Entries
+pub mod Places
+pub mod Parts
+pub mod Carries
+pub mod Streamed
+pub mod Losses
+pub mod Alike
+pub mod Bounds

@@ -1,0 +1,130 @@
+//! A part of a segment that came early.
+
+ghost use Rattle.std.specs.Prelude.{◌≡◌, ◌+◌, ◌-◌, ◌≤◌, ◌^◌, drop, length, take, IfOk};
+ghost use Rattle.cqlp_tcp_reassembly.specs.Runs.{EarlyRun, early_run, run_end, run_of, summary, without_bytes};
+
+use std::alloc::{AllocError, Allocator};
+use std::marker::Model;
+
+/// A part of a segment: that from one position up to another.
+#[derive(Clone, Copy)]
+pub(crate) struct Part {
+    /// How many runs lie before it.
+    pub(crate) index: usize,
+    pub(crate) from: u64,
+    pub(crate) to: u64,
+}
+
+/// A part that is to be kept.
+#[derive(Clone, Copy)]
+pub(crate) struct EarlyPart<'a> {
+    pub(crate) part: Part,
+    /// Its bytes. Those behind them, up to its end, were not captured.
+    pub(crate) bytes: &'a [u8],
+    /// Whether its first byte is the first of the segment.
+    pub(crate) begins: bool,
+    /// When the packet was captured.
+    pub(crate) time: Option<u64>,
+}
+
+/// What a run has.
+#[derive(Clone, Copy)]
+pub(crate) struct RunSummary {
+    /// How many bytes, and how many behind those that were not captured.
+    pub(crate) length: usize,
+    pub(crate) missing: u64,
+    pub(crate) begins: bool,
+    pub(crate) time: Option<u64>,
+}
+
+/// A part that is kept.
+#[derive(Drop)]
+pub(crate) struct Run<A: Allocator> {
+    /// The position of its first byte.
+    at: u64,
+    bytes: Vec<u8, A>,
+    missing: u64,
+    begins: bool,
+    time: Option<u64>,
+}
+
+impl<A: Allocator> Model for Run<A> {
+    ghost use Rattle.std.specs.Prelude.{◌+◌, ◌≤◌, ◌^◌, length};
+    ghost use Rattle.cqlp_tcp_reassembly.specs.Runs.{EarlyRun, early_run};
+
+    ghost Value = { EarlyRun };
+
+    ghost view = { λ r. early_run r.at r.bytes.items r.missing r.begins r.time };
+
+    ghost invariant = { λ r. r.at + length r.bytes.items + r.missing ≤ 2 ^ 62 };
+}
+
+impl<A: Allocator> Run<A> {
+    /// A copy of this part.
+    pub(crate) fn new(alloc: A, early: EarlyPart<'_>) -> Result<Self, AllocError>
+        requires order { early.part.from + length early.bytes.now ≤ early.part.to }
+        requires bound { early.part.to ≤ 2 ^ 62 }
+        ensures { IfOk result (λ run. run ≡ run_of early.entry.part early.entry.bytes.now early.entry.begins early.entry.time) }
+    {
+        let count = early.bytes.len() as u64;
+        let bytes = Vec::from_slice(alloc, early.bytes)?;
+        Ok(Run {
+            at: early.part.from,
+            bytes,
+            missing: early.part.to - early.part.from - count,
+            begins: early.begins,
+            time: early.time,
+        })
+    }
+
+    /// The position of its first byte.
+    pub(crate) fn at(&self) -> u64
+        ensures { result ≡ self.now.at }
+    {
+        self.at
+    }
+
+    /// The position behind it.
+    pub(crate) fn end(&self) -> u64
+        ensures end { result ≡ run_end self.now }
+        ensures bound { run_end self.now ≤ 2 ^ 62 }
+    {
+        self.at + self.bytes.len() as u64 + self.missing
+    }
+
+    pub(crate) fn bytes(&self) -> &[u8]
+        ensures { result.now ≡ self.now.bytes }
+    {
+        self.bytes.as_slice()
+    }
+
+    pub(crate) fn summary(&self) -> RunSummary
+        ensures { result ≡ summary self.now }
+    {
+        RunSummary {
+            length: self.bytes.len(),
+            missing: self.missing,
+            begins: self.begins,
+            time: self.time,
+        }
+    }
+
+    /// Drops its bytes, and goes on behind them.
+    pub(crate) fn drop_bytes(&mut self)
+        ensures { self.new ≡ without_bytes self.old }
+    {
+        self.at += self.bytes.len() as u64;
+        self.bytes.clear();
+        self.bytes.shrink_to_fit();
+        self.begins = false;
+    }
+}
+
+/// As many bytes of a payload as `most`, from this index on, or fewer where it ends.
+pub(crate) fn cut(payload: &[u8], from: usize, most: u64) -> &[u8]
+    ensures { result.now ≡ take most (drop from payload.now) }
+{
+    let start = from.min(payload.len());
+    let count = most.min((payload.len() - start) as u64) as usize;
+    &payload[start..start + count]
+}

@@ -1,0 +1,20 @@
+-- What is kept of a capture, by the options.
+use Rattle.std.specs.Prelude.{ℕ, ◌*◌}
+use Rattle.cqlp_options.specs.declared.limits.CaptureLimits.{CaptureLimits}
+use Rattle.cqlp_capture_exchanges.specs.declared.pool.ExchangeLimits.{ExchangeLimits}
+use Rattle.cqlp_capture_streams.specs.declared.limits.StreamsLimits.{StreamsLimits}
+
+-- so many MiB in bytes
+abbrev pub mebibytes : ℕ → ℕ
+mebibytes n = n * 1048576
+
+-- Each direction holds at most 1 MiB of what came early. Packets wait to be put in order that are captured at most one second apart, with at
+-- most 8 MiB.
+abbrev pub streams_limits_of : CaptureLimits → StreamsLimits
+streams_limits_of l = record {
+  connections = record { connections = l.connections; early = mebibytes l.early; early_each = 1048576 };
+  order = record { packets = l.order; nanoseconds = 1000000000; bytes = 8388608 };
+}
+
+abbrev pub exchange_limits_of : CaptureLimits → ExchangeLimits
+exchange_limits_of l = record { «open» = l.open; text = mebibytes l.text }

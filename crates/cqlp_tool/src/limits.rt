@@ -1,0 +1,50 @@
+//! What is kept of a capture, by the options.
+
+ghost use Rattle.std.specs.Prelude.{◌≡◌, ◌≤◌, true};
+ghost use Rattle.cqlp_options.specs.CaptureLimits.{AreWithin};
+ghost use Rattle.cqlp_tcp_connections.specs.Limits.{is_in_range};
+ghost use Rattle.cqlp_tool.specs.Limits.{exchange_limits_of, mebibytes, streams_limits_of};
+
+use cqlp_capture_exchanges::ExchangeLimits;
+use cqlp_capture_streams::StreamsLimits;
+use cqlp_options::CaptureLimits;
+use cqlp_packet_order::OrderLimits;
+use cqlp_tcp_connections::ConnectionLimits;
+
+/// So many MiB in bytes.
+fn mebibytes(count: u32) -> usize
+    ensures { result ≡ mebibytes count }
+{
+    count as usize * 1_048_576
+}
+
+/// What the reading of a capture keeps: of what came early at most 1 MiB for each direction, and packets that are captured at most one
+/// second apart, with at most 8 MiB, wait to be put in order.
+pub(crate) fn streams_limits_of(limits: &CaptureLimits) -> StreamsLimits
+    requires { AreWithin limits.now }
+    ensures is { result ≡ streams_limits_of limits.now }
+    ensures in_range { is_in_range result.connections ≡ true }
+{
+    StreamsLimits {
+        connections: ConnectionLimits {
+            connections: limits.connections,
+            early: mebibytes(limits.early),
+            early_each: 1_048_576,
+        },
+        order: OrderLimits {
+            packets: limits.order,
+            nanoseconds: 1_000_000_000,
+            bytes: 8_388_608,
+        },
+    }
+}
+
+/// What waits of exchanges.
+pub(crate) fn exchange_limits_of(limits: &CaptureLimits) -> ExchangeLimits
+    ensures { result ≡ exchange_limits_of limits.now }
+{
+    ExchangeLimits {
+        open: limits.open as usize,
+        text: mebibytes(limits.text),
+    }
+}

@@ -1,5 +1,0 @@
-use Rattle.cqlp_watch.proofs.Once.{tells_each_message}
-use Rattle.cqlp_watch.proofs.laws.each_message.Goals as goal
-
-pub returns : goal.returns
-returns g c = tells_each_message _

@@ -1,5 +1,0 @@
-use Rattle.cqlp_watch.proofs.Said.{subject_once}
-use Rattle.cqlp_watch.proofs.laws.one_answer_of_subject_of.Goals as goal
-
-pub returns : goal.returns
-returns c = subject_once

@@ -1,4 +1,0 @@
-pub mod Views
-pub mod AtClient
-pub mod AtServer
-pub mod Begun

@@ -1,5 +1,0 @@
-use Rattle.cqlp_watch_laws.proofs.Begun.{comes_last}
-use Rattle.cqlp_watch_laws.proofs.fronts.front_comes_last.Goals as goal
-
-pub returns : goal.returns
-returns c = comes_last

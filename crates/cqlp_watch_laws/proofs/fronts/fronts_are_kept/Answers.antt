@@ -1,5 +1,0 @@
-use Rattle.cqlp_watch_laws.proofs.Begun.{are_kept}
-use Rattle.cqlp_watch_laws.proofs.fronts.fronts_are_kept.Goals as goal
-
-pub returns : goal.returns
-returns c = are_kept
