@@ -1,6 +1,9 @@
 #!/usr/bin/env python3
-"""Writes a capture of requests or of result pages on Ethernet to a file: captures.py whole|lost|small|few|many FILE [MB]
+"""Writes a capture of requests or of result pages on Ethernet to a file: captures.py mixed|thousand|whole|lost|small|few|many FILE [MB]
 
+mixed  50 connections at a time, each with eight requests in flight: QUERY, EXECUTE and BATCH, and their replies, mostly small (captures/generated.py); of
+       300 MB 1.2 million packets
+thousand  1,000 connections at a time, each with two requests in flight, of the same kinds
 whole  one connection, whose node sends pages of rows (pages.py) in segments of 1,448 bytes, each second of which is acknowledged
 lost   the same, where the capture has not each second segment with bytes
 small  one connection, whose client asks for one row at a time, and whose node answers each query before the next
@@ -15,6 +18,9 @@ import struct
 import subprocess
 import sys
 from pathlib import Path
+
+sys.path.insert(0, str(Path(__file__).resolve().parent.parent / "captures"))
+import generated
 
 SEGMENT = 1_448
 PACKET = 14 + 20 + 32
@@ -140,7 +146,36 @@ def many(capture, page, count, at_a_time):
             connection.end()
 
 
+def spoken(count, work):
+    """The packets of so many connections at one time, each with the offset of its client's address, and how long they take in microseconds."""
+    chance = generated.random.Random(count)
+    wire, pool, start = generated.Wire(), generated.Pool(chance, work.prepares), generated.START
+    ends = [(0x0A010000, 20_000 + i) for i in range(count)]
+    made = [generated.Connection(generated.random.Random(i), wire, work, pool, ends[i], start=start + i * 20_000, headers=66) for i in range(count)]
+    capture = generated.Capture([connection.run() for connection in made], unit=1_000)
+    packets = [(packet.time // 1_000, capture.record(packet)[8:], 34 if packet.way == generated.CLIENT else 38) for packet in capture.packets]
+    return packets, packets[-1][0] - packets[0][0] + 1
+
+
+def again_and_again(path, size, packets, span):
+    """The same packets again and again, each time of other clients."""
+    written = 0
+    with open(path, "wb", buffering=1 << 20) as file:
+        file.write(struct.pack("<IHHiIII", 0xA1B2C3D4, 2, 4, 0, 0, 262_144, 1))
+        while file.tell() < size:
+            client = struct.pack(">I", 0x0A010000 + written)
+            for time, packet, at in packets:
+                time += written * span
+                file.write(struct.pack("<II", time // SCALE, time % SCALE) + packet[:at] + client + packet[at + 4:])
+            written += 1
+
+
 def main(kind, path, size="1000"):
+    if kind in ("mixed", "thousand"):
+        mixed = 50, generated.Work(250, 8, large=0.002, acks=0.7, events=0.001)
+        thousand = 1_000, generated.Work(60, 2, large=0, took=50 * generated.MS)
+        again_and_again(path, int(size) * 1_000_000, *spoken(*(mixed if kind == "mixed" else thousand)))
+        return
     if kind == "small":
         capture = Capture(path)
         small(capture, int(size) * 1_000_000)

@@ -7,6 +7,7 @@ way round, with times in nanoseconds, with packets cut at 96 bytes, with a tag o
 order, with bytes of the one before, or not at all, and with its beginning or its end missing; and one that was taken on all interfaces. One is
 the same in pcapng, and has to give the same packets. The files of requests and responses are the bytes of each connection as the sockets saw
 them, with which this compares."""
+import itertools
 import re
 import struct
 import sys
@@ -318,43 +319,46 @@ def segments_of(file):
 
 
 def directions_of(file):
-    """Of each direction what its stream has to tell: from the first byte on the bytes that some segment carried, and between them
-    the gaps."""
+    """Of each direction what its stream has to tell: from the first byte on the bytes that the first segment carried, and between them
+    what was lost, and what that segment's packet was cut before."""
     directions = {}
-    for source, target, sequence, flags, payload, missing in segments_of(file):
+    for at, (source, target, sequence, flags, payload, missing) in enumerate(segments_of(file)):
         d = directions.setdefault((source, target), {'ports': f'{source[1]} {target[1]}', 'first': None, 'bytes': {}, 'fin': None, 'segments': 0})
         d['segments'] += 1
+        d['last'] = at
         if 'S' in flags:
             sequence += 1
-        if d['first'] is None and ('S' in flags or 'F' in flags or payload):
+        if d['first'] is None and ('S' in flags or 'F' in flags or payload or missing):
             d['first'], d['syn'] = sequence, 'S' in flags
         if d['first'] is None:
             continue
         place = (sequence - d['first'] + 2**31) % 2**32 - 2**31
-        for i, byte in enumerate(payload):
-            d['bytes'].setdefault(place + i, byte)
+        for i in range(len(payload) + missing):
+            d['bytes'].setdefault(place + i, payload[i] if i < len(payload) else None)
         if 'F' in flags and d['fin'] is None:
             d['fin'] = place + len(payload) + missing
     for d in directions.values():
         if d['first'] is None:
-            d['said'], d['data'] = 'bytes 0 sum 0', b''
+            d['told'], d['data'] = 'bytes 0 sum 0', b''
             continue
         end = max(d['bytes'], default=-1) + 1 if d['fin'] is None else d['fin']
-        words, gap, data = [f"began {str(d['syn']).lower()}"], 0, bytearray()
-        for place in range(end + 1):
-            if place in d['bytes'] or place == end:
-                if gap:
-                    words.append(f'gap {gap} at {place - gap}')
-                gap = 0
-                if place < end:
-                    data.append(d['bytes'][place])
-            else:
-                gap += 1
-        if d['fin'] is not None:
-            words.append('ended')
-        d['said'] = f"{' '.join(words)} bytes {len(data)} sum {sum_of(data)}"
-        d['data'] = bytes(data)
+        holds = [d['bytes'].get(place, 'lost') for place in range(end)]
+        data = bytes(byte for byte in holds if isinstance(byte, int))
+        after = (['ended'] if d['fin'] is not None else []) + [f'bytes {len(data)} sum {sum_of(data)}']
+        before = [f"began {str(d['syn']).lower()}"]
+        d['told'] = ' '.join(before + gaps_in(['gap' if byte == 'lost' else 'cut' if byte is None else None for byte in holds]) + after)
+        d['data'] = data
     return directions
+
+
+def gaps_in(places):
+    """For each run of a word its length and where it begins."""
+    words = []
+    for word, run in itertools.groupby(range(len(places)), places.__getitem__):
+        run = list(run)
+        if word:
+            words.append(f'{word} {len(run)} at {run[0]}')
+    return words
 
 
 def streams(name, file):
@@ -365,11 +369,11 @@ def streams(name, file):
             side = 'responses' if i % 2 else 'requests'
             stem = name.split('.')[0] if 'sll2' in name else 'driver'
             assert d['data'] == open(f'data/{stem}.{i // 2}.{side}.bin', 'rb').read(), (name, i)
-    return [f"{d['ports']} {d['said']}" for d in directions.values()]
+    return [f"{d['ports']} {d['told']}" for d in directions.values()]
 
 
 def connections(port, file):
-    """Two lines for each connection with a node that listens on this port, in the order of their first segments."""
+    """Two lines for each connection with a node that listens on this port, that one first which was silent longest at the end."""
     directions, pairs, foreign = directions_of(file), [], 0
     for (source, target), d in directions.items():
         own, other = d['ports'].split()
@@ -377,12 +381,12 @@ def connections(port, file):
             foreign += d['segments']
         elif not any((target, source) in pair for pair in pairs):
             pairs.append([(source, target), (target, source)] if other == port else [(target, source), (source, target)])
-    nothing = {'said': 'bytes 0 sum 0', 'segments': 0}
+    nothing = {'told': 'bytes 0 sum 0', 'segments': 0, 'last': -1}
     lines = []
-    for number, pair in enumerate(pairs, 1):
+    for number, pair in sorted(enumerate(pairs, 1), key=lambda one: max(directions.get(ends, nothing)['last'] for ends in one[1])):
         for way, ends in zip(('requests', 'responses'), pair):
             d = directions.get(ends, nothing)
-            lines.append(f"{number} {way} {d['said']} segments {d['segments']}")
+            lines.append(f"{number} {way} {d['told']} segments {d['segments']}")
     return lines + [f'connections {len(pairs)} crowded 0 foreign {foreign}']
 
 
@@ -427,7 +431,7 @@ class Side:
         """The frames that end in these bytes."""
         while True:
             if self.frame and not self.frame['left']:
-                yield self.ended()
+                yield self.over()
             if not data:
                 return
             if self.frame:
@@ -453,23 +457,25 @@ class Side:
                     self.lost = not found
                     if found:
                         opcode, stream, length, flags = found
-                        self.frame = {'opcode': opcode, 'flags': flags, 'stream': stream, 'length': length, 'at': self.at, 'begun': self.begun, 'ended': time, 'whole': True, 'left': length, 'body': b''}
+                        self.frame = {'opcode': opcode, 'flags': flags, 'stream': stream, 'length': length, 'at': self.at, 'begun': self.begun, 'ended': time, 'whole': True, 'extent': '', 'left': length, 'body': b''}
             begins = False
 
-    def ended(self):
+    def over(self):
         frame, self.frame = self.frame, None
         return frame
 
-    def gap(self, length):
+    def gap(self, length, time):
+        """Bytes that were not captured; those that a packet was cut before passed at this time."""
         frame, self.head = self.frame, b''
         self.next += length
-        if frame and length <= frame['left']:
-            frame['whole'], frame['left'] = False, frame['left'] - length
-            return [] if frame['left'] else [self.ended()]
-        self.lost, self.frame = True, None
         if frame:
-            frame['whole'] = False
-        return [frame] if frame else []
+            is_over = length >= frame['left']
+            frame['extent'], frame['whole'] = 'holed', False
+            frame['ended'] = time if is_over and time is not None else frame['ended']
+            self.lost, frame['left'] = length > frame['left'], max(frame['left'] - length, 0)
+            return [self.over()] if is_over else []
+        self.lost = True
+        return []
 
 
 class Short(Exception):
@@ -638,95 +644,107 @@ def subject(frame):
     return ''
 
 
-def exchanges(port, limit, file):
-    """A line for each exchange, and for each message that is in none. Of responses what came early has the latest time so far."""
-    pairs, sides, waiting, lines, latest = [], [], [], [], 0
+def names_of(number, frame):
+    """A message of an exchange."""
+    cut = f" {frame['extent']}" if frame['extent'] else ''
+    return (f"{frame['stream']} {OPCODES[frame['opcode']]} {frame['length']} at {frame['at']}{cut} from {frame['begun']} to {frame['ended']}"
+            f" kept {sum_of(front(frame))}{subject(frame)}{facts(frame)[1]}")
 
-    def name(frame):
-        cut = '' if frame['whole'] else ' cut'
-        return f"{frame['stream']} {OPCODES[frame['opcode']]} {frame['length']} at {frame['at']}{cut} from {frame['begun']} to {frame['ended']} kept {sum_of(front(frame))}{subject(frame)}{facts(frame)[1]}"
 
-    def alone(number, frame):
+class Watched:
+    """A connection: its two sides, and the messages that wait, at most so many, by stream id."""
+
+    def __init__(self, number, limit, lines):
+        self.number, self.limit, self.lines, self.sides, self.waiting = number, limit, lines, (Side(False), Side(True)), {}
+
+    def alone(self, frame):
         what = 'unanswered' if frame['opcode'] in REQUESTS else 'unasked'
-        lines.append(f'{number} {what} {name(frame)}')
+        self.lines.append(f'{self.number} {what} {names_of(self.number, frame)}')
 
-    def tell(number, side, frames):
+    def tell(self, side, frames):
         """A response is that to the request under its id, also where that comes after it in the capture but was sent before it."""
-        waits = waiting[number - 1]
         for frame in frames:
             if side.responses and OPCODES[frame['opcode']] == 'Event' and frame['stream'] < 0:
-                lines.append(f'{number} event {name(frame)}')
+                self.lines.append(f'{self.number} event {names_of(self.number, frame)}')
                 continue
-            before = waits.pop(frame['stream'], None)
+            before = self.waiting.pop(frame['stream'], None)
             if before:
                 request, response = (before, frame) if side.responses else (frame, before)
                 is_reply = request['opcode'] in REQUESTS and response['opcode'] not in REQUESTS
                 if is_reply and (side.responses or request['begun'] <= response['begun']):
-                    lines.append(f'{number}:{name(request)} -> {name(response)}')
+                    self.lines.append(f'{self.number}:{names_of(self.number, request)} -> {names_of(self.number, response)}')
                     continue
-            elif len(waits) == limit and side.responses:
-                alone(number, frame)
+                self.alone(before)
+            elif len(self.waiting) == self.limit:
+                self.alone(frame)
                 continue
-            elif len(waits) == limit:
-                before = waits.pop(next(iter(waits)))
-            if before:
-                alone(number, before)
-            waits[frame['stream']] = frame
+            self.waiting[frame['stream']] = frame
 
-    def settle(number, side, time, acknowledged):
-        """Hands on what came early, and the gaps before it or FIN that the other side acknowledged."""
+    def settle(self, side, acknowledged):
+        """Hands on what came, byte by byte those that one packet carried, and the gaps: what a packet was cut before, and what no segment carried before
+        this number, which the other side acknowledged."""
+        way = 'responses' if side.responses else 'requests'
         while side.early or side.fin is not None and side.next < side.fin:
-            later = min(side.early, default=side.fin)
-            hole = later - side.next
-            if hole > 0:
+            if side.next not in side.early:
+                later = min(side.early, default=side.fin)
                 if acknowledged is not None and acknowledged < later:
-                    break
-                lines.append(f"{number} {'responses' if side.responses else 'requests'} gap {hole} at {side.next}")
-                tell(number, side, side.gap(hole))
-            data = bytearray()
-            while side.next + len(data) in side.early:
-                data.append(side.early.pop(side.next + len(data)))
-            tell(number, side, side.hear(bytes(data), latest if side.responses else time, False))
+                    return
+                self.lines.append(f'{self.number} {way} gap {later - side.next} at {side.next}')
+                self.tell(side, side.gap(later - side.next, None))
+                continue
+            _, time, place = side.early[side.next]
+            begins, run = place == side.next, []
+            while side.next + len(run) in side.early and side.early[side.next + len(run)][1:] == (time, place):
+                run.append(side.early.pop(side.next + len(run))[0])
+            data = bytes(byte for byte in run if byte is not None)
+            if data:
+                self.tell(side, side.hear(data, time, begins))
+            if len(data) < len(run):
+                self.lines.append(f'{self.number} {way} cut {len(run) - len(data)} at {side.next}')
+                self.tell(side, side.gap(len(run) - len(data), time))
 
-    for time, number, (source, target, sequence, flags, payload, missing) in timed_segments_of(file):
-        latest = max(latest, time)
-        if port not in (source[1], target[1]):
-            continue
-        ends = (target, source) if source[1] == port else (source, target)
-        if ends not in pairs:
-            pairs.append(ends)
-            waiting.append({})
-            sides.append((Side(False), Side(True)))
-        index = pairs.index(ends)
-        own, other = sides[index] if source[1] != port else sides[index][::-1]
-        if 'A' in flags and other.first is not None:
-            settle(index + 1, other, time, other.place(number))
+    def take(self, own, time, sequence, flags, payload, missing):
+        """A segment of a side."""
         if 'S' in flags:
             sequence += 1
         if own.first is None:
-            if not ('S' in flags or 'F' in flags or payload):
-                continue
+            if not ('S' in flags or 'F' in flags or payload or missing):
+                return
             own.first, own.lost = sequence, 'S' not in flags
         place = own.place(sequence)
-        if not own.early and place <= own.next < place + len(payload):
-            tell(index + 1, own, own.hear(payload[own.next - place:], time, place == own.next))
-        else:
-            for i, byte in enumerate(payload):
-                if place + i >= own.next:
-                    own.early.setdefault(place + i, byte)
+        for i in range(len(payload) + missing):
+            if place + i >= own.next:
+                own.early.setdefault(place + i, (payload[i] if i < len(payload) else None, time, place))
         if 'F' in flags and own.fin is None:
             own.fin = place + len(payload) + missing
-        if own.early:
-            settle(index + 1, own, time, -1)
-    for index, pair in enumerate(sides, 1):
-        for side in pair:
-            settle(index, side, time, None)
-        for side in pair:
+        self.settle(own, -1)
+
+    def finish(self):
+        for side in self.sides:
+            self.settle(side, None)
+        for side in self.sides:
             if side.frame:
-                side.frame['whole'] = side.frame['whole'] and not side.frame['left']
-                tell(index, side, [side.ended()])
-        for frame in waiting[index - 1].values():
-            alone(index, frame)
+                side.frame['extent'] = 'short' if side.frame['left'] else side.frame['extent']
+                self.tell(side, [side.over()])
+        for stream in sorted(self.waiting):
+            self.alone(self.waiting[stream])
+
+
+def exchanges(port, limit, file):
+    """A line for each exchange, and for each message that is in none. A byte has the time of the packet that carried it first."""
+    pairs, lines = {}, []
+    for time, number, (source, target, sequence, flags, payload, missing) in timed_segments_of(file):
+        if port not in (source[1], target[1]):
+            continue
+        ends = (target, source) if source[1] == port else (source, target)
+        watched = pairs.pop(ends, None) or Watched(len(pairs) + 1, limit, lines)
+        pairs[ends] = watched
+        own, other = watched.sides if source[1] != port else watched.sides[::-1]
+        if 'A' in flags and other.first is not None:
+            watched.settle(other, other.place(number))
+        watched.take(own, time, sequence, flags, payload, missing)
+    for watched in pairs.values():
+        watched.finish()
     return lines
 
 
@@ -746,7 +764,7 @@ BY_HAND = {
         f"40000 9042 began true gap 3 at 10 ended bytes 12 sum {sum_of(b'abcdefghijno')}",
         f"9042 40000 began true reset bytes 3 sum {sum_of(b'but')}",
     ],
-    'a segment beyond the window': [
+    'segments without room': [
         f"40000 9042 began true gap 100 at 0 gap 65595 at 105 bytes 11 sum {sum_of(b'earlybeyond')}",
     ],
 }
@@ -762,20 +780,20 @@ CONNECTIONS_BY_HAND = {
         'connections 2 crowded 0 foreign 0',
     ],
     'a node that asks another': [
-        f"1 requests began true bytes 3 sum {sum_of(b'ask')} segments 2",
-        f"1 responses began true ended bytes 5 sum {sum_of(b'reply')} segments 3",
         f"2 requests began false bytes 4 sum {sum_of(b'then')} segments 1",
         f"2 responses began false bytes 15 sum {sum_of(b'from the middle')} segments 1",
+        f"1 requests began true bytes 3 sum {sum_of(b'ask')} segments 2",
+        f"1 responses began true ended bytes 5 sum {sum_of(b'reply')} segments 3",
         'connections 2 crowded 0 foreign 1',
     ],
     'a full table': [
         '1 leaves, full true',
         f"1 requests began true gap 2 at 3 bytes 8 sum {sum_of(b'oneearly')} segments 3",
         '1 responses bytes 0 sum 0 segments 0',
-        f"2 requests began true bytes 4 sum {sum_of(b'two!')} segments 3",
-        '2 responses bytes 0 sum 0 segments 0',
         f"3 requests began true bytes 5 sum {sum_of(b'three')} segments 2",
         '3 responses bytes 0 sum 0 segments 0',
+        f"2 requests began true bytes 4 sum {sum_of(b'two!')} segments 3",
+        '2 responses bytes 0 sum 0 segments 0',
         'connections 3 crowded 1 foreign 0',
     ],
 }

@@ -17,12 +17,15 @@ import uuid
 from pathlib import Path
 
 HERE = Path(__file__).resolve().parent
-MESSAGE = re.compile(r'(?P<stream>-?\d+) (?P<opcode>[A-Z]\w+) (?P<length>\d+) at (?P<at>\d+)(?P<cut> cut)? from (?P<begun>\d+) to (?P<ended>\d+) '
+MESSAGE = re.compile(r'(?P<stream>-?\d+) (?P<opcode>[A-Z]\w+) (?P<length>\d+) at (?P<at>\d+)(?P<cut> holed| short)? from (?P<begun>\d+) to (?P<ended>\d+) '
                      r'kept \d+(?: text (?P<text>"(?:[^"\\]|\\.)*")| id (?P<id>\d+)| int (?P<int>\d+))?')
 KINDS = {1: "VOID", 2: "ROWS", 3: "SET_KEYSPACE", 4: "PREPARED", 5: "SCHEMA_CHANGE"}
 ERRORS = {0x2000: "SyntaxError", 0x2200: "Invalid", 0x2500: "Unprepared"}
 # Captures of which said.txt has no exchanges, since they have the same packets as this one.
-SAME = {f"driver{kind}": "driver.pcap" for kind in (".pcapng", "-big-endian.pcap", "-ns.pcap", "-vlan.pcap")}
+# And one whose packets are put in order by their times.
+SAME = {f"driver{kind}": "driver.pcap" for kind in (".pcapng", "-big-endian.pcap", "-ns.pcap", "-vlan.pcap", "-swapped.pcap")}
+# How the connections end: by FIN, and not.
+ENDS = {"1": "closed", "2": "closed"}
 # How long a line that is due is waited for, in seconds.
 PATIENCE = 20
 
@@ -180,7 +183,7 @@ def answered(flags, body, message):
 
 
 def bytes_of(message):
-    return f" {9 + int(message['length'])}{message['cut'] or ''}"
+    return f" {9 + int(message['length'])}{' cut' if message['cut'] else ''}"
 
 
 def prepared(statement, known):
@@ -220,10 +223,10 @@ def patterns(name):
         start = re.escape(f"{(begun - first) // 10**9}.{(begun - first) % 10**9 // 1000:06} {number}:{messages[0]['stream']} ")
         if kind == "exchange":
             known["prepared"] += [messages[0]["text"]] if messages[0]["opcode"] == "Prepare" and messages[0]["text"] else []
-            took = f"{(ended - begun) // 10**6}.{(ended - begun) % 10**6 // 1000:03}"
+            took = f"{(ended - begun) // 10**6}.{(ended - begun) % 10**6 // 1000:03}" if messages[1]["cut"] != " short" else "-"
             yield start + request(messages[0], known, name, number) + " -> " + response(messages[1], name, number) + re.escape(f" {took} ms"), max(ended, int(messages[0]["ended"]))
         elif kind == "unanswered":
-            yield start + request(messages[0], known, name, number) + " -> nothing", None
+            yield start + request(messages[0], known, name, number) + " -> nothing" + re.escape(f" ({ENDS[number]})"), None
         elif kind == "unasked":
             yield start + "nothing -> " + response(messages[0], name, number), None
         elif kind == "event":

@@ -24,6 +24,11 @@ wraps        one connection, of which each request and its response is in anothe
              GRE, VXLAN, and four tunnels; and of one request in five
 passed       a pcapng file with two connections: of one the packets are in packet blocks, and of the other there are an interface of an odd
              resolution, a packet too long, one beyond its block, one of no interface and a block too short
+crowd        COUNT connections, 65,536 where it is not said, on each of which four requests are open, a request and a response lack their last byte, and some
+             bytes come too early in both directions; and then packets as long as may be, all at one time
+deep         eight connections, on each of which 32,768 requests are open, and 1,000 others, of each of which a direction has as many bytes that came too
+             early as there is room for
+scattered    32 connections, of both of whose directions only each second byte comes, in packets of a byte
 block        a pcapng file with as many interfaces as there may be, options and a packet of 262,144 bytes, and a block of 4 GiB that never comes
 
 captures/made.py long FILE [MB]: writes a capture of so many MB of zeros, of which the file system keeps next to nothing, 130 where it is not said.
@@ -82,6 +87,46 @@ def requests():
         for number in range(0, 4_096, 1_024):
             yield record(segment(client, port, len(sent) + 1 + number, bytes(1_024)))
             yield record(segment(client, port, 2 + number, bytes(1_024), True))
+
+
+def at_end():
+    """Packets without IP, of which as many bytes as may be wait for earlier ones: 1,000, then the longest."""
+    for length in [8_192] * 1_000 + [262_144] * 40 + [1_048_576] * 9:
+        yield record(bytes(length))
+
+
+def crowd(count=65_536):
+    types = b"\0\0\0\2\0\0\0\1\0\0\0\1" + b"\0\1k\0\1t\0\1c" + b"\0\x31\0\x96" + b"\0\x09" * 150
+    asked, answered = b"".join(map(query, range(5)))[:-1], frame(0x84, 0, 9, 0x08, types)[:-1]
+    for i in range(count):
+        client, port = 0x0A010000 + i // 30_000, 10_000 + i % 30_000
+        for is_response, sent in enumerate((asked, answered)):
+            yield record(segment(client, port, 0, sent, is_response))
+            yield record(segment(client, port, len(sent) + 1, bytes(64), is_response))
+    yield from at_end()
+
+
+def deep():
+    for i in range(8):
+        number = 0
+        for stream in range(0, 32_768, 128):
+            sent = b"".join(map(query, range(stream, stream + 128)))
+            yield record(segment(0x0A010000 + i, 10_000, number, sent))
+            number += len(sent)
+    for i in range(1_000):
+        for number in range(1, 1 << 17, 1_449):
+            yield record(segment(0x0A020000 + i, 10_000, number, bytes(1_448), i % 2))
+            if number == 1:
+                yield record(segment(0x0A020000 + i, 10_000, 0, b"\4", i % 2))
+    yield from at_end()
+
+
+def scattered():
+    for number in range(0, 16_384, 2):
+        for i in range(32):
+            for is_response in (False, True):
+                yield record(segment(0x0A010000 + i, 10_000, number, b"\0", is_response))
+    yield from at_end()
 
 
 def pieces(payload, most=32_000):
@@ -378,7 +423,8 @@ def capture(kind, *count):
         return of_pcap(wraps(), 1)
     made = {"connections": connections, "lost": lost, "requests": requests, "contents": contents, "pages": pages, "packets": packets,
             "prepared": lambda: in_turn(statements_in_turn()), "statements": lambda: in_turn(many_statements()),
-            "headers": headers, "record": greatest_record, "batches": batches, "flight": flight, "versions": versions, "tls": tls}[kind]
+            "crowd": crowd, "deep": deep, "scattered": scattered, "headers": headers, "record": greatest_record, "batches": batches,
+            "flight": flight, "versions": versions, "tls": tls}[kind]
     return of_pcap(made(*map(int, count)))
 
 

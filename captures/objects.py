@@ -62,7 +62,7 @@ def line(of):
     """The line of an object, without its times."""
     both = {
         "exchange": lambda: f"{request(of)} -> {response(of)}",
-        "unanswered": lambda: f"{request(of)} -> nothing",
+        "unanswered": lambda: f"{request(of)} -> nothing" + (f" ({of['connection_end']})" if of["connection_end"] else ""),
         "unasked": lambda: f"nothing -> {response(of)}",
         "event": lambda: response(of),
     }[of["told"]]()

@@ -1,5 +1,5 @@
 #!/usr/bin/env python3
-"""What is to be said of lines.txt, from the definitions in crates/cqlp_summary/specs, and by whole lists of times. Writes said.txt."""
+"""What is to be said of lines.txt, from the definitions in crates/cqlp_capture_summary/specs, and by whole lists of times. Writes said.txt."""
 import os
 import re
 
