@@ -15,8 +15,3 @@ impl<T, A: Allocator> Box<T, A> {
     }
 }
 
-impl<T, A: Allocator> core::ops::DerefMut for Box<T, A> {
-    fn deref_mut(&mut self) -> &mut T {
-        &mut self.of[0]
-    }
-}

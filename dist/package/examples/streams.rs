@@ -6,17 +6,18 @@
 
 use cqlp::Global;
 use cqlp::capture::{
-    Address, CaptureEvent, CaptureLimits, CaptureReader, CaptureStep, Control, Endpoint, LinkType, Segment, Stream, StreamStep,
-    read_segment,
+    Address, CaptureEvent, CaptureLimits, CaptureReader, CaptureStep, Control, Endpoint, LinkType, Segment, Stream, StreamSegment,
+    StreamStep, read_segment,
 };
+use cqlp::memory::AllocError;
 use std::collections::{HashMap, VecDeque};
 use std::fs::File;
 use std::io::{self, BufWriter, ErrorKind, Read, Write};
 use std::net::IpAddr;
 use std::path::PathBuf;
 
-/// How many bytes of a direction are held at most that came early. Each takes two bytes of memory.
-const EARLY: usize = 10_240;
+/// How many bytes of a direction are held at most that came early, with 128 for each segment.
+const EARLY: usize = 20_480;
 
 /// How many directions are known at most: the oldest is given up for the next.
 const MOST: usize = 2_200;
@@ -31,7 +32,7 @@ pub enum Told<'a> {
     /// Its next bytes.
     Bytes(&'a [u8]),
     /// So many bytes are missing.
-    Gap(usize),
+    Gap(u64),
     /// Nothing more is told of it.
     Over,
 }
@@ -58,7 +59,7 @@ impl<F: FnMut(u64, Told<'_>) -> io::Result<()>> Directions<F> {
         if head.flags.ack
             && let Some(other) = self.known.get_mut(&(head.destination, head.source))
         {
-            other.pull(&mut self.tell, &[], |stream| stream.acknowledge(head.acknowledgement))?;
+            other.pull(&mut self.tell, &[], |stream| Ok(stream.acknowledge(head.acknowledgement)))?;
         }
         let control = Control {
             sequence: head.sequence,
@@ -70,7 +71,10 @@ impl<F: FnMut(u64, Told<'_>) -> io::Result<()>> Directions<F> {
         let ends = (head.source, head.destination);
         self.open(ends, head.flags.syn)?;
         match self.known.get_mut(&ends) {
-            Some(direction) => direction.pull(&mut self.tell, segment.payload, |stream| stream.take(control, segment.payload)),
+            Some(direction) => {
+                let segment = StreamSegment { control, payload: segment.payload, time: None };
+                direction.pull(&mut self.tell, segment.payload, |stream| stream.take(&segment, EARLY))
+            }
             None => Ok(()),
         }
     }
@@ -80,11 +84,11 @@ impl<F: FnMut(u64, Told<'_>) -> io::Result<()>> Directions<F> {
         match self.known.get_mut(&ends) {
             Some(Direction { stream: Some(_), .. }) => return Ok(()),
             Some(_) if !syn => return Ok(()),
-            Some(direction) => *direction = Direction { number: self.count, stream: Some(stream()?) },
+            Some(direction) => *direction = Direction { number: self.count, stream: Some(Stream::new(Global)) },
             None => {
                 self.give_up_down_to(MOST - 1)?;
                 self.order.push_back(ends);
-                self.known.insert(ends, Direction { number: self.count, stream: Some(stream()?) });
+                self.known.insert(ends, Direction { number: self.count, stream: Some(Stream::new(Global)) });
             }
         }
         (self.tell)(self.count, Told::Began(ends))?;
@@ -104,28 +108,23 @@ impl<F: FnMut(u64, Told<'_>) -> io::Result<()>> Directions<F> {
     }
 }
 
-fn stream() -> io::Result<Stream> {
-    Stream::new(Global, EARLY).map_err(|_| ErrorKind::OutOfMemory.into())
-}
-
 impl Direction {
     /// Hands on all that a segment or an acknowledgement tells.
     fn pull(
         &mut self,
         tell: &mut impl FnMut(u64, Told<'_>) -> io::Result<()>,
         payload: &[u8],
-        mut next: impl FnMut(&mut Stream) -> StreamStep,
+        mut next: impl FnMut(&mut Stream) -> Result<StreamStep, AllocError>,
     ) -> io::Result<()> {
         while let Some(stream) = &mut self.stream {
-            match next(stream) {
-                StreamStep::Began { .. } => {}
+            match next(stream).map_err(|_| ErrorKind::OutOfMemory)? {
+                StreamStep::Began { .. } | StreamStep::Kept => {}
                 StreamStep::Payload { from, count } => tell(self.number, Told::Bytes(&payload[from..from + count]))?,
                 StreamStep::Held { .. } => {
-                    let mut bytes = [0; 2_048];
-                    let count = stream.read_held(&mut bytes);
-                    tell(self.number, Told::Bytes(&bytes[..count]))?;
+                    tell(self.number, Told::Bytes(stream.held()))?;
+                    stream.pass_held();
                 }
-                StreamStep::Gap { length } => tell(self.number, Told::Gap(length))?,
+                StreamStep::Gap { length, .. } => tell(self.number, Told::Gap(length))?,
                 StreamStep::Ended | StreamStep::Reset => {
                     self.stream = None;
                     tell(self.number, Told::Over)?;
@@ -225,7 +224,7 @@ fn main() -> io::Result<()> {
         } else if let Some(account) = accounts.get_mut(&number) {
             match told {
                 Told::Bytes(bytes) => account.add(bytes)?,
-                Told::Gap(length) => account.missing += length as u64,
+                Told::Gap(length) => account.missing += length,
                 Told::Began(_) | Told::Over => {}
             }
         }

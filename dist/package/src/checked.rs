@@ -1,11 +1,9 @@
 //! Calls whose sources ask something of their caller, in a form that asks nothing. Written by hand, and not proved.
+use crate::cqlp_encode::{LentError, encode_page};
 use crate::cqlp_kind::{Kind, Scalar, scalar};
 use crate::cqlp_message::Frame;
 use crate::cqlp_note::{Header, Reason, Refusal, Target};
-use crate::cqlp_page_writing::{LentError, encode_page};
-use crate::cqlp_reassembly::Stream;
 use crate::cqlp_value::Value;
-use crate::kit_std::alloc::Allocator;
 
 impl Header {
     /// The header that nine bytes are, or the first fault of them, whose offset is counted from the first of them: the version
@@ -52,16 +50,6 @@ impl<'a> Scalar<'a> {
         } else {
             Some(scalar(kind, bytes))
         }
-    }
-}
-
-impl<A: Allocator> Stream<A> {
-    /// Hands on the next bytes that came before: as many as [`held`](Stream::held) says, or as `bytes` has, whichever is fewer.
-    /// They lie at the front of `bytes`; how many they are is the answer.
-    pub fn read_held(&mut self, bytes: &mut [u8]) -> usize {
-        let count = self.held().min(bytes.len());
-        self.read(&mut bytes[..count]);
-        count
     }
 }
 

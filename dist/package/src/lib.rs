@@ -189,7 +189,7 @@
 // Arguments that contracts alone speak of.
 #![allow(unused_variables)]
 // The form of the code is what was proved: a `match` where `?` would do, say.
-#![allow(clippy::style, clippy::complexity, clippy::manual_contains)]
+#![allow(clippy::style, clippy::complexity, clippy::manual_contains, clippy::large_enum_variant)]
 
 #[cfg(not(target_pointer_width = "64"))]
 compile_error!("each proof of these sources takes a usize to have 64 bits");
@@ -207,6 +207,7 @@ struct Readme;
 
 // What dist/erase writes has the layout of its source.
 mod checked;
+mod conversions;
 #[rustfmt::skip]
 mod cqlp_build;
 #[rustfmt::skip]
@@ -224,7 +225,7 @@ mod cqlp_decode;
 #[rustfmt::skip]
 mod cqlp_encode;
 #[rustfmt::skip]
-mod cqlp_facts;
+mod cqlp_observer_facts;
 #[rustfmt::skip]
 mod cqlp_grammar;
 #[rustfmt::skip]
@@ -236,21 +237,13 @@ mod cqlp_message;
 #[rustfmt::skip]
 mod cqlp_note;
 #[rustfmt::skip]
-mod cqlp_page_batches;
+mod cqlp_read_value;
 #[rustfmt::skip]
-mod cqlp_page_columns;
-#[rustfmt::skip]
-mod cqlp_page_events;
-#[rustfmt::skip]
-mod cqlp_page_writing;
-#[rustfmt::skip]
-mod cqlp_read;
-#[rustfmt::skip]
-mod cqlp_reassembly;
+mod cqlp_tcp_reassembly;
 #[rustfmt::skip]
 mod cqlp_render;
 #[rustfmt::skip]
-mod cqlp_segment;
+mod cqlp_tcp_segment;
 #[rustfmt::skip]
 mod cqlp_session;
 #[rustfmt::skip]
@@ -259,7 +252,7 @@ mod cqlp_skip;
 #[rustfmt::skip]
 mod cqlp_sockets;
 #[rustfmt::skip]
-mod cqlp_tables;
+mod cqlp_row_text;
 #[rustfmt::skip]
 mod cqlp_text;
 #[rustfmt::skip]
@@ -268,12 +261,15 @@ mod cqlp_type;
 mod cqlp_type_tables;
 #[rustfmt::skip]
 mod cqlp_value;
+#[allow(clippy::missing_errors_doc)]
 #[rustfmt::skip]
-mod cqlp_watch;
+mod cqlp_observer;
 mod errors;
 mod hex;
 mod itoa;
 mod jiff_core;
+mod names;
+mod params;
 pub mod rows;
 mod uuid;
 
@@ -293,10 +289,10 @@ mod cqlp_capture_frames;
 mod cqlp_capture_rows;
 #[cfg(feature = "cli")]
 #[rustfmt::skip]
-mod cqlp_connections;
+mod cqlp_tcp_connections;
 #[cfg(feature = "cli")]
 #[rustfmt::skip]
-mod cqlp_exchanges;
+mod cqlp_capture_exchanges;
 #[cfg(feature = "cli")]
 #[rustfmt::skip]
 mod cqlp_loop;
@@ -305,19 +301,19 @@ mod cqlp_loop;
 mod cqlp_options;
 #[cfg(feature = "cli")]
 #[rustfmt::skip]
-mod cqlp_prepared;
+mod cqlp_capture_prepared;
 #[cfg(feature = "cli")]
 #[rustfmt::skip]
-mod cqlp_progress;
+mod cqlp_packet_order;
 #[cfg(feature = "cli")]
 #[rustfmt::skip]
 mod cqlp_render_skip;
 #[cfg(feature = "cli")]
 #[rustfmt::skip]
-mod cqlp_streams;
+mod cqlp_capture_streams;
 #[cfg(feature = "cli")]
 #[rustfmt::skip]
-mod cqlp_summary;
+mod cqlp_capture_summary;
 #[cfg(feature = "cli")]
 #[rustfmt::skip]
 mod cqlp_tool;
@@ -325,6 +321,8 @@ mod cqlp_tool;
 mod kit_host;
 #[cfg(feature = "cli")]
 mod libc;
+#[cfg(feature = "cli")]
+mod lru;
 #[cfg(feature = "cli")]
 mod os;
 #[cfg(feature = "cli")]
@@ -355,11 +353,13 @@ pub use cqlp_sockets::{Cause, OfSocket};
 pub use cqlp_type::TypeTable;
 pub use cqlp_type_tables::{TableError, table_of, table_of_specs};
 pub use kit_std::alloc::Global;
+pub use names::{Consistency, ErrorCode, ResultKind, UnknownName, header_flag, query_flag};
 
 /// Columns of pages, in the layout of Apache Arrow.
 pub mod columns {
-    pub use crate::cqlp_columns::{BatchLimits, Cell, Column, Columns, Layout, MakeError, Refusal, TakeError, layout_of};
-    pub use crate::cqlp_page_columns::{Filled, PageColumns, Stop, Went};
+    pub use crate::cqlp_columns::{
+        BatchLimits, Cell, Column, Columns, Filled, Layout, MakeError, PageColumns, Refusal, Stop, TakeError, Went, layout_of,
+    };
 }
 
 /// Cells of pages, whose values are built of their events, and which are written of their events.
@@ -405,8 +405,10 @@ pub mod columns {
 /// ```
 pub mod cells {
     pub use crate::cqlp_build_cells::{CellBuilder, CellError, CellLimits, ends_cell};
-    pub use crate::cqlp_page_batches::{BeginError, BegunPage, OpenPage, PutCells, PutError, Unended};
-    pub use crate::cqlp_page_events::{HeadError, PageCellError, PageCells, PagePlace, WrittenCells, event_size, page_head};
+    pub use crate::cqlp_compose::{
+        BeginError, BegunPage, HeadError, OpenPage, PageCellError, PageCells, PagePlace, PutCells, PutError, Unended, WrittenCells,
+        event_size, page_head,
+    };
 }
 
 /// Values of frames, what builds them of their events, and what writes them.
@@ -451,15 +453,14 @@ pub mod frame {
     pub use crate::cqlp_build::{BuildError, BuildLimits, BuiltFrame, FrameBuilder};
     pub use crate::cqlp_compose::Composer;
     pub use crate::cqlp_encode::{
-        AppendError, BindError, EncodeError, PageError, PageWriter, ValueError, append, bind_value, encode, encode_from, raw_value,
-        write_value,
+        AppendError, BindError, EncodeError, LentError, PageError, PageWriter, ValueError, append, bind_value, encode, encode_from,
+        raw_value, write_value,
     };
     pub use crate::cqlp_message::{
         BatchEntry, ErrorExtra, Frame, Message, Metadata, OwnedBound, PartRef, Prepared, QueryParams, Rows, SchemaChange, SchemaOptions,
         ServerEvent, Spec, TakesParts, Unfit,
     };
-    pub use crate::cqlp_page_writing::LentError;
-    pub use crate::cqlp_read::{ReadError, read_value};
+    pub use crate::cqlp_read_value::{ReadError, read_value};
     pub use crate::cqlp_type::{TreeCheck, TypeTree, check_type, type_len};
     pub use crate::cqlp_value::{Atom, Content, Value, content_len, fits, fitting_size, value_len, value_size};
 }
@@ -489,23 +490,28 @@ pub mod session {
 /// A [`CaptureReader`](capture::CaptureReader) reads a pcap or pcapng file from pieces of any size. [`read_segment`](capture::read_segment)
 /// finds the segment in a packet. A [`Stream`](capture::Stream) is one direction of a connection: of each segment
 /// [`take`](capture::Stream::take) is called again and again until it says `Done`, and of each acknowledgement of the other side
-/// [`acknowledge`](capture::Stream::acknowledge); where they say `Held`, [`read_held`](capture::Stream::read_held) comes in between.
+/// [`acknowledge`](capture::Stream::acknowledge); where they say `Held`, [`held`](capture::Stream::held) lends bytes that came early, and
+/// [`pass_held`](capture::Stream::pass_held) goes on behind them.
 ///
 /// ```
 /// use cqlp::Global;
-/// use cqlp::capture::{Control, Stream, StreamStep};
+/// use cqlp::capture::{Control, Stream, StreamSegment, StreamStep};
 ///
-/// let segment = |sequence| Control { sequence, syn: false, fin: false, rst: false, missing: 0 };
-/// let mut stream = Stream::new(Global, 100)?;
-/// assert_eq!(stream.take(segment(7), b"ab"), StreamStep::Began { syn: false });
-/// assert_eq!(stream.take(segment(7), b"ab"), StreamStep::Payload { from: 0, count: 2 });
+/// let control = |sequence| Control { sequence, syn: false, fin: false, rst: false, missing: 0 };
+/// let first = StreamSegment { control: control(7), payload: b"ab", time: Some(1) };
+/// let mut stream = Stream::new(Global);
+/// assert_eq!(stream.take(&first, 1_000)?, StreamStep::Began { syn: false });
+/// assert_eq!(stream.take(&first, 1_000)?, StreamStep::Payload { from: 0, count: 2 });
 ///
-/// // A later segment comes before the one that goes on.
-/// assert_eq!(stream.take(segment(11), b"ef"), StreamStep::Done);
-/// assert_eq!(stream.take(segment(9), b"cd"), StreamStep::Held { count: 4 });
-/// let mut bytes = [0; 8];
-/// assert_eq!(stream.read_held(&mut bytes), 4);
-/// assert_eq!(&bytes[..4], b"cdef");
+/// // A later segment comes before the one that goes on, and is kept while the stream holds at most 1,000 bytes.
+/// let later = StreamSegment { control: control(11), payload: b"ef", time: Some(2) };
+/// assert_eq!(stream.take(&later, 1_000)?, StreamStep::Kept);
+/// let next = StreamSegment { control: control(9), payload: b"cd", time: Some(3) };
+/// assert_eq!(stream.take(&next, 1_000)?, StreamStep::Payload { from: 0, count: 2 });
+/// assert_eq!(stream.take(&next, 1_000)?, StreamStep::Held { time: Some(2), begins: true });
+/// assert_eq!(stream.held(), b"ef");
+/// stream.pass_held();
+/// assert_eq!(stream.take(&next, 1_000)?, StreamStep::Done);
 /// # Ok::<(), Box<dyn std::error::Error>>(())
 /// ```
 pub mod capture {
@@ -513,8 +519,8 @@ pub mod capture {
         ByteOrder, CaptureEnd, CaptureEvent, CaptureLimits, CaptureReader, CaptureReason, CaptureRefusal, CaptureStep, FileForm, Fraction,
         InterfaceHead, NewReaderError, PacketHead, SectionForm, SkipReason,
     };
-    pub use crate::cqlp_reassembly::{Control, Distance, Stream, StreamStep, distance_to};
-    pub use crate::cqlp_segment::{Address, Endpoint, Flags, LinkType, NoSegment, Segment, SegmentHead, read_segment};
+    pub use crate::cqlp_tcp_reassembly::{Control, Distance, GapCause, RUN_SIZE, Stream, StreamSegment, StreamStep, distance_to};
+    pub use crate::cqlp_tcp_segment::{Address, Endpoint, Flags, LinkType, NoSegment, Segment, SegmentHead, read_segment};
 }
 
 /// What the two sides of a connection say to each other, as somebody between them sees it: a proxy, or the reader of a capture.
@@ -522,16 +528,17 @@ pub mod capture {
 /// A [`Watch`](watch::Watch) takes the bytes of both directions as they pass, in pieces of any size, and answers each request with the
 /// response that comes under its stream id. It goes by the headers of frames: a body may be of any length, compressed or one that a decoder
 /// refuses, and nothing of it is held but the first 256 bytes of the message and its [`Facts`](watch::Facts), which are
-/// read as the bytes pass. All memory is taken when it is made: so many times the size of a `Message<Kept>`, some 400 bytes, as messages may wait.
+/// read as the bytes pass. Memory is taken for each message that waits, some 200 bytes and its first bytes, and for the two bodies that pass, and given back
+/// with them. Each call is told how much may wait: [`WatchRoom::ONE`](watch::WatchRoom::ONE), for who has one connection.
 ///
 /// ```
-/// use cqlp::watch::{Paired, Watch};
+/// use cqlp::watch::{Paired, Watch, WatchRoom};
 /// use cqlp::{Global, Opcode};
 ///
 /// let request = *b"\x04\0\0\x07\x07\0\0\0\x0d\0\0\0\x06SELECT\0\x01\0";
 /// let response = *b"\x84\0\0\x07\0\0\0\0\x09\0\0\x20\0\0\x03BAD";
 ///
-/// let mut watch = Watch::new(Global, 100)?;
+/// let mut watch = Watch::new(Global)?;
 /// watch.begin(false, true);
 /// watch.begin(true, true);
 /// let mut lines = Vec::new();
@@ -540,11 +547,11 @@ pub mod capture {
 /// for (is_response, piece, time) in [(false, &request[..5], 1_000), (false, &request[5..], 2_000), (true, &response[..], 9_000)] {
 ///     let mut rest = piece;
 ///     loop {
-///         let step = watch.take(is_response, rest, Some(time), false);
+///         let step = watch.take(is_response, rest, Some(time), false, WatchRoom::ONE)?;
 ///         rest = &rest[step.used..];
 ///         if let Some(Paired::Exchange { request, response }) = step.told {
 ///             let took = response.frame.ended.zip(request.frame.begun).map(|(to, from)| to - from);
-///             lines.push((request.frame.header.opcode, response.kept.facts.error, took));
+///             lines.push((request.frame.header.opcode, response.kept.facts().error, took));
 ///         }
 ///         if step.is_done {
 ///             break;
@@ -552,24 +559,24 @@ pub mod capture {
 ///     }
 /// }
 /// assert_eq!(lines, [(Opcode::Query, Some(0x2000), Some(8_000))]);
-/// # Ok::<(), cqlp::watch::NewPairingError>(())
+/// # Ok::<(), cqlp::memory::AllocError>(())
 /// ```
 ///
 /// Of what a `Watch` is made may be used by itself, where something else is to be kept of a message, or where bytes that are no frames are to
 /// be told: [`Heads`](watch::Heads) finds the frames of one direction, a [`FactsReader`](watch::FactsReader) reads the facts of a body,
 /// and a [`Pairing`](watch::Pairing) pairs messages of which anything is kept. `examples/proxy` of this package is made of these.
 pub mod watch {
-    pub use crate::cqlp_facts::{Facts, FactsReader};
-    pub use crate::cqlp_watch::{
-        Frame, Front, Heads, Heard, HeardStep, Kept, Message, Missed, NewPairingError, Paired, Pairing, Watch, WatchStep,
+    pub use crate::cqlp_observer::{
+        Extent, Frame, Heads, Heard, HeardStep, Kept, LONGEST_FRONT, Message, Missed, Opening, Paired, Pairing, Watch, WatchRoom, WatchStep,
     };
+    pub use crate::cqlp_observer_facts::{Facts, FactsReader};
 }
 
 /// The text of events, cells, pages and verdicts, the JSON of events, and rows as JSON and CSV, as the program `cqlp` writes it.
 pub mod text {
     pub use crate::cqlp_json::json_line;
     pub use crate::cqlp_render::{render_events, render_rows};
-    pub use crate::cqlp_tables::{TablePlace, csv_part, json_part};
+    pub use crate::cqlp_row_text::{TablePlace, csv_part, json_part};
     pub use crate::cqlp_text::{
         Ending, PagePlace, cell_text, ending_line, event_line, field_name, kind_name, opcode_name, page_part, reason_name,
     };

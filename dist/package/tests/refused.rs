@@ -1,7 +1,7 @@
 //! Memory that is refused to the calls that take it from the process: each request in turn, and each with all after it. What a call
 //! made until then is given back.
 
-use cqlp::capture::{CaptureEnd, CaptureLimits, CaptureReader, CaptureStep, Control, Stream, StreamStep};
+use cqlp::capture::{CaptureEnd, CaptureLimits, CaptureReader, CaptureStep, Control, Stream, StreamSegment, StreamStep};
 use cqlp::cells::{CellError, CellLimits, PageCellError, PageCells, PagePlace};
 use cqlp::columns::{BatchLimits, Columns, MakeError, TakeError};
 use cqlp::frame::{
@@ -216,19 +216,28 @@ fn captures() {
     });
 }
 
-/// A stream takes memory when it is made, and none while it holds and hands on what came early.
+/// A stream takes memory for what comes early alone, and is as before where it is refused.
 #[test]
 fn streams_of_captures() {
-    let segment = |sequence, syn| Control { sequence, syn, fin: false, rst: false, missing: 0 };
-    finds_just_what_is_there(1, || {
-        let Ok(mut stream) = Stream::new(Global, 10) else {
-            return Answer::NoMemory;
+    let segment = |sequence, syn, payload| {
+        let control = Control { sequence, syn, fin: false, rst: false, missing: 0 };
+        StreamSegment { control, payload, time: Some(7) }
+    };
+    finds_just_what_is_there(2, || {
+        let mut stream = Stream::new(Global);
+        let began = stream.take(&segment(9, true, b""), 1_000);
+        let Ok(kept) = stream.take(&segment(13, false, b"de"), 1_000) else {
+            return if stream.size() == 0 { Answer::NoMemory } else { Answer::Other };
         };
-        let steps = [stream.take(segment(9, true), b""), stream.take(segment(13, false), b"de"), stream.take(segment(10, false), b"abc")];
-        let mut bytes = [0; 10];
-        let read = stream.read_held(&mut bytes);
-        let expected = [StreamStep::Began { syn: true }, StreamStep::Done, StreamStep::Held { count: 5 }];
-        if steps == expected && bytes[..read] == *b"abcde" { Answer::Granted } else { Answer::Other }
+        let (next, held) = (stream.take(&segment(10, false, b"abc"), 1_000), stream.take(&segment(10, false, b"abc"), 1_000));
+        let steps = [began, Ok(kept), next, held];
+        let expected = [
+            StreamStep::Began { syn: true },
+            StreamStep::Kept,
+            StreamStep::Payload { from: 0, count: 3 },
+            StreamStep::Held { time: Some(7), begins: true },
+        ];
+        if steps == expected.map(Ok) && stream.held() == b"de" { Answer::Granted } else { Answer::Other }
     });
 }
 

@@ -2,15 +2,18 @@
 //! memory than the limits say, the same files and lines whole and in pieces of any size, lines that say how long the files are, those of exchanges
 //! that are asked for among those of all, an object for each of their lines, and summaries that count them. CQLP_STREAMS is how many changed captures
 //! there are, 3,000 where it is not set, 5,000 in a file; those of a driver lie in the folder data of CQLP_CAPTURES.
-use crate::cqlp_connections::Way;
+use crate::cqlp_tcp_connections::Way;
 use crate::cqlp_capture_events::write_events;
 use crate::cqlp_capture_rows::write_rows;
-use crate::cqlp_exchanges::{ExchangeFilter, ExchangeForm, write_exchanges};
+use crate::cqlp_capture_exchanges::{ExchangeFilter, ExchangeForm, ExchangeLimits, write_exchanges};
 use crate::cqlp_note::{IoFault, OfStd, Source};
-use crate::cqlp_streams::{FileFault, StreamFile, StreamFiles, write_streams};
+use crate::cqlp_capture_streams::{FileFault, StreamFile, StreamFiles, StreamsLimits, write_streams};
 use crate::heap::measured;
 use crate::kit_std::alloc::Global;
 use std::collections::HashMap;
+
+/// As the program has them where none are given.
+const LIMITS: StreamsLimits = StreamsLimits::DEFAULT;
 
 /// Numbers that look random, the same at each run.
 struct Numbers(u64);
@@ -103,7 +106,7 @@ struct Made {
 fn made(file: &[u8], most: usize, ports: &[u16], calls: usize) -> Made {
     let mut pieces = Pieces { rest: file, most, numbers: Numbers(most as u64 | 1) };
     let (files, out, err) = (Sums::with_room(calls), OfStd::new(Vec::with_capacity(64 << 20)), OfStd::new(Vec::with_capacity(1_000)));
-    let ((status, files, out, err), taken, held) = measured(|| write_streams(Global, ports, &mut pieces, files, out, err));
+    let ((status, files, out, err), taken, held) = measured(|| write_streams(Global, StreamsLimits::DEFAULT, ports, &mut pieces, files, out, err));
     assert!(taken <= 48 << 20, "{taken} bytes of memory");
     assert_eq!(held, 0);
     Made { status, kept: files.kept, open: files.open.len(), lines: text(out), said: text(err) }
@@ -128,17 +131,17 @@ fn told(file: &[u8], most: usize, room: isize, write: impl Fn(&mut Pieces, OfStd
 
 /// The exchanges in a file that are asked for, in this form.
 fn exchanges(file: &[u8], most: usize, ports: &[u16], filter: ExchangeFilter, form: ExchangeForm) -> Told {
-    told(file, most, 64, |pieces, out, err| write_exchanges(Global, ports, filter, form, pieces, out, err))
+    told(file, most, 64, |pieces, out, err| write_exchanges(Global, StreamsLimits::DEFAULT, ExchangeLimits::DEFAULT, ports, filter, form, pieces, out, err))
 }
 
 /// The events of the frames in a file.
 fn events(file: &[u8], most: usize, ports: &[u16]) -> Told {
-    told(file, most, 70, |pieces, out, err| write_events(Global, ports, None, pieces, out, err))
+    told(file, most, 70, |pieces, out, err| write_events(Global, StreamsLimits::DEFAULT, ports, None, pieces, out, err))
 }
 
 /// The pages on the connection with this number.
 fn rows(file: &[u8], most: usize, ports: &[u16], connection: u64) -> Told {
-    told(file, most, 64, |pieces, out, err| write_rows(Global, ports, connection, pieces, out, err))
+    told(file, most, 64, |pieces, out, err| write_rows(Global, StreamsLimits::DEFAULT, ports, connection, pieces, out, err))
 }
 
 /// The lines say how long the files are, and the last line how long all of them are.

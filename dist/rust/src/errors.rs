@@ -5,8 +5,8 @@ use core::fmt;
 use crate::cqlp_capture::CaptureRefusal;
 use crate::cqlp_decode::GiveError;
 use crate::cqlp_note::Refusal;
-use crate::cqlp_segment::NoSegment;
 use crate::cqlp_session::Refused;
+use crate::cqlp_tcp_segment::NoSegment;
 use crate::kit_std::alloc::Allocator;
 
 /// The reason's name and the offset: `BadVersion at byte 0`.

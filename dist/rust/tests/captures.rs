@@ -11,8 +11,8 @@ mod example;
 use common::{Numbers, count};
 use cqlp::Global;
 use cqlp::capture::{
-    CaptureEnd, CaptureEvent, CaptureLimits, CaptureReader, CaptureStep, Control, Distance, Endpoint, LinkType, PacketHead, Segment,
-    Stream, StreamStep, distance_to, read_segment,
+    CaptureEnd, CaptureEvent, CaptureLimits, CaptureReader, CaptureStep, Control, Distance, Endpoint, GapCause, LinkType, PacketHead,
+    Segment, Stream, StreamSegment, StreamStep, distance_to, read_segment,
 };
 use example::{Told, follow};
 use std::collections::{BTreeMap, HashMap};
@@ -45,7 +45,7 @@ fn accounts(capture: &[u8]) -> Vec<Account> {
         match told {
             Told::Began(_) => {}
             Told::Bytes(bytes) => account.bytes.extend(bytes),
-            Told::Gap(length) => account.gaps.push((account.bytes.len(), length)),
+            Told::Gap(length) => account.gaps.push((account.bytes.len(), length as usize)),
             Told::Over => account.is_over = true,
         }
         Ok(())
@@ -111,67 +111,92 @@ fn a_lost_segment() {
 
 // ---- changed captures
 
-/// A direction by its bytes alone: at each place the byte of the first segment that carried it.
+/// A direction by its bytes alone: at each place the byte of the first segment that carried it, or none where its packet was cut, and its time.
 #[derive(Default)]
 struct Reference {
     /// The sequence number of the first byte, once there is one.
     first: Option<u32>,
     /// How many bytes and places are past.
     position: u64,
-    came: BTreeMap<u64, u8>,
+    came: BTreeMap<u64, (Option<u8>, Option<u64>)>,
 }
 
 impl Reference {
-    fn note(&mut self, control: Control, payload: &[u8]) {
+    fn note(&mut self, StreamSegment { control, payload, time }: &StreamSegment<'_>) {
         let number = control.sequence.wrapping_add(u32::from(control.syn));
-        if self.first.is_none() && (control.syn || control.fin || !payload.is_empty()) {
+        let length = payload.len() + control.missing as usize;
+        if self.first.is_none() && (control.syn || control.fin || length > 0) {
             self.first = Some(number);
         }
         let Some(first) = self.first else { return };
         let (ahead, before) = match distance_to(number, first.wrapping_add(self.position as u32)) {
             Distance::Ahead(n) => (u64::from(n), 0),
-            Distance::Behind(n) => (0, payload.len().min(n as usize)),
+            Distance::Behind(n) => (0, n as usize),
         };
-        for (i, byte) in payload[before..].iter().enumerate() {
-            self.came.entry(self.position + ahead + i as u64).or_insert(*byte);
+        for i in before..length {
+            self.came.entry(self.position + ahead + (i - before) as u64).or_insert((payload.get(i).copied(), *time));
         }
     }
 
-    fn hand_on(&mut self, bytes: &[u8]) {
+    fn hand_on(&mut self, bytes: &[u8], time: Option<u64>) {
         for byte in bytes {
-            assert_eq!(self.came.remove(&self.position), Some(*byte), "at {}", self.position);
+            assert_eq!(self.came.remove(&self.position), Some((Some(*byte), time)), "at {}", self.position);
             self.position += 1;
         }
     }
 
-    fn pass(&mut self, length: usize) {
-        let end = self.position + length as u64;
-        assert_eq!(self.came.range(self.position..end).next(), None, "a gap where a byte came");
+    fn pass(&mut self, length: u64, cause: GapCause, time: Option<u64>) {
+        assert!(length > 0);
+        let end = self.position + length;
+        match cause {
+            GapCause::Lost => assert_eq!(self.came.range(self.position..end).next(), None, "a gap where a byte came"),
+            GapCause::Snapped => {
+                for place in self.position..end {
+                    assert_eq!(self.came.remove(&place), Some((None, time)), "at {place}");
+                }
+            }
+        }
         self.position = end;
     }
 }
 
 struct Direction {
     stream: Stream,
+    room: usize,
     reference: Reference,
 }
 
 impl Direction {
-    fn pull(&mut self, payload: &[u8], said: &mut Vec<u8>, mut next: impl FnMut(&mut Stream) -> StreamStep) {
+    fn new(room: usize) -> Direction {
+        Direction { stream: Stream::new(Global), room, reference: Reference::default() }
+    }
+
+    fn take(&mut self, segment: &StreamSegment<'_>, said: &mut Vec<u8>) {
+        self.reference.note(segment);
+        let room = self.room;
+        self.pull(segment, said, |stream| stream.take(segment, room).unwrap());
+        assert!(self.stream.size() <= room);
+    }
+
+    fn acknowledge(&mut self, number: u32, said: &mut Vec<u8>) {
+        let control = Control { sequence: 0, syn: false, fin: false, rst: false, missing: 0 };
+        self.pull(&StreamSegment { control, payload: &[], time: None }, said, |stream| stream.acknowledge(number));
+    }
+
+    fn pull(&mut self, segment: &StreamSegment<'_>, said: &mut Vec<u8>, mut next: impl FnMut(&mut Stream) -> StreamStep) {
         loop {
             let step = next(&mut self.stream);
             writeln!(said, "{step:?}").unwrap();
             match step {
-                StreamStep::Payload { from, count } => self.reference.hand_on(&payload[from..from + count]),
-                StreamStep::Held { count } => {
-                    let mut bytes = [0; 100];
-                    let read = self.stream.read_held(&mut bytes);
-                    assert_eq!(read, count.min(100));
-                    self.reference.hand_on(&bytes[..read]);
+                StreamStep::Payload { from, count } => self.reference.hand_on(&segment.payload[from..from + count], segment.time),
+                StreamStep::Held { time, .. } => {
+                    assert!(!self.stream.held().is_empty());
+                    self.reference.hand_on(self.stream.held(), time);
+                    self.stream.pass_held();
                 }
-                StreamStep::Gap { length } => self.reference.pass(length),
+                StreamStep::Gap { length, cause, time } => self.reference.pass(length, cause, time),
                 StreamStep::Done => return,
-                StreamStep::Began { .. } | StreamStep::Ended | StreamStep::Reset => {}
+                StreamStep::Began { .. } | StreamStep::Kept | StreamStep::Ended | StreamStep::Reset => {}
             }
         }
     }
@@ -225,32 +250,29 @@ impl Report {
         match LinkType::from_number(head.link).and_then(|link| read_segment(link, packet, head.original)) {
             Ok(segment) => {
                 assert_eq!(&packet[segment.offset..segment.offset + segment.payload.len()], segment.payload);
-                self.segment(&segment);
+                self.segment(&segment, head.time);
             }
             Err(why) => writeln!(self.said, "{why:?}").unwrap(),
         }
     }
 
-    fn segment(&mut self, segment: &Segment<'_>) {
+    fn segment(&mut self, segment: &Segment<'_>, time: Option<u64>) {
         let head = segment.head;
         if head.flags.ack
             && let Some(other) = self.directions.get_mut(&(head.destination, head.source))
         {
-            other.pull(&[], &mut self.said, |stream| stream.acknowledge(head.acknowledgement));
+            other.acknowledge(head.acknowledgement, &mut self.said);
         }
+        // A changed header may say that four billion bytes are missing, and the table has an entry for each.
         let control = Control {
             sequence: head.sequence,
             syn: head.flags.syn,
             fin: head.flags.fin,
             rst: head.flags.rst,
-            missing: segment.missing as u32,
+            missing: segment.missing.min(2_000) as u32,
         };
-        let direction = self
-            .directions
-            .entry((head.source, head.destination))
-            .or_insert_with(|| Direction { stream: Stream::new(Global, self.room).unwrap(), reference: Reference::default() });
-        direction.reference.note(control, segment.payload);
-        direction.pull(segment.payload, &mut self.said, |stream| stream.take(control, segment.payload));
+        let direction = self.directions.entry((head.source, head.destination)).or_insert_with(|| Direction::new(self.room));
+        direction.take(&StreamSegment { control, payload: segment.payload, time }, &mut self.said);
     }
 }
 
@@ -330,7 +352,7 @@ fn changed_captures() {
         let base = &bases[numbers.below(bases.len())];
         let changed = mutated(&mut numbers, base);
         let limits = CaptureLimits { packet: numbers.one_of(&[64, 96, 1_000, 262_144]), interfaces: numbers.one_of(&[1, 2, 256]) };
-        let room = numbers.one_of(&[0, 1, 7, 300, 5_000]);
+        let room = numbers.one_of(&[0, 130, 200, 400, 5_000]);
         let whole = said(limits, room, [&changed[..]]);
         let most = numbers.one_of(&[1, 3, 20, 200, 2_000]);
         assert!(said(limits, room, pieces(&mut numbers, &changed, most)) == whole, "case {case}: {changed:02x?}");
@@ -342,14 +364,14 @@ fn changed_captures() {
 fn segments_in_any_order() {
     let mut numbers = Numbers::new();
     for _ in 0..count() {
-        let room = numbers.one_of(&[0, 1, 7, 40, 300]);
+        let room = numbers.one_of(&[0, 130, 200, 400, 3_000]);
         let first = numbers.one_of(&[0, 1_000, 0x7fff_ffe0, u32::MAX - 20]);
-        let mut direction = Direction { stream: Stream::new(Global, room).unwrap(), reference: Reference::default() };
+        let mut direction = Direction::new(room);
         let mut said = Vec::new();
-        for _ in 0..numbers.below(12) {
+        for time in 0..numbers.below(12) as u64 {
             let sequence = first.wrapping_add(numbers.below(60) as u32);
             if numbers.below(4) == 0 {
-                direction.pull(&[], &mut said, |stream| stream.acknowledge(sequence));
+                direction.acknowledge(sequence, &mut said);
                 continue;
             }
             let payload: Vec<u8> = (0..numbers.below(20)).map(|_| numbers.below(256) as u8).collect();
@@ -360,8 +382,7 @@ fn segments_in_any_order() {
                 rst: numbers.below(60) == 0,
                 missing: numbers.one_of(&[0, 0, 0, 5]),
             };
-            direction.reference.note(control, &payload);
-            direction.pull(&payload, &mut said, |stream| stream.take(control, &payload));
+            direction.take(&StreamSegment { control, payload: &payload, time: Some(time) }, &mut said);
         }
     }
 }

@@ -6,14 +6,14 @@
 mod common;
 
 use common::streams;
-use cqlp::capture::{CaptureLimits, CaptureReader, CaptureStep, Control, Stream, StreamStep};
+use cqlp::capture::{CaptureLimits, CaptureReader, CaptureStep, Control, Stream, StreamSegment, StreamStep};
 use cqlp::cells::{CellBuilder, CellLimits};
 use cqlp::columns::{BatchLimits, Columns, PageColumns};
 use cqlp::frame::{BuildLimits, Composer, Frame, FrameBuilder, append, encode};
 use cqlp::memory::Vec as Bytes;
 use cqlp::session::{Client, ClientOf, RequestKind, Server, ServerOf};
 use cqlp::text::{render_events, render_rows};
-use cqlp::watch::{Watch, WatchStep};
+use cqlp::watch::{Watch, WatchRoom, WatchStep};
 use cqlp::{
     Decoder, Event, Fed, Global, Header, IoFault, Kind, Limits, Opcode, Sink, SinkFault, SkippingDecoder, Source, Step, Target, run,
 };
@@ -408,48 +408,52 @@ fn cores() {
     }
 }
 
-/// An observer takes memory when it is made alone, whatever is announced in either direction, and with gaps of any length.
+/// An observer takes memory for the first bytes of a body that passes and for messages that wait alone, at most 2 KiB for each, whatever is announced in
+/// either direction, and with gaps of any length.
 #[test]
 fn observers() {
     for stream in all_streams() {
-        let mut made = NOTHING;
         let whole = asked_amply(|| {
-            let mut watch = Watch::new(Global, 10).unwrap();
-            made = ASKED.get();
+            let mut watch = Watch::new(Global).unwrap();
             for responses in [false, true, false] {
                 watch.begin(responses, true);
                 let mut rest = &stream[..];
                 for time in 0..1_000 {
-                    let WatchStep { used, .. } = watch.take(responses, rest, Some(time), time == 0);
+                    let WatchStep { used, .. } = watch.take(responses, rest, Some(time), time == 0, WatchRoom::ONE).unwrap();
+                    let most = 2_048 * (watch.waiting() as i64 + 2);
+                    assert!(ASKED.get().held <= most, "{stream:x?} {:?}", ASKED.get());
                     rest = &rest[used..];
                 }
-                let _ = watch.gap(responses, u64::MAX >> 1);
-                let _ = watch.end(responses);
+                let _ = watch.gap(responses, u64::MAX >> 1, None, WatchRoom::ONE).unwrap();
+                let _ = watch.end(responses, WatchRoom::ONE).unwrap();
             }
         });
-        assert_eq!(whole, Asked { held: 0, ..made }, "{stream:x?}");
+        assert_eq!(whole.held, 0, "{stream:x?}");
     }
 }
 
-/// A stream takes two bytes for each that it may hold, and nothing for segments at whatever distance.
+/// A stream takes nothing for segments at whatever distance that have no room, and gives back what it took.
 #[test]
 fn streams_of_captures() {
-    for room in [0, 10, 4_096] {
+    for room in [0, 130, 4_096] {
         let made = asked_amply(|| {
-            let mut stream = Stream::new(Global, room).unwrap();
-            for sequence in [9_u32, 10, 13, 10 + room as u32, 1 << 30, 1 << 31, (1 << 31) + 9, 3 << 30, u32::MAX] {
-                let control = Control { sequence, syn: sequence == 9, fin: false, rst: false, missing: 0 };
+            let mut stream = Stream::new(Global);
+            for sequence in [9_u32, 10, 15, 10 + room as u32, 1 << 30, 1 << 31, (1 << 31) + 9, 3 << 30, u32::MAX] {
+                let control = Control { sequence, syn: sequence == 9, fin: false, rst: false, missing: 2 };
+                let segment = StreamSegment { control, payload: b"abc", time: None };
                 for _ in 0..4 {
-                    if let StreamStep::Held { count } = stream.take(control, b"abc") {
-                        stream.read_held(&mut [0; 4_096][..count]);
+                    if let StreamStep::Held { .. } = stream.take(&segment, room).unwrap() {
+                        stream.pass_held();
                     }
+                    assert!(stream.size() <= room);
                     stream.acknowledge(sequence);
                 }
             }
             stream.close();
+            stream.clear();
         });
-        assert_eq!((made.bytes, made.held), (2 * room as u64, 0), "{room}");
-        assert!(made.requests <= 1);
+        assert_eq!((made.held, made.bytes == 0), (0, room < 4_096), "{room}");
+        assert!(made.bytes <= 4_096, "{room}");
     }
 }
 

@@ -1,13 +1,14 @@
 //! What is said of captures, of the segments in their packets, and of what streams tell of these: packets/said.txt, which is by a reading in
 //! Python (captures/expected.py of the repository). A line of packets/lines.txt is the name of a capture, or a name and its bytes in hexadecimal
 //! digits. A capture is read in one piece, in pieces of 1, 7 and 4,096 bytes, and one of at most 256 bytes in pieces of each size; after the word
-//! `small` with room for 64 bytes of a packet and two interfaces. After `streams` the streams of its segments are asked, of one piece.
+//! `small` with room for 64 bytes of a packet and two interfaces. After `streams` the streams of its segments are asked, of one piece, and after
+//! `small` with little room for bytes that come early.
 #![forbid(unsafe_code)]
 
 use cqlp::Global;
 use cqlp::capture::{
-    CaptureEnd, CaptureEvent, CaptureLimits, CaptureReader, CaptureStep, Control, Endpoint, LinkType, NoSegment, PacketHead, SectionForm,
-    Segment, Stream, StreamStep, read_segment,
+    CaptureEnd, CaptureEvent, CaptureLimits, CaptureReader, CaptureStep, Control, Endpoint, GapCause, LinkType, NoSegment, PacketHead,
+    SectionForm, Segment, Stream, StreamSegment, StreamStep, read_segment,
 };
 use std::fmt::{self, Write};
 
@@ -17,8 +18,9 @@ const SMALL: CaptureLimits = CaptureLimits { packet: 64, interfaces: 2 };
 /// A capture of no more bytes is read in pieces of each size.
 const SHORT: usize = 256;
 
-/// How many bytes a stream can hold that come early.
+/// How much a stream can hold that comes early, and the same after `small`: a few bytes of one segment.
 const ROOM: usize = 65_536;
+const SMALL_ROOM: usize = 256;
 
 /// A line, and what is said of its capture.
 struct Case {
@@ -69,7 +71,8 @@ fn captures_and_their_segments() {
 fn streams_of_segments() {
     let mut count = 0;
     for case in cases().iter().filter(|case| case.is_of_streams) {
-        assert_eq!(said_of_streams(&case.file).unwrap(), case.said, "{}", case.name);
+        let room = if case.limits == SMALL { SMALL_ROOM } else { ROOM };
+        assert_eq!(said_of_streams(&case.file, room).unwrap(), case.said, "{}", case.name);
         count += 1;
     }
     assert_eq!(count, 13);
@@ -149,32 +152,40 @@ struct Direction {
     source: Endpoint,
     destination: Endpoint,
     stream: Stream,
+    room: usize,
     /// How many bytes and positions it is past its beginning.
     position: u64,
+    /// How many positions of gaps with one cause lie behind those.
+    gap: Option<(GapCause, u64)>,
     bytes: u64,
     sum: u32,
     said: String,
 }
 
 /// A line for each direction of a connection in a capture, in the order in which their first segments come.
-fn said_of_streams(file: &[u8]) -> Result<String, fmt::Error> {
+fn said_of_streams(file: &[u8], room: usize) -> Result<String, fmt::Error> {
     let mut directions: Vec<Direction> = Vec::new();
     for (head, packet) in packets_of(file) {
         let Ok(segment) = segment_of(&head, &packet) else { continue };
+        let time = head.time;
         let head = segment.head;
         if !directions.iter().any(|direction| direction.is_from(&head.source, &head.destination)) {
-            directions.push(Direction::new(head.source, head.destination));
+            directions.push(Direction::new(head.source, head.destination, room));
         }
         for direction in &mut directions {
             if direction.is_from(&head.source, &head.destination) {
-                direction.take(&segment)?;
+                direction.take(&segment, time)?;
             } else if direction.is_from(&head.destination, &head.source) && head.flags.ack {
                 direction.pull(&[], |stream| stream.acknowledge(head.acknowledgement))?;
             }
         }
     }
     let mut said = String::new();
-    for Direction { source, destination, bytes, sum, said: told, .. } in &directions {
+    for direction in &mut directions {
+        direction.pull(&[], Stream::close)?;
+        direction.end_gap()?;
+        assert_eq!(direction.stream.size(), 0);
+        let Direction { source, destination, bytes, sum, said: told, .. } = direction;
         writeln!(said, "{} {} {told}bytes {bytes} sum {sum}", source.port, destination.port)?;
     }
     Ok(said)
@@ -197,20 +208,23 @@ fn packets_of(file: &[u8]) -> Vec<(PacketHead, Vec<u8>)> {
 }
 
 impl Direction {
-    fn new(source: Endpoint, destination: Endpoint) -> Direction {
-        let stream = Stream::new(Global, ROOM).unwrap();
-        Direction { source, destination, stream, position: 0, bytes: 0, sum: 0, said: String::new() }
+    fn new(source: Endpoint, destination: Endpoint, room: usize) -> Direction {
+        let stream = Stream::new(Global);
+        Direction { source, destination, stream, room, position: 0, gap: None, bytes: 0, sum: 0, said: String::new() }
     }
 
     fn is_from(&self, source: &Endpoint, destination: &Endpoint) -> bool {
         self.source == *source && self.destination == *destination
     }
 
-    fn take(&mut self, segment: &Segment<'_>) -> fmt::Result {
+    fn take(&mut self, segment: &Segment<'_>, time: Option<u64>) -> fmt::Result {
         let head = segment.head;
         let missing = u32::try_from(segment.missing).unwrap();
         let control = Control { sequence: head.sequence, syn: head.flags.syn, fin: head.flags.fin, rst: head.flags.rst, missing };
-        self.pull(segment.payload, |stream| stream.take(control, segment.payload))
+        let (payload, room) = (segment.payload, self.room);
+        self.pull(payload, |stream| stream.take(&StreamSegment { control, payload, time }, room).unwrap())?;
+        assert!(self.stream.size() <= room);
+        Ok(())
     }
 
     /// Writes down all that a segment or an acknowledgement tells.
@@ -218,26 +232,54 @@ impl Direction {
         loop {
             match next(&mut self.stream) {
                 StreamStep::Began { syn } => write!(self.said, "began {syn} ")?,
-                StreamStep::Payload { from, count } => self.add(&payload[from..from + count]),
+                StreamStep::Payload { from, count } => self.add(&payload[from..from + count])?,
                 StreamStep::Held { .. } => {
-                    let mut buffer = [0; 64];
-                    let count = self.stream.read_held(&mut buffer);
-                    self.add(&buffer[..count]);
+                    let bytes = self.stream.held().to_vec();
+                    self.add(&bytes)?;
+                    self.stream.pass_held();
                 }
-                StreamStep::Gap { length } => {
-                    write!(self.said, "gap {length} at {} ", self.position)?;
-                    self.position += length as u64;
+                StreamStep::Gap { length, cause, .. } => self.add_gap(cause, length)?,
+                StreamStep::Kept => {}
+                StreamStep::Ended => {
+                    self.end_gap()?;
+                    self.said.push_str("ended ");
                 }
-                StreamStep::Ended => self.said.push_str("ended "),
-                StreamStep::Reset => self.said.push_str("reset "),
+                StreamStep::Reset => {
+                    self.end_gap()?;
+                    self.said.push_str("reset ");
+                }
                 StreamStep::Done => return Ok(()),
             }
         }
     }
 
-    fn add(&mut self, bytes: &[u8]) {
+    fn add(&mut self, bytes: &[u8]) -> fmt::Result {
+        self.end_gap()?;
         self.sum = fold(self.sum, bytes);
         self.bytes += bytes.len() as u64;
         self.position += bytes.len() as u64;
+        Ok(())
+    }
+
+    fn add_gap(&mut self, cause: GapCause, length: u64) -> fmt::Result {
+        let before = match self.gap {
+            Some((last, before)) if last == cause => before,
+            _ => {
+                self.end_gap()?;
+                0
+            }
+        };
+        self.gap = Some((cause, before + length));
+        Ok(())
+    }
+
+    /// Writes down the gap behind the bytes so far, if there is one.
+    fn end_gap(&mut self) -> fmt::Result {
+        if let Some((cause, length)) = self.gap.take() {
+            let word = if cause == GapCause::Lost { "gap" } else { "cut" };
+            write!(self.said, "{word} {length} at {} ", self.position)?;
+            self.position += length;
+        }
+        Ok(())
     }
 }

@@ -342,10 +342,10 @@ fn a_node_that_dies_in_mid_reply_ends_the_connection() {
 fn no_more_messages_wait_than_there_is_room_for() {
     let kept = Kept::default();
     let mut observer = Observer::new(1, kept.clone()).unwrap();
-    let room = usize::from(WAITING) * size_of::<cqlp::watch::Message<Seen>>();
+    let room = WAITING * size_of::<cqlp::watch::Message<Seen>>();
     assert!(2 * relay::PIECE + room + size_of::<Observer<Kept>>() < 300_000, "{room} bytes");
     for stream in 0..=WAITING as i16 {
         observer.hear(Way::Requests, &query(stream, "SELECT 1").bytes, 1);
     }
-    assert_eq!(kept.without_times(), "1:0 QUERY \"SELECT 1\" 24 -> nothing\n");
+    assert_eq!(kept.without_times(), format!("1:{WAITING} QUERY \"SELECT 1\" 24 -> nothing\n"));
 }

@@ -225,3 +225,26 @@ fn mutated_values() {
     }
     assert!(read > count() / 4, "{read}");
 }
+
+/// The numbers that have names are those of the calls that take numbers, and addresses are std's.
+#[test]
+fn names_and_addresses() {
+    use cqlp::capture::Endpoint;
+    use cqlp::{Address, Consistency, ErrorCode, ResultKind, error_code, result_kind};
+    use std::net::{IpAddr, SocketAddr};
+
+    for number in 0..=0x2600 {
+        let Ok(code) = ErrorCode::try_from(number) else { continue };
+        assert_eq!((u32::from(code), code.name().parse()), (number, Ok(code)));
+    }
+    assert_eq!(u32::from(ErrorCode::Unprepared), error_code::UNPREPARED);
+    assert_eq!(u32::from(ResultKind::SchemaChange), result_kind::SCHEMA_CHANGE);
+    let levels = (0..11).map(|number| Consistency::try_from(number).unwrap().name().to_lowercase().parse::<Consistency>());
+    assert!(levels.zip(0..).all(|(level, number)| level.map(u16::from) == Ok(number)));
+    for text in ["192.0.2.7", "2001:db8::1"] {
+        let ip: IpAddr = text.parse().unwrap();
+        assert_eq!(IpAddr::from(Address::from(ip)), ip);
+        let socket = SocketAddr::new(ip, 9042);
+        assert_eq!(SocketAddr::from(Endpoint::from(socket)), socket);
+    }
+}

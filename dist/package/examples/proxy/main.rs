@@ -10,8 +10,8 @@
 //! refuses. A connection of another version is passed on too, and a line says that it is not read. Whoever reads the lines has to go on reading:
 //! while a line cannot be written, nothing is passed on.
 //!
-//! A connection has two threads, each with a piece of [`relay::PIECE`] bytes, and room for [`observer::WAITING`] messages that wait for
-//! their replies, of some 230 bytes each, whatever the two sides send: some 300 KB. How many connections there are the system decides.
+//! A connection has two threads, each with a piece of [`relay::PIECE`] bytes, and memory for the messages that wait for their replies, at most
+//! [`observer::WAITING`] of some 250 bytes each, whatever the two sides send: at most 300 KB. How many connections there are the system decides.
 //!
 //! `cargo run --release --example proxy LISTEN NODE`, as in `127.0.0.1:9043 127.0.0.1:9042`
 #![forbid(unsafe_code)]

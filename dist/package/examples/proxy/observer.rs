@@ -1,13 +1,14 @@
 //! What the two sides of a connection say, as their bytes pass.
 
 use crate::line::Line;
-use cqlp::watch::{Facts, FactsReader, Frame, Heads, Heard, Message, NewPairingError, Paired, Pairing};
+use cqlp::memory::AllocError;
+use cqlp::watch::{Facts, FactsReader, Frame, Heads, Heard, Message, Paired, Pairing};
 use cqlp::{Global, Header, Opcode};
 use std::fmt;
 use std::io::Write;
 
-/// How many messages of a connection wait at most for the other of their exchange. Where more are open, the oldest is told as unanswered.
-pub const WAITING: u16 = 1_024;
+/// How many messages of a connection wait at most for the other of their exchange. Where more are open, the next is told as unanswered.
+pub const WAITING: usize = 1_024;
 
 /// How many bytes of a statement are kept.
 pub const WORDS: usize = 80;
@@ -118,7 +119,7 @@ impl Side {
 }
 
 /// Sees the bytes of both directions of a connection, and writes a line for each request with its reply, when the reply's last byte has come.
-/// All that it holds is taken in [`Observer::new`]. Lines that cannot be written are lost.
+/// Memory is taken for each message that waits. Lines that cannot be written are lost, and so are messages that are refused memory.
 pub struct Observer<W> {
     /// The connection's number, with which each line begins.
     number: u64,
@@ -130,12 +131,12 @@ pub struct Observer<W> {
 
 impl<W: Write> Observer<W> {
     /// Nothing was seen of the connection with this number. Lines go to `out`.
-    pub fn new(number: u64, out: W) -> Result<Self, NewPairingError> {
+    pub fn new(number: u64, out: W) -> Result<Self, AllocError> {
         Ok(Observer {
             number,
             requests: Side::new(Way::Requests),
             responses: Side::new(Way::Responses),
-            pairing: Pairing::new(Global, WAITING)?,
+            pairing: Pairing::new(Global)?,
             out,
         })
     }
@@ -193,7 +194,8 @@ impl<W: Write> Observer<W> {
     /// A frame has ended, and is paired.
     fn close(&mut self, way: Way, frame: Frame) {
         let message = self.side(way).close(frame);
-        if let Some(told) = self.pairing.take(message) {
+        let has_room = self.pairing.len() < WAITING;
+        if let Ok(Some(told)) = self.pairing.take(message, has_room) {
             self.tell(&told);
         }
     }

@@ -1,10 +1,10 @@
 //! What a table of connections tells of the segments of a capture.
 use super::{Asked, Packet, fold};
-use crate::cqlp_connections::{ConnectionTotals, Connections, Departure, DirectionTotals, Sight, Told, Way};
-use crate::cqlp_reassembly::StreamStep;
-use crate::cqlp_segment::Segment;
+use crate::cqlp_tcp_connections::{ConnectionTotals, Connections, Departure, DirectionTotals, Sight, Told, Way};
+use crate::cqlp_tcp_reassembly::{GapCause, StreamStep};
+use crate::cqlp_tcp_segment::Segment;
 use crate::heap::refusing;
-use crate::kit_std::alloc::Global;
+use crate::kit_std::alloc::{AllocError, Global};
 use std::fmt::Write;
 
 /// What was told of one direction of a connection.
@@ -18,22 +18,22 @@ struct Heard {
 /// What was told of all connections, in the order of their numbers, requests and responses; and a line for each direction of those that left.
 struct Listener {
     connections: Connections,
-    /// Whether the table gets no memory.
+    /// Whether each call of the table is made without memory first.
     is_poor: bool,
     pairs: Vec<[Heard; 2]>,
     said: String,
 }
 
-/// A line for each direction of a connection in a capture, when it leaves, and what was counted. The same is told where no memory is granted
-/// after the requests of `new`, and each of those is needed.
+/// A line for each direction of a connection in a capture, when it leaves, and what was counted. The same is told where each call is refused
+/// memory first, and made again if it says so; and each request of `new` is needed.
 pub fn said(asked: Asked, packets: &[Packet]) -> String {
     let make = || Connections::new(Global, asked.limits, &[asked.port]);
-    let needed = 3 * u64::from(asked.limits.connections) + 2;
+    let needed = refusing(u64::MAX, u64::MAX, || make().is_ok()).1;
     for number in 1..=needed {
         assert!(refusing(number, number, || make().is_err()).0, "made without request {number}");
     }
-    let heard = [(u64::MAX, false), (needed + 1, true)].map(|(first, is_poor)| {
-        let connections = refusing(first, u64::MAX, make).0.unwrap_or_else(|_| panic!("no memory"));
+    let heard = [false, true].map(|is_poor| {
+        let connections = make().unwrap_or_else(|_| panic!("no memory"));
         Listener { connections, is_poor, pairs: Vec::new(), said: String::new() }.hear(packets)
     });
     assert_eq!(heard[0], heard[1], "without memory");
@@ -42,8 +42,16 @@ pub fn said(asked: Asked, packets: &[Packet]) -> String {
 
 impl Listener {
     /// What a call of the table answers.
-    fn ask<T>(&mut self, call: impl FnOnce(&mut Connections) -> T) -> T {
-        if self.is_poor { refusing(1, u64::MAX, || call(&mut self.connections)).0 } else { call(&mut self.connections) }
+    fn ask<T>(&mut self, call: impl Fn(&mut Connections) -> Result<T, AllocError>) -> T {
+        if self.is_poor && let Ok(answer) = refusing(1, u64::MAX, || call(&mut self.connections)).0 {
+            return answer;
+        }
+        call(&mut self.connections).unwrap_or_else(|_| panic!("no memory"))
+    }
+
+    /// What a call answers that takes no memory.
+    fn tell_of<T>(&mut self, call: impl Fn(&mut Connections) -> T) -> T {
+        self.ask(|connections| Ok(call(connections)))
     }
 
     /// Hands all segments of a capture to the table, and then ends it.
@@ -65,7 +73,7 @@ impl Listener {
                 }
                 Sight::Taken { number, .. } => {
                     self.pairs.resize_with(self.pairs.len().max(number as usize), Default::default);
-                    while let Some(told) = self.ask(|connections| connections.pull(segment)) {
+                    while let Some(told) = self.ask(|connections| connections.pull(segment, None)) {
                         self.tell(told, segment.payload);
                     }
                     return;
@@ -77,7 +85,7 @@ impl Listener {
 
     fn leave(&mut self) {
         loop {
-            match self.ask(|connections| connections.leave()) {
+            match self.tell_of(|connections| connections.leave()) {
                 Departure::Told(told) => self.tell(told, &[]),
                 Departure::Left(totals) => return self.put(&totals),
                 Departure::Empty => return,
@@ -87,33 +95,33 @@ impl Listener {
 
     fn end(&mut self) {
         loop {
-            match self.ask(|connections| connections.finish()) {
+            match self.tell_of(|connections| connections.finish()) {
                 Departure::Told(told) => self.tell(told, &[]),
                 Departure::Left(totals) => self.put(&totals),
                 Departure::Empty => break,
             }
         }
-        let counts = self.ask(|connections| connections.counts());
+        let counts = self.tell_of(|connections| connections.counts());
         writeln!(self.said, "connections {} crowded {} foreign {}", counts.connections, counts.crowded, counts.foreign).unwrap();
     }
 
     fn tell(&mut self, told: Told, payload: &[u8]) {
-        let mut buffer = [0; 64];
         let bytes = match told.step {
-            StreamStep::Payload { from, count } => &payload[from..from + count],
-            StreamStep::Held { .. } => {
-                let count = self.ask(|connections| connections.read(told.way, &mut buffer));
-                &buffer[..count]
-            }
-            _ => &[],
+            StreamStep::Payload { from, count } => payload[from..from + count].to_vec(),
+            StreamStep::Held { .. } => self.connections.held(told.way).to_vec(),
+            _ => Vec::new(),
         };
+        if matches!(told.step, StreamStep::Held { .. }) {
+            self.tell_of(|connections| connections.pass_held(told.way));
+        }
         let heard = &mut self.pairs[told.number as usize - 1][told.way as usize];
-        heard.sum = fold(heard.sum, bytes);
+        heard.sum = fold(heard.sum, &bytes);
         heard.bytes += bytes.len() as u64;
         heard.said += &match told.step {
-            StreamStep::Payload { .. } | StreamStep::Held { .. } => String::new(),
+            StreamStep::Payload { .. } | StreamStep::Held { .. } | StreamStep::Kept => String::new(),
             StreamStep::Began { syn } => format!("began {syn} "),
-            StreamStep::Gap { length } => format!("gap {length} at {} ", told.at),
+            StreamStep::Gap { length, cause: GapCause::Lost, .. } => format!("gap {length} at {} ", told.at),
+            StreamStep::Gap { length, cause: GapCause::Snapped, .. } => format!("cut {length} at {} ", told.at),
             StreamStep::Ended => "ended ".to_string(),
             StreamStep::Reset => "reset ".to_string(),
             StreamStep::Done => "done ".to_string(),

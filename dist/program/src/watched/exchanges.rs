@@ -1,125 +1,138 @@
 //! What is told of the requests and responses on the connections of a capture.
 use super::facts::words;
 use super::{Asked, Packet, fold};
-use crate::cqlp_connections::{Connections, Departure, Sight, Told, Way};
 use crate::cqlp_note::Prim;
-use crate::cqlp_reassembly::StreamStep;
-use crate::cqlp_segment::Segment;
-use crate::cqlp_watch::{Kept, Message, Paired, Watch, subject_of};
+use crate::cqlp_observer::{Extent, Kept, Message, Paired, Watch, WatchRoom, subject_of};
+use crate::cqlp_tcp_connections::{Connections, Departure, Sight, Told, Way};
+use crate::cqlp_tcp_reassembly::{GapCause, StreamStep};
+use crate::cqlp_tcp_segment::Segment;
 use crate::heap::refusing;
-use crate::kit_std::alloc::Global;
+use crate::kit_std::alloc::{AllocError, Global};
 
 /// What is watched of the connections of a capture, in the order of their numbers.
 struct Watcher {
-    /// How many messages wait at most on each.
-    limit: u16,
-    /// Whether watches get no memory once they are made, of one request.
-    is_poor: bool,
+    room: WatchRoom,
     watches: Vec<Watch>,
-    /// When the present packet was captured, and the latest time of any so far.
+    /// When the present packet was captured.
     time: Option<u64>,
-    latest: Option<u64>,
     said: String,
+    /// How many requests for memory were made, and which of them is refused.
+    requests: u64,
+    refused: u64,
 }
 
-/// A line for each exchange in a capture, and for each message that is in none. The same is told where no memory is granted after one request
-/// for each connection, and that request is needed.
-pub fn said(asked: Asked, limit: u16, packets: &[Packet]) -> String {
-    assert!(refusing(1, 1, || Watch::new(Global, limit).is_err()).0, "made without memory");
-    let told = [false, true].map(|is_poor| {
-        let watcher = Watcher { limit, is_poor, watches: Vec::new(), time: None, latest: None, said: String::new() };
-        watcher.watch(Connections::new(Global, asked.limits, &[asked.port]).unwrap_or_else(|_| panic!("no memory")), packets)
-    });
-    assert_eq!(told[0], told[1], "without memory");
-    told.into_iter().next().unwrap()
+/// A line for each exchange in a capture, and for each message that is in none, of which at most `limit` wait on a connection. Where a request for
+/// memory is refused, the call says so that made it.
+pub fn said(asked: Asked, limit: usize, packets: &[Packet]) -> String {
+    let watched = |refused| {
+        let room = WatchRoom { messages: limit, text: 1 << 20 };
+        let mut watcher = Watcher { room, watches: Vec::new(), time: None, said: String::new(), requests: 0, refused };
+        let answer = watcher.watch(asked, packets);
+        (answer.map(|()| watcher.said), watcher.requests)
+    };
+    let (said, requests) = watched(u64::MAX);
+    for number in (1..=requests).step_by(requests as usize / 50 + 1) {
+        assert!(watched(number).0.is_err(), "request {number} of {requests} was refused");
+    }
+    said.unwrap_or_else(|_| panic!("no memory"))
 }
 
 impl Watcher {
     /// Watches all connections of a capture to their ends.
-    fn watch(mut self, mut connections: Connections, packets: &[Packet]) -> String {
+    fn watch(&mut self, asked: Asked, packets: &[Packet]) -> Result<(), AllocError> {
+        let ports = [asked.port];
+        let mut connections = self.ask(|_| Connections::new(Global, asked.limits, &ports).map_err(|_| AllocError))?;
         for packet in packets {
             self.time = packet.time;
-            self.latest = self.latest.max(packet.time);
             if let Ok(segment) = packet.segment() {
-                self.take(&mut connections, &segment);
+                self.take(&mut connections, &segment)?;
             }
         }
         loop {
             match connections.finish() {
-                Departure::Told(told) => self.tell(&mut connections, told, &[]),
-                Departure::Left(totals) => self.leave(totals.number),
-                Departure::Empty => return self.said,
+                Departure::Told(told) => self.tell(&mut connections, told, &[])?,
+                Departure::Left(totals) => self.leave(totals.number)?,
+                Departure::Empty => return Ok(()),
             }
         }
+    }
+
+    /// What a call answers, of whose requests for memory one may be refused.
+    fn ask<T>(&mut self, call: impl FnOnce(&mut Vec<Watch>) -> Result<T, AllocError>) -> Result<T, AllocError> {
+        let left = self.refused - self.requests.min(self.refused);
+        let (answer, made) = refusing(left, left, || call(&mut self.watches));
+        self.requests += made;
+        assert_eq!(answer.is_err(), (1..=made).contains(&left));
+        answer
     }
 
     /// Watches what a segment hands on.
-    fn take(&mut self, connections: &mut Connections, segment: &Segment<'_>) {
-        let Sight::Taken { number, .. } = connections.take(&segment.head) else { return };
+    fn take(&mut self, connections: &mut Connections, segment: &Segment<'_>) -> Result<(), AllocError> {
+        let Sight::Taken { number, .. } = self.ask(|_| connections.take(&segment.head))? else { return Ok(()) };
         while (self.watches.len() as u64) < number {
-            let first = if self.is_poor { 2 } else { u64::MAX };
-            let made = refusing(first, u64::MAX, || Watch::new(Global, self.limit)).0;
-            self.watches.push(made.unwrap_or_else(|_| panic!("no memory")));
+            self.watches.reserve(1);
+            let made = self.ask(|_| Watch::new(Global))?;
+            self.watches.push(made);
         }
-        while let Some(told) = connections.pull(segment) {
-            self.tell(connections, told, segment.payload);
+        let time = self.time;
+        while let Some(told) = self.ask(|_| connections.pull(segment, time))? {
+            self.tell(connections, told, segment.payload)?;
         }
-    }
-
-    /// What the watch of a connection answers.
-    fn ask<T>(&mut self, number: u64, call: impl FnOnce(&mut Watch) -> T) -> T {
-        let watch = &mut self.watches[number as usize - 1];
-        if self.is_poor { refusing(1, u64::MAX, || call(watch)).0 } else { call(watch) }
+        Ok(())
     }
 
     /// Watches the next of one direction.
-    fn tell(&mut self, connections: &mut Connections, told: Told, payload: &[u8]) {
-        let (number, responses) = (told.number, told.way == Way::Responses);
+    fn tell(&mut self, connections: &mut Connections, told: Told, payload: &[u8]) -> Result<(), AllocError> {
+        let (number, responses, room) = (told.number, told.way == Way::Responses, self.room);
+        let at = number as usize - 1;
         match told.step {
-            StreamStep::Began { syn } => self.ask(number, |watch| watch.begin(responses, syn)),
-            StreamStep::Payload { from, count } => self.hear(told, self.time, &payload[from..from + count], from == 0),
-            StreamStep::Held { .. } => {
-                let mut buffer = [0; 64];
-                let count = connections.read(told.way, &mut buffer);
-                self.hear(told, if responses { self.latest } else { self.time }, &buffer[..count], false);
+            StreamStep::Began { syn } => self.watches[at].begin(responses, syn),
+            StreamStep::Payload { from, count } => self.hear(told, self.time, &payload[from..from + count], from == 0)?,
+            StreamStep::Held { time, begins } => {
+                self.hear(told, time, connections.held(told.way), begins)?;
+                connections.pass_held(told.way);
             }
-            StreamStep::Gap { length } => {
+            StreamStep::Gap { length, cause, time } => {
                 let side = if responses { "responses" } else { "requests" };
-                self.said += &format!("{number} {side} gap {length} at {}\n", told.at);
-                let paired = self.ask(number, |watch| watch.gap(responses, length as u64));
+                let what = if cause == GapCause::Lost { "gap" } else { "cut" };
+                self.said += &format!("{number} {side} {what} {length} at {}\n", told.at);
+                let paired = self.ask(|watches| watches[at].gap(responses, length, time, room))?;
                 self.say(number, paired);
             }
             StreamStep::Ended | StreamStep::Reset => {
-                let paired = self.ask(number, |watch| watch.end(responses));
+                let paired = self.ask(|watches| watches[at].end(responses, room))?;
                 self.say(number, paired);
             }
-            StreamStep::Done => {}
+            StreamStep::Kept | StreamStep::Done => {}
         }
+        Ok(())
     }
 
     /// Watches bytes of one direction, which came at this time.
-    fn hear(&mut self, told: Told, time: Option<u64>, bytes: &[u8], begins: bool) {
-        let mut rest = bytes;
+    fn hear(&mut self, told: Told, time: Option<u64>, bytes: &[u8], begins: bool) -> Result<(), AllocError> {
+        let (at, room, mut rest) = (told.number as usize - 1, self.room, bytes);
         loop {
             let is_first = begins && rest.len() == bytes.len();
-            let step = self.ask(told.number, |watch| watch.take(told.way == Way::Responses, rest, time, is_first));
+            let step = self.ask(|watches| watches[at].take(told.way == Way::Responses, rest, time, is_first, room))?;
             self.say(told.number, step.told);
             if step.is_done {
-                return;
+                return Ok(());
             }
             rest = &rest[step.used..];
         }
     }
 
     /// Says what is left of a connection that is over.
-    fn leave(&mut self, number: u64) {
+    fn leave(&mut self, number: u64) -> Result<(), AllocError> {
+        let (at, room) = (number as usize - 1, self.room);
         for responses in [false, true] {
-            let paired = self.ask(number, |watch| watch.end(responses));
+            let paired = self.ask(|watches| watches[at].end(responses, room))?;
             self.say(number, paired);
         }
-        while let Some(paired) = self.ask(number, |watch| watch.finish()) {
+        while let Some(paired) = self.watches[at].finish() {
             self.say(number, Some(paired));
         }
+        Ok(())
     }
 
     /// A line of what is told of the connection with this number.
@@ -136,7 +149,7 @@ impl Watcher {
 
 /// A message's stream id, opcode, length, place, times, the number of what is kept of it, what that is about, and what it says.
 fn said_of(message: &Message<Kept>) -> String {
-    let (frame, front) = (message.frame, message.kept.front.as_slice());
+    let (frame, front) = (message.frame, message.kept.front());
     let header = frame.header;
     let subject = match subject_of(&header, front).map(|field| field.value) {
         None => String::new(),
@@ -151,10 +164,14 @@ fn said_of(message: &Message<Kept>) -> String {
         header.opcode,
         header.length,
         frame.at,
-        if frame.whole { "" } else { " cut" },
+        match frame.extent {
+            Extent::Whole => "",
+            Extent::Holed => " holed",
+            Extent::Short => " short",
+        },
         frame.begun.unwrap_or(0),
         frame.ended.unwrap_or(0),
         fold(0, front),
-        words(&message.kept.facts)
+        words(message.kept.facts())
     )
 }

@@ -1,6 +1,6 @@
 //! What a frame says beside its first field, as its body grows and in pieces.
 use super::fold;
-use crate::cqlp_facts::{Facts, FactsReader};
+use crate::cqlp_observer_facts::{Facts, FactsReader};
 use crate::cqlp_note::Header;
 use std::fmt::Write;
 

@@ -9,8 +9,8 @@ mod facts;
 mod summaries;
 
 use crate::cqlp_capture::{CaptureEvent, CaptureLimits, CaptureReader, CaptureStep};
-use crate::cqlp_connections::ConnectionLimits;
-use crate::cqlp_segment::{LinkType, NoSegment, Segment, read_segment};
+use crate::cqlp_tcp_connections::ConnectionLimits;
+use crate::cqlp_tcp_segment::{LinkType, NoSegment, Segment, read_segment};
 use crate::kit_std::alloc::Global;
 use std::fs::read;
 
@@ -70,7 +70,8 @@ fn said_of(line: &str) -> String {
 
 fn asked_of(words: &str) -> (Asked, &str) {
     let words: Vec<&str> = words.splitn(4, ' ').collect();
-    let limits = ConnectionLimits { connections: words[1].parse().unwrap(), early: words[2].parse().unwrap() };
+    let early = words[2].parse().unwrap();
+    let limits = ConnectionLimits { connections: words[1].parse().unwrap(), early, early_each: early };
     (Asked { port: words[0].parse().unwrap(), limits }, words[3])
 }
 

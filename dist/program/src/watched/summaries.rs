@@ -2,7 +2,7 @@
 //! nanoseconds or `-`, and the statement, `..` before it if it is not whole.
 use super::text;
 use crate::cqlp_note::OfStd;
-use crate::cqlp_summary::{Occurrence, Summary};
+use crate::cqlp_capture_summary::{Occurrence, Summary};
 use crate::cqlp_text::TextWriter;
 use crate::heap::refusing;
 use crate::kit_std::alloc::Global;

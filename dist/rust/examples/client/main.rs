@@ -6,10 +6,10 @@
 #![forbid(unsafe_code)]
 
 use cqlp::frame::{BatchEntry, BuildLimits, Frame, FrameBuilder, Message, QueryParams, encode};
-use cqlp::rows::{BoundValues, PageReader};
+use cqlp::rows::PageReader;
 use cqlp::session::{ClientOf, ReplyOf, RequestKind};
 use cqlp::text::{opcode_name, render_rows};
-use cqlp::{Decoder, Global, Header, Limits, OfStd, Step, bind, row};
+use cqlp::{Consistency, Decoder, Global, Header, Limits, OfStd, Step, bind, row};
 use std::io::{BufReader, Read, Write, stdout};
 use std::net::{Ipv4Addr, TcpStream};
 use std::time::Instant;
@@ -24,9 +24,6 @@ const KEYS: u32 = 100;
 
 /// How many rows a page has.
 const PAGE: i32 = 10;
-
-/// The consistency ONE.
-const ONE: u16 = 0x0001;
 
 row! {
     /// A row of the table ks.t.
@@ -123,8 +120,8 @@ impl Connection {
         self.pages.give(statement.result.specs.as_deref().unwrap_or_default())?;
         let mut state = None;
         loop {
-            let (id, values) = (statement.id.to_vec().into(), bind!(&statement.specs; key)?);
-            let params = params(Some(values), Some(PAGE), state);
+            let id = statement.id.to_vec().into();
+            let params = params(state).with_values(bind!(&statement.specs; key)?).without_metadata().with_page_size(PAGE);
             self.ask(RequestKind::Execute, Message::Execute { id, params }, 0)?;
             let (frame, _) = self.hear()?;
             let rows = self.pages.rows(&frame)?;
@@ -141,13 +138,13 @@ impl Connection {
     }
 }
 
-/// Parameters with these values, of a page of this size from where a paging state says; without a size all rows are in one page. Section
-/// 4.1.4 of `native_protocol_v4.spec`.
-fn params(values: Option<BoundValues>, page_size: Option<i32>, state: Option<Vec<u8>>) -> QueryParams {
-    let flags = [(values.is_some(), 0x01 | 0x02), (page_size.is_some(), 0x04), (state.is_some(), 0x08)];
-    let flags = flags.iter().filter(|flag| flag.0).map(|flag| flag.1).sum();
-    let paging = state.map(|state| Some(state.into()));
-    QueryParams { consistency: ONE, flags, values, page_size, paging, serial: None, timestamp: None }
+/// Parameters of the consistency ONE, with the paging state of the page before.
+fn params(state: Option<Vec<u8>>) -> QueryParams {
+    let params = QueryParams::new(Consistency::One);
+    match state {
+        Some(state) => params.with_paging_state(state),
+        None => params,
+    }
 }
 
 fn main() -> Result<()> {
@@ -167,10 +164,10 @@ fn converse(connection: &mut Connection) -> Result<()> {
     connection.show(RequestKind::Startup, Message::Startup(vec![version].into()))?;
     connection.show(RequestKind::Register, Message::Register(vec!["STATUS_CHANGE".to_string().into()].into()))?;
     for text in ["SELECT * FROM system.local WHERE key='local'", "SELECT * FROM system.peers"] {
-        connection.query(text, params(None, None, None))?;
+        connection.query(text, params(None))?;
     }
     let mut state = None;
-    while let Message::Rows(page) = connection.query("SELECT * FROM ks.t WHERE k = 3", params(None, Some(PAGE), state))?.message {
+    while let Message::Rows(page) = connection.query("SELECT * FROM ks.t WHERE k = 3", params(state).with_page_size(PAGE))?.message {
         state = page.meta.paging.flatten().map(|state| state.into_std());
         if state.is_none() {
             break;
@@ -178,11 +175,14 @@ fn converse(connection: &mut Connection) -> Result<()> {
     }
     connection.execute("SELECT * FROM ks.t WHERE k = ?", 7)?;
     let entries = vec![BatchEntry::Text("INSERT INTO ks.t (k, c) VALUES (1, 1)".to_string().into(), vec![].into())].into();
-    connection.show(RequestKind::Batch, Message::Batch { kind: 0, entries, consistency: ONE, flags: 0, serial: None, timestamp: None })?;
-    let unknown = Message::Execute { id: b"none".to_vec().into(), params: params(None, None, None) };
+    connection.show(
+        RequestKind::Batch,
+        Message::Batch { kind: 0, entries, consistency: Consistency::One.into(), flags: 0, serial: None, timestamp: None },
+    )?;
+    let unknown = Message::Execute { id: b"none".to_vec().into(), params: params(None) };
     connection.show(RequestKind::Execute, unknown)?;
     for text in ["SELECT * FROM ks.nothing", "BAD"] {
-        connection.query(text, params(None, None, None))?;
+        connection.query(text, params(None))?;
     }
     Ok(())
 }
@@ -195,7 +195,7 @@ fn measure(connection: &mut Connection, queries: u32) -> Result<()> {
         let window = first..queries.min(first.saturating_add(SLOTS.into()));
         for number in window.clone() {
             let text = format!("SELECT * FROM ks.t WHERE k = {}", number % KEYS).into();
-            connection.ask(RequestKind::Query, Message::Query { text, params: params(None, None, None) }, number)?;
+            connection.ask(RequestKind::Query, Message::Query { text, params: params(None) }, number)?;
         }
         for place in window {
             let (frame, number) = connection.hear()?;

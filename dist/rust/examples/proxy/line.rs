@@ -2,7 +2,7 @@
 
 use crate::observer::Seen;
 use cqlp::text::opcode_name;
-use cqlp::watch::{Message, Paired};
+use cqlp::watch::{Extent, Message, Paired};
 use cqlp::{Opcode, result_kind};
 use std::fmt;
 
@@ -81,6 +81,6 @@ fn put_kind(f: &mut fmt::Formatter<'_>, kind: u32) -> fmt::Result {
 
 /// How many bytes the frame has, and whether some of them did not come.
 fn put_length(f: &mut fmt::Formatter<'_>, message: &Message<Seen>) -> fmt::Result {
-    let cut = if message.frame.whole { "" } else { " cut" };
+    let cut = if message.frame.extent == Extent::Whole { "" } else { " cut" };
     write!(f, " {}{cut}", 9 + u64::from(message.frame.header.length))
 }

@@ -2,20 +2,20 @@
 //! What listens to the connections of a capture.
 
 use crate::kit_host::prelude::{AllocGlobal, Clone, ToCopy, Vec, vec};
-use crate::cqlp_capture_events::limits::CONNECTIONS;
 use crate::cqlp_capture_events::table::Table;
-use crate::cqlp_connections::Told;
-use crate::cqlp_grammar::SinkFault;
+use crate::cqlp_capture_frames::TellFault;
+use crate::cqlp_capture_streams::{Listener, Saying, StreamsFault};
 use crate::cqlp_note::Target;
-use crate::cqlp_streams::{Listener, Saying, StreamsFault};
+use crate::cqlp_tcp_connections::Told;
 use crate::cqlp_text::{Buffered, TextWriter};
 use crate::kit_std::alloc::{AllocError, Allocator, Global};
 
 /// How many bytes of lines wait at most.
 const ROOM: usize = 65_536;
 
-/// Reads the frames on the connections of a capture, and writes a line for each event, when its last byte is there. A connection that begins
-/// where as many are watched as there may be is not. All memory is taken in `new`.
+/// Reads the frames on the connections of a capture, and writes a line for each event, when its last byte is there. Memory for a connection is
+/// taken as it begins, and for the decoder of a frame as that does, and is given back. A frame that begins while as many are read as there may
+/// be is passed over, and counted.
 pub struct Events<O: Target, A: Allocator = Global> {
     /// The connection whose lines are written, if only one's are.
     asked: Option<u64>,
@@ -23,13 +23,10 @@ pub struct Events<O: Target, A: Allocator = Global> {
     writer: TextWriter<Buffered<O, A>>,
 }
 
-impl<O: Target, A: Allocator> Events<O, A> {
-    /// Nothing is watched, and lines go to this output: those of the connection with this number, or of all. All memory is taken here, in
-    /// eight requests for each connection and two more; where it is not granted, the output is given back.
-    pub fn new(alloc: A, asked: Option<u64>, out: O) -> Result<Self, O>
-    where
-        A: Clone,
-    {
+impl<O: Target, A: Allocator + Clone> Events<O, A> {
+    /// Nothing is watched, and lines go to this output: those of the connection with this number, or of all. Takes memory for lines; where it is
+    /// not granted, the output is given back.
+    pub fn new(alloc: A, asked: Option<u64>, out: O) -> Result<Self, O> {
         match take_memory(alloc) {
             Ok((table, buffer)) => Ok(Events {
                 asked,
@@ -40,14 +37,14 @@ impl<O: Target, A: Allocator> Events<O, A> {
         }
     }
 
-    /// The output.
-    pub fn into_output(self) -> O {
+    /// The output, and how many frames were not read.
+    pub fn into_parts(self) -> (O, u64) {
         let Events {
             asked: _,
-            table: _,
+            table,
             writer,
         } = self;
-        writer.into_inner().into_inner()
+        (writer.into_inner().into_inner(), table.unread())
     }
 
     /// Whether the lines of the connection with this number are written.
@@ -62,12 +59,7 @@ impl<O: Target, A: Allocator> Events<O, A> {
     fn take(&mut self, saying: &Saying<'_>) -> Result<(), StreamsFault> {
         match saying {
             Saying::Packet { .. } => Ok(()),
-            Saying::New { number } => {
-                if self.is_asked(*number) {
-                    self.table.begin(*number);
-                }
-                Ok(())
-            }
+            Saying::New { number } => self.begin(*number),
             Saying::Of { told, bytes } => self.hear_told(told, bytes),
             Saying::Left(totals) => {
                 self.table.leave(totals.number);
@@ -76,38 +68,55 @@ impl<O: Target, A: Allocator> Events<O, A> {
         }
     }
 
+    fn begin(&mut self, number: u64) -> Result<(), StreamsFault> {
+        if !self.is_asked(number) {
+            return Ok(());
+        }
+        match self.table.begin(number) {
+            Ok(()) => Ok(()),
+            Err(AllocError) => Err(StreamsFault::NoMemory),
+        }
+    }
+
     fn hear_told(&mut self, told: &Told, bytes: &[u8]) -> Result<(), StreamsFault> {
         match self.tell(told, bytes) {
             Ok(()) => Ok(()),
-            Err(SinkFault) => Err(StreamsFault::Write),
+            Err(TellFault::Write) => Err(StreamsFault::Write),
+            Err(TellFault::NoMemory) => Err(StreamsFault::NoMemory),
         }
     }
 
     /// Writes the lines of what is told.
-    fn tell(&mut self, told: &Told, bytes: &[u8]) -> Result<(), SinkFault> {
+    fn tell(&mut self, told: &Told, bytes: &[u8]) -> Result<(), TellFault> {
         put_told(&mut self.table, told, bytes, &mut self.writer)
     }
 }
 
-/// Takes the lines of what is told, and passes them on.
-fn put_told<W: Target, A: Allocator, B: Allocator>(
+/// Takes the lines of what is told, and passes them on, also where memory was refused.
+fn put_told<W: Target, A: Allocator + Clone, B: Allocator>(
     table: &mut Table<A>,
     told: &Told,
     bytes: &[u8],
     writer: &mut TextWriter<Buffered<W, B>>,
-) -> Result<(), SinkFault> {
-    table.hear(told, bytes, writer)?;
-    writer.pass_on()
+) -> Result<(), TellFault> {
+    match table.hear(told, bytes, writer) {
+        Ok(()) => Ok(writer.pass_on()?),
+        Err(TellFault::Write) => Err(TellFault::Write),
+        Err(TellFault::NoMemory) => {
+            writer.pass_on()?;
+            Err(TellFault::NoMemory)
+        }
+    }
 }
 
-/// A table of free slots, and a buffer.
+/// A table without connections, and a buffer.
 fn take_memory<A: Allocator + Clone>(alloc: A) -> Result<(Table<A>, Vec<u8, A>), AllocError> {
-    let table = Table::new(alloc.to_copy()?, CONNECTIONS)?;
+    let table = Table::new(alloc.to_copy()?)?;
     let buffer = vec![in alloc; 0; ROOM]?;
     Ok((table, buffer))
 }
 
-impl<O: Target, A: Allocator> Listener for Events<O, A> {
+impl<O: Target, A: Allocator + Clone> Listener for Events<O, A> {
     fn hear(&mut self, saying: &Saying<'_>) -> Result<(), StreamsFault> {
         self.take(saying)
     }

@@ -7,7 +7,8 @@ mod limits;
 mod lines;
 mod slot;
 mod table;
+mod words;
 
-pub use capturing::write_events;
+pub(crate) use capturing::{write_events};
 pub use events::Events;
-pub use limits::{CONNECTION_LIMITS, CONNECTIONS, LIMITS};
+pub use limits::{LIMITS, OPEN_FRAMES};

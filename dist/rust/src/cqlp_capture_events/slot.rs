@@ -4,87 +4,89 @@
 use crate::kit_host::prelude::{AllocGlobal, Clone, ToCopy};
 use crate::cqlp_capture_events::limits::LIMITS;
 use crate::cqlp_capture_events::lines::Lines;
-use crate::cqlp_capture_frames::Direction;
-use crate::cqlp_connections::{Told, Way};
-use crate::cqlp_decode::NewError;
-use crate::cqlp_grammar::SinkFault;
+use crate::cqlp_capture_frames::{Direction, LinePlace, TellFault};
+use crate::cqlp_tcp_connections::{Told, Way};
 use crate::cqlp_text::{Pen, TextWriter};
 use crate::kit_std::alloc::{AllocError, Allocator, Global};
 
-/// A connection's number, if the slot is not free, and its two directions.
+/// The two directions of a connection.
 pub(crate) struct Slot<A: Allocator = Global> {
-    number: Option<u64>,
     requests: Direction<A>,
     responses: Direction<A>,
 }
 
 impl<A: Allocator + Clone> Slot<A> {
-    /// A free slot. All memory is taken here.
+    /// A connection of which nothing came.
     pub(crate) fn new(alloc: A) -> Result<Self, AllocError> {
         Ok(Slot {
-            number: None,
-            requests: new_direction(alloc.to_copy()?, false)?,
-            responses: new_direction(alloc, true)?,
+            requests: Direction::new(alloc.to_copy()?, LIMITS, false),
+            responses: Direction::new(alloc, LIMITS, true),
         })
     }
-}
 
-/// A direction of which nothing came. All memory is taken here.
-fn new_direction<A: Allocator + Clone>(
-    alloc: A,
-    responses: bool,
-) -> Result<Direction<A>, AllocError> {
-    match Direction::new(alloc, LIMITS, responses) {
-        Ok(direction) => Ok(direction),
-        Err(NewError::NoMemory | NewError::BadLimits(_)) => Err(AllocError),
-    }
-}
-
-impl<A: Allocator> Slot<A> {
-    /// Whether it has this number, or is free where there is none.
-    pub(crate) fn has_number(&self, number: Option<u64>) -> bool {
-        match (self.number, number) {
-            (None, None) => true,
-            (Some(own), Some(other)) => own == other,
-            _ => false,
-        }
+    /// How many of its directions read a frame.
+    pub(crate) fn open(&self) -> usize {
+        usize::from(self.requests.is_open()) + usize::from(self.responses.is_open())
     }
 
-    /// The connection with this number begins.
-    pub(crate) fn begin(&mut self, number: u64) {
-        self.number = Some(number);
-        self.requests.restart(false);
-        self.responses.restart(false);
-    }
-
-    /// The connection leaves, and the slot is free.
-    pub(crate) fn leave(&mut self) {
-        self.number = None;
-    }
-
-    /// Takes what is told of one of its directions, with its bytes.
+    /// Takes what is told of one of its directions, with its bytes, and counts the frames that are not read. Where there is no room for one
+    /// more decoder, only a direction that reads a frame reads others.
     pub(crate) fn hear<P: Pen>(
         &mut self,
+        has_room: bool,
         told: &Told,
         bytes: &[u8],
+        unread: &mut u64,
         writer: &mut TextWriter<P>,
-    ) -> Result<(), SinkFault> {
+    ) -> Result<(), TellFault> {
         match told.way {
             Way::Requests => {
-                let mut lines = lines_of(told.number, false);
-                self.requests
-                    .hear(told.step, told.at, bytes, &mut lines, writer)
+                let mut lines = lines_of(told.number, false, *unread);
+                hear_in(
+                    &mut self.requests,
+                    has_room,
+                    told,
+                    bytes,
+                    &mut lines,
+                    writer,
+                )?;
+                *unread = lines.unread;
+                Ok(())
             }
             Way::Responses => {
-                let mut lines = lines_of(told.number, true);
-                self.responses
-                    .hear(told.step, told.at, bytes, &mut lines, writer)
+                let mut lines = lines_of(told.number, true, *unread);
+                hear_in(
+                    &mut self.responses,
+                    has_room,
+                    told,
+                    bytes,
+                    &mut lines,
+                    writer,
+                )?;
+                *unread = lines.unread;
+                Ok(())
             }
         }
     }
 }
 
-/// The lines of a direction of the connection with this number.
-fn lines_of(number: u64, responses: bool) -> Lines {
-    Lines { number, responses }
+/// Takes what is told of this direction.
+fn hear_in<A: Allocator + Clone, P: Pen>(
+    direction: &mut Direction<A>,
+    has_room: bool,
+    told: &Told,
+    bytes: &[u8],
+    lines: &mut Lines,
+    writer: &mut TextWriter<P>,
+) -> Result<(), TellFault> {
+    let has_room = has_room || direction.is_open();
+    direction.hear(has_room, told.step, told.at, bytes, lines, writer)
+}
+
+/// The lines of a direction of the connection with this number, where so many frames were not read so far.
+fn lines_of(number: u64, responses: bool, unread: u64) -> Lines {
+    Lines {
+        place: LinePlace { number, responses },
+        unread,
+    }
 }

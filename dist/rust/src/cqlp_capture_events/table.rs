@@ -1,38 +1,49 @@
 // Written by dist/erase from crates/cqlp_capture_events/src/table.rt.
 //! The connections that are watched.
 
-use crate::kit_host::prelude::{AllocGlobal, Clone, ToCopy, Vec};
+use crate::kit_host::prelude::{AllocGlobal, Clone, ToCopy};
+use crate::cqlp_capture_events::limits::OPEN_FRAMES;
 use crate::cqlp_capture_events::slot::Slot;
-use crate::cqlp_connections::Told;
-use crate::cqlp_grammar::SinkFault;
+use crate::cqlp_capture_frames::TellFault;
+use crate::cqlp_tcp_connections::Told;
 use crate::cqlp_text::{Pen, TextWriter};
 use crate::kit_std::alloc::{AllocError, Allocator, Global};
+use crate::kit_std::collections::BTreeMap;
 
-/// The connections that are watched, each in a slot. All memory is taken in `new`.
+/// The connections that are watched, by their numbers. Memory is taken for each as it begins, and for the decoder of a frame as that does, and
+/// is given back.
 pub(crate) struct Table<A: Allocator = Global> {
-    slots: Vec<Slot<A>, A>,
+    alloc: A,
+    slots: BTreeMap<u64, Slot<A>, A>,
+    /// How many directions read a frame.
+    reading: usize,
+    /// How many frames were not read, as there was no room for their decoders.
+    unread: u64,
 }
 
-impl<A: Allocator> Table<A> {
-    /// So many free slots.
-    pub(crate) fn new(alloc: A, slots: usize) -> Result<Self, AllocError>
-    where
-        A: Clone,
-    {
+impl<A: Allocator + Clone> Table<A> {
+    /// No connections.
+    pub(crate) fn new(alloc: A) -> Result<Self, AllocError> {
+        let slots = BTreeMap::new(alloc.to_copy()?);
         Ok(Table {
-            slots: make_slots(alloc, slots)?,
+            alloc,
+            slots,
+            reading: 0,
+            unread: 0,
         })
     }
 
-    /// The place of the first slot with this number, or of the first that is free.
-    fn place_of(&self, number: Option<u64>) -> Option<usize> {
-        place_of(&self.slots, number)
+    /// How many frames were not read.
+    pub(crate) fn unread(&self) -> u64 {
+        self.unread
     }
 
-    /// The connection with this number begins, where a slot is free.
-    pub(crate) fn begin(&mut self, number: u64) {
-        if let Some(at) = self.place_of(None) {
-            self.slots[at].begin(number);
+    /// The connection with this number begins. Where memory is refused, nothing changes.
+    pub(crate) fn begin(&mut self, number: u64) -> Result<(), AllocError> {
+        let slot = Slot::new(self.alloc.to_copy()?)?;
+        match self.slots.insert(number, slot) {
+            Ok(_) => Ok(()),
+            Err(_) => Err(AllocError),
         }
     }
 
@@ -42,30 +53,45 @@ impl<A: Allocator> Table<A> {
         told: &Told,
         bytes: &[u8],
         writer: &mut TextWriter<P>,
-    ) -> Result<(), SinkFault> {
-        match self.place_of(Some(told.number)) {
-            Some(at) => self.slots[at].hear(told, bytes, writer),
+    ) -> Result<(), TellFault> {
+        match self.slots.get_mut(&told.number) {
+            Some(slot) => hear_in(
+                slot,
+                &mut self.reading,
+                &mut self.unread,
+                told,
+                bytes,
+                writer,
+            ),
             None => Ok(()),
         }
     }
 
     /// The connection with this number leaves.
     pub(crate) fn leave(&mut self, number: u64) {
-        if let Some(at) = self.place_of(Some(number)) {
-            self.slots[at].leave();
+        if let Some(slot) = self.slots.remove(&number) {
+            self.reading = reading_after(self.reading, slot.open(), 0);
         }
     }
 }
 
-/// The place of the first slot with this number, or of the first that is free.
-fn place_of<A: Allocator>(slots: &[Slot<A>], number: Option<u64>) -> Option<usize> {
-    slots.iter().position(|slot| slot.has_number(number))
+/// Takes what is told of the streams of this connection.
+fn hear_in<A: Allocator + Clone, P: Pen>(
+    slot: &mut Slot<A>,
+    reading: &mut usize,
+    unread: &mut u64,
+    told: &Told,
+    bytes: &[u8],
+    writer: &mut TextWriter<P>,
+) -> Result<(), TellFault> {
+    let before = slot.open();
+    let has_room = *reading < OPEN_FRAMES;
+    slot.hear(has_room, told, bytes, unread, writer)?;
+    *reading = reading_after(*reading, before, slot.open());
+    Ok(())
 }
 
-fn make_slots<A: Allocator + Clone>(alloc: A, count: usize) -> Result<Vec<Slot<A>, A>, AllocError> {
-    let mut slots = Vec::with_capacity(alloc.to_copy()?, count)?;
-    for _ in 0..count {
-        slots.push_reserved(Slot::new(alloc.to_copy()?)?);
-    }
-    Ok(slots)
+/// How many directions read a frame where so many did, of which `before` were those of a connection that are `now` so many.
+fn reading_after(reading: usize, before: usize, now: usize) -> usize {
+    reading.saturating_sub(before).saturating_add(now)
 }

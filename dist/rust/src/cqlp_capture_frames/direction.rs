@@ -1,56 +1,63 @@
 // Written by dist/erase from crates/cqlp_capture_frames/src/direction.rt.
 //! One direction of a connection.
 
-use crate::kit_host::prelude::{AllocGlobal, Clone};
-use crate::cqlp_capture_frames::drain::{begin_frame, behind, drain};
-use crate::cqlp_capture_frames::noted::Noted;
+use crate::kit_host::prelude::{AllocGlobal, Box, Clone, ToCopy};
+use crate::cqlp_capture_frames::drain::behind;
+use crate::cqlp_capture_frames::reader::FrameReader;
 use crate::cqlp_capture_frames::transcript::Transcript;
-use crate::cqlp_decode::{Decoder, NewError};
 use crate::cqlp_note::{Header, Limits};
-use crate::cqlp_reassembly::StreamStep;
+use crate::cqlp_observer::{Heads, Heard, HeardStep};
+use crate::cqlp_tcp_reassembly::StreamStep;
 use crate::cqlp_text::{Pen, TextWriter};
-use crate::cqlp_watch::{Heads, Heard, HeardStep};
-use crate::kit_std::alloc::{Allocator, Global};
+use crate::cqlp_type::TypeTable;
+use crate::kit_std::alloc::{AllocError, Allocator, Global};
 
 /// One direction of a connection: where its frames begin and end, and the decoder of the frame of which bytes are read. A frame is read as a
-/// stream of its own, so that a refusal, a gap or a compressed frame does not end the reading. All memory is taken in `new`.
+/// stream of its own, so that a refusal, a gap or a compressed frame does not end the reading. It has memory while a frame is read, for its
+/// decoder.
 pub struct Direction<A: Allocator = Global> {
+    alloc: A,
+    limits: Limits,
     responses: bool,
     heads: Heads,
-    decoder: Decoder<A>,
-    /// Whether the present frame is read; else its bytes are passed over.
-    is_open: bool,
-    /// Where that frame begins.
-    at: u64,
-    /// What the decoder was handed of it.
-    came: Noted,
-}
-
-impl<A: Allocator + Clone> Direction<A> {
-    /// A direction of which nothing came, that of the responses or that of the requests, with the decoder's memory within these limits.
-    pub fn new(alloc: A, limits: Limits, responses: bool) -> Result<Self, NewError> {
-        let decoder = Decoder::new(alloc, limits)?;
-        Ok(Direction {
-            responses,
-            heads: Heads::new(responses, false),
-            decoder,
-            is_open: false,
-            at: 0,
-            came: Noted::new(),
-        })
-    }
+    /// The decoder of the present frame; where there is none, its bytes are passed over.
+    reader: Option<Box<FrameReader<A>, A>>,
 }
 
 impl<A: Allocator> Direction<A> {
+    /// A direction of which nothing came, that of the responses or that of the requests, whose frames are read within these limits. Takes no
+    /// memory.
+    pub fn new(alloc: A, limits: Limits, responses: bool) -> Self {
+        Direction {
+            alloc,
+            limits,
+            responses,
+            heads: Heads::new(responses, false),
+            reader: None,
+        }
+    }
+}
+
+impl<A: Allocator + Clone> Direction<A> {
     /// Nothing came. Its first byte begins a frame, where `from_start`; else the first header that a segment begins with does.
     pub fn restart(&mut self, from_start: bool) {
         self.heads = Heads::new(self.responses, from_start);
-        self.is_open = false;
+        self.reader = None;
     }
 
-    /// Takes what is told of it at an offset, with its bytes, and tells the transcript what happens.
+    /// Whether a frame is read, for which it has memory.
+    pub fn is_open(&self) -> bool {
+        match &self.reader {
+            Some(reader) => reader.is_open(),
+            None => false,
+        }
+    }
+
+    /// Takes what is told of it at an offset, with its bytes, and tells the transcript what happens. Where there is no room for the memory of a
+    /// frame, those that begin are passed over.
     pub fn hear<T: Transcript<A>, P: Pen>(
         &mut self,
+        has_room: bool,
         step: StreamStep,
         at: u64,
         bytes: &[u8],
@@ -64,20 +71,21 @@ impl<A: Allocator> Direction<A> {
                 Ok(())
             }
             StreamStep::Payload { from, .. } => {
-                self.hear_bytes(at, from == 0, bytes, transcript, writer)
+                self.hear_bytes(has_room, at, from == 0, bytes, transcript, writer)
             }
-            StreamStep::Held { .. } => self.hear_bytes(at, false, bytes, transcript, writer),
-            StreamStep::Gap { length } => {
-                let length = length as u64;
-                let _ = self.heads.gap(length);
+            StreamStep::Held { begins, .. } => {
+                self.hear_bytes(has_room, at, begins, bytes, transcript, writer)
+            }
+            StreamStep::Gap { length, cause, .. } => {
+                let _ = self.heads.gap(length, None);
                 self.close(transcript, writer)?;
-                transcript.gap(at, length, writer)
+                transcript.gap(at, length, cause, writer)
             }
             StreamStep::Ended | StreamStep::Reset => {
                 let _ = self.heads.end();
                 self.close(transcript, writer)
             }
-            StreamStep::Done => Ok(()),
+            StreamStep::Kept | StreamStep::Done => Ok(()),
         }
     }
 
@@ -87,11 +95,10 @@ impl<A: Allocator> Direction<A> {
         transcript: &mut T,
         writer: &mut TextWriter<P>,
     ) -> Result<(), T::Fault> {
-        if !self.is_open {
-            return Ok(());
+        match self.reader.take() {
+            Some(reader) => reader.close(transcript, writer),
+            None => Ok(()),
         }
-        self.is_open = false;
-        transcript.close(writer)
     }
 
     /// The frame that is read came whole, if one is.
@@ -100,16 +107,16 @@ impl<A: Allocator> Direction<A> {
         transcript: &mut T,
         writer: &mut TextWriter<P>,
     ) -> Result<(), T::Fault> {
-        if !self.is_open {
-            return Ok(());
+        match self.reader.take() {
+            Some(reader) => reader.end(transcript, writer),
+            None => Ok(()),
         }
-        self.is_open = false;
-        transcript.end(self.decoder.table(), writer)
     }
 
     /// Takes bytes from an offset on, the first of which begins a segment or not.
     fn hear_bytes<T: Transcript<A>, P: Pen>(
         &mut self,
+        has_room: bool,
         at: u64,
         begins: bool,
         bytes: &[u8],
@@ -123,7 +130,7 @@ impl<A: Allocator> Direction<A> {
         while steps > 0 {
             let HeardStep { used, heard } = self.heads.take(rest, None, is_first);
             end = behind(end, used as u64);
-            self.tell(end, heard, &rest[..used], transcript, writer)?;
+            self.tell(has_room, end, heard, &rest[..used], transcript, writer)?;
             if is_done(heard) {
                 return Ok(());
             }
@@ -137,6 +144,7 @@ impl<A: Allocator> Direction<A> {
     /// Takes bytes that end at an offset, and what they are.
     fn tell<T: Transcript<A>, P: Pen>(
         &mut self,
+        has_room: bool,
         end: u64,
         heard: Heard,
         bytes: &[u8],
@@ -145,7 +153,8 @@ impl<A: Allocator> Direction<A> {
     ) -> Result<(), T::Fault> {
         match heard {
             Heard::Begins(header) => {
-                self.begin(end.saturating_sub(9), &header, transcript, writer)
+                let at = end.saturating_sub(9);
+                self.begin(has_room, at, &header, transcript, writer)
             }
             Heard::Body => self.take_body(bytes, transcript, writer),
             Heard::Ends(_) => self.end(transcript, writer),
@@ -157,16 +166,20 @@ impl<A: Allocator> Direction<A> {
     /// A frame begins at an offset with this header.
     fn begin<T: Transcript<A>, P: Pen>(
         &mut self,
+        has_room: bool,
         at: u64,
         header: &Header,
         transcript: &mut T,
         writer: &mut TextWriter<P>,
     ) -> Result<(), T::Fault> {
-        if is_plain(header) {
+        if !is_plain(header) {
+            self.reader = None;
+            transcript.compressed(at, header, writer)
+        } else if has_room {
             self.begin_plain(at, header, transcript, writer)
         } else {
-            self.is_open = false;
-            transcript.compressed(at, header, writer)
+            self.reader = None;
+            transcript.unread(at, header, writer)
         }
     }
 
@@ -179,11 +192,27 @@ impl<A: Allocator> Direction<A> {
         writer: &mut TextWriter<P>,
     ) -> Result<(), T::Fault> {
         let types = transcript.begin(at, header, writer)?;
-        begin_frame(&mut self.decoder, types);
-        self.came = Noted::new();
-        self.at = at;
-        self.is_open = true;
-        self.take_body(&header.write(), transcript, writer)
+        match self.begin_reader(at, types) {
+            Ok(()) => self.take_body(&header.write(), transcript, writer),
+            Err(AllocError) => Err(T::no_memory()),
+        }
+    }
+
+    /// A frame begins at an offset, whose bytes are read, with these types.
+    fn begin_reader(&mut self, at: u64, types: Option<TypeTable<A>>) -> Result<(), AllocError> {
+        let reader = self.new_reader(at, types)?;
+        self.reader = Some(reader);
+        Ok(())
+    }
+
+    /// The decoder of a frame that begins at an offset, with these types.
+    fn new_reader(
+        &self,
+        at: u64,
+        types: Option<TypeTable<A>>,
+    ) -> Result<Box<FrameReader<A>, A>, AllocError> {
+        let reader = FrameReader::new(self.alloc.to_copy()?, self.limits, at, types)?;
+        Ok(Box::new(self.alloc.to_copy()?, reader)?)
     }
 
     /// Takes bytes which come next of the frame that is read, if one is.
@@ -193,20 +222,14 @@ impl<A: Allocator> Direction<A> {
         transcript: &mut T,
         writer: &mut TextWriter<P>,
     ) -> Result<(), T::Fault> {
-        if !self.is_open {
+        let Some(mut reader) = self.reader.take() else {
             return Ok(());
+        };
+        let taken = reader.take(bytes, transcript, writer);
+        if reader.is_open() {
+            self.reader = Some(reader);
         }
-        self.is_open = false;
-        self.came.note(bytes);
-        match drain(&mut self.decoder, bytes, self.at, transcript, writer)? {
-            None => {
-                self.is_open = true;
-                Ok(())
-            }
-            Some(refusal) => {
-                transcript.refusal(behind(self.at, refusal.at), refusal.why, writer)
-            }
-        }
+        taken
     }
 }
 

@@ -3,8 +3,13 @@
 
 mod direction;
 mod drain;
+mod fault;
+mod lines;
 mod noted;
+mod reader;
 mod transcript;
 
 pub use direction::Direction;
+pub use fault::TellFault;
+pub use lines::{LinePlace, put_compressed, put_gap, put_place, put_refused, put_unread};
 pub use transcript::Transcript;

@@ -3,6 +3,7 @@
 
 use crate::cqlp_grammar::Event;
 use crate::cqlp_note::{Header, Reason};
+use crate::cqlp_tcp_reassembly::GapCause;
 use crate::cqlp_text::{Pen, TextWriter};
 use crate::cqlp_type::TypeTable;
 use crate::kit_std::alloc::Allocator;
@@ -12,6 +13,9 @@ use crate::kit_std::alloc::Allocator;
 pub trait Transcript<A: Allocator> {
     /// What ends the text early: a fault of the output, or that memory is refused.
     type Fault;
+
+    /// That memory is refused.
+    fn no_memory() -> Self::Fault;
 
     /// A frame with this header begins at an offset, and its bytes are read. Answers the types for its page, should that not describe its columns
     /// (flag No_metadata, section 4.2.5.2 of `native_protocol_v4.spec`).
@@ -46,11 +50,20 @@ pub trait Transcript<A: Allocator> {
         writer: &mut TextWriter<P>,
     ) -> Result<(), Self::Fault>;
 
-    /// So many bytes are missing at an offset.
+    /// A frame with this header begins at an offset, and there is no room to read it, so that its bytes are passed over.
+    fn unread<P: Pen>(
+        &mut self,
+        at: u64,
+        header: &Header,
+        writer: &mut TextWriter<P>,
+    ) -> Result<(), Self::Fault>;
+
+    /// So many bytes are missing at an offset, for this cause.
     fn gap<P: Pen>(
         &mut self,
         at: u64,
         length: u64,
+        cause: GapCause,
         writer: &mut TextWriter<P>,
     ) -> Result<(), Self::Fault>;
 

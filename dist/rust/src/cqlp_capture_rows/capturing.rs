@@ -3,31 +3,35 @@
 
 use crate::kit_host::prelude::{AllocGlobal};
 use crate::cqlp_capture_rows::rows::Rows;
+use crate::cqlp_capture_streams::{
+    CaptureRead, LastWord, StreamsFault, StreamsLimits, conclude_capture, read_capture,
+};
 use crate::cqlp_note::{Source, Target};
-use crate::cqlp_streams::{CaptureRead, LIMITS, LastWord, StreamsFault, conclude_capture, read_capture};
 use crate::kit_std::alloc::Global;
 
-/// Reads the frames on one connection of a capture with nodes that listen on these ports: on the one with this number; the first has the
-/// number 1. Writes the text of the pages among them to `out`, and what the capture was, or the fault line, to `err`. Answers the exit status
-/// and the two outputs.
+/// Reads the frames on one connection of a capture with nodes that listen on these ports, within these limits: on the one with this number;
+/// the first has the number 1. Writes the text of the pages among them to `out`, and what the capture was, or the fault line, to `err`. Answers
+/// the exit status and the two outputs.
 ///
 /// After a fault nothing more is asked of what failed.
-pub fn write_rows<R: Source, O: Target, E: Target>(
+pub(crate) fn write_rows<R: Source, O: Target, E: Target>(
     alloc: Global,
+    limits: StreamsLimits,
     ports: &[u16],
     connection: u64,
     input: &mut R,
     out: O,
     err: E,
 ) -> (u8, O, E) {
-    let (answer, out) = listen(alloc, ports, connection, input, out);
-    let (status, err) = conclude_capture(&answer, &LastWord("rows"), err);
+    let (answer, out) = listen(alloc, limits, ports, connection, input, out);
+    let (status, err) = conclude_capture(&answer, ports, &LastWord("rows"), err);
     (status, out, err)
 }
 
 /// Reads the capture, and writes the text. Answers what it was, and the output.
 fn listen<R: Source, O: Target>(
     alloc: Global,
+    limits: StreamsLimits,
     ports: &[u16],
     connection: u64,
     input: &mut R,
@@ -37,6 +41,6 @@ fn listen<R: Source, O: Target>(
         Ok(rows) => rows,
         Err(out) => return (Err(StreamsFault::NoMemory), out),
     };
-    let answer = read_capture(alloc, LIMITS, ports, input, &mut rows);
+    let answer = read_capture(alloc, limits, ports, input, &mut rows);
     (answer, rows.into_output())
 }

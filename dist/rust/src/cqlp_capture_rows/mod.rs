@@ -2,13 +2,12 @@
 //! The pages of one connection of a capture, as text.
 
 mod capturing;
-mod fault;
 mod limits;
 mod page;
 mod responses;
 mod rows;
 mod spot;
 
-pub use capturing::write_rows;
+pub(crate) use capturing::{write_rows};
 pub use limits::{EXECUTES, LIMITS, STATEMENTS};
 pub use rows::Rows;

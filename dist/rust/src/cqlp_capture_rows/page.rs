@@ -2,9 +2,9 @@
 //! A page, as far as its events came.
 
 use crate::cqlp_capture_rows::spot::{FrameSpot, put_page_line};
+use crate::cqlp_capture_prepared::StatementId;
 use crate::cqlp_grammar::{Event, SinkFault};
 use crate::cqlp_note::Field;
-use crate::cqlp_prepared::StatementId;
 use crate::cqlp_text::{PagePlace, Pen, TextWriter};
 
 /// The kind of a result that is a page (section 4.2.5 of `native_protocol_v4.spec`).

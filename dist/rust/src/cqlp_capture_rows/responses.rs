@@ -2,15 +2,16 @@
 //! The text of the responses of a connection.
 
 use crate::kit_host::prelude::{AllocGlobal, Clone};
-use crate::cqlp_capture_rows::fault::TellFault;
 use crate::cqlp_capture_rows::limits::{EXECUTES, STATEMENTS};
 use crate::cqlp_capture_rows::page::Page;
-use crate::cqlp_capture_rows::spot::{FrameSpot, Spot, put_compressed, put_gap, put_refused};
-use crate::cqlp_capture_frames::Transcript;
+use crate::cqlp_capture_rows::spot::{FrameSpot, Spot};
+use crate::cqlp_capture_frames::{
+    LinePlace, TellFault, Transcript, put_compressed, put_gap, put_refused, put_unread,
+};
+use crate::cqlp_capture_prepared::{NewPreparedError, PreparedTypes, Requests};
 use crate::cqlp_grammar::{Event, SinkFault};
 use crate::cqlp_note::{Header, NoMemory, Opcode, Reason};
-use crate::cqlp_prepared::{NewPreparedError, PreparedTypes, Requests};
-use crate::cqlp_reassembly::StreamStep;
+use crate::cqlp_tcp_reassembly::{GapCause, StreamStep};
 use crate::cqlp_text::{Pen, TextWriter};
 use crate::cqlp_type::TypeTable;
 use crate::kit_std::alloc::{AllocError, Allocator, Global};
@@ -67,6 +68,14 @@ impl<A: Allocator> Responses<A> {
         }
     }
 
+    /// The direction of its lines.
+    fn place(&self) -> LinePlace {
+        LinePlace {
+            number: self.number,
+            responses: true,
+        }
+    }
+
     /// No more is read of the frame. Takes the end of its page, if that has not ended.
     fn cut<P: Pen>(&mut self, writer: &mut TextWriter<P>) -> Result<(), SinkFault> {
         let cut = self.page.put_cut(writer);
@@ -92,6 +101,10 @@ impl<A: Allocator> Responses<A> {
 
 impl<A: Allocator + Clone> Transcript<A> for Responses<A> {
     type Fault = TellFault;
+
+    fn no_memory() -> TellFault {
+        TellFault::NoMemory
+    }
 
     fn begin<P: Pen>(
         &mut self,
@@ -124,7 +137,7 @@ impl<A: Allocator + Clone> Transcript<A> for Responses<A> {
         writer: &mut TextWriter<P>,
     ) -> Result<(), TellFault> {
         self.cut(writer)?;
-        Ok(put_refused(writer, self.spot(at), why)?)
+        Ok(put_refused(writer, self.place(), at, why)?)
     }
 
     fn compressed<P: Pen>(
@@ -134,16 +147,27 @@ impl<A: Allocator + Clone> Transcript<A> for Responses<A> {
         writer: &mut TextWriter<P>,
     ) -> Result<(), TellFault> {
         self.known.forget(header.stream);
-        Ok(put_compressed(writer, self.spot(at))?)
+        Ok(put_compressed(writer, self.place(), at)?)
+    }
+
+    fn unread<P: Pen>(
+        &mut self,
+        at: u64,
+        header: &Header,
+        writer: &mut TextWriter<P>,
+    ) -> Result<(), TellFault> {
+        self.known.forget(header.stream);
+        Ok(put_unread(writer, self.place(), at)?)
     }
 
     fn gap<P: Pen>(
         &mut self,
         at: u64,
         length: u64,
+        cause: GapCause,
         writer: &mut TextWriter<P>,
     ) -> Result<(), TellFault> {
-        Ok(put_gap(writer, self.spot(at), length)?)
+        Ok(put_gap(writer, self.place(), at, length, cause)?)
     }
 
     fn end<P: Pen>(

@@ -2,15 +2,13 @@
 //! What listens to one connection of a capture.
 
 use crate::kit_host::prelude::{AllocGlobal, Clone, ToCopy, Vec, vec};
-use crate::cqlp_capture_rows::fault::TellFault;
 use crate::cqlp_capture_rows::limits::{LIMITS};
 use crate::cqlp_capture_rows::responses::Responses;
-use crate::cqlp_capture_frames::Direction;
-use crate::cqlp_connections::{Told, Way};
-use crate::cqlp_decode::NewError;
+use crate::cqlp_capture_frames::{Direction, TellFault};
+use crate::cqlp_capture_prepared::Requests;
+use crate::cqlp_capture_streams::{Listener, Saying, StreamsFault};
 use crate::cqlp_note::Target;
-use crate::cqlp_prepared::Requests;
-use crate::cqlp_streams::{Listener, Saying, StreamsFault};
+use crate::cqlp_tcp_connections::{Told, Way};
 use crate::cqlp_text::{Buffered, Pen, TextWriter};
 use crate::kit_std::alloc::{AllocError, Allocator, Global};
 
@@ -20,8 +18,8 @@ const ROOM: usize = 65_536;
 /// Reads the frames of one connection of a capture, and writes the text of the pages among them, each part of it when its last byte is there.
 /// A page without metadata has the types that PREPARE said of the statement whose EXECUTE it answers.
 ///
-/// Memory is taken in `new`, and after it for the types of a statement that is prepared, and of a page that answers an EXECUTE: one request each,
-/// of `LIMITS.entries` nodes. At most [`STATEMENTS`] statements are known, and the types of one page.
+/// Memory is taken in `new`; after it for the decoder of a frame, some 1.1 MiB, which is given back behind the frame; and for the types of a statement
+/// that is prepared, and of a page that answers an EXECUTE: one request each, of `LIMITS.entries` nodes. At most [`STATEMENTS`] statements are known, and the types of one page.
 pub struct Rows<O: Target, A: Allocator = Global> {
     /// The number of the connection.
     asked: u64,
@@ -46,8 +44,8 @@ impl<O: Target, A: Allocator> Rows<O, A> {
 }
 
 impl<O: Target, A: Allocator + Clone> Rows<O, A> {
-    /// Nothing came of the connection with this number, and its pages go to this output. Memory for all but types is taken here, in seven
-    /// requests; where it is not granted, the output is given back.
+    /// Nothing came of the connection with this number, and its pages go to this output. Memory for all but types and frames is taken here; where it
+    /// is not granted, the output is given back.
     pub fn new(alloc: A, asked: u64, out: O) -> Result<Self, O> {
         match take_memory(alloc, asked) {
             Ok((direction, responses, buffer)) => Ok(Rows {
@@ -143,7 +141,7 @@ fn put_heard<P: Pen, A: Allocator + Clone>(
             responses.hear_requests(told.step, bytes, requests);
             Ok(())
         }
-        Way::Responses => { direction.hear(told.step, told.at, bytes, responses, writer) }
+        Way::Responses => { direction.hear(true, told.step, told.at, bytes, responses, writer) }
     }
 }
 
@@ -169,17 +167,9 @@ fn take_memory<A: Allocator + Clone>(
     asked: u64,
 ) -> Result<(Direction<A>, Responses<A>, Vec<u8, A>), AllocError> {
     let responses = Responses::new(alloc.to_copy()?, asked)?;
-    let direction = new_direction(alloc.to_copy()?)?;
+    let direction = Direction::new(alloc.to_copy()?, LIMITS, true);
     let buffer = vec![in alloc; 0; ROOM]?;
     Ok((direction, responses, buffer))
-}
-
-/// Responses of which nothing came. All memory is taken here.
-fn new_direction<A: Allocator + Clone>(alloc: A) -> Result<Direction<A>, AllocError> {
-    match Direction::new(alloc, LIMITS, true) {
-        Ok(direction) => Ok(direction),
-        Err(NewError::NoMemory | NewError::BadLimits(_)) => Err(AllocError),
-    }
 }
 
 impl<O: Target, A: Allocator + Clone> Listener for Rows<O, A> {

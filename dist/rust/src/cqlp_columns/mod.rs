@@ -1,15 +1,19 @@
 // Written by dist/erase from crates/cqlp_columns/src/lib.rt.
-//! Columns of a page, in the layout of Apache Arrow.
+//! Columns of a page, in the layout of Apache Arrow; and pages that are read straight into them ([`PageColumns`]).
 
 mod bits;
 mod bytes;
 mod cell;
 mod column;
 mod columns;
+mod filled;
 mod found;
 mod layout;
+mod page_columns;
 
 pub use cell::Cell;
 pub use column::{Column, MakeError, Refusal};
 pub use columns::{BatchLimits, Columns, TakeError};
+pub use filled::{Filled, Stop};
 pub use layout::{Layout, layout_of};
+pub use page_columns::{PageColumns, Went};

@@ -23,6 +23,16 @@ impl InMemory {
         }
     }
 
+    /// How many bytes it has.
+    pub fn len(&self) -> usize {
+        self.bytes.len()
+    }
+
+    /// Keeps the first bytes, this many, if it has more.
+    pub fn truncate(&mut self, len: usize) {
+        self.bytes.truncate(len);
+    }
+
     /// The bytes.
     pub fn into_bytes(self) -> Vec<u8> {
         let InMemory {

@@ -1,7 +1,24 @@
 // Written by dist/erase from crates/cqlp_compose/src/lib.rt.
-//! Frames of the CQL native protocol v4, written of their events.
+//! Frames and pages of the CQL native protocol v4, written of their events: a frame as a whole ([`Composer`]), the cells of a page of any size
+//! some at a time ([`PageCells`]), and such a page in batches into a caller's buffers ([`OpenPage`], [`PutCells`]).
 
+mod cells;
+mod column;
 mod composer;
+mod error;
+mod head;
+mod measure;
 mod memory;
+mod page;
+mod place;
+mod put;
 
+pub use cells::{PageCells, WrittenCells};
 pub use composer::Composer;
+pub use crate::cqlp_build_cells::CellLimits;
+pub use error::{BeginError, HeadError, PageCellError, PutError, Unended};
+pub use head::page_head;
+pub use measure::event_size;
+pub use page::{BegunPage, OpenPage};
+pub use place::PagePlace;
+pub use put::PutCells;

@@ -1,6 +1,7 @@
 // Written by dist/erase from crates/cqlp_options/src/capture.rt.
 //! What is asked for with a capture.
 
+use crate::cqlp_options::limits::CaptureLimits;
 use crate::cqlp_options::matched::{flag, long_number, number, path};
 use crate::clap::ArgMatches;
 
@@ -127,18 +128,25 @@ impl<'a> CaptureTask<'a> {
 #[derive(Clone, Copy, Debug, PartialEq, Eq)]
 pub struct CaptureOptions<'a> {
     pub task: CaptureTask<'a>,
+    pub limits: CaptureLimits,
     pub ports: Ports,
     /// The path of the capture's file, or `-` for standard input.
     pub file: &'a str,
 }
 
 impl<'a> CaptureOptions<'a> {
-    /// What the words were matched to, if there are not too many ports.
+    /// What the words were matched to, if the limits are in their ranges and there are not too many ports.
     pub(crate) fn matched(matches: &ArgMatches<'a>) -> Option<CaptureOptions<'a>> {
         let file = path(matches, "file")?;
         let task = CaptureTask::matched(matches)?;
+        let limits = CaptureLimits::matched(matches, file)?;
         let ports = ports_of(matches)?;
-        Some(CaptureOptions { task, ports, file })
+        Some(CaptureOptions {
+            task,
+            limits,
+            ports,
+            file,
+        })
     }
 }
 

@@ -3,6 +3,7 @@
 
 mod capture;
 mod command_line;
+mod limits;
 mod matched;
 mod no_task;
 mod options;
@@ -11,5 +12,6 @@ mod reported;
 
 pub use capture::{CaptureOptions, CaptureTask, ExchangeOptions, ExchangesAs, MOST_PORTS, Ports};
 pub use command_line::{CommandLine, QUERIES};
+pub use limits::CaptureLimits;
 pub use no_task::NoTask;
 pub use options::{AtRefusal, DEFAULT_LIMITS, EventsAs, Options, RowsAs, Task};

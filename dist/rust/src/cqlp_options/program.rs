@@ -3,6 +3,7 @@
 
 use crate::kit_host::prelude::{AllocGlobal};
 use crate::cqlp_options::command_line::QUERIES;
+use crate::cqlp_options::limits::CaptureLimits;
 use crate::clap::builder::ValueParser;
 use crate::clap::{Arg, ArgAction, Command, value_parser};
 use crate::cqlp_note::{LimitRange, Limits};
@@ -307,8 +308,9 @@ const ALL: LimitRange = LimitRange {
     greatest: u32::MAX,
 };
 
-/// What `capture` takes.
-const CAPTURE: [Word; 10] = [
+/// What `capture` takes. The help of a limit tells its range and what the number is where it is not given, and docs/check compares both
+/// with `CaptureLimits`.
+const CAPTURE: [Word; 15] = [
     Word {
         name: "file",
         form: Form::File,
@@ -349,7 +351,7 @@ const CAPTURE: [Word; 10] = [
         form: Form::Folder,
         help: "The folder for the files N.requests.bin and N.responses.bin of connection N",
         with: &[],
-        without: &["slow", "errors", "connection"],
+        without: &["slow", "errors", "connection", "open", "text"],
     },
     Word {
         name: "json",
@@ -371,13 +373,52 @@ const CAPTURE: [Word; 10] = [
         form: Form::Flag,
         help: "A line for each event of each frame, after the connection's number and > of a request or < of a response",
         with: &[],
-        without: &["slow", "errors", "json", "summary", "streams"],
+        without: &[
+            "slow", "errors", "json", "summary", "streams", "open", "text",
+        ],
     },
     Word {
         name: "rows",
         form: Form::Flag,
         help: "The pages of the connection that --connection names, as cqlp rows writes them",
         with: &["connection"],
-        without: &["slow", "errors", "json", "summary", "events", "streams"],
+        without: &[
+            "slow", "errors", "json", "summary", "events", "streams", "open", "text",
+        ],
+    },
+    Word {
+        name: "connections",
+        form: Form::Number("N", CaptureLimits::CONNECTIONS),
+        help: "Connections that are followed at one time, from 1 to 1048576; the one silent for longest gives way [default: 65536]",
+        with: &[],
+        without: &[],
+    },
+    Word {
+        name: "open",
+        form: Form::Number("N", CaptureLimits::OPEN),
+        help: "Requests that wait for their replies at one time, on all connections together, from 1 to 16777216 [default: 262144]",
+        with: &[],
+        without: &[],
+    },
+    Word {
+        name: "early",
+        form: Form::Number("MIB", CaptureLimits::EARLY),
+        help: "MiB of early segments that are held at one time, on all connections together, from 1 to 4096 [default: 24]",
+        with: &[],
+        without: &[],
+    },
+    Word {
+        name: "text",
+        form: Form::Number("MIB", CaptureLimits::TEXT),
+        help: "MiB of the texts of requests that wait, on all connections together, from 1 to 4096 [default: 8]",
+        with: &[],
+        without: &[],
+    },
+    Word {
+        name: "order",
+        form: Form::Number("N", CaptureLimits::ORDER),
+        help: "Packets that wait to be put in order by their times, from 0 to 65536; with - none unless given [default: 1000]",
+        with: &[],
+        without: &[],
     },
 ];

@@ -4,7 +4,7 @@
 use crate::cqlp_decode::{Event, SinkFault};
 use crate::cqlp_json::{json_line, put_json_line};
 use crate::cqlp_note::Target;
-use crate::cqlp_tables::{TablePlace, csv_part, json_part, put_csv_part, put_json_part};
+use crate::cqlp_row_text::{TablePlace, csv_part, json_part, put_csv_part, put_json_part};
 use crate::cqlp_text::{PagePlace, Pen, TextWriter, event_line, page_part};
 
 /// A form of text. Each has a type of its own, so that no event asks for its form.

@@ -1,7 +1,7 @@
 // Written by dist/erase from crates/cqlp_render/src/text_form.rt.
 //! Forms of text.
 
-use crate::cqlp_tables::TablePlace;
+use crate::cqlp_row_text::TablePlace;
 use crate::cqlp_text::PagePlace;
 
 /// What is written of the events of a stream. The clauses of the calls of this crate speak of it.

@@ -4,7 +4,7 @@
 use crate::cqlp_decode::{Event, SinkFault};
 use crate::cqlp_json::put_json_line;
 use crate::cqlp_render::TextForm;
-use crate::cqlp_tables::{TablePlace, csv_break, json_break, put_csv_part, put_json_part};
+use crate::cqlp_row_text::{TablePlace, csv_break, json_break, put_csv_part, put_json_part};
 use crate::cqlp_text::{PagePlace, Pen, TextWriter};
 
 /// Takes the text of the event at an offset.

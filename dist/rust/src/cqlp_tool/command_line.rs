@@ -4,20 +4,22 @@
 use crate::kit_host::prelude::{AllocGlobal, Vec};
 use crate::cqlp_tool::conversing::converse;
 use crate::cqlp_tool::folder::{Folder, is_folder};
+use crate::cqlp_tool::limits::{exchange_limits_of, streams_limits_of};
+use crate::cqlp_tool::marks::MARK;
+use crate::cqlp_tool::progress::Progress;
 use crate::cqlp_capture_events::write_events;
+use crate::cqlp_capture_exchanges::{ExchangeFilter, ExchangeForm, write_exchanges};
 use crate::cqlp_capture_rows::write_rows;
+use crate::cqlp_capture_streams::{StreamsLimits, write_streams};
 use crate::cqlp_decode::SinkFault;
-use crate::cqlp_exchanges::{ExchangeFilter, ExchangeForm, write_exchanges};
 use crate::cqlp_note::{OfStd, Source, Target};
 use crate::cqlp_options::{
     AtRefusal, CaptureOptions, CaptureTask, CommandLine, DEFAULT_LIMITS, EventsAs, ExchangeOptions,
     ExchangesAs, NoTask, Options, RowsAs, Task,
 };
-use crate::cqlp_progress::{MARK, Progress};
 use crate::cqlp_render::{TextForm, check, conclude, show, show_as};
 use crate::cqlp_render_skip::{check_skipping, show_skipping};
-use crate::cqlp_streams::write_streams;
-use crate::cqlp_tables::TablePlace;
+use crate::cqlp_row_text::TablePlace;
 use crate::cqlp_text::exit_status::{BAD_COMMAND_LINE, DONE, FAULT};
 use crate::cqlp_text::{Ending, PagePlace, cannot_open_line, put_text};
 use crate::kit_std::alloc::Allocator;
@@ -192,11 +194,16 @@ fn read_capture<R: Files + AllocGlobal, I: Source, O: Target, E: Target>(
     err: E,
 ) -> (u8, O, E) {
     let ports = options.ports.as_slice();
+    let limits = streams_limits_of(&options.limits);
     match options.task {
-        CaptureTask::Streams { folder } => split_to_folder(rt, folder, ports, input, out, err),
+        CaptureTask::Streams { folder } => {
+            split_to_folder(rt, folder, limits, ports, input, out, err)
+        }
         CaptureTask::Exchanges(asked) => {
             write_exchanges(
                 rt.alloc(),
+                limits,
+                exchange_limits_of(&options.limits),
                 ports,
                 filter_of(asked),
                 form_of(asked.form),
@@ -206,10 +213,10 @@ fn read_capture<R: Files + AllocGlobal, I: Source, O: Target, E: Target>(
             )
         }
         CaptureTask::Events { connection } => {
-            write_events(rt.alloc(), ports, connection, input, out, err)
+            write_events(rt.alloc(), limits, ports, connection, input, out, err)
         }
         CaptureTask::Rows { connection } => {
-            write_rows(rt.alloc(), ports, connection, input, out, err)
+            write_rows(rt.alloc(), limits, ports, connection, input, out, err)
         }
     }
 }
@@ -218,13 +225,14 @@ fn read_capture<R: Files + AllocGlobal, I: Source, O: Target, E: Target>(
 fn split_to_folder<R: Files + AllocGlobal, I: Source, O: Target, E: Target>(
     rt: &R,
     folder: &str,
+    limits: StreamsLimits,
     ports: &[u16],
     input: &mut I,
     out: O,
     err: E,
 ) -> (u8, O, E) {
     let folder = Folder::new(rt, rt.alloc(), folder);
-    let (status, _, out, err) = write_streams(rt.alloc(), ports, input, folder, out, err);
+    let (status, _, out, err) = write_streams(rt.alloc(), limits, ports, input, folder, out, err);
     (status, out, err)
 }
 

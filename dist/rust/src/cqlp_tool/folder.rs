@@ -2,8 +2,8 @@
 //! A folder for the files of connections.
 
 use crate::kit_host::prelude::{AllocGlobal, String, Vec, format};
-use crate::cqlp_connections::Way;
-use crate::cqlp_streams::{FileFault, StreamFile, StreamFiles};
+use crate::cqlp_capture_streams::{FileFault, StreamFile, StreamFiles};
+use crate::cqlp_tcp_connections::Way;
 use crate::kit_std::alloc::{AllocError, Global};
 use crate::kit_host::fs::{self, File};
 use std::io::{self, ErrorKind, Write};

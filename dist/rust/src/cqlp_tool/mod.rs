@@ -1,10 +1,14 @@
 // Written by dist/erase from crates/cqlp_tool/src/lib.rt.
-//! What the program cqlp does.
+//! What the program cqlp does; and the progress that it reports while it reads a long file.
 
 mod command_line;
 mod connection;
 mod conversing;
 mod folder;
+mod limits;
+mod line;
+mod marks;
+mod progress;
 
 pub use command_line::{command, command_with_notes};
 pub(crate) use command_line::{execute};

@@ -2,7 +2,6 @@
 use crate::kit_std::alloc::{AllocError, AllocFailed, Allocator};
 use crate::kit_std::boxed::Box;
 use crate::kit_std::vec::Vec;
-use std::ops::DerefMut;
 
 impl<T, A: Allocator> Vec<T, A> {
     /// # Errors
@@ -40,12 +39,6 @@ impl<T: Clone, A: Allocator + Clone> Clone for Vec<T, A> {
 impl<T: Clone, A: Allocator + Clone> Clone for Box<T, A> {
     fn clone(&self) -> Self {
         Box { of: self.of.clone(), alloc: self.alloc.clone() }
-    }
-}
-
-impl<T, A: Allocator> DerefMut for Box<T, A> {
-    fn deref_mut(&mut self) -> &mut T {
-        &mut self.of[0]
     }
 }
 

@@ -42,3 +42,10 @@ impl<T, A: Allocator> core::ops::Deref for Box<T, A> {
         &self.of[0]
     }
 }
+
+impl<T, A: Allocator> core::ops::DerefMut for Box<T, A> {
+    #[inline]
+    fn deref_mut(&mut self) -> &mut T {
+        &mut self.of[0]
+    }
+}

@@ -1,46 +1,177 @@
-//! `VecDeque`, whose memory may be refused.
-use super::alloc::{AllocError, Global};
+//! `VecDeque` and `BTreeMap`, whose memory may be refused.
+use super::alloc::{AllocError, AllocFailed, Allocator, Global};
 use ::alloc::collections::VecDeque as Deque;
+use ::alloc::vec::Vec as Rows;
+use core::marker::PhantomData;
+use core::mem::replace;
 use core::ops::{Deref, DerefMut};
 
 /// Rust's `VecDeque`, but that what needs memory may be refused.
-pub struct VecDeque<T>(Deque<T>);
+pub struct VecDeque<T, A: Allocator = Global> {
+    items: Deque<T>,
+    alloc: A,
+}
 
-impl<T> VecDeque<T> {
-    pub fn new(_: Global) -> Self {
-        VecDeque(Deque::new())
+impl<T, A: Allocator> VecDeque<T, A> {
+    pub fn new(alloc: A) -> Self {
+        VecDeque { items: Deque::new(), alloc }
+    }
+
+    /// Where its memory comes from.
+    pub fn allocator(&self) -> &A {
+        &self.alloc
     }
 
     pub fn reserve(&mut self, more: usize) -> Result<(), AllocError> {
-        self.0.try_reserve(more).map_err(|_| AllocError)
+        self.items.try_reserve(more).map_err(|_| AllocError)
     }
 
     pub fn push_back(&mut self, item: T) -> Result<(), AllocError> {
         self.reserve(1)?;
-        self.0.push_back(item);
+        self.items.push_back(item);
+        Ok(())
+    }
+
+    /// Adds an item before the one at this index, or at the end; it comes back where memory is refused.
+    pub fn insert(&mut self, at: usize, item: T) -> Result<(), AllocFailed<T>> {
+        if self.reserve(1).is_err() {
+            return Err(AllocFailed(item));
+        }
+        self.items.insert(at, item);
         Ok(())
     }
 
     /// Adds an item where there is room, as is proved at each call, and so does the next.
     pub fn push_back_reserved(&mut self, item: T) {
-        self.0.push_back(item);
+        self.items.push_back(item);
     }
 
     pub fn push_front_reserved(&mut self, item: T) {
-        self.0.push_front(item);
+        self.items.push_front(item);
     }
 }
 
-impl<T> Deref for VecDeque<T> {
+impl<T, A: Allocator> Deref for VecDeque<T, A> {
     type Target = Deque<T>;
 
     fn deref(&self) -> &Deque<T> {
-        &self.0
+        &self.items
     }
 }
 
-impl<T> DerefMut for VecDeque<T> {
+impl<T, A: Allocator> DerefMut for VecDeque<T, A> {
     fn deref_mut(&mut self) -> &mut Deque<T> {
-        &mut self.0
+        &mut self.items
+    }
+}
+
+/// A map in the order of its keys, as Rust's `BTreeMap`, but that what needs memory may be refused: its entries lie in rows of at most 64, and a
+/// row that is full becomes two.
+pub struct BTreeMap<K, V, A: Allocator = Global> {
+    rows: Rows<Rows<(K, V)>>,
+    len: usize,
+    alloc: PhantomData<A>,
+}
+
+/// How many entries a row has at most.
+const MOST: usize = 64;
+
+impl<K: Ord, V, A: Allocator> BTreeMap<K, V, A> {
+    pub fn new(_: A) -> Self {
+        BTreeMap { rows: Rows::new(), len: 0, alloc: PhantomData }
+    }
+
+    #[must_use]
+    pub fn len(&self) -> usize {
+        self.len
+    }
+
+    #[must_use]
+    pub fn is_empty(&self) -> bool {
+        self.len == 0
+    }
+
+    #[must_use]
+    pub fn get(&self, key: &K) -> Option<&V> {
+        let (row, found) = self.find(key);
+        let at = found.ok()?;
+        Some(&self.rows[row][at].1)
+    }
+
+    #[must_use]
+    pub fn get_mut(&mut self, key: &K) -> Option<&mut V> {
+        let (row, found) = self.find(key);
+        let at = found.ok()?;
+        Some(&mut self.rows[row][at].1)
+    }
+
+    /// Puts a value, and takes the one away that the key had.
+    ///
+    /// # Errors
+    ///
+    /// Memory that is refused; the two come back.
+    pub fn insert(&mut self, key: K, value: V) -> Result<Option<V>, AllocFailed<(K, V)>> {
+        let (row, found) = self.find(&key);
+        match found {
+            Ok(at) => Ok(Some(replace(&mut self.rows[row][at].1, value))),
+            Err(at) => {
+                let Ok((row, at)) = self.make_room(row, at) else {
+                    return Err(AllocFailed((key, value)));
+                };
+                self.rows[row].insert(at, (key, value));
+                self.len += 1;
+                Ok(None)
+            }
+        }
+    }
+
+    /// Takes the entry of a key away.
+    pub fn remove(&mut self, key: &K) -> Option<V> {
+        let (row, found) = self.find(key);
+        let at = found.ok()?;
+        Some(self.take(row, at).1)
+    }
+
+    /// Takes the first entry away.
+    pub fn pop_first(&mut self) -> Option<(K, V)> {
+        if self.rows.is_empty() { None } else { Some(self.take(0, 0)) }
+    }
+
+    /// The row of a key, and its place there, or where it would be.
+    fn find(&self, key: &K) -> (usize, Result<usize, usize>) {
+        let row = self.rows.partition_point(|row| row[0].0 <= *key).saturating_sub(1);
+        (row, self.rows.get(row).map_or(Err(0), |row| row.binary_search_by(|entry| entry.0.cmp(key))))
+    }
+
+    /// Room for one more entry at this place, which may lie in another row then.
+    fn make_room(&mut self, row: usize, at: usize) -> Result<(usize, usize), AllocError> {
+        if self.rows.is_empty() {
+            let mut first = Rows::new();
+            first.try_reserve_exact(1).map_err(|_| AllocError)?;
+            self.rows.try_reserve(1).map_err(|_| AllocError)?;
+            self.rows.push(first);
+        }
+        if self.rows[row].len() < MOST {
+            self.rows[row].try_reserve(1).map_err(|_| AllocError)?;
+            return Ok((row, at));
+        }
+        let mut behind = Rows::new();
+        behind.try_reserve_exact(MOST).map_err(|_| AllocError)?;
+        self.rows.try_reserve(1).map_err(|_| AllocError)?;
+        behind.extend(self.rows[row].drain(MOST / 2..));
+        self.rows.insert(row + 1, behind);
+        Ok(if at <= MOST / 2 { (row, at) } else { (row + 1, at - MOST / 2) })
+    }
+
+    fn take(&mut self, row: usize, at: usize) -> (K, V) {
+        let entry = self.rows[row].remove(at);
+        self.len -= 1;
+        if self.rows[row].is_empty() {
+            self.rows.remove(row);
+        }
+        if self.rows.is_empty() {
+            self.rows = Rows::new();
+        }
+        entry
     }
 }

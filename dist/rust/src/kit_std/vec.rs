@@ -25,6 +25,15 @@ impl<T, A: Allocator> Vec<T, A> {
         items.try_reserve_exact(capacity).map(|()| Vec { items, alloc }).map_err(|_| AllocError)
     }
 
+    /// Takes memory for exactly so many more items, where there is none for them yet.
+    ///
+    /// # Errors
+    ///
+    /// Memory that is refused.
+    pub fn reserve_exact(&mut self, more: usize) -> Result<(), AllocError> {
+        self.items.try_reserve_exact(more).map_err(|_| AllocError)
+    }
+
     /// As Rust's own. It takes no memory.
     pub fn into_std(self) -> ::alloc::vec::Vec<T> {
         self.items
@@ -70,6 +79,11 @@ impl<T, A: Allocator> Vec<T, A> {
     /// Takes an item away, which is there, as is proved at each call. The later ones move up.
     pub(crate) fn remove(&mut self, at: usize) -> T {
         self.items.remove(at)
+    }
+
+    /// Gives memory back that no item needs.
+    pub(crate) fn shrink_to_fit(&mut self) {
+        self.items.shrink_to_fit();
     }
 
     /// Takes all items away, and keeps the memory.

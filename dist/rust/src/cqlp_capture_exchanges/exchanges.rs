@@ -1,0 +1,142 @@
+// Written by dist/erase from crates/cqlp_capture_exchanges/src/exchanges.rt.
+//! What listens to the connections of a capture.
+
+use crate::kit_host::prelude::{AllocGlobal, Clone, ToCopy, Vec, vec};
+use crate::cqlp_capture_exchanges::filter::ExchangeFilter;
+use crate::cqlp_capture_exchanges::form::ExchangeForm;
+use crate::cqlp_capture_exchanges::pool::ExchangeLimits;
+use crate::cqlp_capture_exchanges::prepared::{MOST, Preparation};
+use crate::cqlp_capture_exchanges::sums::ExchangeSums;
+use crate::cqlp_capture_exchanges::table::Table;
+use crate::cqlp_capture_exchanges::teller::Teller;
+use crate::cqlp_capture_streams::{Listener, Saying, StreamsFault};
+use crate::cqlp_capture_summary::Summary;
+use crate::cqlp_grammar::SinkFault;
+use crate::cqlp_note::Target;
+use crate::cqlp_observer::Missed;
+use crate::cqlp_tcp_connections::{ConnectionTotals, Told};
+use crate::kit_std::alloc::{AllocError, Allocator, Global};
+
+/// How many bytes of a line wait at most.
+const ROOM: usize = 4096;
+
+/// Pairs the requests on the connections of a capture with their responses, and writes each that its filter shows, when the last byte of
+/// the response is there. Memory for a connection is taken as it begins, for a message as it waits, and is given back.
+pub struct Exchanges<O: Target, A: Allocator = Global> {
+    table: Table<A>,
+    /// When the present packet was captured, in nanoseconds since 1970-01-01 00:00:00 UTC.
+    present: Option<u64>,
+    teller: Teller<O, A>,
+}
+
+impl<O: Target, A: Allocator + Clone> Exchanges<O, A> {
+    /// Nothing is watched, and exchanges go to this output in this form. Takes memory for a line, for 256 statements and for a summary; where it is not
+    /// granted, the output is given back.
+    pub fn new(
+        alloc: A,
+        limits: ExchangeLimits,
+        filter: ExchangeFilter,
+        form: ExchangeForm,
+        out: O,
+    ) -> Result<Self, O> {
+        match take_memory(alloc, limits, form) {
+            Ok(
+                Room {
+                    table,
+                    buffer,
+                    known,
+                    summary,
+                },
+            ) => Ok(Exchanges {
+                table,
+                present: None,
+                teller: Teller::new(filter, form, out, buffer, known, summary),
+            }),
+            Err(AllocError) => Err(out),
+        }
+    }
+
+    /// Writes what stands at the end: the lines of a summary.
+    pub fn finish(&mut self) -> Result<(), SinkFault> {
+        self.teller.finish()
+    }
+
+    /// The output, and what was reported.
+    pub fn into_parts(self) -> (O, ExchangeSums) {
+        let Exchanges {
+            table: _,
+            present: _,
+            teller,
+        } = self;
+        teller.into_parts()
+    }
+
+    /// What was missed of the connections that have left.
+    pub fn missed(&self) -> Missed {
+        self.table.missed()
+    }
+
+    /// Takes what is told next of the connections.
+    fn take(&mut self, saying: &Saying<'_>) -> Result<(), StreamsFault> {
+        match saying {
+            Saying::Packet { time } => {
+                self.note_time(*time);
+                Ok(())
+            }
+            Saying::New { number } => self.begin(*number),
+            Saying::Of { told, bytes } => self.hear_told(told, bytes),
+            Saying::Left(totals) => self.let_leave(totals),
+        }
+    }
+
+    fn note_time(&mut self, time: Option<u64>) {
+        self.present = time;
+        self.teller.note_time(time);
+    }
+
+    fn begin(&mut self, number: u64) -> Result<(), StreamsFault> {
+        match self.table.begin(number) {
+            Ok(()) => Ok(()),
+            Err(AllocError) => Err(StreamsFault::NoMemory),
+        }
+    }
+
+    fn hear_told(&mut self, told: &Told, bytes: &[u8]) -> Result<(), StreamsFault> {
+        (self.table).hear(self.present, told, bytes, &mut self.teller)
+    }
+
+    fn let_leave(&mut self, totals: &ConnectionTotals) -> Result<(), StreamsFault> {
+        self.table.leave(totals, &mut self.teller)
+    }
+}
+
+/// A table of no connections, the buffer of a line, room for statements that are prepared, and a summary of those that are asked for.
+struct Room<A: Allocator> {
+    table: Table<A>,
+    buffer: Vec<u8, A>,
+    known: Vec<Preparation<A>, A>,
+    summary: Summary<A>,
+}
+
+fn take_memory<A: Allocator + Clone>(
+    alloc: A,
+    limits: ExchangeLimits,
+    form: ExchangeForm,
+) -> Result<Room<A>, AllocError> {
+    let table = Table::new(alloc.to_copy()?, limits)?;
+    let buffer = vec![in alloc.to_copy()?; 0; ROOM]?;
+    let known = Vec::with_capacity(alloc.to_copy()?, MOST)?;
+    let summary = Summary::new(alloc, form.statements())?;
+    Ok(Room {
+        table,
+        buffer,
+        known,
+        summary,
+    })
+}
+
+impl<O: Target, A: Allocator + Clone> Listener for Exchanges<O, A> {
+    fn hear(&mut self, saying: &Saying<'_>) -> Result<(), StreamsFault> {
+        self.take(saying)
+    }
+}

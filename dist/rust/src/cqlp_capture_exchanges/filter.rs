@@ -1,0 +1,99 @@
+// Written by dist/erase from crates/cqlp_capture_exchanges/src/filter.rt.
+//! Which exchanges are shown.
+
+use crate::cqlp_capture_exchanges::report::Report;
+use crate::cqlp_capture_exchanges::span::{Span, is_short, took};
+use crate::cqlp_note::Opcode;
+use crate::cqlp_observer::{Frame, Kept, Paired};
+use crate::kit_std::alloc::Allocator;
+
+/// Which of the exchanges are shown: those that all of these ask for.
+#[derive(Clone, Copy, Debug, PartialEq, Eq)]
+pub struct ExchangeFilter {
+    /// Only exchanges whose reply's last byte came at least so many nanoseconds after the request's first.
+    pub slow: Option<u64>,
+    /// Only exchanges whose reply is an ERROR or did not come to its end, requests without a reply, and connections that are not read.
+    pub errors: bool,
+    /// Only what is reported of the connection with this number.
+    pub connection: Option<u64>,
+}
+
+impl ExchangeFilter {
+    /// Shows everything.
+    pub const ALL: ExchangeFilter = ExchangeFilter {
+        slow: None,
+        errors: false,
+        connection: None,
+    };
+
+    /// Whether what is reported of the connection with this number is shown.
+    pub fn shows<A: Allocator>(&self, number: u64, report: &Report<A>) -> bool {
+        is_of(self.connection, number)
+            && is_slow(self.slow, report)
+            && (!self.errors || is_trouble(report))
+    }
+}
+
+/// Whether the connection with this number is asked for.
+fn is_of(asked: Option<u64>, number: u64) -> bool {
+    match asked {
+        Some(one) => one == number,
+        None => true,
+    }
+}
+
+/// Whether the reply took at least so long.
+fn is_slow<A: Allocator>(least: Option<u64>, report: &Report<A>) -> bool {
+    match least {
+        Some(least) => reported_slow(least, report),
+        None => true,
+    }
+}
+
+fn reported_slow<A: Allocator>(least: u64, report: &Report<A>) -> bool {
+    match report {
+        Report::Messages { paired, .. } => took_at_least(least, paired),
+        Report::Unread { .. } => false,
+    }
+}
+
+fn took_at_least<A: Allocator>(least: u64, told: &Paired<Kept<A>>) -> bool {
+    match told {
+        Paired::Exchange { request, response } => {
+            is_at_least(least, took(&request.frame, &response.frame))
+        }
+        Paired::Unanswered { .. } | Paired::Unasked { .. } | Paired::Event { .. } => false,
+    }
+}
+
+fn is_at_least(least: u64, time: Option<Span>) -> bool {
+    match time {
+        Some(span) => !span.is_before && least <= span.nanoseconds,
+        None => false,
+    }
+}
+
+/// Whether the reply is an ERROR or did not come to its end, or there is none to a request, or the connection is not read.
+fn is_trouble<A: Allocator>(report: &Report<A>) -> bool {
+    match report {
+        Report::Messages { paired, .. } => has_failed(paired),
+        Report::Unread { .. } => true,
+    }
+}
+
+fn has_failed<A: Allocator>(told: &Paired<Kept<A>>) -> bool {
+    match told {
+        Paired::Exchange { response, .. } => is_failure(&response.frame),
+        Paired::Unanswered { .. } => true,
+        Paired::Unasked { .. } | Paired::Event { .. } => false,
+    }
+}
+
+/// Whether a response is an ERROR, or its direction ended before its last byte.
+pub(crate) fn is_failure(response: &Frame) -> bool {
+    is_error(response.header.opcode) || is_short(response.extent)
+}
+
+fn is_error(opcode: Opcode) -> bool {
+    opcode == Opcode::Error
+}

@@ -1,0 +1,24 @@
+// Written by dist/erase from crates/cqlp_capture_exchanges/src/form.rt.
+//! How exchanges are written.
+
+/// How exchanges are written.
+#[derive(Clone, Copy, Debug, PartialEq, Eq)]
+pub enum ExchangeForm {
+    /// A line for each, as soon as the last byte of the response is there.
+    Lines,
+    /// A JSON object in a line for each, as soon as the last byte of the response is there.
+    Json,
+    /// A line for each statement at the end of the capture: how often it was asked for, and how long that took.
+    Summary,
+}
+
+impl ExchangeForm {
+    /// How many statements a summary tells apart.
+    pub(crate) fn statements(self) -> usize {
+        match self {
+            ExchangeForm::Lines => 0,
+            ExchangeForm::Json => 0,
+            ExchangeForm::Summary => 256,
+        }
+    }
+}

@@ -1,0 +1,32 @@
+// Written by dist/erase from crates/cqlp_capture_exchanges/src/lib.rt.
+//! The exchanges on the connections of a capture: each request with its reply, as lines, as JSON, or in a summary.
+
+mod batch_name;
+mod capturing;
+mod exchanges;
+mod filter;
+mod form;
+mod lines;
+mod losses;
+mod member;
+mod noting;
+mod object;
+mod pool;
+mod prepared;
+mod reply;
+mod report;
+mod slot;
+mod span;
+mod statement;
+mod sums;
+mod table;
+mod teller;
+
+pub(crate) use capturing::{write_exchanges};
+pub use exchanges::Exchanges;
+pub use filter::ExchangeFilter;
+pub use form::ExchangeForm;
+pub use pool::ExchangeLimits;
+pub use report::{ConnectionEnd, Report};
+pub use statement::{Statement, statement_of, statements_of};
+pub use sums::ExchangeSums;

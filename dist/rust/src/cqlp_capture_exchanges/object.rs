@@ -1,0 +1,442 @@
+// Written by dist/erase from crates/cqlp_capture_exchanges/src/object.rt.
+//! The JSON object of what is told of a request, a response, or both.
+
+use crate::cqlp_capture_exchanges::member::{
+    Member, Value, consistency_or_null, name_or_code, number_or_null, put_members, seconds_or_null,
+    signed_or_null, uuid_or_null,
+};
+use crate::cqlp_capture_exchanges::prepared::{Preparation, named};
+use crate::cqlp_capture_exchanges::reply::{Reply, error_name, kind_name, message_of, reply_of};
+use crate::cqlp_capture_exchanges::report::{ConnectionEnd, Report};
+use crate::cqlp_capture_exchanges::span::{Span, is_whole, time_between, took};
+use crate::cqlp_capture_exchanges::statement::{Statement, has, statement_of, statements_of};
+use crate::cqlp_grammar::SinkFault;
+use crate::cqlp_note::Target;
+use crate::cqlp_observer::{Facts, Frame, Kept, Message, Opening, Paired};
+use crate::cqlp_text::{Buffered, Pen, TextWriter, opcode_name};
+use crate::kit_std::alloc::Allocator;
+
+/// Takes the object of a report of the connection with this number, in a capture whose first packet came at this time, in a line of its own, and
+/// passes it on.
+pub(crate) fn put_json_line<W: Target, A: Allocator, B: Allocator>(
+    writer: &mut TextWriter<Buffered<W, A>>,
+    known: &[Preparation<B>],
+    first: Option<u64>,
+    number: u64,
+    report: &Report<B>,
+) -> Result<(), SinkFault> {
+    put_report(writer, known, first, number, report)?;
+    writer.pass_on()
+}
+
+/// Takes the object of a report.
+fn put_report<P: Pen, A: Allocator>(
+    writer: &mut TextWriter<P>,
+    known: &[Preparation<A>],
+    first: Option<u64>,
+    number: u64,
+    report: &Report<A>,
+) -> Result<(), SinkFault> {
+    match report {
+        Report::Messages { paired, end } => put_paired(writer, known, first, number, *end, paired),
+        Report::Unread { time, opening } => put_unread(writer, first, number, *time, *opening),
+    }
+}
+
+/// Takes the object of a connection that begins with no frames of version 4.
+fn put_unread<P: Pen>(
+    writer: &mut TextWriter<P>,
+    first: Option<u64>,
+    number: u64,
+    time: Option<u64>,
+    opening: Opening,
+) -> Result<(), SinkFault> {
+    put_opening(writer, first, number, time, opening)?;
+    writer.put(b"}\n")
+}
+
+fn put_opening<P: Pen>(
+    writer: &mut TextWriter<P>,
+    first: Option<u64>,
+    number: u64,
+    time: Option<u64>,
+    opening: Opening,
+) -> Result<(), SinkFault> {
+    let since = time_between(first, time);
+    put_members(
+        writer,
+        &[
+            Member("{\"told\":", Value::Name("unread")),
+            Member(",\"time\":", seconds_or_null(since)),
+            Member(",\"connection\":", Value::Number(number)),
+            Member(",\"protocol\":", Value::Name(protocol_name(opening))),
+            Member(",\"version\":", version_or_null(opening)),
+        ],
+    )
+}
+
+fn protocol_name(opening: Opening) -> &'static str {
+    match opening {
+        Opening::Tls => "TLS",
+        Opening::Http => "HTTP",
+        Opening::Frames => "CQL",
+        Opening::OtherVersion(_) => "CQL",
+    }
+}
+
+fn version_or_null(opening: Opening) -> Value<'static> {
+    match opening {
+        Opening::OtherVersion(version) => Value::Number(u64::from(version)),
+        Opening::Frames => Value::Null,
+        Opening::Tls => Value::Null,
+        Opening::Http => Value::Null,
+    }
+}
+
+/// Takes the object of messages, whose connection ended so where that is why they are reported.
+fn put_paired<P: Pen, A: Allocator>(
+    writer: &mut TextWriter<P>,
+    known: &[Preparation<A>],
+    first: Option<u64>,
+    number: u64,
+    end: Option<ConnectionEnd>,
+    told: &Paired<Kept<A>>,
+) -> Result<(), SinkFault> {
+    let place = Place { first, number };
+    match told {
+        Paired::Exchange { request, response } => {
+            put_exchange(writer, known, place, request, response)
+        }
+        Paired::Unanswered { request } => put_unanswered(writer, known, place, end, request),
+        Paired::Unasked { response } => put_alone(writer, "unasked", place, response),
+        Paired::Event { event } => put_alone(writer, "event", place, event),
+    }
+}
+
+/// When the first packet came, and a connection's number.
+#[derive(Clone, Copy)]
+struct Place {
+    first: Option<u64>,
+    number: u64,
+}
+
+/// How long an exchange took, and how the connection of a request without a response ended.
+#[derive(Clone, Copy)]
+struct Last {
+    time: Option<Span>,
+    end: Option<ConnectionEnd>,
+}
+
+impl Last {
+    /// Neither is known.
+    const NONE: Last = Last {
+        time: None,
+        end: None,
+    };
+}
+
+/// Takes the object of a request with its response.
+fn put_exchange<P: Pen, A: Allocator>(
+    writer: &mut TextWriter<P>,
+    known: &[Preparation<A>],
+    place: Place,
+    request: &Message<Kept<A>>,
+    response: &Message<Kept<A>>,
+) -> Result<(), SinkFault> {
+    let last = Last {
+        time: took(&request.frame, &response.frame),
+        end: None,
+    };
+    put_place(
+        writer,
+        "exchange",
+        place.first,
+        place.number,
+        &request.frame,
+    )?;
+    put_request(writer, known, request)?;
+    put_response(writer, response)?;
+    put_last(writer, last)?;
+    writer.put(b"}\n")
+}
+
+/// Takes the object of a request without a response, whose connection ended so where that is why.
+fn put_unanswered<P: Pen, A: Allocator>(
+    writer: &mut TextWriter<P>,
+    known: &[Preparation<A>],
+    place: Place,
+    end: Option<ConnectionEnd>,
+    request: &Message<Kept<A>>,
+) -> Result<(), SinkFault> {
+    let last = Last { time: None, end };
+    put_place(
+        writer,
+        "unanswered",
+        place.first,
+        place.number,
+        &request.frame,
+    )?;
+    put_request(writer, known, request)?;
+    put_last(writer, last)?;
+    writer.put(b"}\n")
+}
+
+/// Takes the object of a response without a request, or of an event.
+fn put_alone<P: Pen, A: Allocator>(
+    writer: &mut TextWriter<P>,
+    told: &str,
+    place: Place,
+    response: &Message<Kept<A>>,
+) -> Result<(), SinkFault> {
+    put_place(writer, told, place.first, place.number, &response.frame)?;
+    put_response(writer, response)?;
+    put_last(writer, Last::NONE)?;
+    writer.put(b"}\n")
+}
+
+/// Takes what is told, when its frame began, and where.
+fn put_place<P: Pen>(
+    writer: &mut TextWriter<P>,
+    told: &str,
+    first: Option<u64>,
+    number: u64,
+    frame: &Frame,
+) -> Result<(), SinkFault> {
+    let since = time_between(first, frame.begun);
+    put_members(
+        writer,
+        &[
+            Member("{\"told\":", Value::Name(told)),
+            Member(",\"time\":", seconds_or_null(since)),
+            Member(",\"connection\":", Value::Number(number)),
+            Member(
+                ",\"stream\":",
+                Value::Signed(i32::from(frame.header.stream)),
+            ),
+        ],
+    )
+}
+
+fn put_last<P: Pen>(writer: &mut TextWriter<P>, last: Last) -> Result<(), SinkFault> {
+    put_members(
+        writer,
+        &[
+            Member(",\"took\":", seconds_or_null(last.time)),
+            Member(",\"connection_end\":", end_or_null(last.end)),
+        ],
+    )
+}
+
+fn end_or_null(end: Option<ConnectionEnd>) -> Value<'static> {
+    match end {
+        None => Value::Null,
+        Some(ConnectionEnd::Reset) => Value::Name("reset"),
+        Some(ConnectionEnd::Closed) => Value::Name("closed"),
+        Some(ConnectionEnd::Open) => Value::Name("open"),
+    }
+}
+
+fn put_request<P: Pen, A: Allocator>(
+    writer: &mut TextWriter<P>,
+    known: &[Preparation<A>],
+    request: &Message<Kept<A>>,
+) -> Result<(), SinkFault> {
+    let front = request.kept.front();
+    let count = statements_of(&request.frame.header, front);
+    let statement = named(known, statement_of(&request.frame.header, front));
+    put_request_frame(writer, &request.frame)?;
+    put_count(writer, count)?;
+    put_statement(writer, request.kept.is_text_dropped(), &statement)?;
+    put_query(writer, request.kept.facts())
+}
+
+/// Takes how many statements a BATCH has.
+fn put_count<P: Pen>(writer: &mut TextWriter<P>, count: Option<u16>) -> Result<(), SinkFault> {
+    put_members(writer, &[Member(",\"statements\":", number_or_null(count))])
+}
+
+/// Takes how a request asks for it to be done.
+fn put_query<P: Pen>(writer: &mut TextWriter<P>, facts: &Facts) -> Result<(), SinkFault> {
+    put_members(
+        writer,
+        &[
+            Member(",\"consistency\":", consistency_or_null(facts.consistency)),
+            Member(",\"page_size\":", signed_or_null(facts.page_size)),
+        ],
+    )
+}
+
+fn put_request_frame<P: Pen>(writer: &mut TextWriter<P>, frame: &Frame) -> Result<(), SinkFault> {
+    put_members(
+        writer,
+        &[
+            Member(
+                ",\"request\":",
+                Value::Name(opcode_name(frame.header.opcode)),
+            ),
+            Member(
+                ",\"request_bytes\":",
+                Value::Number(9 + frame.header.length as u64),
+            ),
+            Member(
+                ",\"request_is_whole\":",
+                Value::Flag(is_whole(frame.extent)),
+            ),
+            Member(
+                ",\"request_is_compressed\":",
+                Value::Flag(has(frame.header.flags, 0x01)),
+            ),
+        ],
+    )
+}
+
+/// Whether all of a text is there that is not there: not, where it was given up.
+fn none_whole(is_given_up: bool) -> Value<'static> {
+    if is_given_up {
+        Value::Flag(false)
+    } else {
+        Value::Null
+    }
+}
+
+/// Takes what a request asks to be done.
+fn put_statement<P: Pen>(
+    writer: &mut TextWriter<P>,
+    is_given_up: bool,
+    statement: &Option<Statement<'_>>,
+) -> Result<(), SinkFault> {
+    match statement {
+        Some(Statement::Text { text, is_whole }) => {
+            put_statement_as(
+                writer,
+                Value::Text(text),
+                Value::Null,
+                Value::Flag(*is_whole),
+            )
+        }
+        Some(Statement::Id { id, is_whole }) => {
+            put_statement_as(writer, Value::Null, Value::Hex(id), Value::Flag(*is_whole))
+        }
+        None => put_statement_as(writer, Value::Null, Value::Null, none_whole(is_given_up)),
+    }
+}
+
+fn put_statement_as<P: Pen>(
+    writer: &mut TextWriter<P>,
+    text: Value<'_>,
+    id: Value<'_>,
+    is_whole: Value<'_>,
+) -> Result<(), SinkFault> {
+    put_members(
+        writer,
+        &[
+            Member(",\"statement\":", text),
+            Member(",\"id\":", id),
+            Member(",\"statement_is_whole\":", is_whole),
+        ],
+    )
+}
+
+fn put_response<P: Pen, A: Allocator>(
+    writer: &mut TextWriter<P>,
+    response: &Message<Kept<A>>,
+) -> Result<(), SinkFault> {
+    let reply = reply_of(&response.frame.header, response.kept.front());
+    let message = message_of(reply, response.kept.front());
+    put_response_frame(writer, &response.frame)?;
+    put_reply(writer, reply)?;
+    put_message(writer, response.kept.is_text_dropped(), &message)?;
+    put_result(writer, response.kept.facts())
+}
+
+/// Takes the message of an ERROR.
+fn put_message<P: Pen>(
+    writer: &mut TextWriter<P>,
+    is_given_up: bool,
+    message: &Option<Statement<'_>>,
+) -> Result<(), SinkFault> {
+    match message {
+        Some(Statement::Text { text, is_whole }) => {
+            put_message_as(writer, Value::Text(text), Value::Flag(*is_whole))
+        }
+        Some(Statement::Id { .. }) => {
+            put_message_as(writer, Value::Null, none_whole(is_given_up))
+        }
+        None => put_message_as(writer, Value::Null, none_whole(is_given_up)),
+    }
+}
+
+fn put_message_as<P: Pen>(
+    writer: &mut TextWriter<P>,
+    text: Value<'_>,
+    is_whole: Value<'_>,
+) -> Result<(), SinkFault> {
+    put_members(
+        writer,
+        &[
+            Member(",\"message\":", text),
+            Member(",\"message_is_whole\":", is_whole),
+        ],
+    )
+}
+
+/// Takes what is known of a result.
+fn put_result<P: Pen>(writer: &mut TextWriter<P>, facts: &Facts) -> Result<(), SinkFault> {
+    put_members(
+        writer,
+        &[
+            Member(",\"rows\":", signed_or_null(facts.rows)),
+            Member(",\"columns\":", signed_or_null(facts.columns)),
+            Member(",\"warnings\":", number_or_null(facts.warnings)),
+            Member(",\"tracing_id\":", uuid_or_null(facts.trace_id)),
+        ],
+    )
+}
+
+fn put_response_frame<P: Pen>(writer: &mut TextWriter<P>, frame: &Frame) -> Result<(), SinkFault> {
+    put_members(
+        writer,
+        &[
+            Member(
+                ",\"response\":",
+                Value::Name(opcode_name(frame.header.opcode)),
+            ),
+            Member(
+                ",\"response_bytes\":",
+                Value::Number(9 + frame.header.length as u64),
+            ),
+            Member(
+                ",\"response_is_whole\":",
+                Value::Flag(is_whole(frame.extent)),
+            ),
+            Member(
+                ",\"response_is_compressed\":",
+                Value::Flag(has(frame.header.flags, 0x01)),
+            ),
+        ],
+    )
+}
+
+/// Takes what a response is.
+fn put_reply<P: Pen>(writer: &mut TextWriter<P>, reply: Reply) -> Result<(), SinkFault> {
+    match reply {
+        Reply::Result(kind) => {
+            put_reply_as(writer, name_or_code(kind_name(kind), kind), Value::Null)
+        }
+        Reply::Error(code) => {
+            put_reply_as(writer, Value::Null, name_or_code(error_name(code), code))
+        }
+        Reply::Other(_) => put_reply_as(writer, Value::Null, Value::Null),
+    }
+}
+
+fn put_reply_as<P: Pen>(
+    writer: &mut TextWriter<P>,
+    kind: Value<'_>,
+    error: Value<'_>,
+) -> Result<(), SinkFault> {
+    put_members(
+        writer,
+        &[Member(",\"result\":", kind), Member(",\"error\":", error)],
+    )
+}

@@ -1,0 +1,269 @@
+// Written by dist/erase from crates/cqlp_capture_exchanges/src/slot.rt.
+//! One connection that is watched.
+
+use crate::kit_host::prelude::{AllocGlobal, Box, Clone, ToCopy};
+use crate::cqlp_capture_exchanges::report::{ConnectionEnd, is_unread};
+use crate::cqlp_capture_exchanges::teller::Teller;
+use crate::cqlp_capture_streams::StreamsFault;
+use crate::cqlp_note::Target;
+use crate::cqlp_observer::{Kept, Missed, Opening, Paired, Watch, WatchRoom, WatchStep};
+use crate::cqlp_tcp_connections::{Told, Way};
+use crate::cqlp_tcp_reassembly::StreamStep;
+use crate::kit_std::alloc::{AllocError, Allocator, Global};
+
+/// What is watched of a connection.
+pub(crate) struct Slot<A: Allocator = Global> {
+    watch: Box<Watch<A>, A>,
+    /// Whether it was reported that the connection is not read.
+    is_reported: bool,
+}
+
+impl<A: Allocator + Clone> Slot<A> {
+    /// Nothing was seen of the connection.
+    pub(crate) fn new(alloc: A) -> Result<Self, AllocError> {
+        let watch = Watch::new(alloc.to_copy()?)?;
+        match Box::new(alloc, watch) {
+            Ok(watch) => Ok(Slot {
+                watch,
+                is_reported: false,
+            }),
+            Err(_) => Err(AllocError),
+        }
+    }
+
+    /// How much of it waits.
+    pub(crate) fn held(&self) -> WatchRoom {
+        WatchRoom {
+            messages: self.watch.waiting(),
+            text: self.watch.text(),
+        }
+    }
+
+    /// What was missed of the connection.
+    pub(crate) fn missed(&self) -> Missed {
+        self.watch.missed()
+    }
+
+    /// Takes what is told of its streams while the present packet came at this time, with its bytes; so much may wait.
+    pub(crate) fn hear<O: Target>(
+        &mut self,
+        present: Option<u64>,
+        told: &Told,
+        room: WatchRoom,
+        bytes: &[u8],
+        teller: &mut Teller<O, A>,
+    ) -> Result<(), StreamsFault> {
+        hear_told(
+            &mut self.watch,
+            &mut self.is_reported,
+            present,
+            told,
+            room,
+            bytes,
+            teller,
+        )
+    }
+
+    /// The streams of the connection end: reports what that tells.
+    pub(crate) fn end<O: Target>(
+        &mut self,
+        number: u64,
+        room: WatchRoom,
+        teller: &mut Teller<O, A>,
+    ) -> Result<(), StreamsFault> {
+        end_watch(&mut self.watch, number, room, teller)
+    }
+
+    /// Reports the messages that wait, of a connection that ended so.
+    pub(crate) fn let_go<O: Target>(
+        &mut self,
+        number: u64,
+        end: ConnectionEnd,
+        teller: &mut Teller<O, A>,
+    ) -> Result<(), StreamsFault> {
+        let_go(&mut self.watch, number, end, teller)
+    }
+}
+
+/// Takes what is told of the streams of a connection while the present packet came at this time, with its bytes.
+fn hear_told<O: Target, A: Allocator + Clone>(
+    watch: &mut Watch<A>,
+    is_reported: &mut bool,
+    present: Option<u64>,
+    told: &Told,
+    room: WatchRoom,
+    bytes: &[u8],
+    teller: &mut Teller<O, A>,
+) -> Result<(), StreamsFault> {
+    let responses = is_responses(told.way);
+    let number = told.number;
+    match told.step {
+        StreamStep::Began { syn } => {
+            watch.begin(responses, syn);
+            Ok(())
+        }
+        StreamStep::Payload { from, .. } => {
+            let piece = Piece {
+                responses,
+                time: present,
+                begins: from == 0,
+                bytes,
+            };
+            hear_bytes(watch, is_reported, number, piece, room, teller)
+        }
+        StreamStep::Held { time, begins } => {
+            let piece = Piece {
+                responses,
+                time,
+                begins,
+                bytes,
+            };
+            hear_bytes(watch, is_reported, number, piece, room, teller)
+        }
+        StreamStep::Gap { length, time, .. } => {
+            hear_gap(watch, number, responses, length, time, room, teller)
+        }
+        StreamStep::Ended | StreamStep::Reset => {
+            end_direction(watch, number, responses, room, teller)
+        }
+        StreamStep::Kept | StreamStep::Done => Ok(()),
+    }
+}
+
+/// Whether bytes that go this way are those of responses.
+fn is_responses(way: Way) -> bool {
+    match way {
+        Way::Requests => false,
+        Way::Responses => true,
+    }
+}
+
+/// Bytes of one direction, which were captured at this time; the first of them begins a segment or not.
+#[derive(Clone, Copy)]
+struct Piece<'a> {
+    responses: bool,
+    time: Option<u64>,
+    begins: bool,
+    bytes: &'a [u8],
+}
+
+/// Takes bytes of one direction.
+fn hear_bytes<O: Target, A: Allocator + Clone>(
+    watch: &mut Watch<A>,
+    is_reported: &mut bool,
+    number: u64,
+    piece: Piece<'_>,
+    room: WatchRoom,
+    teller: &mut Teller<O, A>,
+) -> Result<(), StreamsFault> {
+    let Piece {
+        responses,
+        time,
+        begins,
+        bytes,
+    } = piece;
+    let mut steps = 2 * bytes.len() as u128 + 2;
+    let mut rest = bytes;
+    let mut is_first = begins;
+    while steps > 0 {
+        let Ok(step) = watch.take(responses, rest, time, is_first, room) else {
+            return Err(StreamsFault::NoMemory);
+        };
+        let WatchStep {
+            used,
+            is_done,
+            opening,
+            told,
+        } = step;
+        report_step(teller, number, time, *is_reported, opening, told)?;
+        *is_reported = is_reported_after(*is_reported, opening);
+        if is_done {
+            return Ok(());
+        }
+        is_first = still_first(is_first, used);
+        rest = &rest[used..];
+        steps -= 1;
+    }
+    Ok(())
+}
+
+/// Reports what a step of bytes tells that were captured at this time.
+fn report_step<O: Target, A: Allocator>(
+    teller: &mut Teller<O, A>,
+    number: u64,
+    time: Option<u64>,
+    was_reported: bool,
+    opening: Opening,
+    told: Option<Paired<Kept<A>>>,
+) -> Result<(), StreamsFault> {
+    match teller.report_opening(number, time, was_reported, opening) {
+        Ok(()) => teller.report_messages(number, None, told),
+        Err(fault) => Err(fault),
+    }
+}
+
+/// Whether it was reported that a connection is not read, after a direction that begins so, or goes on.
+fn is_reported_after(was_reported: bool, opening: Opening) -> bool {
+    was_reported || is_unread(opening)
+}
+
+/// Whether what follows the bytes that were used still begins a segment.
+fn still_first(is_first: bool, used: usize) -> bool {
+    is_first && used == 0
+}
+
+/// So many bytes of a direction are missing, which passed at this time, where that is known.
+fn hear_gap<O: Target, A: Allocator + Clone>(
+    watch: &mut Watch<A>,
+    number: u64,
+    responses: bool,
+    length: u64,
+    time: Option<u64>,
+    room: WatchRoom,
+    teller: &mut Teller<O, A>,
+) -> Result<(), StreamsFault> {
+    match watch.gap(responses, length, time, room) {
+        Ok(told) => teller.report_messages(number, None, told),
+        Err(AllocError) => Err(StreamsFault::NoMemory),
+    }
+}
+
+/// No more bytes of either direction come.
+fn end_watch<O: Target, A: Allocator + Clone>(
+    watch: &mut Watch<A>,
+    number: u64,
+    room: WatchRoom,
+    teller: &mut Teller<O, A>,
+) -> Result<(), StreamsFault> {
+    match end_direction(watch, number, false, room, teller) {
+        Ok(()) => end_direction(watch, number, true, room, teller),
+        Err(fault) => Err(fault),
+    }
+}
+
+/// No more bytes of a direction come.
+fn end_direction<O: Target, A: Allocator + Clone>(
+    watch: &mut Watch<A>,
+    number: u64,
+    responses: bool,
+    room: WatchRoom,
+    teller: &mut Teller<O, A>,
+) -> Result<(), StreamsFault> {
+    match watch.end(responses, room) {
+        Ok(told) => teller.report_messages(number, None, told),
+        Err(AllocError) => Err(StreamsFault::NoMemory),
+    }
+}
+
+/// Reports the messages that wait, of a connection that ended so.
+fn let_go<O: Target, A: Allocator + Clone>(
+    watch: &mut Watch<A>,
+    number: u64,
+    end: ConnectionEnd,
+    teller: &mut Teller<O, A>,
+) -> Result<(), StreamsFault> {
+    while let Some(told) = watch.finish() {
+        teller.report_messages(number, Some(end), Some(told))?;
+    }
+    Ok(())
+}

@@ -1,0 +1,119 @@
+// Written by dist/erase from crates/cqlp_capture_exchanges/src/table.rt.
+//! The connections that are watched.
+
+use crate::kit_host::prelude::{AllocGlobal, Clone, ToCopy};
+use crate::cqlp_capture_exchanges::pool::{ExchangeLimits, Pool};
+use crate::cqlp_capture_exchanges::report::end_of;
+use crate::cqlp_capture_exchanges::slot::Slot;
+use crate::cqlp_capture_exchanges::teller::Teller;
+use crate::cqlp_capture_streams::StreamsFault;
+use crate::cqlp_note::Target;
+use crate::cqlp_observer::{Missed, WatchRoom};
+use crate::cqlp_tcp_connections::{ConnectionTotals, Told};
+use crate::kit_std::alloc::{AllocError, Allocator, Global};
+use crate::kit_std::collections::BTreeMap;
+
+/// The connections that are watched, by their numbers. Memory is taken for each as it begins, and given back as it leaves.
+pub(crate) struct Table<A: Allocator = Global> {
+    alloc: A,
+    slots: BTreeMap<u64, Slot<A>, A>,
+    /// How much of them waits.
+    pool: Pool,
+    /// What was missed of those that have left.
+    missed: Missed,
+}
+
+impl<A: Allocator + Clone> Table<A> {
+    /// No connections.
+    pub(crate) fn new(alloc: A, limits: ExchangeLimits) -> Result<Self, AllocError> {
+        let slots = BTreeMap::new(alloc.to_copy()?);
+        Ok(Table {
+            alloc,
+            slots,
+            pool: Pool::new(limits),
+            missed: Missed::NONE,
+        })
+    }
+
+    /// What was missed of the connections that have left.
+    pub(crate) fn missed(&self) -> Missed {
+        self.missed
+    }
+
+    /// The connection with this number begins. Where memory is refused, nothing changes.
+    pub(crate) fn begin(&mut self, number: u64) -> Result<(), AllocError> {
+        let slot = Slot::new(self.alloc.to_copy()?)?;
+        match self.slots.insert(number, slot) {
+            Ok(_) => Ok(()),
+            Err(_) => Err(AllocError),
+        }
+    }
+
+    /// Takes what is told of the streams of a connection while the present packet came at this time, with its bytes.
+    pub(crate) fn hear<O: Target>(
+        &mut self,
+        present: Option<u64>,
+        told: &Told,
+        bytes: &[u8],
+        teller: &mut Teller<O, A>,
+    ) -> Result<(), StreamsFault> {
+        match self.slots.get_mut(&told.number) {
+            Some(slot) => hear_in(slot, &mut self.pool, present, told, bytes, teller),
+            None => Ok(()),
+        }
+    }
+
+    /// A connection leaves, of which this was told.
+    pub(crate) fn leave<O: Target>(
+        &mut self,
+        totals: &ConnectionTotals,
+        teller: &mut Teller<O, A>,
+    ) -> Result<(), StreamsFault> {
+        match self.slots.remove(&totals.number) {
+            Some(slot) => let_leave(slot, &mut self.pool, &mut self.missed, totals, teller),
+            None => Ok(()),
+        }
+    }
+}
+
+/// Takes what is told of the streams of this connection.
+fn hear_in<O: Target, A: Allocator + Clone>(
+    slot: &mut Slot<A>,
+    pool: &mut Pool,
+    present: Option<u64>,
+    told: &Told,
+    bytes: &[u8],
+    teller: &mut Teller<O, A>,
+) -> Result<(), StreamsFault> {
+    let old = slot.held();
+    let room = pool.room_for(old);
+    let heard = slot.hear(present, told, room, bytes, teller);
+    pool.exchange(old, slot.held());
+    heard
+}
+
+/// This connection leaves.
+fn let_leave<O: Target, A: Allocator + Clone>(
+    mut slot: Slot<A>,
+    pool: &mut Pool,
+    missed: &mut Missed,
+    totals: &ConnectionTotals,
+    teller: &mut Teller<O, A>,
+) -> Result<(), StreamsFault> {
+    let old = slot.held();
+    let room = pool.room_for(old);
+    pool.exchange(old, NONE);
+    match slot.end(totals.number, room, teller) {
+        Ok(()) => {
+            missed.add(&slot.missed());
+            slot.let_go(totals.number, end_of(totals), teller)
+        }
+        Err(fault) => Err(fault),
+    }
+}
+
+/// Nothing that waits.
+const NONE: WatchRoom = WatchRoom {
+    messages: 0,
+    text: 0,
+};

@@ -1,0 +1,15 @@
+// Written by dist/erase from crates/cqlp_capture_prepared/src/lib.rt.
+//! Which types the page of a response has, by what PREPARE said on its connection.
+
+mod error;
+mod execute;
+mod latest;
+mod prepared_types;
+mod requests;
+mod statement_id;
+mod statement_types;
+
+pub use error::NewPreparedError;
+pub use prepared_types::PreparedTypes;
+pub use requests::Requests;
+pub use statement_id::StatementId;

@@ -1,0 +1,127 @@
+// Written by dist/erase from crates/cqlp_capture_prepared/src/requests.rt.
+//! The requests of a connection, of which the EXECUTEs name statements.
+
+use crate::cqlp_capture_prepared::execute::Execute;
+use crate::cqlp_capture_prepared::prepared_types::PreparedTypes;
+use crate::cqlp_note::{Header, Opcode};
+use crate::cqlp_observer::{Heads, Heard, HeardStep};
+use crate::cqlp_tcp_reassembly::StreamStep;
+use crate::kit_std::alloc::Allocator;
+
+/// The requests of a connection: where their frames begin and end, and the EXECUTE whose id has not come whole, if one is under way. Takes no
+/// memory.
+pub struct Requests {
+    heads: Heads,
+    execute: Option<Execute>,
+}
+
+impl Requests {
+    /// Nothing came. Its first byte begins a frame, where `from_start`.
+    pub fn new(from_start: bool) -> Self {
+        Requests {
+            heads: Heads::new(false, from_start),
+            execute: None,
+        }
+    }
+
+    /// Takes what is told of the requests, with its bytes, and tells the EXECUTEs among them, and the other requests, to `known`: each at its
+    /// header, and an EXECUTE again where its id came whole. With a SYN nothing is known any more.
+    pub fn hear<A: Allocator>(
+        &mut self,
+        step: StreamStep,
+        bytes: &[u8],
+        known: &mut PreparedTypes<A>,
+    )
+    {
+        match step {
+            StreamStep::Began { syn } => self.begin(syn, known),
+            StreamStep::Payload { from, .. } => self.hear_bytes(from == 0, bytes, known),
+            StreamStep::Held { begins, .. } => self.hear_bytes(begins, bytes, known),
+            StreamStep::Gap { length, .. } => {
+                let _ = self.heads.gap(length, None);
+                self.execute = None;
+            }
+            StreamStep::Ended | StreamStep::Reset => {
+                let _ = self.heads.end();
+                self.execute = None;
+            }
+            StreamStep::Kept | StreamStep::Done => {}
+        }
+    }
+
+    fn begin<A: Allocator>(&mut self, syn: bool, known: &mut PreparedTypes<A>) {
+        *self = Requests::new(syn);
+        if syn {
+            known.clear();
+        }
+    }
+
+    /// Takes bytes, the first of which begins a segment or not.
+    fn hear_bytes<A: Allocator>(&mut self, begins: bool, bytes: &[u8], known: &mut PreparedTypes<A>) {
+        let mut steps = 2 * bytes.len() as u128 + 2;
+        let mut rest = bytes;
+        let mut is_first = begins;
+        while steps > 0 {
+            let HeardStep { used, heard } = self.heads.take(rest, None, is_first);
+            self.tell(heard, &rest[..used], known);
+            if is_done(heard) {
+                return;
+            }
+            is_first = still_first(is_first, used);
+            rest = &rest[used..];
+            steps -= 1;
+        }
+    }
+
+    /// Takes what bytes are.
+    fn tell<A: Allocator>(&mut self, heard: Heard, bytes: &[u8], known: &mut PreparedTypes<A>) {
+        match heard {
+            Heard::Begins(header) => {
+                known.forget(header.stream);
+                self.execute = execute_of(&header);
+            }
+            Heard::Body => self.take_body(bytes, known),
+            Heard::Ends(_) | Heard::Stray => self.execute = None,
+            Heard::More => {}
+        }
+    }
+
+    /// Takes bytes of a body.
+    fn take_body<A: Allocator>(&mut self, bytes: &[u8], known: &mut PreparedTypes<A>) {
+        let Some(mut execute) = self.execute.take() else {
+            return;
+        };
+        execute.read(bytes);
+        match execute.id() {
+            Some(id) => known.executed(execute.stream, id),
+            None => self.execute = Some(execute),
+        }
+    }
+}
+
+/// The EXECUTE that begins with a header, if one does whose body is not compressed.
+fn execute_of(header: &Header) -> Option<Execute> {
+    if names_statement(header) {
+        Some(Execute::new(header))
+    } else {
+        None
+    }
+}
+
+/// Whether it is an EXECUTE that is not compressed.
+fn names_statement(header: &Header) -> bool {
+    header.opcode == Opcode::Execute && header.flags & 0x01 == 0
+}
+
+/// Whether nothing more is told of a piece.
+fn is_done(heard: Heard) -> bool {
+    match heard {
+        Heard::More => true,
+        Heard::Begins(_) | Heard::Body | Heard::Ends(_) | Heard::Stray => false,
+    }
+}
+
+/// Whether what follows the bytes that were used still begins a segment.
+fn still_first(is_first: bool, used: usize) -> bool {
+    is_first && used == 0
+}

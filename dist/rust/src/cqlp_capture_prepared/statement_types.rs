@@ -1,0 +1,11 @@
+// Written by dist/erase from crates/cqlp_capture_prepared/src/statement_types.rt.
+//! The types of statements.
+
+use crate::cqlp_type::TypeTable;
+use crate::kit_std::alloc::{Allocator, Global};
+
+/// The types of the result of a statement.
+pub(crate) struct StatementTypes<A: Allocator = Global> {
+    pub(crate) table: TypeTable<A>,
+}
+

@@ -1,0 +1,110 @@
+// Written by dist/erase from crates/cqlp_capture_streams/src/capturing.rt.
+//! A whole capture.
+
+use crate::kit_host::prelude::{AllocGlobal, vec};
+use crate::cqlp_capture_streams::fault::StreamsFault;
+use crate::cqlp_capture_streams::limits::StreamsLimits;
+use crate::cqlp_capture_streams::listener::Listener;
+use crate::cqlp_capture_streams::packets::PacketCounts;
+use crate::cqlp_capture_streams::running::split;
+use crate::cqlp_capture_streams::splitter::Splitter;
+use crate::cqlp_capture::{CaptureEnd, CaptureLimits, CaptureReader};
+use crate::cqlp_note::Source;
+use crate::cqlp_packet_order::{OrderCounts, OrderLimits, PacketOrder};
+use crate::cqlp_tcp_connections::{ConnectionCounts, ConnectionLimits, Connections};
+use crate::kit_std::alloc::{Allocator, Global};
+
+/// 256 connections, and the other limits where none are given.
+pub const LIMITS: StreamsLimits = StreamsLimits {
+    connections: ConnectionLimits {
+        connections: 256,
+        early: 25_165_824,
+        early_each: 1_048_576,
+    },
+    order: OrderLimits {
+        packets: 1_000,
+        nanoseconds: 1_000_000_000,
+        bytes: 8_388_608,
+    },
+};
+
+/// How many reads are made at most.
+const TURNS: u64 = 4_294_967_296;
+
+/// How many bytes a read asks for.
+const ROOM: usize = 65_536;
+
+/// What a capture was that was read to its end, or to where it is refused.
+#[derive(Clone, Copy, Debug, PartialEq, Eq)]
+pub struct CaptureRead {
+    pub end: CaptureEnd,
+    pub packets: PacketCounts,
+    pub order: OrderCounts,
+    pub connections: ConnectionCounts,
+    /// Of the segments of other ports, the ports that most had, and how many. 0 with 0, where there are fewer.
+    pub busiest: [(u16, u64); 3],
+}
+
+impl CaptureRead {
+    /// Whether some of it was not read, or packets came late, or bytes that came early were given up, or all segments went to other ports.
+    pub fn has_losses(&self) -> bool {
+        self.packets.skipped.has_some()
+            || self.order.late > 0
+            || self.connections.given_up > 0
+            || (self.connections.connections == 0 && self.connections.foreign > 0)
+    }
+}
+
+/// Has a listener take all that a capture tells of the connections of nodes that listen on these ports, out of at most 2^32 reads. There are
+/// at most as many connections at one time, with as many bytes that came early, as the limits say. Packets are put in the order of their
+/// times within the window that the limits say. No read is made before the listener has taken all that the bytes read so far tell, but for
+/// packets that wait. At the end of the file, or where it is refused, those leave, and then all connections.
+///
+/// After a fault nothing more is read, and nothing more is told to the listener.
+pub(crate) fn read_capture<R: Source, L: Listener>(
+    alloc: Global,
+    limits: StreamsLimits,
+    ports: &[u16],
+    input: &mut R,
+    listener: &mut L,
+) -> Result<CaptureRead, StreamsFault> {
+    let Ok(mut reader) = CaptureReader::new(alloc, CaptureLimits::DEFAULT) else {
+        return Err(StreamsFault::NoMemory);
+    };
+    let Ok(connections) = Connections::new(alloc, limits.connections, ports) else {
+        return Err(StreamsFault::NoMemory);
+    };
+    let Ok(order) = PacketOrder::new(alloc, limits.order) else {
+        return Err(StreamsFault::NoMemory);
+    };
+    let Ok(mut buffer) = vec![in alloc; 0; ROOM] else {
+        return Err(StreamsFault::NoMemory);
+    };
+    let mut splitter = Splitter::new(connections, order);
+    let answer = split(
+        &mut reader,
+        &mut splitter,
+        input,
+        buffer.as_mut_slice(),
+        listener,
+        TURNS,
+    );
+    read_of(answer, &splitter)
+}
+
+/// What a capture was that was split so.
+fn read_of<A: Allocator>(
+    answer: Result<CaptureEnd, StreamsFault>,
+    splitter: &Splitter<A>,
+) -> Result<CaptureRead, StreamsFault> {
+    match answer {
+        Err(fault) => Err(fault),
+        Ok(end) => Ok(CaptureRead {
+            end,
+            packets: splitter.packet_counts(),
+            order: splitter.order_counts(),
+            connections: splitter.connection_counts(),
+            busiest: splitter.busiest(),
+        }),
+    }
+}

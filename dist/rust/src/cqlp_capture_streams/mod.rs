@@ -1,0 +1,35 @@
+// Written by dist/erase from crates/cqlp_capture_streams/src/lib.rt.
+//! The bytes of each direction of each connection of a capture, apart, and a line for each connection.
+
+mod busiest;
+mod capturing;
+mod ending;
+mod fault;
+mod files;
+mod last_words;
+mod limits;
+mod lines;
+mod listener;
+mod packets;
+mod recorder;
+mod running;
+mod saying;
+mod skipped;
+mod splitter;
+mod summary;
+mod telling;
+mod writing;
+
+pub use capturing::{CaptureRead, LIMITS};
+pub(crate) use capturing::{read_capture};
+pub use ending::conclude_capture;
+pub use fault::StreamsFault;
+pub use files::{FileFault, StreamFile, StreamFiles};
+pub use last_words::{LastWord, LastWords};
+pub use limits::StreamsLimits;
+pub use listener::Listener;
+pub use packets::{PacketCounts, WithoutCounts};
+pub use saying::Saying;
+pub use skipped::SkippedCounts;
+pub use summary::put_count;
+pub(crate) use writing::{write_streams};

@@ -1,0 +1,82 @@
+// Written by dist/erase from crates/cqlp_capture_streams/src/running.rt.
+//! A reader's capture, split into the streams of its connections.
+
+use crate::kit_host::prelude::{Clone};
+use crate::cqlp_capture_streams::fault::StreamsFault;
+use crate::cqlp_capture_streams::listener::Listener;
+use crate::cqlp_capture_streams::splitter::Splitter;
+use crate::cqlp_capture::{CaptureEnd, CaptureReader, CaptureStep};
+use crate::cqlp_note::{IoFault, Source};
+use crate::kit_std::alloc::Allocator;
+
+/// How the events of a piece end.
+#[derive(Clone, Copy, Debug, PartialEq, Eq)]
+enum Drained {
+    More,
+    Refused,
+}
+
+/// Tells all that a reader's capture tells, from at most `turns` reads into the buffer, none of which is tried again. No read is made
+/// before the listener has got all that the bytes read so far tell. At the end of the file, or where it is refused, all connections
+/// leave.
+pub(crate) fn split<R: Source, L: Listener, A: Allocator, B: Allocator + Clone>(
+    reader: &mut CaptureReader<A>,
+    splitter: &mut Splitter<B>,
+    input: &mut R,
+    buffer: &mut [u8],
+    listener: &mut L,
+    turns: u64,
+) -> Result<CaptureEnd, StreamsFault> {
+    for turn in 0..turns {
+        let count = match input.read(buffer) {
+            Ok(count) => count,
+            Err(IoFault) => return Err(StreamsFault::Read),
+        };
+        let drained = drain(reader, splitter, &buffer[..count], listener)?;
+        match drained {
+            Drained::Refused => return end_all(reader, splitter, listener),
+            Drained::More => {
+                if count == 0 {
+                    return end_all(reader, splitter, listener);
+                }
+            }
+        }
+    }
+    Err(StreamsFault::TooManyTurns)
+}
+
+/// Tells what the events of a piece tell.
+fn drain<L: Listener, A: Allocator, B: Allocator + Clone>(
+    reader: &mut CaptureReader<A>,
+    splitter: &mut Splitter<B>,
+    piece: &[u8],
+    listener: &mut L,
+) -> Result<Drained, StreamsFault> {
+    let mut used = 0;
+    for turn in 0..u64::MAX {
+        match reader.next(&piece[used..]) {
+            CaptureStep::More { .. } => return Ok(Drained::More),
+            CaptureStep::Refused(_) => return Ok(Drained::Refused),
+            CaptureStep::Event {
+                used: taken,
+                event,
+                ..
+            } => {
+                used += taken;
+                splitter.take(&event, listener)?;
+            }
+        }
+    }
+    Err(StreamsFault::TooManyTurns)
+}
+
+/// At the end of the file, or where it is refused: has all connections leave. Says how the file ends.
+fn end_all<L: Listener, A: Allocator, B: Allocator + Clone>(
+    reader: &CaptureReader<A>,
+    splitter: &mut Splitter<B>,
+    listener: &mut L,
+) -> Result<CaptureEnd, StreamsFault> {
+    let end = reader.finish();
+    splitter.finish(listener)?;
+    Ok(end)
+}

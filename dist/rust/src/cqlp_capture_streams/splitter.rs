@@ -1,0 +1,159 @@
+// Written by dist/erase from crates/cqlp_capture_streams/src/splitter.rt.
+//! The packets of a capture, on their way to connections.
+
+use crate::kit_host::prelude::{Clone};
+use crate::cqlp_capture_streams::fault::StreamsFault;
+use crate::cqlp_capture_streams::listener::Listener;
+use crate::cqlp_capture_streams::packets::PacketCounts;
+use crate::cqlp_capture_streams::telling::{finish_all, take_timed};
+use crate::cqlp_capture::{CaptureEvent, PacketHead};
+use crate::cqlp_packet_order::{OrderCounts, Packet, PacketOrder};
+use crate::cqlp_tcp_connections::{ConnectionCounts, Connections};
+use crate::cqlp_tcp_segment::{LinkType, NoSegment, Segment, read_segment};
+use crate::kit_std::alloc::{AllocError, Allocator, Global};
+
+/// Takes the events of a capture, puts its packets in order, and has the segments in them taken by their connections.
+pub(crate) struct Splitter<A: Allocator = Global> {
+    connections: Connections<A>,
+    order: PacketOrder<A>,
+    /// Of the packet that began: the link type's number, when it was captured, and how many bytes it had.
+    link: u16,
+    time: Option<u64>,
+    original: u32,
+    counts: PacketCounts,
+}
+
+impl<A: Allocator> Splitter<A> {
+    /// At the start of a capture, whose connections have this table, and whose packets this window.
+    pub fn new(connections: Connections<A>, order: PacketOrder<A>) -> Self {
+        Splitter {
+            connections,
+            order,
+            link: 0,
+            time: None,
+            original: 0,
+            counts: PacketCounts::NONE,
+        }
+    }
+
+    /// What packets were.
+    pub fn packet_counts(&self) -> PacketCounts {
+        self.counts
+    }
+
+    /// How many packets were out of order.
+    pub fn order_counts(&self) -> OrderCounts {
+        self.order.counts()
+    }
+
+    /// What the table of connections has counted.
+    pub fn connection_counts(&self) -> ConnectionCounts {
+        self.connections.counts()
+    }
+
+    /// The ports that most segments of other ports have.
+    pub fn busiest(&self) -> [(u16, u64); 3] {
+        self.connections.busiest()
+    }
+
+    fn begin_packet(&mut self, head: &PacketHead) {
+        self.link = head.link;
+        self.time = head.time;
+        self.original = head.original;
+    }
+
+    /// Whether a segment is of a connection, and not all of its payload was captured.
+    fn is_snapped(&self, segment: &Segment<'_>) -> bool {
+        segment.missing > 0 && self.connections.asks_for(&segment.head)
+    }
+}
+
+impl<A: Allocator + Clone> Splitter<A> {
+    /// Takes the next event, and tells what it tells of connections.
+    pub fn take<L: Listener>(
+        &mut self,
+        event: &CaptureEvent<'_>,
+        listener: &mut L,
+    ) -> Result<(), StreamsFault> {
+        match event {
+            CaptureEvent::Section(_) | CaptureEvent::Interface(_) => Ok(()),
+            CaptureEvent::Packet(head) => {
+                self.begin_packet(head);
+                Ok(())
+            }
+            CaptureEvent::Data(bytes) => self.take_bytes(bytes, listener),
+            CaptureEvent::Skipped(why) => {
+                self.counts.count_skipped(*why);
+                Ok(())
+            }
+        }
+    }
+
+    /// At the end of the capture: has the packets leave that wait, and then all connections.
+    pub fn finish<L: Listener>(&mut self, listener: &mut L) -> Result<(), StreamsFault> {
+        self.hand_on_all(listener)?;
+        finish_all(&mut self.connections, listener)
+    }
+
+    /// Takes the bytes of the packet that began. It waits for those that were captured before it, unless it passes as it is.
+    fn take_bytes<L: Listener>(
+        &mut self,
+        bytes: &[u8],
+        listener: &mut L,
+    ) -> Result<(), StreamsFault> {
+        let packet = Packet {
+            link: self.link,
+            time: self.time,
+            original: self.original,
+            bytes,
+        };
+        if self.order.pass(&packet) {
+            return self.take_packet(&packet, listener);
+        }
+        match self.order.push(&packet) {
+            Ok(()) => self.hand_on_due(listener),
+            Err(AllocError) => Err(StreamsFault::NoMemory),
+        }
+    }
+
+    /// Has the packets leave that are to.
+    fn hand_on_due<L: Listener>(&mut self, listener: &mut L) -> Result<(), StreamsFault> {
+        while let Some(kept) = self.order.pop_due() {
+            self.take_packet(&kept.as_packet(), listener)?;
+        }
+        Ok(())
+    }
+
+    /// Has all packets leave.
+    fn hand_on_all<L: Listener>(&mut self, listener: &mut L) -> Result<(), StreamsFault> {
+        while let Some(kept) = self.order.pop() {
+            self.take_packet(&kept.as_packet(), listener)?;
+        }
+        Ok(())
+    }
+
+    /// Takes a packet whose turn has come.
+    fn take_packet<L: Listener>(
+        &mut self,
+        packet: &Packet<'_>,
+        listener: &mut L,
+    ) -> Result<(), StreamsFault> {
+        match segment_in(packet) {
+            Ok(segment) => {
+                let is_snapped = self.is_snapped(&segment);
+                self.counts.count_segment(is_snapped);
+                take_timed(packet.time, &mut self.connections, &segment, listener)
+            }
+            Err(why) => {
+                self.counts.count_without(why);
+                Ok(())
+            }
+        }
+    }
+}
+
+/// The segment in a packet.
+fn segment_in<'a>(packet: &Packet<'a>) -> Result<Segment<'a>, NoSegment> {
+    let link = LinkType::from_number(packet.link)?;
+    read_segment(link, packet.bytes, packet.original)
+}

@@ -1,0 +1,58 @@
+// Written by dist/erase from crates/cqlp_capture_summary/src/name.rt.
+//! Names of statements.
+
+/// The first bytes of a statement's name.
+pub(crate) struct Name {
+    /// A sum of the bytes, which is compared first.
+    sum: u64,
+    len: usize,
+    bytes: [u8; MOST],
+    is_whole: bool,
+}
+
+/// How many bytes of a name are kept at most.
+const MOST: usize = 256;
+
+impl Name {
+    /// The name of which these are the bytes, or the first ones.
+    pub(crate) fn new(name: &[u8], is_whole: bool) -> Self {
+        let front = &name[..name.len().min(MOST)];
+        let mut bytes = [0; MOST];
+        bytes[..front.len()].copy_from_slice(front);
+        Name {
+            sum: sum_of(front),
+            len: front.len(),
+            bytes,
+            is_whole: is_kept_whole(name, is_whole),
+        }
+    }
+
+    pub(crate) fn as_slice(&self) -> &[u8] {
+        &self.bytes[..self.len]
+    }
+
+    pub(crate) fn is_whole(&self) -> bool {
+        self.is_whole
+    }
+
+    /// Whether it is the other.
+    pub(crate) fn is(&self, other: &Name) -> bool {
+        self.sum == other.sum
+            && self.is_whole == other.is_whole
+            && self.as_slice() == other.as_slice()
+    }
+}
+
+/// Whether all of a name is kept, of which these are the bytes or the first ones.
+fn is_kept_whole(name: &[u8], is_whole: bool) -> bool {
+    is_whole && name.len() <= MOST
+}
+
+/// A sum of bytes.
+fn sum_of(bytes: &[u8]) -> u64 {
+    let mut sum: u64 = 0;
+    for byte in bytes {
+        sum = sum.wrapping_mul(31).wrapping_add(u64::from(*byte));
+    }
+    sum
+}

@@ -1,0 +1,52 @@
+// Written by dist/erase from crates/cqlp_capture_summary/src/shown.rt.
+//! Texts of a peer, as a terminal may show them.
+
+use crate::cqlp_grammar::SinkFault;
+use crate::cqlp_text::{Pen, TextWriter};
+
+/// Takes a text as it stands between quotes: a quote, a backslash and each character that a terminal may obey is escaped.
+pub fn put_shown_text<P: Pen>(writer: &mut TextWriter<P>, text: &str) -> Result<(), SinkFault> {
+    for c in text.chars() {
+        put_shown(writer, c)?;
+    }
+    Ok(())
+}
+
+/// Takes a character as it stands between quotes.
+fn put_shown<P: Pen>(writer: &mut TextWriter<P>, c: char) -> Result<(), SinkFault> {
+    let mut room = [0; 4];
+    let bytes = c.encode_utf8(&mut room).as_bytes();
+    if is_hidden(c) {
+        return put_escapes(writer, bytes);
+    }
+    match c {
+        '"' => writer.put(b"\\\""),
+        '\\' => writer.put(b"\\\\"),
+        _ => writer.put(bytes),
+    }
+}
+
+/// Takes bytes each as `\x` and two hexadecimal digits.
+fn put_escapes<P: Pen>(writer: &mut TextWriter<P>, bytes: &[u8]) -> Result<(), SinkFault> {
+    for byte in bytes {
+        writer.put(b"\\x")?;
+        writer.put_hex(&[*byte])?;
+    }
+    Ok(())
+}
+
+/// Whether a terminal may obey a character, or show a line in another order for it.
+fn is_hidden(c: char) -> bool {
+    let code = u32::from(c);
+    is_among(code, 0x0000, 0x001F)
+        || is_among(code, 0x007F, 0x009F)
+        || code == 0x061C
+        || is_among(code, 0x200E, 0x200F)
+        || is_among(code, 0x2028, 0x202E)
+        || is_among(code, 0x2066, 0x2069)
+}
+
+/// Whether a number is none below the one and none above the other.
+fn is_among(number: u32, least: u32, greatest: u32) -> bool {
+    least <= number && number <= greatest
+}

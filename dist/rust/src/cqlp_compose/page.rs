@@ -1,0 +1,147 @@
+// Written by dist/erase from crates/cqlp_compose/src/page.rt.
+//! Pages that are begun.
+
+use crate::kit_std::prelude::{Vec};
+use crate::cqlp_compose::composer::Composer;
+use crate::cqlp_compose::error::{BeginError, HeadError, Unended};
+use crate::cqlp_compose::head::page_head;
+use crate::cqlp_compose::place::PagePlace;
+use crate::cqlp_build::BuildError;
+use crate::cqlp_grammar::Event;
+use crate::cqlp_message::{Frame, Message};
+use crate::cqlp_note::Field;
+use crate::kit_std::alloc::Global;
+
+/// A page whose cells come in batches: its frame without cells, and where it stands. Section 4.2.5.2 of `native_protocol_v4.spec`.
+///
+/// This is all that is held of a page of any size between two batches, and as much as the events of its head told. A proxy adds up
+/// [`event_size`](crate::cqlp_compose::event_size) of the events of the cells, begins the page with its header, its metadata and the count of its rows, and
+/// then hands on the cells as they come:
+///
+/// ```text
+/// let BegunPage { mut page, head } = OpenPage::begin(alloc, composer, rows, cells_len)?;
+/// target.write_all(&head)?;
+/// let mut cells = PutCells::new(alloc, &page, limits);
+/// for event in events {
+///     if let Some(len) = cells.take(event, &mut room)? {
+///         target.write_all(&room[..len])?;
+///     }
+/// }
+/// let place = cells.place();
+/// page.set_place(place);
+/// page.end()?;
+/// ```
+pub struct OpenPage {
+    pub(crate) frame: Frame,
+    pub(crate) place: PagePlace,
+}
+
+/// A page that is begun, and what is to be written of it before its first cell.
+pub struct BegunPage {
+    pub page: OpenPage,
+    pub head: Vec<u8>,
+}
+
+impl OpenPage {
+    /// Begins the page whose head has the events that came to a composer, its header, its metadata and all else before the count of its rows, and then
+    /// this count. Its cells are to have `cells_len` bytes, as [`event_size`](crate::cqlp_compose::event_size) counts those of their events.
+    ///
+    /// # Errors
+    ///
+    /// [`BeginError::Build`] with what [`Composer::take`] says of a count of rows that comes next, or with what [`Composer::close`] says of the frame
+    /// without rows, and then [`BeginError::NoPage`] where this is another message than a page. Then [`BeginError::Unfit`] with what
+    /// [`Frame::page_unfit`] says of a page of as many rows and bytes. Memory may be refused at any time.
+    pub fn begin(
+        alloc: Global,
+        composer: Composer,
+        rows: u32,
+        cells_len: u64,
+    ) -> Result<BegunPage, BeginError> {
+        match bare_page(composer, rows) {
+            Ok(frame) => begun(alloc, frame, said_len(cells_len)),
+            Err(why) => Err(why),
+        }
+    }
+
+    /// Where it stands.
+    #[must_use]
+    pub fn place(&self) -> PagePlace {
+        self.place
+    }
+
+    /// Goes on to the place after cells that were put.
+    pub fn set_place(&mut self, place: PagePlace) {
+        self.place = place;
+    }
+
+    /// Sees that all of its cells have come, and all bytes that they were to have.
+    ///
+    /// # Errors
+    ///
+    /// [`Unended::CellsMissing`] where cells are still to come, and else [`Unended::BytesMissing`] where bytes are.
+    pub fn end(&self) -> Result<(), Unended> {
+        if self.place.cells() != self.frame.cells_wanted() {
+            return Err(Unended::CellsMissing);
+        }
+        if self.place.free() != 0 {
+            return Err(Unended::BytesMissing);
+        }
+        Ok(())
+    }
+}
+
+/// How many bytes the cells are said to have. No body has as many as do not fit.
+fn said_len(cells_len: u64) -> u32 {
+    cells_len.min(u64::from(u32::MAX)) as u32
+}
+
+/// A page without cells, begun with cells of this many bytes.
+fn begun(alloc: Global, frame: Frame, cells_len: u32) -> Result<BegunPage, BeginError> {
+    let place = match PagePlace::start(&frame, cells_len) {
+        Ok(place) => place,
+        Err(why) => return Err(BeginError::Unfit(why)),
+    };
+    match page_head(alloc, &frame, cells_len) {
+        Ok(head) => Ok(BegunPage {
+            page: OpenPage { frame, place },
+            head,
+        }),
+        Err(HeadError::Unfit(why)) => Err(BeginError::Unfit(why)),
+        Err(HeadError::NoMemory) => Err(BeginError::Build(BuildError::NoMemory)),
+    }
+}
+
+/// The page of as many rows and without cells whose other events came to a composer.
+fn bare_page(mut composer: Composer, rows: u32) -> Result<Frame, BeginError> {
+    let none = Event::Count {
+        field: Field::Rows,
+        count: 0,
+    };
+    if let Err(why) = composer.take(&none) {
+        return Err(BeginError::Build(why));
+    }
+    match composer.close() {
+        Ok(frame) => with_rows(frame, rows),
+        Err(why) => Err(BeginError::Build(why)),
+    }
+}
+
+/// The same page with as many rows.
+fn with_rows(mut frame: Frame, rows: u32) -> Result<Frame, BeginError> {
+    if set_rows(&mut frame.message, rows) {
+        Ok(frame)
+    } else {
+        Err(BeginError::NoPage)
+    }
+}
+
+/// Sets how many rows a page has, if it is one.
+fn set_rows(message: &mut Message, rows: u32) -> bool {
+    match message {
+        Message::Rows(page) => {
+            page.rows = rows;
+            true
+        }
+        _ => false,
+    }
+}

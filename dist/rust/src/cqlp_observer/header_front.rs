@@ -1,0 +1,51 @@
+// Written by dist/erase from crates/cqlp_observer/src/header_front.rt.
+//! The first bytes of a frame, out of pieces.
+
+use crate::cqlp_note::Header;
+
+/// At most as many bytes as a header has.
+pub(crate) struct HeaderFront {
+    bytes: [u8; 9],
+    len: usize,
+}
+
+impl HeaderFront {
+    pub(crate) fn new() -> Self {
+        HeaderFront {
+            bytes: [0; 9],
+            len: 0,
+        }
+    }
+
+    pub(crate) fn len(&self) -> usize {
+        self.len
+    }
+
+    /// These bytes, and as many of the input as there is room for.
+    pub(crate) fn with(&self, input: &[u8]) -> Self {
+        let moved = input.len().min(9 - self.len);
+        let len = self.len + moved;
+        let mut bytes = self.bytes;
+        bytes[self.len..len].copy_from_slice(&input[..moved]);
+        HeaderFront { bytes, len }
+    }
+
+    /// The header that the bytes are, in this direction, if they are nine.
+    pub(crate) fn head(&self, responses: bool) -> Option<Header> {
+        if self.len < 9 {
+            return None;
+        }
+        read_head(&self.bytes, responses)
+    }
+}
+
+/// The header that nine bytes are in this direction. Its frame may be compressed.
+fn read_head(bytes: &[u8; 9], responses: bool) -> Option<Header> {
+    let flags = bytes[1];
+    let mut plain = *bytes;
+    plain[1] = flags & 0xFE;
+    match Header::read(&plain, 0) {
+        Ok(header) if header.response == responses => Some(Header { flags, ..header }),
+        _ => None,
+    }
+}

@@ -1,0 +1,328 @@
+// Written by dist/erase from crates/cqlp_observer/src/heads.rt.
+//! The frames of one direction, by their headers.
+
+use crate::cqlp_observer::header_front::HeaderFront;
+use crate::cqlp_observer::message::{Extent, Frame};
+use crate::cqlp_observer::opening::{Opening, opening_with};
+use crate::cqlp_note::Header;
+use core::mem;
+
+/// Where a direction stands.
+pub(crate) enum Stage {
+    /// Where the next frame begins is not known.
+    Lost,
+    /// Between two frames.
+    Between,
+    /// In a header that began there and then, of which these bytes came.
+    Header {
+        front: HeaderFront,
+        at: u64,
+        begun: Option<u64>,
+    },
+    /// In the body of this frame, of which so many bytes are still to come.
+    Body {
+        frame: Frame,
+        left: u32,
+    },
+}
+
+impl Stage {
+    fn is_between(&self) -> bool {
+        matches!(self, Stage::Between)
+    }
+}
+
+/// What bytes of a direction are.
+#[derive(Clone, Copy, Debug, PartialEq, Eq)]
+pub enum Heard {
+    /// The last bytes of this header, whose frame begins.
+    Begins(Header),
+    /// Bytes of the body of the frame that began last.
+    Body,
+    /// That frame has ended: all its bytes came, but for those that lie in a gap where its extent is `Holed`.
+    Ends(Frame),
+    /// Bytes that are no header of this direction, or lie where no frame is known to begin.
+    Stray,
+    /// All bytes were used, and nothing more is told of them.
+    More,
+}
+
+/// What the first so many bytes of a piece are.
+#[derive(Clone, Copy, Debug, PartialEq, Eq)]
+pub struct HeardStep {
+    pub used: usize,
+    pub heard: Heard,
+}
+
+/// The frames of one direction of a connection, by their headers, out of pieces of any size and gaps.
+///
+/// Where the beginning was not seen, where nine bytes are no header of the direction, and after a gap past which no frame is known to begin,
+/// the direction begins anew at the next segment that begins with a header of its direction. A gap within a body cuts its frame,
+/// and the next one begins where that one ends. A header may say that its frame is compressed. Takes no memory.
+pub struct Heads {
+    responses: bool,
+    /// How many bytes, and bytes of gaps, came.
+    position: u64,
+    stage: Stage,
+}
+
+/// Where a direction stands that is in no frame.
+#[derive(Clone, Copy)]
+pub(crate) struct HeadsRest {
+    pub(crate) responses: bool,
+    pub(crate) position: u64,
+    /// Whether it is not known where the next frame begins.
+    pub(crate) is_lost: bool,
+}
+
+impl Heads {
+    /// A direction of which nothing came: that of the responses, or that of the requests. Its first byte begins a frame, where `from_start`.
+    #[must_use]
+    pub fn new(responses: bool, from_start: bool) -> Heads {
+        let stage = if from_start {
+            Stage::Between
+        } else {
+            Stage::Lost
+        };
+        Heads {
+            responses,
+            position: 0,
+            stage,
+        }
+    }
+
+    /// A direction that stands there.
+    pub(crate) fn at_rest(rest: HeadsRest) -> Heads {
+        Heads {
+            responses: rest.responses,
+            position: rest.position,
+            stage: if rest.is_lost {
+                Stage::Lost
+            } else {
+                Stage::Between
+            },
+        }
+    }
+
+    /// Where it stands, if it is in no frame.
+    pub(crate) fn rest(&self) -> Option<HeadsRest> {
+        let is_lost = match self.stage {
+            Stage::Lost => true,
+            Stage::Between => false,
+            Stage::Header { .. } | Stage::Body { .. } => return None,
+        };
+        Some(HeadsRest {
+            responses: self.responses,
+            position: self.position,
+            is_lost,
+        })
+    }
+
+    /// What the next bytes are that came at this time. `begins` says whether the first of them begins a segment. To be called again and again
+    /// with the bytes that were not used, until it says `More`.
+    pub fn take(&mut self, piece: &[u8], time: Option<u64>, begins: bool) -> HeardStep {
+        let stage = mem::replace(&mut self.stage, Stage::Lost);
+        if let Stage::Body { frame, left: 0 } = stage {
+            self.stage = Stage::Between;
+            return HeardStep {
+                used: 0,
+                heard: Heard::Ends(frame),
+            };
+        }
+        if piece.is_empty() {
+            self.stage = stage;
+            return HeardStep {
+                used: 0,
+                heard: Heard::More,
+            };
+        }
+        match stage {
+            Stage::Lost => self.seek(piece, time, begins),
+            Stage::Between => {
+                let at = self.position;
+                self.fill(HeaderFront::new(), at, time, piece, time)
+            }
+            Stage::Header { front, at, begun } => self.fill(front, at, begun, piece, time),
+            Stage::Body { frame, left } => self.pass(frame, left, piece, time),
+        }
+    }
+
+    /// What these bytes are that come next, if none came before.
+    pub(crate) fn opening(&self, piece: &[u8]) -> Opening {
+        if self.position > 0 {
+            return Opening::Frames;
+        }
+        opening_with(self.responses, self.stage.is_between(), piece)
+    }
+
+    /// So many bytes did not come, which passed at this time, where that is known. The frame that ends there, or past which no frame is known to begin,
+    /// is told, as `Holed`, unless all its bytes came before.
+    pub fn gap(&mut self, length: u64, time: Option<u64>) -> Option<Frame> {
+        self.count(length);
+        match self.stage {
+            Stage::Body { frame, left } if length < left as u64 => {
+                let left = left - length as u32;
+                self.stage = Stage::Body {
+                    frame: holed(frame),
+                    left,
+                };
+                None
+            }
+            Stage::Body { frame, left } => {
+                let is_end = length == left as u64;
+                self.stage = if is_end { Stage::Between } else { Stage::Lost };
+                Some(passed_in(frame, left, time))
+            }
+            _ => {
+                if length > 0 {
+                    self.stage = Stage::Lost;
+                }
+                None
+            }
+        }
+    }
+
+    /// No more bytes come. The frame of which some did is told, as `Short`, unless all its bytes came.
+    pub fn end(&mut self) -> Option<Frame> {
+        match mem::replace(&mut self.stage, Stage::Lost) {
+            Stage::Body { frame, left } => Some(shortened(frame, left)),
+            _ => None,
+        }
+    }
+
+    /// Looks for a frame where a segment begins.
+    fn seek(&mut self, piece: &[u8], time: Option<u64>, begins: bool) -> HeardStep {
+        match self.head_at_begin(piece, begins) {
+            Some(header) => self.begin(9, header, self.position, time, time),
+            None => self.stray(piece.len()),
+        }
+    }
+
+    /// The header that a segment begins with.
+    fn head_at_begin(&self, piece: &[u8], begins: bool) -> Option<Header> {
+        if begins {
+            HeaderFront::new().with(piece).head(self.responses)
+        } else {
+            None
+        }
+    }
+
+    /// So many bytes are stray.
+    fn stray(&mut self, used: usize) -> HeardStep {
+        self.count(used as u64);
+        self.stage = Stage::Lost;
+        HeardStep {
+            used,
+            heard: Heard::Stray,
+        }
+    }
+
+    /// Takes bytes of a header.
+    fn fill(
+        &mut self,
+        front: HeaderFront,
+        at: u64,
+        begun: Option<u64>,
+        piece: &[u8],
+        time: Option<u64>,
+    ) -> HeardStep {
+        let more = front.with(piece);
+        let used = more.len() - front.len();
+        if more.len() < 9 {
+            self.count(used as u64);
+            self.stage = Stage::Header {
+                front: more,
+                at,
+                begun,
+            };
+            return HeardStep {
+                used,
+                heard: Heard::More,
+            };
+        }
+        match more.head(self.responses) {
+            Some(header) => self.begin(used, header, at, begun, time),
+            None => self.stray(used),
+        }
+    }
+
+    /// A frame begins, whose header ends after so many bytes.
+    fn begin(
+        &mut self,
+        used: usize,
+        header: Header,
+        at: u64,
+        first: Option<u64>,
+        last: Option<u64>,
+    ) -> HeardStep {
+        self.count(used as u64);
+        let frame = Frame {
+            header,
+            at,
+            begun: first,
+            ended: last,
+            extent: Extent::Whole,
+        };
+        self.stage = Stage::Body {
+            frame,
+            left: header.length,
+        };
+        HeardStep {
+            used,
+            heard: Heard::Begins(header),
+        }
+    }
+
+    /// Takes bytes of a body.
+    fn pass(&mut self, frame: Frame, left: u32, piece: &[u8], time: Option<u64>) -> HeardStep {
+        let used = piece.len().min(left as usize);
+        self.count(used as u64);
+        self.stage = Stage::Body {
+            frame: Frame {
+                ended: time,
+                ..frame
+            },
+            left: left - used as u32,
+        };
+        HeardStep {
+            used,
+            heard: Heard::Body,
+        }
+    }
+
+    fn count(&mut self, more: u64) {
+        self.position = self.position.saturating_add(more);
+    }
+}
+
+/// The frame, of which some bytes did not come.
+fn holed(frame: Frame) -> Frame {
+    Frame {
+        extent: Extent::Holed,
+        ..frame
+    }
+}
+
+/// The frame, of which the last bytes, if so many were left, passed at this time and did not come.
+fn passed_in(frame: Frame, left: u32, time: Option<u64>) -> Frame {
+    if left == 0 {
+        frame
+    } else {
+        Frame {
+            ended: time.or(frame.ended),
+            ..holed(frame)
+        }
+    }
+}
+
+/// The frame, of which no more bytes come, if so many were left.
+fn shortened(frame: Frame, left: u32) -> Frame {
+    if left == 0 {
+        frame
+    } else {
+        Frame {
+            extent: Extent::Short,
+            ..frame
+        }
+    }
+}

@@ -1,0 +1,28 @@
+// Written by dist/erase from crates/cqlp_observer/src/lib.rt.
+//! What the two sides of a connection say to each other: each request with the response that comes next under its stream id.
+
+mod header_front;
+mod heads;
+mod kept;
+mod message;
+mod missed;
+mod opening;
+mod paired;
+mod pairing;
+mod room;
+mod side;
+mod speaker;
+mod subject;
+mod watch;
+
+pub use crate::cqlp_observer_facts::Facts;
+pub use heads::{Heads, Heard, HeardStep};
+pub use kept::{Kept, LONGEST_FRONT};
+pub use message::{Extent, Frame, Message};
+pub use missed::Missed;
+pub use opening::Opening;
+pub use paired::Paired;
+pub use pairing::Pairing;
+pub use room::WatchRoom;
+pub use subject::subject_of;
+pub use watch::{Watch, WatchStep};

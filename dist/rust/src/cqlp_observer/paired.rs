@@ -1,0 +1,55 @@
+// Written by dist/erase from crates/cqlp_observer/src/paired.rt.
+//! What is told of requests and responses.
+
+use crate::cqlp_observer::message::Message;
+
+/// What is told of a request, a response, or both.
+#[derive(Clone, Copy, Debug, PartialEq, Eq)]
+pub enum Paired<T> {
+    /// A request and its response, the one next to the other under their stream id. The response came first only where the packets of a
+    /// capture do not stand in the order of their times, and the request was then begun no later.
+    Exchange {
+        request: Message<T>,
+        response: Message<T>,
+    },
+    /// A request whose response was not seen: another request came under its stream id, or there was no room for it to wait, or the connection
+    /// ended.
+    Unanswered {
+        request: Message<T>,
+    },
+    /// A response whose request was not seen, neither before it nor after: another response came under its stream id, or a request that was
+    /// begun later, or there was no room for it to wait, or the connection ended.
+    Unasked {
+        response: Message<T>,
+    },
+    /// An event that the node pushed.
+    Event {
+        event: Message<T>,
+    },
+}
+
+impl<T> Paired<T> {
+    /// Of a message that is in no exchange.
+    pub(crate) fn alone(message: Message<T>) -> Self {
+        if message.is_request() {
+            Paired::Unanswered { request: message }
+        } else {
+            Paired::Unasked { response: message }
+        }
+    }
+
+    /// Of a request and its response, whichever came first.
+    pub(crate) fn exchange(first: Message<T>, second: Message<T>) -> Self {
+        if first.is_request() {
+            Paired::Exchange {
+                request: first,
+                response: second,
+            }
+        } else {
+            Paired::Exchange {
+                request: second,
+                response: first,
+            }
+        }
+    }
+}

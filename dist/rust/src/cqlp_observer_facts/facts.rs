@@ -1,0 +1,99 @@
+// Written by dist/erase from crates/cqlp_observer_facts/src/facts.rt.
+//! What is told of a message.
+
+/// What a message says beside its first field, as far as the bytes of its body say it.
+#[derive(Clone, Copy, Debug, PartialEq, Eq)]
+pub struct Facts {
+    /// Of a QUERY, an EXECUTE and a BATCH the \[consistency\], as it is sent. Sections 4.1.4, 4.1.6 and 4.1.7 of `native_protocol_v4.spec`.
+    pub consistency: Option<u16>,
+    /// Of a QUERY and an EXECUTE how many rows a page is to have, as it is sent. Section 4.1.4.
+    pub page_size: Option<i32>,
+    /// The tracing id of a response. Section 2.2.
+    pub trace_id: Option<[u8; 16]>,
+    /// How many warnings a response has. Section 2.2.
+    pub warnings: Option<u16>,
+    /// The kind of a RESULT. Section 4.2.5.
+    pub result: Option<u32>,
+    /// The code of an ERROR. Section 9.
+    pub error: Option<u32>,
+    /// How many rows a RESULT has, 0 to 2^31 - 1. Section 4.2.5.2.
+    pub rows: Option<i32>,
+    /// How many columns these rows have, 0 to 2^31 - 1. Section 4.2.5.2.
+    pub columns: Option<i32>,
+}
+
+/// One of the facts.
+#[derive(Clone, Copy, Debug, PartialEq, Eq)]
+pub(crate) enum Fact {
+    Consistency(u16),
+    PageSize(i32),
+    TraceId([u8; 16]),
+    Warnings(u16),
+    Result(u32),
+    Error(u32),
+    Rows(i32),
+    Columns(i32),
+}
+
+impl Facts {
+    /// Nothing is known.
+    #[must_use]
+    pub fn new() -> Facts {
+        Facts {
+            consistency: None,
+            page_size: None,
+            trace_id: None,
+            warnings: None,
+            result: None,
+            error: None,
+            rows: None,
+            columns: None,
+        }
+    }
+
+    /// These, and one more. One that is known stays.
+    pub(crate) fn with(self, fact: Fact) -> Facts {
+        match fact {
+            Fact::Consistency(level) => Facts {
+                consistency: known_or(self.consistency, level),
+                ..self
+            },
+            Fact::PageSize(size) => Facts {
+                page_size: known_or(self.page_size, size),
+                ..self
+            },
+            Fact::TraceId(id) => Facts {
+                trace_id: known_or(self.trace_id, id),
+                ..self
+            },
+            Fact::Warnings(count) => Facts {
+                warnings: known_or(self.warnings, count),
+                ..self
+            },
+            Fact::Result(kind) => Facts {
+                result: known_or(self.result, kind),
+                ..self
+            },
+            Fact::Error(code) => Facts {
+                error: known_or(self.error, code),
+                ..self
+            },
+            Fact::Rows(count) => Facts {
+                rows: known_or(self.rows, count),
+                ..self
+            },
+            Fact::Columns(count) => Facts {
+                columns: known_or(self.columns, count),
+                ..self
+            },
+        }
+    }
+}
+
+/// What is known, or else what is said.
+fn known_or<T: Copy>(known: Option<T>, said: T) -> Option<T> {
+    match known {
+        Some(value) => Some(value),
+        None => Some(said),
+    }
+}

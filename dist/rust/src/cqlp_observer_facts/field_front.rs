@@ -1,0 +1,29 @@
+// Written by dist/erase from crates/cqlp_observer_facts/src/field_front.rt.
+//! The first bytes of a field, out of pieces.
+
+/// At most 15 bytes: a field that is longer is whole.
+pub(crate) struct FieldFront {
+    bytes: [u8; 16],
+    len: usize,
+}
+
+impl FieldFront {
+    pub(crate) fn new() -> Self {
+        FieldFront {
+            bytes: [0; 16],
+            len: 0,
+        }
+    }
+
+    /// The first so many of these bytes.
+    pub(crate) fn of(bytes: [u8; 16], len: usize) -> Self {
+        FieldFront { bytes, len }
+    }
+
+    /// These bytes and one more, and how many they are then.
+    pub(crate) fn with(&self, byte: u8) -> ([u8; 16], usize) {
+        let mut bytes = self.bytes;
+        bytes[self.len] = byte;
+        (bytes, self.len + 1)
+    }
+}

@@ -1,0 +1,32 @@
+// Written by dist/erase from crates/cqlp_observer_facts/src/numbers.rt.
+//! Numbers of one, two and four bytes: the highest byte comes first.
+
+/// The first N bytes.
+pub(crate) fn array<const N: usize>(bytes: &[u8]) -> [u8; N] {
+    *bytes.first_chunk().unwrap()
+}
+
+/// A \[byte\].
+pub(crate) fn byte(bytes: &[u8]) -> u8 {
+    u8::from_be_bytes(array(bytes))
+}
+
+/// A \[short\].
+pub(crate) fn short(bytes: &[u8]) -> u16 {
+    u16::from_be_bytes(array(bytes))
+}
+
+/// An \[int\], as a number without a sign.
+pub(crate) fn int(bytes: &[u8]) -> u32 {
+    u32::from_be_bytes(array(bytes))
+}
+
+/// Whether an \[int\] is negative.
+pub(crate) fn is_negative(number: u32) -> bool {
+    number > 0x7FFF_FFFF
+}
+
+/// Whether some bit of these is set.
+pub(crate) fn has(flags: u32, bits: u32) -> bool {
+    flags & bits > 0
+}

@@ -1,0 +1,138 @@
+// Written by dist/erase from crates/cqlp_observer_facts/src/reader.rt.
+//! The bytes of a body, as they pass.
+
+use crate::cqlp_observer_facts::announced::first_due;
+use crate::cqlp_observer_facts::due::Due;
+use crate::cqlp_observer_facts::facts::Facts;
+use crate::cqlp_observer_facts::field_front::FieldFront;
+use crate::cqlp_note::{Header, Opcode};
+
+/// What a message says, as the bytes of its body pass, in pieces of any size.
+///
+/// Lengths are passed over by number, and nothing of their contents is looked at. Where a count or a length is negative, where a value is none of those
+/// that the standard knows, and where fields of UDTs lie within more than three others, the reading gives up: what it knows stays, and no more is
+/// known. It gives up so too where the bytes end early, and takes no memory.
+pub struct FactsReader {
+    /// The flags and the kind of the message, by its header.
+    flags: u8,
+    opcode: Opcode,
+    /// The field that comes next, and the bytes of it that came.
+    due: Due,
+    front: FieldFront,
+    /// How many bytes are passed over before it.
+    passing: u32,
+    facts: Facts,
+}
+
+/// Bytes that were taken at once.
+#[derive(Clone, Copy)]
+struct Stretch {
+    used: usize,
+    /// How many of them lie before the message proper.
+    before: usize,
+}
+
+impl FactsReader {
+    /// Nothing is read.
+    #[must_use]
+    pub fn idle() -> FactsReader {
+        FactsReader {
+            flags: 0,
+            opcode: Opcode::Options,
+            due: Due::Over,
+            front: FieldFront::new(),
+            passing: 0,
+            facts: Facts::new(),
+        }
+    }
+
+    /// Nothing came of a body with this header.
+    #[must_use]
+    pub fn new(header: &Header) -> FactsReader {
+        FactsReader {
+            flags: header.flags,
+            opcode: header.opcode,
+            due: first_due(header),
+            front: FieldFront::new(),
+            passing: 0,
+            facts: Facts::new(),
+        }
+    }
+
+    /// What the bytes say that came so far.
+    #[must_use]
+    pub fn facts(&self) -> Facts {
+        self.facts
+    }
+
+    /// Takes the next bytes of the body, and says how many of them lie before the message proper: what the header's flags announce there, a
+    /// tracing id, warnings and a custom payload. Section 2.2 of `native_protocol_v4.spec`.
+    pub fn read(&mut self, piece: &[u8]) -> usize {
+        let mut rest = piece;
+        let mut before = 0;
+        while !rest.is_empty() {
+            let stretch = self.take_stretch(rest);
+            before += stretch.before;
+            rest = &rest[stretch.used..];
+        }
+        before
+    }
+
+    /// Whether the next byte lies before the message proper.
+    fn is_before(&self) -> bool {
+        match self.due {
+            Due::Announced(_) => true,
+            due => self.passing > 0 && due.is_opening(),
+        }
+    }
+
+    /// Takes some of these bytes.
+    fn take_stretch(&mut self, rest: &[u8]) -> Stretch {
+        let is_before = self.is_before();
+        let used = self.step(rest);
+        Stretch {
+            used,
+            before: if is_before { used } else { 0 },
+        }
+    }
+
+    /// Takes some of these bytes, which lie all before the message proper or none of them.
+    fn step(&mut self, rest: &[u8]) -> usize {
+        if self.passing > 0 {
+            let used = rest.len().min(self.passing as usize);
+            self.pass(used as u32);
+            return used;
+        }
+        if self.due.is_idle() {
+            return rest.len();
+        }
+        self.take(rest[0]);
+        1
+    }
+
+    /// Passes over so many bytes.
+    fn pass(&mut self, count: u32) {
+        self.passing -= count;
+    }
+
+    /// Takes a byte of a field.
+    fn take(&mut self, byte: u8) {
+        let (bytes, len) = self.front.with(byte);
+        if len < self.due.width() {
+            self.front = FieldFront::of(bytes, len);
+        } else {
+            self.pass_field(&bytes[..len]);
+        }
+    }
+
+    /// Goes on after a field.
+    fn pass_field(&mut self, bytes: &[u8]) {
+        let next = self.due.following(self.flags, self.opcode, bytes);
+        self.due = next.due;
+        self.passing = next.passing;
+        self.front = FieldFront::new();
+        if let Some(fact) = next.fact {
+            self.facts = self.facts.with(fact);
+        }
+    }
+}

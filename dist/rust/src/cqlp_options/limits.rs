@@ -1,0 +1,103 @@
+// Written by dist/erase from crates/cqlp_options/src/limits.rt.
+//! How much of a capture is kept at one time.
+
+use crate::cqlp_options::matched::number;
+use crate::clap::ArgMatches;
+use crate::cqlp_note::LimitRange;
+
+/// What is kept of a capture at one time at most. None of these numbers ends a reading: what is left out because of one is counted.
+#[derive(Clone, Copy, Debug, PartialEq, Eq)]
+pub struct CaptureLimits {
+    /// Connections: 1 to 1,048,576.
+    pub connections: u32,
+    /// Requests that wait for their responses, and responses that wait for their requests, on all connections: 1 to 16,777,216.
+    pub open: u32,
+    /// MiB of segments that came before those that precede them, on all connections: 1 to 4,096.
+    pub early: u32,
+    /// MiB of the texts of messages that wait, on all connections: 1 to 4,096.
+    pub text: u32,
+    /// Packets that wait to be put in order by their times: 0 to 65,536.
+    pub order: u32,
+}
+
+impl CaptureLimits {
+    /// The range of `connections`.
+    pub const CONNECTIONS: LimitRange = LimitRange {
+        least: 1,
+        greatest: 1_048_576,
+    };
+
+    /// The range of `open`.
+    pub const OPEN: LimitRange = LimitRange {
+        least: 1,
+        greatest: 16_777_216,
+    };
+
+    /// The range of `early`.
+    pub const EARLY: LimitRange = LimitRange {
+        least: 1,
+        greatest: 4_096,
+    };
+
+    /// The range of `text`.
+    pub const TEXT: LimitRange = LimitRange {
+        least: 1,
+        greatest: 4_096,
+    };
+
+    /// The range of `order`.
+    pub const ORDER: LimitRange = LimitRange {
+        least: 0,
+        greatest: 65_536,
+    };
+
+    /// Those of a file where none are given.
+    pub const DEFAULT: CaptureLimits = CaptureLimits {
+        connections: 65_536,
+        open: 262_144,
+        early: 24,
+        text: 8,
+        order: 1_000,
+    };
+
+    /// The limits that are given, and the defaults of this file in place of the others, if all are in their ranges.
+    pub(crate) fn matched(matches: &ArgMatches<'_>, file: &str) -> Option<CaptureLimits> {
+        let CaptureLimits {
+            connections,
+            open,
+            early,
+            text,
+            order: _,
+        } = CaptureLimits::DEFAULT;
+        let limits = CaptureLimits {
+            connections: number(matches, "connections").unwrap_or(connections),
+            open: number(matches, "open").unwrap_or(open),
+            early: number(matches, "early").unwrap_or(early),
+            text: number(matches, "text").unwrap_or(text),
+            order: number(matches, "order").unwrap_or(default_order(file)),
+        };
+        if limits.are_within() {
+            Some(limits)
+        } else {
+            None
+        }
+    }
+
+    /// Whether each is in its range.
+    fn are_within(&self) -> bool {
+        CaptureLimits::CONNECTIONS.contains(self.connections)
+            && CaptureLimits::OPEN.contains(self.open)
+            && CaptureLimits::EARLY.contains(self.early)
+            && CaptureLimits::TEXT.contains(self.text)
+            && CaptureLimits::ORDER.contains(self.order)
+    }
+}
+
+/// `order` where it is not given. Standard input may be a live capture, whose packets would have to wait for later ones.
+fn default_order(file: &str) -> u32 {
+    if file == "-" {
+        0
+    } else {
+        CaptureLimits::DEFAULT.order
+    }
+}

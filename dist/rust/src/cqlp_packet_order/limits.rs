@@ -1,0 +1,54 @@
+// Written by dist/erase from crates/cqlp_packet_order/src/limits.rt.
+//! How far a window reaches, and what it counts.
+
+/// How far the window of a `PacketOrder` reaches. The first packet in it leaves once one of these is passed.
+#[derive(Clone, Copy, Debug, PartialEq, Eq)]
+pub struct OrderLimits {
+    /// How many packets wait at most. With 0 the window is off: each packet passes as it comes.
+    pub packets: u32,
+    /// How far apart the first packet that waits and the last are captured at most, in nanoseconds.
+    pub nanoseconds: u64,
+    /// How many bytes of packets wait at most.
+    pub bytes: usize,
+}
+
+/// What was out of order. A number stays at 2^64 - 1 once it is there.
+#[derive(Clone, Copy, Debug, PartialEq, Eq)]
+pub struct OrderCounts {
+    /// Packets that were put before others which came earlier.
+    pub reordered: u64,
+    /// Packets with an earlier time than one that had left. Each leaves next.
+    pub late: u64,
+}
+
+impl OrderLimits {
+    /// 1,000 packets, one second and 8 MiB.
+    pub const DEFAULT: OrderLimits = OrderLimits {
+        packets: 1_000,
+        nanoseconds: 1_000_000_000,
+        bytes: 8_388_608,
+    };
+
+    /// Each packet passes as it comes.
+    pub const OFF: OrderLimits = OrderLimits {
+        packets: 0,
+        nanoseconds: 0,
+        bytes: 0,
+    };
+}
+
+impl OrderCounts {
+    pub(crate) const NONE: OrderCounts = OrderCounts {
+        reordered: 0,
+        late: 0,
+    };
+
+    /// Counts a packet that comes: late or not, and behind all that wait or not.
+    pub(crate) fn count(&mut self, is_late: bool, is_last: bool) {
+        if is_late {
+            self.late = self.late.saturating_add(1);
+        } else if !is_last {
+            self.reordered = self.reordered.saturating_add(1);
+        }
+    }
+}

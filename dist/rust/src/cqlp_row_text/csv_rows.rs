@@ -1,0 +1,292 @@
+// Written by dist/erase from crates/cqlp_row_text/src/csv_rows.rt.
+//! Rows as CSV.
+
+use crate::cqlp_row_text::place::{OpenValue, TablePlace, Turn};
+use crate::cqlp_row_text::shown::{Content, Shown, put_shown};
+use crate::cqlp_grammar::{Event, SinkFault};
+use crate::cqlp_kind::{Kind, Scalar};
+use crate::cqlp_note::{Field, Target};
+use crate::cqlp_text::{Pen, TextWriter};
+
+/// Appends what is written of an event of a page as CSV, which nothing is of an event of another frame, and goes to the
+/// place after it, also at a fault, which is the target's own.
+///
+/// # Errors
+///
+/// The fault of the target.
+#[inline]
+pub fn csv_part<W: Target>(
+    place: &mut TablePlace,
+    event: &Event<'_>,
+    target: &mut W,
+) -> Result<(), SinkFault> {
+    let mut writer = TextWriter::over(target);
+    match put_csv_part(place, event, &mut writer) {
+        Ok(()) => {
+            let passed = writer.flush();
+            let _ = writer.into_target();
+            passed
+        }
+        Err(fault) => {
+            let _ = writer.into_target();
+            Err(fault)
+        }
+    }
+}
+
+/// Has a writer take what is written of an event of a page as CSV, and goes to the place after it, also at a fault.
+#[inline]
+pub fn put_csv_part<P: Pen>(
+    place: &mut TablePlace,
+    event: &Event<'_>,
+    writer: &mut TextWriter<P>,
+) -> Result<(), SinkFault> {
+    if !place.is_page() {
+        place.pass(event);
+        return Ok(());
+    }
+    let written = put_shown(&shown_of(place, event), writer);
+    place.pass(event);
+    written
+}
+
+/// What ends the record under way on a page that is cut at this place: the quote of its field, where that is between quotes, and the line.
+/// Nothing where there is no page.
+pub fn csv_break(place: &TablePlace) -> &'static str {
+    if !place.is_page() {
+        return "";
+    }
+    match place.innermost() {
+        None => "\r\n",
+        Some(_) => "\"\r\n",
+    }
+}
+
+/// What is written of an event on a page.
+#[inline]
+fn shown_of<'a>(place: &TablePlace, event: &Event<'a>) -> Shown<'a> {
+    match *event {
+        Event::Text { field, text } => shown_name(place, field, text),
+        Event::Count { field, .. } => shown_count(place, field),
+        Event::Leaf { column, scalar, .. } => shown_scalar(place, column, scalar),
+        Event::Null { column, .. } => shown_null(place, column),
+        Event::Empty { column, .. } => shown_empty(place, column),
+        Event::Enter { column, kind, .. } => shown_opening(place, column, kind),
+        Event::Leave { .. } => shown_closing(place),
+        Event::Part {
+            column,
+            offset,
+            bytes,
+            last,
+            ..
+        } => shown_part(place, column, offset, bytes, last),
+        _ => Shown::NOTHING,
+    }
+}
+
+fn shown_name<'a>(place: &TablePlace, field: Field, name: &'a str) -> Shown<'a> {
+    match field {
+        Field::ColumnName => Shown {
+            before: if place.is_named() { "," } else { "" },
+            content: Content::TextField(name),
+            ..Shown::NOTHING
+        },
+        _ => Shown::NOTHING,
+    }
+}
+
+/// The end of the names, before the rows.
+fn shown_count(place: &TablePlace, field: Field) -> Shown<'static> {
+    match field {
+        Field::Rows if place.is_named() => Shown {
+            after: "\r\n",
+            ..Shown::NOTHING
+        },
+        _ => Shown::NOTHING,
+    }
+}
+
+/// A cell or an item that has no items.
+#[inline]
+fn shown_scalar<'a>(place: &TablePlace, column: u32, scalar: Scalar<'a>) -> Shown<'a> {
+    let around = place.innermost();
+    Shown {
+        before: before(column, around),
+        content: scalar_content(around, scalar),
+        after: after(place.is_last(column), around),
+        ..Shown::NOTHING
+    }
+}
+
+#[inline]
+fn scalar_content<'a>(around: Option<OpenValue>, scalar: Scalar<'a>) -> Content<'a> {
+    match scalar {
+        Scalar::Ascii(text) | Scalar::Varchar(text) => text_content(around, text),
+        Scalar::Custom(_)
+        | Scalar::Blob(_)
+        | Scalar::Raw(_)
+        | Scalar::Double(_)
+        | Scalar::Float(_)
+        | Scalar::Varint(_)
+        | Scalar::Decimal { .. }
+        | Scalar::Uuid(_)
+        | Scalar::Timeuuid(_)
+        | Scalar::Bigint(_)
+        | Scalar::Counter(_)
+        | Scalar::Timestamp(_)
+        | Scalar::Int(_)
+        | Scalar::Smallint(_)
+        | Scalar::Tinyint(_)
+        | Scalar::Time(_)
+        | Scalar::Date(_)
+        | Scalar::Boolean(_)
+        | Scalar::Inet(_) => Content::Cell(scalar),
+    }
+}
+
+fn text_content<'a>(around: Option<OpenValue>, text: &'a str) -> Content<'a> {
+    match around {
+        None => Content::TextField(text),
+        Some(_) => Content::TextItem(text),
+    }
+}
+
+fn shown_null(place: &TablePlace, column: u32) -> Shown<'static> {
+    let around = place.innermost();
+    Shown {
+        before: before(column, around),
+        begin: null(around),
+        after: after(place.is_last(column), around),
+        ..Shown::NOTHING
+    }
+}
+
+fn null(around: Option<OpenValue>) -> &'static str {
+    match around {
+        None => "",
+        Some(_) => "null",
+    }
+}
+
+fn shown_empty(place: &TablePlace, column: u32) -> Shown<'static> {
+    let around = place.innermost();
+    Shown {
+        before: before(column, around),
+        begin: empty(around),
+        after: after(place.is_last(column), around),
+        ..Shown::NOTHING
+    }
+}
+
+fn empty(around: Option<OpenValue>) -> &'static str {
+    match around {
+        None => "\"\"",
+        Some(_) => "''",
+    }
+}
+
+fn shown_opening(place: &TablePlace, column: u32, kind: Kind) -> Shown<'static> {
+    let around = place.innermost();
+    Shown {
+        before: before(column, around),
+        begin: quote(around),
+        after: opening(kind),
+        ..Shown::NOTHING
+    }
+}
+
+fn shown_closing(place: &TablePlace) -> Shown<'static> {
+    let outer = place.outer();
+    match place.innermost() {
+        None => Shown::NOTHING,
+        Some(open) => Shown {
+            before: closing(open.kind),
+            begin: quote(outer),
+            after: after(place.is_last(place.column()), outer),
+            ..Shown::NOTHING
+        },
+    }
+}
+
+/// A part of a long content, which begins with `0x`.
+fn shown_part<'a>(
+    place: &TablePlace,
+    column: u32,
+    offset: u32,
+    bytes: &'a [u8],
+    last: bool,
+) -> Shown<'a> {
+    let around = place.innermost();
+    let (before, begin) = if offset == 0 {
+        (before(column, around), "0x")
+    } else {
+        ("", "")
+    };
+    let after = if last {
+        after(place.is_last(column), around)
+    } else {
+        ""
+    };
+    Shown {
+        before,
+        begin,
+        content: Content::Hex(bytes),
+        end: "",
+        after,
+    }
+}
+
+/// What stands before a cell of this column, or before an item of the open value.
+#[inline(always)]
+fn before(column: u32, around: Option<OpenValue>) -> &'static str {
+    match around {
+        None if column == 0 => "",
+        None => ",",
+        Some(open) => separator(open.turn),
+    }
+}
+
+#[inline(always)]
+fn separator(turn: Turn) -> &'static str {
+    match turn {
+        Turn::First => "",
+        Turn::Paired => ": ",
+        Turn::Another => ", ",
+    }
+}
+
+/// What stands after a cell, which may be the last of its row, or after an item of the open value.
+#[inline(always)]
+fn after(is_last: bool, around: Option<OpenValue>) -> &'static str {
+    match around {
+        None if is_last => "\r\n",
+        None | Some(_) => "",
+    }
+}
+
+/// The quote around a value with items that is a field.
+#[inline]
+fn quote(around: Option<OpenValue>) -> &'static str {
+    match around {
+        None => "\"",
+        Some(_) => "",
+    }
+}
+
+#[inline]
+fn opening(kind: Kind) -> &'static str {
+    match kind {
+        Kind::List => "[",
+        Kind::Set | Kind::Map => "{",
+        _ => "(",
+    }
+}
+
+#[inline]
+fn closing(kind: Kind) -> &'static str {
+    match kind {
+        Kind::List => "]",
+        Kind::Set | Kind::Map => "}",
+        _ => ")",
+    }
+}

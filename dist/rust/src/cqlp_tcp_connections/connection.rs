@@ -1,0 +1,198 @@
+// Written by dist/erase from crates/cqlp_tcp_connections/src/connection.rt.
+//! One connection.
+
+use crate::kit_host::prelude::{AllocGlobal, Clone, ToCopy};
+use crate::cqlp_tcp_connections::ends::{Ends, Way};
+use crate::cqlp_tcp_connections::side::{Side, SideStep};
+use crate::cqlp_tcp_connections::told::Told;
+use crate::cqlp_tcp_connections::totals::{Begin, ConnectionTotals, DirectionTotals, End};
+use crate::cqlp_tcp_reassembly::{Control, StreamSegment, StreamStep};
+use crate::cqlp_tcp_segment::{Segment, SegmentHead};
+use crate::kit_std::alloc::{AllocError, Allocator};
+
+/// A connection: its number, and both directions.
+pub(crate) struct Connection<A: Allocator> {
+    number: u64,
+    requests: Side<A>,
+    responses: Side<A>,
+}
+
+impl<A: Allocator> Connection<A> {
+    /// A connection of which nothing was told. It takes no memory.
+    pub(crate) fn new(alloc: A, number: u64) -> Result<Self, AllocError>
+    where
+        A: Clone,
+    {
+        Ok(Connection {
+            number,
+            requests: Side::new(alloc.to_copy()?),
+            responses: Side::new(alloc),
+        })
+    }
+
+    pub(crate) fn number(&self) -> u64 {
+        self.number
+    }
+
+    /// How much both directions hold of what came early.
+    pub(crate) fn size(&self) -> usize {
+        self.requests.size() + self.responses.size()
+    }
+
+    /// Whether a segment that goes this way begins another connection between the same ends.
+    pub(crate) fn begins_anew(&self, way: Way, head: &SegmentHead) -> bool {
+        let own = self.totals_of(way);
+        let others = self.totals_of(way.other());
+        head.flags.syn && !own.may_begin(&others, head.sequence)
+    }
+
+    fn totals_of(&self, way: Way) -> DirectionTotals {
+        match way {
+            Way::Requests => self.requests.totals(),
+            Way::Responses => self.responses.totals(),
+        }
+    }
+
+    /// What was told of it, which is between these ends.
+    pub(crate) fn totals(&self, ends: &Ends) -> ConnectionTotals {
+        ConnectionTotals {
+            number: self.number,
+            client: ends.client,
+            node: ends.node,
+            requests: self.requests.totals(),
+            responses: self.responses.totals(),
+        }
+    }
+
+    /// Counts a segment that goes this way.
+    pub(crate) fn count_segment(&mut self, way: Way) {
+        match way {
+            Way::Requests => self.requests.count_segment(),
+            Way::Responses => self.responses.count_segment(),
+        }
+    }
+
+    /// The next that a segment tells which goes this way, captured then: first its acknowledgement, of the other way. Its own way may
+    /// hold this much in all. Nothing is told of its own where memory is refused.
+    pub(crate) fn pull(
+        &mut self,
+        way: Way,
+        segment: &Segment<'_>,
+        time: Option<u64>,
+        room: usize,
+    ) -> Result<Option<Told>, AllocError>
+    where
+        A: Clone,
+    {
+        let head = segment.head;
+        if head.flags.ack {
+            let told = self.acknowledge(way.other(), head.acknowledgement);
+            if told.is_some() {
+                return Ok(told);
+            }
+        }
+        let own = StreamSegment {
+            control: control_of(&head, segment.missing),
+            payload: segment.payload,
+            time,
+        };
+        self.take(way, &own, room)
+    }
+
+    /// The next that a segment tells which goes this way.
+    fn take(
+        &mut self,
+        way: Way,
+        segment: &StreamSegment<'_>,
+        room: usize,
+    ) -> Result<Option<Told>, AllocError>
+    where
+        A: Clone,
+    {
+        let step = match way {
+            Way::Requests => self.requests.take(segment, room)?,
+            Way::Responses => self.responses.take(segment, room)?,
+        };
+        Ok(tell(self.number, way, step))
+    }
+
+    /// The next of this way that an acknowledgement tells.
+    fn acknowledge(&mut self, way: Way, number: u32) -> Option<Told> {
+        let step = match way {
+            Way::Requests => self.requests.acknowledge(number),
+            Way::Responses => self.responses.acknowledge(number),
+        };
+        tell(self.number, way, step)
+    }
+
+    /// The next that is told where no more segments come: first of the requests.
+    pub(crate) fn close(&mut self) -> Option<Told> {
+        let told = self.close_way(Way::Requests);
+        if told.is_some() {
+            return told;
+        }
+        self.close_way(Way::Responses)
+    }
+
+    fn close_way(&mut self, way: Way) -> Option<Told> {
+        let step = match way {
+            Way::Requests => self.requests.close(),
+            Way::Responses => self.responses.close(),
+        };
+        tell(self.number, way, step)
+    }
+
+    /// The next bytes of this way, which came before.
+    pub(crate) fn held(&self, way: Way) -> &[u8] {
+        match way {
+            Way::Requests => self.requests.held(),
+            Way::Responses => self.responses.held(),
+        }
+    }
+
+    /// Passes them.
+    pub(crate) fn pass_held(&mut self, way: Way) {
+        match way {
+            Way::Requests => self.requests.pass_held(),
+            Way::Responses => self.responses.pass_held(),
+        }
+    }
+}
+
+impl DirectionTotals {
+    /// Whether a SYN of this number is of this direction, beside that of the other way.
+    fn may_begin(&self, other: &DirectionTotals, sequence: u32) -> bool {
+        match self.begin {
+            Begin::Syn(number) => number == sequence,
+            Begin::Middle(number) => number == sequence.wrapping_add(1),
+            Begin::Unseen => {
+                let is_open = self.end == End::Open && other.end == End::Open;
+                is_open && !matches!(other.begin, Begin::Middle(_))
+            }
+        }
+    }
+}
+
+/// What a header says of a segment, of whose payload so many bytes were not captured.
+fn control_of(head: &SegmentHead, missing: usize) -> Control {
+    Control {
+        sequence: head.sequence,
+        syn: head.flags.syn,
+        fin: head.flags.fin,
+        rst: head.flags.rst,
+        missing: (missing % 0x1_0000_0000) as u32,
+    }
+}
+
+/// What is told of this way of the connection with this number, if that is not `Done`.
+fn tell(number: u64, way: Way, step: SideStep) -> Option<Told> {
+    if step.step == StreamStep::Done {
+        return None;
+    }
+    Some(Told {
+        number,
+        way,
+        at: step.at,
+        step: step.step,
+    })
+}

@@ -1,0 +1,89 @@
+// Written by dist/erase from crates/cqlp_tcp_connections/src/ends.rt.
+//! The ends of connections, and which way a segment goes between them.
+
+use crate::cqlp_tcp_segment::{Endpoint, SegmentHead};
+
+/// The port on which nodes of Apache Cassandra listen for CQL.
+pub const DEFAULT_PORT: u16 = 9042;
+
+/// Which way the bytes of a direction go.
+#[derive(Clone, Copy, Debug, PartialEq, Eq)]
+pub enum Way {
+    /// From the client to the node.
+    Requests,
+    /// From the node to the client.
+    Responses,
+}
+
+/// The ends of a connection.
+#[derive(Clone, Copy, Debug, PartialEq, Eq, Hash)]
+pub(crate) struct Ends {
+    pub(crate) client: Endpoint,
+    pub(crate) node: Endpoint,
+}
+
+/// The ends of a segment that goes this way.
+pub(crate) fn ends_of(way: Way, head: &SegmentHead) -> Ends {
+    match way {
+        Way::Requests => Ends {
+            client: head.source,
+            node: head.destination,
+        },
+        Way::Responses => Ends {
+            client: head.destination,
+            node: head.source,
+        },
+    }
+}
+
+impl Way {
+    /// The other way.
+    pub(crate) fn other(self) -> Way {
+        match self {
+            Way::Requests => Way::Responses,
+            Way::Responses => Way::Requests,
+        }
+    }
+}
+
+impl Ends {
+    /// Which way a segment goes between them, if it is of theirs.
+    pub(crate) fn way_of(&self, head: &SegmentHead) -> Option<Way> {
+        if ends_of(Way::Requests, head).are_same(self) {
+            Some(Way::Requests)
+        } else if ends_of(Way::Responses, head).are_same(self) {
+            Some(Way::Responses)
+        } else {
+            None
+        }
+    }
+
+    /// Whether they are these.
+    fn are_same(&self, other: &Ends) -> bool {
+        self == other
+    }
+}
+
+/// Whether this port is asked for.
+fn asks(ports: &[u16], port: u16) -> bool {
+    ports.iter().any(|asked| *asked == port)
+}
+
+/// Which way the first segment of a connection goes, if one of its ports is asked for.
+pub(crate) fn first_way(ports: &[u16], head: &SegmentHead) -> Option<Way> {
+    let from_node = asks(ports, head.source.port);
+    let to_node = asks(ports, head.destination.port);
+    match (to_node, from_node) {
+        (false, false) => None,
+        (true, false) => Some(Way::Requests),
+        (false, true) => Some(Way::Responses),
+        (true, true) => {
+            let is_answer = head.flags.syn && head.flags.ack;
+            Some(if is_answer {
+                Way::Responses
+            } else {
+                Way::Requests
+            })
+        }
+    }
+}

@@ -1,0 +1,18 @@
+// Written by dist/erase from crates/cqlp_tcp_connections/src/lib.rt.
+//! The TCP connections of a capture, in a table of bounded size: what each direction of each of them hands on.
+
+mod connection;
+mod ends;
+mod limits;
+mod pool;
+mod ports;
+mod side;
+mod table;
+mod told;
+mod totals;
+
+pub use ends::{DEFAULT_PORT, Way};
+pub use limits::{ConnectionLimits, NewConnectionsError};
+pub use table::Connections;
+pub use told::{Departure, Sight, Told};
+pub use totals::{Begin, ConnectionCounts, ConnectionTotals, DirectionTotals, End};

@@ -1,0 +1,90 @@
+// Written by dist/erase from crates/cqlp_tcp_connections/src/ports.rt.
+//! For each port, how many segments had it.
+
+use crate::kit_host::prelude::{AllocGlobal, Vec};
+use crate::cqlp_tcp_segment::SegmentHead;
+use crate::kit_std::alloc::{AllocError, Allocator};
+
+/// How many ports there are.
+const PORTS: usize = 65_536;
+
+/// For each port, how many segments had it.
+pub(crate) struct PortCounts<A: Allocator> {
+    counts: Vec<u64, A>,
+}
+
+impl<A: Allocator> PortCounts<A> {
+    /// Where no segment had any. It takes 512 KiB.
+    pub(crate) fn new(alloc: A) -> Result<Self, AllocError> {
+        let mut counts = Vec::new(alloc);
+        counts.resize(PORTS, 0)?;
+        Ok(PortCounts { counts })
+    }
+
+    /// Counts a segment.
+    pub(crate) fn count(&mut self, head: &SegmentHead) {
+        self.count_port(head.source.port);
+        if head.source.port != head.destination.port {
+            self.count_port(head.destination.port);
+        }
+    }
+
+    fn count_port(&mut self, port: u16) {
+        let at = port as usize;
+        self.counts[at] = self.counts[at].saturating_add(1);
+    }
+
+    /// The three ports that most segments had, and how many; of ports with as many the lower one first. 0 with 0, where there are
+    /// fewer.
+    pub(crate) fn busiest(&self) -> [(u16, u64); 3] {
+        let mut best = Three {
+            first: (0, 0),
+            second: (0, 0),
+            third: (0, 0),
+        };
+        for port in 0..self.counts.len() {
+            best = best.placed((port as u16, self.counts[port]));
+        }
+        [best.first, best.second, best.third]
+    }
+}
+
+/// Ports, and how many segments had them: the most first.
+#[derive(Clone, Copy)]
+struct Three {
+    first: (u16, u64),
+    second: (u16, u64),
+    third: (u16, u64),
+}
+
+impl Three {
+    /// A port goes before those that fewer segments had, of which the last falls out.
+    fn placed(self, port: (u16, u64)) -> Three {
+        let Three {
+            first,
+            second,
+            third,
+        } = self;
+        if first.1 < port.1 {
+            Three {
+                first: port,
+                second: first,
+                third: second,
+            }
+        } else if second.1 < port.1 {
+            Three {
+                first,
+                second: port,
+                third: second,
+            }
+        } else if third.1 < port.1 {
+            Three {
+                first,
+                second,
+                third: port,
+            }
+        } else {
+            self
+        }
+    }
+}

@@ -1,0 +1,90 @@
+// Written by dist/erase from crates/cqlp_tcp_connections/src/side.rt.
+//! One direction of a connection, and what was told of it.
+
+use crate::kit_host::prelude::{AllocGlobal, Clone};
+use crate::cqlp_tcp_connections::totals::DirectionTotals;
+use crate::cqlp_tcp_reassembly::{Stream, StreamSegment, StreamStep};
+use crate::kit_std::alloc::{AllocError, Allocator};
+
+/// What a stream tells, and after how many bytes and bytes of gaps.
+#[derive(Clone, Copy, Debug, PartialEq, Eq)]
+pub(crate) struct SideStep {
+    pub(crate) at: u64,
+    pub(crate) step: StreamStep,
+}
+
+/// One direction of a connection.
+pub(crate) struct Side<A: Allocator> {
+    stream: Stream<A>,
+    totals: DirectionTotals,
+}
+
+impl<A: Allocator> Side<A> {
+    /// A direction of which nothing was told. It takes no memory.
+    pub(crate) fn new(alloc: A) -> Self {
+        Side {
+            stream: Stream::new(alloc),
+            totals: DirectionTotals::NONE,
+        }
+    }
+
+    /// What was told.
+    pub(crate) fn totals(&self) -> DirectionTotals {
+        self.totals
+    }
+
+    /// How much it holds of what came early, in the measure of `Stream::size`.
+    pub(crate) fn size(&self) -> usize {
+        self.stream.size()
+    }
+
+    /// Counts a segment.
+    pub(crate) fn count_segment(&mut self) {
+        self.totals.count_segment();
+    }
+
+    /// The next that a segment of this direction tells, which may hold this much in all.
+    pub(crate) fn take(
+        &mut self,
+        segment: &StreamSegment<'_>,
+        room: usize,
+    ) -> Result<SideStep, AllocError>
+    where
+        A: Clone,
+    {
+        let at = self.totals.position();
+        let step = self.stream.take(segment, room)?;
+        if let StreamStep::Began { syn } = step {
+            self.totals.begin(syn, segment.control.sequence);
+        }
+        self.totals.note(step);
+        Ok(SideStep { at, step })
+    }
+
+    /// The next that an acknowledgement of the other direction tells.
+    pub(crate) fn acknowledge(&mut self, number: u32) -> SideStep {
+        let at = self.totals.position();
+        let step = self.stream.acknowledge(number);
+        self.totals.note(step);
+        SideStep { at, step }
+    }
+
+    /// The next that is told where no more segments come.
+    pub(crate) fn close(&mut self) -> SideStep {
+        let at = self.totals.position();
+        let step = self.stream.close();
+        self.totals.note(step);
+        SideStep { at, step }
+    }
+
+    /// The next bytes, which came before.
+    pub(crate) fn held(&self) -> &[u8] {
+        self.stream.held()
+    }
+
+    /// Passes the next bytes that came before.
+    pub(crate) fn pass_held(&mut self) {
+        self.totals.count_bytes(self.stream.held().len());
+        self.stream.pass_held();
+    }
+}

@@ -1,0 +1,272 @@
+// Written by dist/erase from crates/cqlp_tcp_connections/src/table.rt.
+//! The table of connections.
+
+use crate::kit_host::prelude::{AllocGlobal, Clone, ToCopy, Vec};
+use crate::cqlp_tcp_connections::ends::{Way, ends_of, first_way};
+use crate::cqlp_tcp_connections::limits::{ConnectionLimits, NewConnectionsError};
+use crate::cqlp_tcp_connections::pool::Pool;
+use crate::cqlp_tcp_connections::ports::PortCounts;
+use crate::cqlp_tcp_connections::told::{Departure, Sight, Told};
+use crate::cqlp_tcp_connections::totals::ConnectionCounts;
+use crate::cqlp_tcp_reassembly::{GapCause, StreamStep};
+use crate::cqlp_tcp_segment::{Segment, SegmentHead};
+use crate::kit_std::alloc::{AllocError, Allocator, Global};
+
+/// The connections of a capture, of which there are at most as many at one time as the caller's limit says.
+///
+/// Of each segment `take` says whose it is, and then `pull`, again and again until it says `None`, what it hands on. Where it tells of
+/// `Held`, `held` lends the bytes, and `pass_held` comes before the next call. Where a connection has to leave first, `leave` tells what
+/// it still has, until it says `Left`. At the end of the file `finish` does so for all that are there, until it says `Empty`.
+///
+/// Memory is taken as connections and early bytes come, and given back. A connection that holds nothing takes about 450 bytes.
+pub struct Connections<A: Allocator = Global> {
+    ports: Vec<u16, A>,
+    pool: Pool<A>,
+    counts: ConnectionCounts,
+    /// For each port, how many segments had it of which neither port is asked for.
+    foreign: PortCounts<A>,
+    /// Whether the first connection has begun to leave.
+    leaving: bool,
+}
+
+impl<A: Allocator> Connections<A> {
+    /// A table without connections, for nodes that listen on one of these ports. It takes 512 KiB, to count segments by port.
+    ///
+    /// # Errors
+    ///
+    /// A limit that is out of range, and memory that is refused.
+    pub fn new(
+        alloc: A,
+        limits: ConnectionLimits,
+        ports: &[u16],
+    ) -> Result<Self, NewConnectionsError>
+    where
+        A: Clone,
+    {
+        if !limits.is_in_range() {
+            return Err(NewConnectionsError::BadLimits);
+        }
+        match Self::with_room(alloc, limits, ports) {
+            Ok(table) => Ok(table),
+            Err(AllocError) => Err(NewConnectionsError::NoMemory),
+        }
+    }
+
+    fn with_room(alloc: A, limits: ConnectionLimits, ports: &[u16]) -> Result<Self, AllocError>
+    where
+        A: Clone,
+    {
+        let ports = Vec::from_slice(alloc.to_copy()?, ports)?;
+        let foreign = PortCounts::new(alloc.to_copy()?)?;
+        let pool = Pool::new(alloc, limits)?;
+        Ok(Connections {
+            ports,
+            pool,
+            counts: ConnectionCounts::NONE,
+            foreign,
+            leaving: false,
+        })
+    }
+
+    /// Whose a segment is.
+    ///
+    /// It is of a connection if one of its ports is asked for. That end is the node; if both are, the first segment goes to it, unless it has
+    /// SYN and ACK. A SYN begins another connection between the same ends, if its direction began with another number; or has
+    /// not begun, where a direction has ended or the other one began from the middle.
+    ///
+    /// # Errors
+    ///
+    /// Memory that is refused for a connection that begins. Then nothing changes.
+    pub fn take(&mut self, head: &SegmentHead) -> Result<Sight, AllocError>
+    where
+        A: Clone,
+    {
+        let Some(way) = first_way(&self.ports, head) else {
+            self.go_by(head);
+            return Ok(Sight::Foreign);
+        };
+        if self.pool.bring(&ends_of(way, head)) {
+            return Ok(self.see(way, head));
+        }
+        let turned = way.other();
+        if self.pool.bring(&ends_of(turned, head)) {
+            return Ok(self.see(turned, head));
+        }
+        if self.pool.is_full() {
+            Ok(self.crowd())
+        } else {
+            self.begin(way, head)
+        }
+    }
+
+    /// Whether one of a segment's ports is asked for, so that it is of a connection.
+    pub fn asks_for(&self, head: &SegmentHead) -> bool {
+        first_way(&self.ports, head).is_some()
+    }
+
+    /// The next that a segment tells which was taken, and was captured then. First its acknowledgement tells of the other way, gaps and
+    /// bytes that were held behind them; then its own bytes are told, and where its own way begins and ends. `None` once all is told,
+    /// and of a segment of another connection than the one that was taken last.
+    ///
+    /// A direction holds what comes early while all hold no more than the limit, and it no more than is left and than its own limit.
+    ///
+    /// # Errors
+    ///
+    /// Memory that is refused for what comes early. Then nothing changes but that FIN is noted.
+    pub fn pull(
+        &mut self,
+        segment: &Segment<'_>,
+        time: Option<u64>,
+    ) -> Result<Option<Told>, AllocError>
+    where
+        A: Clone,
+    {
+        let Some(way) = self.way_of_first(&segment.head) else {
+            return Ok(None);
+        };
+        let told = self.pool.pull(way, segment, time)?;
+        if gives_up(way, &told) {
+            self.counts.given_up = self.counts.given_up.saturating_add(1);
+        }
+        Ok(told)
+    }
+
+    /// The bytes of `Held`: the next of this way of the connection that was told of last.
+    pub fn held(&self, way: Way) -> &[u8] {
+        self.pool.held(way)
+    }
+
+    /// Goes on behind the bytes that `held` lends.
+    pub fn pass_held(&mut self, way: Way) {
+        self.pool.pass_held(way);
+    }
+
+    /// The next that is told of the connection that has to leave: what it still holds, a hole before it as a gap, first of the
+    /// requests. At last that it has left.
+    pub fn leave(&mut self) -> Departure {
+        if let Some(told) = self.pool.close() {
+            self.leaving = true;
+            return Departure::Told(told);
+        }
+        let totals = match self.pool.first() {
+            Some((ends, first)) => first.totals(ends),
+            None => return Departure::Empty,
+        };
+        self.pool.remove_first();
+        self.leaving = false;
+        Departure::Left(totals)
+    }
+
+    /// At the end of the file: the next that is told of the connection that was silent longest, which leaves. `Empty` once all have
+    /// left.
+    pub fn finish(&mut self) -> Departure {
+        if !self.leaving {
+            self.pool.bring_last();
+        }
+        self.leave()
+    }
+
+    /// What was counted.
+    pub fn counts(&self) -> ConnectionCounts {
+        self.counts
+    }
+
+    /// Of the segments of which neither port is asked for, the three ports that most had, and how many; of ports with as many the lower
+    /// one first. 0 with 0, where there are fewer.
+    pub fn busiest(&self) -> [(u16, u64); 3] {
+        self.foreign.busiest()
+    }
+
+    /// How many connections there are: at most as many as the limit.
+    pub fn len(&self) -> usize {
+        self.pool.len()
+    }
+
+    /// How much all directions hold of what came early: at most as much as the limit.
+    pub fn early(&self) -> usize {
+        self.pool.early()
+    }
+
+    /// Whether there are none.
+    pub fn is_empty(&self) -> bool {
+        self.pool.len() == 0
+    }
+
+    /// Counts a segment of which neither port is asked for.
+    fn go_by(&mut self, head: &SegmentHead) {
+        self.counts.foreign = self.counts.foreign.saturating_add(1);
+        self.foreign.count(head);
+    }
+
+    /// Takes a segment of the first connection, which goes this way.
+    fn see(&mut self, way: Way, head: &SegmentHead) -> Sight {
+        let Some((_, first)) = self.pool.first() else {
+            return Sight::Foreign;
+        };
+        let number = first.number();
+        if first.begins_anew(way, head) {
+            return Sight::Crowded {
+                number,
+                is_full: false,
+            };
+        }
+        self.pool.count_segment(way);
+        Sight::Taken {
+            number,
+            way,
+            is_new: false,
+        }
+    }
+
+    /// Begins a connection with a segment that goes this way.
+    fn begin(&mut self, way: Way, head: &SegmentHead) -> Result<Sight, AllocError>
+    where
+        A: Clone,
+    {
+        let number = self.counts.connections.saturating_add(1);
+        self.pool.add(ends_of(way, head), number, way)?;
+        self.counts.connections = number;
+        Ok(Sight::Taken {
+            number,
+            way,
+            is_new: true,
+        })
+    }
+
+    /// Has the connection leave that was silent longest.
+    fn crowd(&mut self) -> Sight {
+        self.pool.bring_last();
+        let Some((_, first)) = self.pool.first() else {
+            return Sight::Foreign;
+        };
+        let number = first.number();
+        self.counts.crowded = self.counts.crowded.saturating_add(1);
+        Sight::Crowded {
+            number,
+            is_full: true,
+        }
+    }
+
+    /// Which way a segment goes, if it is of the first connection.
+    fn way_of_first(&self, head: &SegmentHead) -> Option<Way> {
+        let (ends, _) = self.pool.first()?;
+        ends.way_of(head)
+    }
+}
+
+/// Whether what a segment of this way told is a gap of its own way, which is declared where there is no room.
+fn gives_up(way: Way, told: &Option<Told>) -> bool {
+    match told {
+        Some(told) => {
+            let is_lost = matches!(
+                told.step,
+                StreamStep::Gap {
+                    cause: GapCause::Lost,
+                    ..
+                }
+            );
+            is_lost && told.way == way
+        }
+        None => false,
+    }
+}

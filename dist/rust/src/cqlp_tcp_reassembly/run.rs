@@ -1,0 +1,99 @@
+// Written by dist/erase from crates/cqlp_tcp_reassembly/src/run.rt.
+//! A part of a segment that came early.
+
+use crate::kit_std::prelude::{Vec};
+use crate::kit_std::alloc::{AllocError, Allocator};
+
+/// A part of a segment: that from one position up to another.
+#[derive(Clone, Copy)]
+pub(crate) struct Part {
+    /// How many runs lie before it.
+    pub(crate) index: usize,
+    pub(crate) from: u64,
+    pub(crate) to: u64,
+}
+
+/// A part that is to be kept.
+#[derive(Clone, Copy)]
+pub(crate) struct EarlyPart<'a> {
+    pub(crate) part: Part,
+    /// Its bytes. Those behind them, up to its end, were not captured.
+    pub(crate) bytes: &'a [u8],
+    /// Whether its first byte is the first of the segment.
+    pub(crate) begins: bool,
+    /// When the packet was captured.
+    pub(crate) time: Option<u64>,
+}
+
+/// What a run has.
+#[derive(Clone, Copy)]
+pub(crate) struct RunSummary {
+    /// How many bytes, and how many behind those that were not captured.
+    pub(crate) length: usize,
+    pub(crate) missing: u64,
+    pub(crate) begins: bool,
+    pub(crate) time: Option<u64>,
+}
+
+/// A part that is kept.
+pub(crate) struct Run<A: Allocator> {
+    /// The position of its first byte.
+    at: u64,
+    bytes: Vec<u8, A>,
+    missing: u64,
+    begins: bool,
+    time: Option<u64>,
+}
+
+impl<A: Allocator> Run<A> {
+    /// A copy of this part.
+    pub(crate) fn new(alloc: A, early: EarlyPart<'_>) -> Result<Self, AllocError> {
+        let count = early.bytes.len() as u64;
+        let bytes = Vec::from_slice(alloc, early.bytes)?;
+        Ok(Run {
+            at: early.part.from,
+            bytes,
+            missing: early.part.to - early.part.from - count,
+            begins: early.begins,
+            time: early.time,
+        })
+    }
+
+    /// The position of its first byte.
+    pub(crate) fn at(&self) -> u64 {
+        self.at
+    }
+
+    /// The position behind it.
+    pub(crate) fn end(&self) -> u64 {
+        self.at + self.bytes.len() as u64 + self.missing
+    }
+
+    pub(crate) fn bytes(&self) -> &[u8] {
+        self.bytes.as_slice()
+    }
+
+    pub(crate) fn summary(&self) -> RunSummary {
+        RunSummary {
+            length: self.bytes.len(),
+            missing: self.missing,
+            begins: self.begins,
+            time: self.time,
+        }
+    }
+
+    /// Drops its bytes, and goes on behind them.
+    pub(crate) fn drop_bytes(&mut self) {
+        self.at += self.bytes.len() as u64;
+        self.bytes.clear();
+        self.bytes.shrink_to_fit();
+        self.begins = false;
+    }
+}
+
+/// As many bytes of a payload as `most`, from this index on, or fewer where it ends.
+pub(crate) fn cut(payload: &[u8], from: usize, most: u64) -> &[u8] {
+    let start = from.min(payload.len());
+    let count = most.min((payload.len() - start) as u64) as usize;
+    &payload[start..start + count]
+}

@@ -1,0 +1,336 @@
+// Written by dist/erase from crates/cqlp_tcp_reassembly/src/stream.rt.
+//! One direction of a connection.
+
+use crate::kit_std::prelude::{Clone};
+use crate::cqlp_tcp_reassembly::run::{EarlyPart, Part, cut};
+use crate::cqlp_tcp_reassembly::runs::{RUN_SIZE, Runs};
+use crate::cqlp_tcp_reassembly::segment::{Place, StreamSegment, next_number};
+use crate::cqlp_tcp_reassembly::sequence::{Distance, distance_to};
+use crate::cqlp_tcp_reassembly::step::{GapCause, StreamStep};
+use crate::kit_std::alloc::{AllocError, Allocator, Global};
+
+/// How far a stream can go, in bytes.
+const LONGEST: u64 = 1 << 62;
+
+/// How far a stream is.
+#[derive(Clone, Copy, Debug, PartialEq, Eq)]
+pub(crate) enum Stage {
+    Unseen,
+    Open,
+    Over,
+}
+
+/// One direction of a connection: its bytes in order, each once, out of segments that come in whatever order and however often.
+///
+/// Of each segment `take` is called again and again until it answers `Done`, and so of each acknowledgement of the other side
+/// `acknowledge`. Where one of them answers `Held`, `held` lends the bytes, and `pass_held` comes before the next call. A stream
+/// has memory only for what came early.
+pub struct Stream<A: Allocator = Global> {
+    stage: Stage,
+    /// The sequence number of its first byte.
+    first: u32,
+    /// How many bytes, and bytes of gaps, were reported.
+    position: u64,
+    runs: Runs<A>,
+    /// The position of FIN.
+    end: Option<u64>,
+}
+
+impl<A: Allocator> Stream<A> {
+    /// A stream of which nothing was seen. It has no memory.
+    pub fn new(alloc: A) -> Self {
+        Stream {
+            stage: Stage::Unseen,
+            first: 0,
+            position: 0,
+            runs: Runs::new(alloc),
+            end: None,
+        }
+    }
+
+    /// The next that a segment brings. What came early is kept while this stream holds at most `room` bytes, as `size` counts
+    /// them; else the first hole is reported as lost.
+    ///
+    /// # Errors
+    ///
+    /// Memory that is refused. Then nothing changes but that FIN is noted.
+    pub fn take(
+        &mut self,
+        segment: &StreamSegment<'_>,
+        room: usize,
+    ) -> Result<StreamStep, AllocError>
+    where
+        A: Clone,
+    {
+        match self.stage {
+            Stage::Over => Ok(StreamStep::Done),
+            Stage::Unseen => {
+                if segment.control.rst {
+                    Ok(self.finish(StreamStep::Reset))
+                } else {
+                    Ok(self.begin(segment))
+                }
+            }
+            Stage::Open => {
+                if segment.control.rst {
+                    Ok(self.finish(StreamStep::Reset))
+                } else {
+                    self.receive(segment, room)
+                }
+            }
+        }
+    }
+
+    /// The next that an acknowledgement of the other side brings, which wants this number next: bytes before it that are missing
+    /// are lost, if later ones came or FIN did.
+    pub fn acknowledge(&mut self, number: u32) -> StreamStep {
+        match self.stage {
+            Stage::Over | Stage::Unseen => StreamStep::Done,
+            Stage::Open => {
+                if let Some(step) = self.settle() {
+                    return step;
+                }
+                let is_lost = self.is_lost(number);
+                self.lose_hole(is_lost)
+            }
+        }
+    }
+
+    /// The next where no more segments come: a hole is a gap, if later bytes came or FIN did.
+    pub fn close(&mut self) -> StreamStep {
+        match self.stage {
+            Stage::Over | Stage::Unseen => StreamStep::Done,
+            Stage::Open => {
+                if let Some(step) = self.settle() {
+                    return step;
+                }
+                let is_lost = self.knows_hole();
+                self.lose_hole(is_lost)
+            }
+        }
+    }
+
+    /// Forgets all that it has, and gives its memory back: it is a stream of which nothing was seen.
+    pub fn clear(&mut self) {
+        self.runs.clear();
+        self.stage = Stage::Unseen;
+        self.first = 0;
+        self.position = 0;
+        self.end = None;
+    }
+
+    /// Whether it has ended.
+    pub fn is_over(&self) -> bool {
+        matches!(self.stage, Stage::Over)
+    }
+
+    /// What it holds, in bytes: those that came early, and 128 for each part of a segment.
+    pub fn size(&self) -> usize {
+        self.runs.size()
+    }
+
+    /// The bytes that came early and are next.
+    pub fn held(&self) -> &[u8] {
+        let most = self.stop().saturating_sub(self.position);
+        cut(self.runs.bytes_at(self.position), 0, most)
+    }
+
+    /// Goes on behind the bytes that `held` lends, if there are any.
+    pub fn pass_held(&mut self) {
+        if let Some(run) = self.runs.summary_at(self.position) {
+            if run.length > 0 {
+                self.pass_run(run.length as u64);
+            }
+        }
+    }
+
+    /// Where it ends: at FIN, or after 2^62 bytes.
+    fn stop(&self) -> u64 {
+        match self.end {
+            None => LONGEST,
+            Some(end) => end.min(LONGEST),
+        }
+    }
+
+    /// Goes on behind the bytes of the first run, or those that it lacks: this many, but not past the end. How many they are.
+    fn pass_run(&mut self, count: u64) -> u64 {
+        let length = count.min(self.stop().saturating_sub(self.position));
+        self.position += length;
+        self.runs.pass_first();
+        length
+    }
+
+    /// Ends it, and gives its memory back.
+    fn finish(&mut self, step: StreamStep) -> StreamStep {
+        self.stage = Stage::Over;
+        self.runs.clear();
+        step
+    }
+
+    /// Begins it at a segment with SYN, FIN or bytes.
+    fn begin(&mut self, segment: &StreamSegment<'_>) -> StreamStep {
+        if !segment.begins_stream() {
+            return StreamStep::Done;
+        }
+        self.clear();
+        self.stage = Stage::Open;
+        self.first = segment.control.first_number();
+        StreamStep::Began {
+            syn: segment.control.syn,
+        }
+    }
+
+    /// The end of the stream or what came early, if either is next.
+    fn settle(&mut self) -> Option<StreamStep> {
+        if self.stop() <= self.position {
+            return Some(self.finish(StreamStep::Ended));
+        }
+        let run = self.runs.summary_at(self.position)?;
+        if run.length > 0 {
+            return Some(StreamStep::Held {
+                time: run.time,
+                begins: run.begins,
+            });
+        }
+        Some(StreamStep::Gap {
+            length: self.pass_run(run.missing),
+            cause: GapCause::Snapped,
+            time: run.time,
+        })
+    }
+
+    /// Notes where FIN lies, if this is the first.
+    fn note_end(&mut self, fin: bool, to: u64) {
+        if self.end.is_none() && fin {
+            self.end = Some(to);
+        }
+    }
+
+    /// The next of a segment without RST.
+    fn receive(
+        &mut self,
+        segment: &StreamSegment<'_>,
+        room: usize,
+    ) -> Result<StreamStep, AllocError>
+    where
+        A: Clone,
+    {
+        let place = segment.place(self.first, self.position);
+        self.note_end(segment.control.fin, place.to);
+        if let Some(step) = self.settle() {
+            return Ok(step);
+        }
+        let part = self.runs.first_free(place.at, place.to.min(self.stop()));
+        self.put_part(segment, place, part, room)
+    }
+
+    /// The first part of the segment that no run covers, if there is one.
+    fn put_part(
+        &mut self,
+        segment: &StreamSegment<'_>,
+        place: Place,
+        part: Part,
+        room: usize,
+    ) -> Result<StreamStep, AllocError>
+    where
+        A: Clone,
+    {
+        if part.to <= part.from {
+            Ok(StreamStep::Done)
+        } else if part.from == self.position {
+            Ok(self.pass_part(segment, place, part))
+        } else {
+            self.keep_part(segment, place, part, room)
+        }
+    }
+
+    /// A part of the segment is next: its bytes, or where they end those that were not captured.
+    fn pass_part(&mut self, segment: &StreamSegment<'_>, place: Place, part: Part) -> StreamStep {
+        let most = part.to - part.from;
+        let captured = segment.payload.len().saturating_sub(place.skip);
+        let count = most.min(captured as u64);
+        if count > 0 {
+            self.position += count;
+            return StreamStep::Payload {
+                from: place.skip,
+                count: count as usize,
+            };
+        }
+        self.position += most;
+        StreamStep::Gap {
+            length: most,
+            cause: GapCause::Snapped,
+            time: segment.time,
+        }
+    }
+
+    /// A part of the segment came early. It is kept where there is room; else the first hole is lost.
+    fn keep_part(
+        &mut self,
+        segment: &StreamSegment<'_>,
+        place: Place,
+        part: Part,
+        room: usize,
+    ) -> Result<StreamStep, AllocError>
+    where
+        A: Clone,
+    {
+        let skip = place.skip.saturating_add((part.from - place.at) as usize);
+        let bytes = cut(segment.payload, skip, part.to - part.from);
+        let left = room.saturating_sub(self.runs.size());
+        if left < bytes.len() + RUN_SIZE {
+            let end = self.runs.first_at(part.from);
+            return Ok(self.lose(end));
+        }
+        let begins = place.skip == 0 && part.from == place.at;
+        let time = segment.time;
+        self.runs.insert(EarlyPart {
+            part,
+            bytes,
+            begins,
+            time,
+        })?;
+        Ok(StreamStep::Kept)
+    }
+
+    /// The bytes up to this position are lost.
+    fn lose(&mut self, end: u64) -> StreamStep {
+        let length = end.saturating_sub(self.position);
+        self.position += length;
+        StreamStep::Gap {
+            length,
+            cause: GapCause::Lost,
+            time: None,
+        }
+    }
+
+    /// Whether the end of a hole at the position is known.
+    fn knows_hole(&self) -> bool {
+        !self.runs.is_empty() || self.end.is_some()
+    }
+
+    /// Whether the other side has all bytes of the hole.
+    fn is_lost(&self, number: u32) -> bool {
+        if !self.knows_hole() {
+            return false;
+        }
+        let hole = self
+            .runs
+            .first_at(self.stop())
+            .saturating_sub(self.position);
+        match distance_to(number, next_number(self.first, self.position)) {
+            Distance::Ahead(n) => hole <= u64::from(n),
+            Distance::Behind(_) => false,
+        }
+    }
+
+    /// The hole at the position is lost, if it is.
+    fn lose_hole(&mut self, is_lost: bool) -> StreamStep {
+        if is_lost {
+            let end = self.runs.first_at(self.stop());
+            self.lose(end)
+        } else {
+            StreamStep::Done
+        }
+    }
+}

@@ -1,0 +1,38 @@
+// Written by dist/erase from crates/cqlp_tool/src/limits.rt.
+//! What is kept of a capture, by the options.
+
+use crate::cqlp_capture_exchanges::ExchangeLimits;
+use crate::cqlp_capture_streams::StreamsLimits;
+use crate::cqlp_options::CaptureLimits;
+use crate::cqlp_packet_order::OrderLimits;
+use crate::cqlp_tcp_connections::ConnectionLimits;
+
+/// So many MiB in bytes.
+fn mebibytes(count: u32) -> usize {
+    count as usize * 1_048_576
+}
+
+/// What the reading of a capture keeps: of what came early at most 1 MiB for each direction, and packets that are captured at most one
+/// second apart, with at most 8 MiB, wait to be put in order.
+pub(crate) fn streams_limits_of(limits: &CaptureLimits) -> StreamsLimits {
+    StreamsLimits {
+        connections: ConnectionLimits {
+            connections: limits.connections,
+            early: mebibytes(limits.early),
+            early_each: 1_048_576,
+        },
+        order: OrderLimits {
+            packets: limits.order,
+            nanoseconds: 1_000_000_000,
+            bytes: 8_388_608,
+        },
+    }
+}
+
+/// What waits of exchanges.
+pub(crate) fn exchange_limits_of(limits: &CaptureLimits) -> ExchangeLimits {
+    ExchangeLimits {
+        open: limits.open as usize,
+        text: mebibytes(limits.text),
+    }
+}
