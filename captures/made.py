@@ -35,13 +35,17 @@ captures/made.py long FILE [MB]: writes a capture of so many MB of zeros, of whi
 
 captures/made.py most COMMAND..: runs it, and prints its status and how many KiB of memory it had at most.
 
-captures/made.py terminal COMMAND..: runs it with a terminal as its standard error, and prints its status and what it wrote there."""
+captures/made.py terminal COMMAND..: runs it with a terminal as its standard error, and prints its status and what it wrote there.
+
+captures/made.py interrupted CAPTURE COMMAND..: on a terminal, writes the capture into a pipe that the command reads and that stays open, types ^C, and prints
+what is written on the terminal until the command ends."""
 import os
 import pty
 import resource
 import struct
 import subprocess
 import sys
+import time
 
 NODE, PORT = 0x0A000001, 9042
 SYN, ACK = 0x02, 0x10
@@ -457,6 +461,23 @@ def tell_terminal(command):
     print(said.decode().replace("\r\n", "\n"), end="")
 
 
+def tell_interrupted(file, *command):
+    child, terminal = pty.fork()
+    if child == 0:
+        os.execvp("bash", ["bash", "-c", '(cat "$0"; echo written >/dev/tty; exec sleep 60) | "$@"', file, *command])
+    said = b""
+    try:
+        while some := os.read(terminal, 4096):
+            if b"written" in some:
+                time.sleep(0.5)
+                os.write(terminal, b"\x03")
+            said += some
+    except OSError:  # Nobody has it any more.
+        pass
+    os.waitpid(child, 0)
+    print(said.decode().replace("\r\n", "\n"), end="")
+
+
 if __name__ == "__main__":
     if sys.argv[1] == "most":
         tell_most(sys.argv[2:])
@@ -464,5 +485,7 @@ if __name__ == "__main__":
         write_long(*sys.argv[2:])
     elif sys.argv[1] == "terminal":
         tell_terminal(sys.argv[2:])
+    elif sys.argv[1] == "interrupted":
+        tell_interrupted(*sys.argv[2:])
     else:
         sys.stdout.buffer.writelines(capture(*sys.argv[1:]))

@@ -335,7 +335,18 @@ mod strsim;
 pub fn run_command() -> i32 {
     use kit_host::rt::{HostRuntime, Status};
     libc::keep_broken_pipes();
+    if reads_live_capture() {
+        libc::ignore_interrupts();
+    }
     cqlp::main(HostRuntime).status()
+}
+
+/// `cqlp capture .. -` behind a pipe: `^C` ends what writes the capture, and with it the capture, so that the last lines, the summary and the verdict come.
+#[cfg(feature = "cli")]
+fn reads_live_capture() -> bool {
+    use std::io::IsTerminal;
+    let mut words = std::env::args_os().skip(1);
+    words.next().is_some_and(|word| word == "capture") && words.last().is_some_and(|word| word == "-") && !std::io::stdin().is_terminal()
 }
 
 pub use cqlp_decode::{

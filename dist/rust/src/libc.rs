@@ -9,12 +9,20 @@ pub fn close(fd: i32) -> i32 {
     unsafe { close(fd) }
 }
 
+const IGNORED: usize = 1;
+
+unsafe extern "C" {
+    fn signal(number: i32, what: usize) -> usize;
+}
+
 /// Has a write to a closed pipe be a fault, and not the end of the program.
 pub fn keep_broken_pipes() {
     const SIGPIPE: i32 = 13;
-    const IGNORED: usize = 1;
-    unsafe extern "C" {
-        fn signal(number: i32, what: usize) -> usize;
-    }
     unsafe { signal(SIGPIPE, IGNORED) };
+}
+
+/// Has a `^C` be for the others of a pipe alone.
+pub fn ignore_interrupts() {
+    const SIGINT: i32 = 2;
+    unsafe { signal(SIGINT, IGNORED) };
 }
