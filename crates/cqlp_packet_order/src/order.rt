@@ -120,7 +120,7 @@ impl<A: Allocator> PacketOrder<A> {
             return Err(AllocError);
         };
         let at = self.place(packet.time);
-        let kept = KeptPacket::copy_of(packet, self.take_room()?)?;
+        let kept = KeptPacket::copy_of(packet, take_room(&mut self.spare, &self.alloc)?)?;
         let is_last = at == self.waiting.len();
         let Ok(()) = self.waiting.insert(at, kept) else {
             return Err(AllocError);
@@ -132,18 +132,6 @@ impl<A: Allocator> PacketOrder<A> {
             self.limits.packets == 0,
         );
         Ok(())
-    }
-
-    /// Memory for a packet, of one that has left if there is some.
-    fn take_room(&mut self) -> Result<Vec<u8, A>, AllocError>
-    where
-        A: Clone,
-        ensures { self.new ≡ self.old }
-    {
-        match self.spare.pop() {
-            Some(room) => Ok(room),
-            None => Ok(Vec::new(self.alloc.clone()?)),
-        }
     }
 
     /// Keeps the memory of a packet that has left for those that come, if it is small, and few have some.
@@ -204,6 +192,17 @@ impl<A: Allocator> PacketOrder<A> {
         self.held -= packet.bytes.len();
         self.passed = passed_with(packet.time, self.passed);
         Some(packet)
+    }
+}
+
+/// Memory for a packet, that of one that has left if there is some.
+fn take_room<A: Allocator + Clone>(
+    spare: &mut Vec<Vec<u8, A>, A>,
+    alloc: &A,
+) -> Result<Vec<u8, A>, AllocError> {
+    match spare.pop() {
+        Some(room) => Ok(room),
+        None => Ok(Vec::new(alloc.clone()?)),
     }
 }
 
