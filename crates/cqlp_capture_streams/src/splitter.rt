@@ -221,6 +221,7 @@ impl<A: Allocator + Clone> Splitter<A> {
 }
 
 /// The segment in a packet.
+#[inline]
 fn segment_in<'a>(packet: &Packet<'a>) -> Result<Segment<'a>, NoSegment>
     ensures { Gives seen result (segment_in (packet_of packet.now)) }
 {

@@ -50,6 +50,7 @@ impl OrderCounts {
     };
 
     /// Counts a packet that comes: late or not, behind all that wait or not, and to a window that is off or not.
+    #[inline]
     pub(crate) fn count(&mut self, is_late: bool, is_last: bool, is_off: bool)
         ensures { self.new ≡ counted_by is_late is_last is_off self.old }
     {

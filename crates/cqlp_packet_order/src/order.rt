@@ -216,6 +216,7 @@ struct Waiting {
 }
 
 /// Whether the first of them has to leave.
+#[inline]
 fn must_leave(limits: &OrderLimits, passed: u64, waiting: Waiting) -> bool
     ensures { result ≡ must_leave_by limits.now passed waiting.count waiting.bytes waiting.first waiting.last }
 {
@@ -225,6 +226,7 @@ fn must_leave(limits: &OrderLimits, passed: u64, waiting: Waiting) -> bool
 }
 
 /// Whether the first time is later. One that is not known is not.
+#[inline]
 fn is_later(one: Option<u64>, other: Option<u64>) -> bool
     ensures { result ≡ is_later one other }
 {
@@ -234,6 +236,7 @@ fn is_later(one: Option<u64>, other: Option<u64>) -> bool
     }
 }
 
+#[inline]
 fn is_late(passed: u64, time: Option<u64>) -> bool
     ensures { result ≡ is_late passed time }
 {
@@ -241,6 +244,7 @@ fn is_late(passed: u64, time: Option<u64>) -> bool
 }
 
 /// Whether packets of these times were captured too far apart, or the first is late, or one has no time.
+#[inline]
 fn is_past(nanoseconds: u64, passed: u64, first: Option<u64>, last: Option<u64>) -> bool
     ensures { result ≡ is_past nanoseconds passed first last }
 {
@@ -250,6 +254,7 @@ fn is_past(nanoseconds: u64, passed: u64, first: Option<u64>, last: Option<u64>)
     }
 }
 
+#[inline]
 fn passed_with(time: Option<u64>, passed: u64) -> u64
     ensures { result ≡ passed_with time passed }
 {
