@@ -140,7 +140,7 @@ impl<A: Allocator> PacketOrder<A> {
     {
         let most = self.limits.packets as usize;
         let rooms = self.waiting.len().saturating_add(self.spare.len());
-        if rooms < most && packet.bytes.capacity() <= self.limits.bytes / most {
+        if most > 0 && rooms <= most && packet.bytes.capacity() <= self.limits.bytes / most {
             let _ = self.spare.push(packet.bytes);
         }
     }
