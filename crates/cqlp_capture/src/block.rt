@@ -42,6 +42,7 @@ pub(crate) struct EitherLength {
 
 impl BlockKind {
     /// The kind of the blocks of this type. Section 10.1.
+    #[inline]
     pub fn of_type(number: u32) -> BlockKind
         ensures { result ≡ kind_of number }
     {
@@ -56,6 +57,7 @@ impl BlockKind {
     }
 
     /// How many bytes a block of this kind has at least, so that it can be read.
+    #[inline]
     pub fn least_length(self) -> u32
         ensures { result ≡ least_length self }
     {
@@ -69,6 +71,7 @@ impl BlockKind {
     }
 
     /// How many bytes a block of this kind has at least, so that the blocks after it can be read.
+    #[inline]
     pub fn lawful_length(self) -> u32
         ensures { result ≡ lawful_length self }
     {
@@ -113,6 +116,7 @@ impl Block {
     }
 
     /// The offset of its second length.
+    #[inline]
     pub fn end(self) -> u64
         requires { IsBlock self }
         ensures { result ≡ block_end self }
@@ -121,6 +125,7 @@ impl Block {
     }
 
     /// What is read at this offset in the block of an interface: an option, if there is room for one.
+    #[inline]
     pub fn at_option(self, offset: u64) -> Stage
         requires block { IsBlock self }
         requires far { offset ≤ 2 ^ 63 + 2 ^ 33 }
@@ -137,6 +142,7 @@ impl Block {
     }
 
     /// What is read at this offset, where the bytes up to another one are passed over.
+    #[inline]
     pub fn passing(self, offset: u64, until: u64) -> Stage
         requires block { IsBlock self }
         requires far { until ≤ 2 ^ 63 + 2 ^ 33 }
@@ -151,6 +157,7 @@ impl Block {
 }
 
 /// Whether a block that has at least so many bytes may have this length.
+#[inline]
 pub(crate) fn may_have_length(least: u32, length: u32) -> bool
     ensures { result ≡ is_block_length least length }
 {

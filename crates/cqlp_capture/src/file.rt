@@ -64,6 +64,7 @@ impl ByteOrder {
     }
 
     /// The number in two bytes, from this index on.
+    #[inline]
     pub(crate) fn read_u16(self, bytes: &[u8], index: usize) -> u16
         requires { index + 2 ≤ length bytes.now }
         ensures { result ≡ number_16 self index bytes.now }
@@ -76,6 +77,7 @@ impl ByteOrder {
     }
 
     /// The number in four bytes, from this index on.
+    #[inline]
     pub(crate) fn read_u32(self, bytes: &[u8], index: usize) -> u32
         requires { index + 4 ≤ length bytes.now }
         ensures { result ≡ number_32 self index bytes.now }
@@ -93,6 +95,7 @@ impl ByteOrder {
     }
 
     /// The number in eight bytes, from this index on.
+    #[inline]
     pub(crate) fn read_u64(self, bytes: &[u8], index: usize) -> u64
         requires { index + 8 ≤ length bytes.now }
         ensures { result ≡ number_64 self index bytes.now }

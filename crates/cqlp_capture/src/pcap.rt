@@ -71,6 +71,7 @@ pub(crate) fn tell_file_head(form: FileForm, bytes: &[u8]) -> Result<Told, Captu
 }
 
 /// What the header of a record says that begins at this offset. Section 5 of draft-ietf-opsawg-pcap.
+#[inline]
 pub(crate) fn tell_record_head(
     limit: u32,
     offset: u64,
@@ -143,6 +144,7 @@ pub(crate) fn tell_rest(
 }
 
 /// So many seconds and fractions of one, in nanoseconds.
+#[inline]
 fn time_of(form: FileForm, seconds: u32, fraction: u32) -> u64
     ensures { result ≡ nanoseconds form.fraction seconds fraction }
 {
@@ -150,6 +152,7 @@ fn time_of(form: FileForm, seconds: u32, fraction: u32) -> u64
 }
 
 /// How many nanoseconds a fraction counts.
+#[inline]
 fn unit_of(fraction: Fraction) -> u32
     ensures { result ≡ unit_of_fraction fraction }
 {

@@ -16,6 +16,7 @@ use crate::refusal::{CaptureReason, CaptureRefusal};
 use crate::telling::{read_next, refuse, skip};
 
 /// That these bytes, up to this offset, are all of a packet.
+#[inline]
 pub(crate) fn tell_data(end: u64, offset: u64, stage: Stage) -> Result<Told, CaptureRefusal>
     ensures { result ≡ told_data end offset stage }
 {
@@ -95,6 +96,7 @@ fn tell_section(block: Block) -> Result<Told, CaptureRefusal>
 }
 
 /// What the type and the length of a block say that begins at this offset. Section 3.1.
+#[inline]
 pub(crate) fn tell_block_head(
     offset: u64,
     order: ByteOrder,
@@ -127,6 +129,7 @@ pub(crate) fn tell_block_head(
 }
 
 /// What is read in a block of this kind.
+#[inline]
 fn tell_block(kind: BlockKind, block: Block) -> Result<Told, CaptureRefusal>
     requires far { block.start ≤ 2 ^ 63 }
     requires least { 12 ≤ block.length }
@@ -312,6 +315,7 @@ pub(crate) fn tell_time_offset(
 }
 
 /// What the numbers of a packet say, whose interface has this number. Section 4.3 and appendix A.
+#[inline]
 pub(crate) fn tell_enhanced_body(
     limit: u32,
     known: &[KnownInterface],
@@ -346,6 +350,7 @@ pub(crate) fn tell_enhanced_body(
 }
 
 /// That a packet begins, whose bytes are at this offset, if they lie in the block and the limit allows as many.
+#[inline]
 fn tell_within(
     limit: u32,
     offset: u64,
@@ -365,6 +370,7 @@ fn tell_within(
 }
 
 /// How many bytes a block has from this offset on to its second length.
+#[inline]
 fn room_after(block: Block, offset: u64) -> u64
     requires { IsInBlock block offset 0 }
     ensures { result ≡ room_of block offset }
@@ -373,6 +379,7 @@ fn room_after(block: Block, offset: u64) -> u64
 }
 
 /// A time of so many units, each of so many nanoseconds, after this many seconds, in nanoseconds, if that is less than 2^64.
+#[inline]
 fn captured_time(unit: u32, seconds: u64, units: u64) -> Option<u64>
     ensures { result ≡ time_of unit seconds units }
 {
@@ -382,6 +389,7 @@ fn captured_time(unit: u32, seconds: u64, units: u64) -> Option<u64>
 }
 
 /// That a packet begins, whose bytes are at this offset.
+#[inline]
 fn tell_packet(offset: u64, block: Block, packet: PacketHead) -> Result<Told, CaptureRefusal>
     ensures { result ≡ told_packet offset block packet }
 {
@@ -440,6 +448,7 @@ fn captured_size(interface: KnownInterface, original: u32, room: u64) -> u32
 }
 
 /// What the second length of a block says, and that an interface is known once its block was read. Section 3.1.
+#[inline]
 pub(crate) fn tell_block_end(
     limit: u32,
     known: &[KnownInterface],

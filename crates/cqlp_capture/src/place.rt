@@ -74,6 +74,7 @@ pub(crate) struct Place {
 
 impl Stage {
     /// How many bytes are read next. Of those that are passed over it is one, and any number of them may be taken at once.
+    #[inline]
     pub fn wanted(self) -> usize
         ensures { result ≡ wanted self }
     {
@@ -98,6 +99,7 @@ impl Place {
     ghost use Rattle.cqlp_capture.specs.Places.{HasRecordBefore, began, is_between};
 
     /// What the bytes say that are read next, under these limits, where these are the interfaces so far.
+    #[inline]
     pub fn tell(
         self,
         limits: &CaptureLimits,

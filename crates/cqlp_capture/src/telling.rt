@@ -11,6 +11,7 @@ use crate::place::{Place, Stage};
 use crate::refusal::{CaptureReason, CaptureRefusal};
 
 /// No event, and this is read next, from this offset on.
+#[inline]
 pub(crate) fn read_next(offset: u64, stage: Stage) -> Result<Told, CaptureRefusal>
     ensures { result ≡ goes_on offset stage }
 {
@@ -39,6 +40,7 @@ pub(crate) fn skip(offset: u64, block: Block, why: SkipReason) -> Result<Told, C
 }
 
 /// The refusal at this offset.
+#[inline]
 pub(crate) fn refuse(at: u64, why: CaptureReason) -> Result<Told, CaptureRefusal>
     ensures { result ≡ refused at why }
 {

@@ -22,7 +22,7 @@ use Rattle.cqlp_capture_streams.specs.Recordings.{Recording, StopsAt, no_sums, r
 use Rattle.cqlp_capture_streams.specs.Packets.{Finishes, SplitState, TellsEvents}
 use Rattle.cqlp_capture_streams.specs.Captures.{EndsSo, HearsAll, IsAll, ReadsMade, SplitsTo}
 use Rattle.cqlp_capture_streams.specs.Endings.{Concludes, ConcludesNoted, last_line, last_status, sums_words}
-use Rattle.cqlp_capture_streams.specs.Streams.{ReadsCapture, default_limits, no_connections, read_of, with_files}
+use Rattle.cqlp_capture_streams.specs.Streams.{ReadsCapture, default_limits, no_connections, read_of}
 use Rattle.cqlp_capture_streams.specs.Laws.{OneAnswerOfReadCapture, OneAnswerOfWriteStreams}
 use Rattle.cqlp_capture_streams.proofs.Once.{events_once, finishes_once}
 
@@ -163,5 +163,5 @@ module _ {V : Type 0} (after : V → Saying → V) (faulted : V → Saying → S
 
 pub streams_once : OneAnswerOfWriteStreams
 streams_once limits ports xs calls out err left left' status status' made made' out' out'' err' err'' (n, (r, sums, reads, ends)) well (n', (r', sums', reads', ends')) well' =
-    let one = runs_once with_saying StopsAt (λ (z : Recording). sums_words z.sums) (with_files limits) ports xs (recording calls out no_sums) (recording made out' sums) (recording made' out'' sums') n n' left left' r r' err err' err'' status status' reads ends well reads' ends' well' in
+    let one = runs_once with_saying StopsAt (λ (z : Recording). sums_words z.sums) limits ports xs (recording calls out no_sums) (recording made out' sums) (recording made' out'' sums') n n' left left' r r' err err' err'' status status' reads ends well reads' ends' well' in
     (one.0, ap (λ (z : Recording). z.calls) one.1, ap (λ (z : Recording). z.output) one.1, one.2)

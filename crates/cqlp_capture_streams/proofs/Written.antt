@@ -14,7 +14,7 @@ use Rattle.cqlp_capture_streams.specs.Sayings.{Saying, Left}
 use Rattle.cqlp_capture_streams.specs.Recordings.{Recording, Puts, Records, StopsAt, lined, line_of, no_sums, recording, summed, sums_with, with_saying}
 use Rattle.cqlp_capture_streams.specs.Endings.{Concludes, sums_words}
 use Rattle.cqlp_capture_streams.specs.Captures.{ReadsMade}
-use Rattle.cqlp_capture_streams.specs.Streams.{ReadsCapture, WritesStreamsBy, with_files}
+use Rattle.cqlp_capture_streams.specs.Streams.{ReadsCapture, WritesStreamsBy}
 
 -- a text, if it was made, is another way of writing it
 pub said : {T E : Type 0} (r : Result T E) (text : T → List ℕ) (a b : List ℕ) → IfOk r (λ s. text s ≡ a) → a ≡ b → IfOk r (λ s. text s ≡ b)
@@ -59,8 +59,7 @@ heard_err old new s (Err e) a = a
 
 -- ---- a capture whose streams are written
 
-pub writes_by : (m : ReadsMade) (limits files : StreamsLimits) (ports xs : List ℕ) (r : Result CaptureRead StreamsFault) (left : Option (List ℕ)) (calls calls' : Option (List Call)) (out out' err err' : Output) (sums : Sums) (status : ℕ) (old new : Recording) → old ≡ recording calls out no_sums → recording calls' out' sums ≡ new → files ≡ with_files limits → ReadsCapture with_saying StopsAt files ports xs m r left old new → Concludes ports (sums_words sums) r err status err' → WritesStreamsBy m limits ports xs left calls out err status calls' out' err'
-writes_by m limits files ports xs r left calls calls' out out' err err' sums status old new first last same reads' ends =
-    let reads = subst (λ (z : StreamsLimits). ReadsCapture with_saying StopsAt z ports xs m r left old new) same reads' in
-    let from = subst (λ (z : Recording). ReadsCapture with_saying StopsAt (with_files limits) ports xs m r left z new) first reads in
-    (r, sums, subst (λ (z : Recording). ReadsCapture with_saying StopsAt (with_files limits) ports xs m r left (recording calls out no_sums) z) (sym last) from, ends)
+pub writes_by : (m : ReadsMade) (limits : StreamsLimits) (ports xs : List ℕ) (r : Result CaptureRead StreamsFault) (left : Option (List ℕ)) (calls calls' : Option (List Call)) (out out' err err' : Output) (sums : Sums) (status : ℕ) (old new : Recording) → old ≡ recording calls out no_sums → recording calls' out' sums ≡ new → ReadsCapture with_saying StopsAt limits ports xs m r left old new → Concludes ports (sums_words sums) r err status err' → WritesStreamsBy m limits ports xs left calls out err status calls' out' err'
+writes_by m limits ports xs r left calls calls' out out' err err' sums status old new first last reads ends =
+    let from = subst (λ (z : Recording). ReadsCapture with_saying StopsAt limits ports xs m r left z new) first reads in
+    (r, sums, subst (λ (z : Recording). ReadsCapture with_saying StopsAt limits ports xs m r left (recording calls out no_sums) z) (sym last) from, ends)

@@ -31,10 +31,11 @@ has_skipped k =
     || nat_lt 0 k.too_many_interfaces || nat_lt 0 k.unknown_interface || nat_lt 0 k.unread_interface || nat_lt 0 k.time_too_large
     || nat_lt 0 k.packet_beyond_block || nat_lt 0 k.packet_too_long
 
--- Some of it was not read, or packets came late, or bytes that came early were given up, or all segments went to other ports.
+-- Some of it was not read, or packets came later than the window, or bytes that came early were given up, or connections had to make room for
+-- others, or all segments went to other ports.
 abbrev pub has_losses : CaptureRead → Bool
 has_losses r =
-    has_skipped r.packets.skipped || nat_lt 0 r.order.late || nat_lt 0 r.connections.given_up
+    has_skipped r.packets.skipped || nat_lt 0 r.order.late || nat_lt 0 r.connections.given_up || nat_lt 0 r.connections.crowded
     || ((r.connections.connections == 0) && nat_lt 0 r.connections.foreign)
 
 -- With a note, or losses, not all was seen, and the status is not that of a whole one.
@@ -72,7 +73,8 @@ count_words name n = if n == 0 then [] else named_words name n
 
 -- how many packets were put before others, and how many were late
 abbrev pub order_words : OrderCounts → List ℕ
-order_words c = joined (count_words (codes "Reordered") c.reordered ∷ count_words (codes "Late") c.late ∷ [])
+order_words c =
+    joined (count_words (codes "Reordered") c.reordered ∷ count_words (codes "Late") c.late ∷ count_words (codes "OutOfOrder") c.out_of_order ∷ [])
 
 -- how often bytes that came early were given up, and a connection had to leave since the table was full, and how many segments are of
 -- other ports

@@ -1,5 +1,5 @@
 -- What becomes of a capture that is read, and of one whose streams are written.
-use Rattle.std.specs.Prelude.{◌≡◌, ℕ, min, List, Option, Some, Result, Ok, Err, ◌⊎◌}
+use Rattle.std.specs.Prelude.{◌≡◌, ℕ, List, Option, Some, Result, Ok, Err, ◌⊎◌}
 use Rattle.cqlp_text.specs.Outputs.{Output}
 use Rattle.cqlp_capture.specs.declared.event.CaptureEnd.{CaptureEnd}
 use Rattle.cqlp_capture.specs.declared.limits.CaptureLimits.{CaptureLimits}
@@ -21,17 +21,6 @@ use Rattle.cqlp_capture_streams.specs.Endings.{Concludes, sums_words}
 -- the limits on a capture where none are given
 abbrev pub default_limits : CaptureLimits
 default_limits = record { packet = 1048576; interfaces = 256 }
-
--- 256 connections, and the other limits where none are given
-abbrev pub streams_limits : StreamsLimits
-streams_limits = record {
-  connections = record { connections = 256; early = 25165824; early_each = 1048576 };
-  order = record { packets = 1000; nanoseconds = 1000000000; bytes = 8388608 };
-}
-
--- Each connection has two open files: there are no more than 256.
-abbrev pub with_files : StreamsLimits → StreamsLimits
-with_files l = record l { connections = record l.connections { connections = min l.connections.connections 256 } }
 
 -- how many reads are made at most: 2 to the power of 32
 abbrev pub turns : ℕ
@@ -61,7 +50,7 @@ abbrev pub WritesStreamsBy : ReadsMade → StreamsLimits → (ports : List ℕ) 
     → (out err : Output) → (status : ℕ) → (calls' : Option (List Call)) → (out' err' : Output) → Type 0
 WritesStreamsBy m limits ports xs left calls out err status calls' out' err' =
     (r : Result CaptureRead StreamsFault) × (sums : Sums)
-    × ReadsCapture with_saying StopsAt (with_files limits) ports xs m r left (recording calls out no_sums) (recording calls' out' sums)
+    × ReadsCapture with_saying StopsAt limits ports xs m r left (recording calls out no_sums) (recording calls' out' sums)
     × Concludes ports (sums_words sums) r err status err'
 
 -- by some reads

@@ -5,7 +5,8 @@ ghost use Rattle.cqlp_text.specs.Endings.{IsStatusOfTask};
 ghost use Rattle.cqlp_text.specs.Outputs.{AppendsText, written};
 ghost use Rattle.cqlp_text.specs.Written.{Writes};
 ghost use Rattle.cqlp_capture.specs.declared.event.CaptureEnd.TheVariants.{Whole, Cut, Refused};
-ghost use Rattle.cqlp_capture_streams.specs.Endings.{ConcludesNoted, Reports, busy_line, end_status, fault_line, hint, read_line, read_status, reason_name, verdict};
+ghost use Rattle.cqlp_capture_streams.specs.Endings.{ConcludesNoted, Reports, busy_line, end_status, fault_line, hint, read_line};
+ghost use Rattle.cqlp_capture_streams.specs.Endings.{read_status, reason_name, verdict};
 
 use crate::busiest::put_busiest;
 use crate::capturing::CaptureRead;

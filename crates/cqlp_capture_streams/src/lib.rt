@@ -21,7 +21,7 @@ mod summary;
 mod telling;
 mod writing;
 
-pub use capturing::{CaptureRead, LIMITS, read_capture};
+pub use capturing::{CaptureRead, read_capture};
 pub use ending::conclude_capture;
 pub use fault::StreamsFault;
 pub use files::{FileFault, StreamFile, StreamFiles};

@@ -83,6 +83,7 @@ impl PacketCounts {
     };
 
     /// Counts a packet with a segment, of a connection and cut or not.
+    #[inline]
     pub(crate) fn count_segment(&mut self, is_snapped: bool)
         ensures { self.new ≡ with_segment is_snapped self.old }
     {

@@ -3,7 +3,7 @@
 ghost use Rattle.std.specs.Prelude.{◌≡◌};
 ghost use Rattle.cqlp_tcp_segment.specs.Fields.{Gives};
 ghost use Rattle.cqlp_tcp_segment.specs.Segment.{seen};
-ghost use Rattle.cqlp_packet_order.specs.Packets.{packet_of};
+ghost use Rattle.cqlp_packet_order.specs.Packets.{packet_in, packet_of};
 ghost use Rattle.cqlp_capture_streams.specs.Packets.{segment_in};
 
 use crate::fault::StreamsFault;
@@ -11,7 +11,7 @@ use crate::listener::Listener;
 use crate::packets::PacketCounts;
 use crate::telling::{finish_all, take_timed};
 use cqlp_capture::{CaptureEvent, PacketHead};
-use cqlp_packet_order::{OrderCounts, Packet, PacketOrder};
+use cqlp_packet_order::{KeptPacket, OrderCounts, Packet, PacketOrder};
 use cqlp_tcp_connections::{ConnectionCounts, Connections};
 use cqlp_tcp_segment::{LinkType, NoSegment, Segment, read_segment};
 use std::alloc::{AllocError, Allocator, Global};
@@ -166,7 +166,7 @@ impl<A: Allocator + Clone> Splitter<A> {
         ensures { Gets L.Listener (λ ss. HandsAll due_left (is_done result) self.old ss self.new) listener.old result listener.new }
     {
         while let Some(kept) = self.order.pop_due() {
-            self.take_packet(&kept.as_packet(), listener)?;
+            self.take_kept(kept, listener)?;
         }
         Ok(())
     }
@@ -176,9 +176,24 @@ impl<A: Allocator + Clone> Splitter<A> {
         ensures { Gets L.Listener (λ ss. HandsAll first_left (is_done result) self.old ss self.new) listener.old result listener.new }
     {
         while let Some(kept) = self.order.pop() {
-            self.take_packet(&kept.as_packet(), listener)?;
+            self.take_kept(kept, listener)?;
         }
         Ok(())
+    }
+
+    /// Takes a packet that has left the window, and gives its memory back.
+    fn take_kept<L: Listener>(
+        &mut self,
+        kept: KeptPacket<A>,
+        listener: &mut L,
+    ) -> Result<(), StreamsFault>
+        ensures tells { Gets L.Listener (λ ss. TellsPacket (packet_in kept) (is_done result) self.old ss self.new)
+            listener.old result listener.new }
+        ensures order { self.new.order ≡ self.old.order }
+    {
+        let answer = self.take_packet(&kept.as_packet(), listener);
+        self.order.give_back(kept);
+        answer
     }
 
     /// Takes a packet whose turn has come.
@@ -206,6 +221,7 @@ impl<A: Allocator + Clone> Splitter<A> {
 }
 
 /// The segment in a packet.
+#[inline]
 fn segment_in<'a>(packet: &Packet<'a>) -> Result<Segment<'a>, NoSegment>
     ensures { Gives seen result (segment_in (packet_of packet.now)) }
 {

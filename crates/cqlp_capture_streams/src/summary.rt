@@ -31,7 +31,8 @@ pub(crate) fn put_order<P: Pen>(
     ensures { Writes writer.old (order_words counts.now) result writer.new }
 {
     put_count(writer, "Reordered", counts.reordered)?;
-    put_count(writer, "Late", counts.late)
+    put_count(writer, "Late", counts.late)?;
+    put_count(writer, "OutOfOrder", counts.out_of_order)
 }
 
 /// Takes what connections did not take.

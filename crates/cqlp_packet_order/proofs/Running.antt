@@ -6,7 +6,7 @@ use Rattle.std.proofs.lemmas.List.Sorted.{IsPermutation-append_right, IsPermutat
 use Rattle.cqlp_packet_order.specs.declared.limits.OrderCounts.{OrderCounts}
 use Rattle.cqlp_packet_order.specs.declared.limits.OrderLimits.{OrderLimits}
 use Rattle.cqlp_packet_order.specs.Packets.{Packet}
-use Rattle.cqlp_packet_order.specs.Orders.{Order, are_later, counted_by, is_late, is_later, passed_with, place, releasing, without_first}
+use Rattle.cqlp_packet_order.specs.Orders.{Order, are_later, counted_by, is_late, is_later, is_off, passed_with, place, releasing, without_first}
 use Rattle.cqlp_packet_order.specs.Laws.{Ascends, Begins, Comes, HaveTimes, Leaves, NoneBefore, Runs, moment}
 
 -- ---- the first one leaves
@@ -150,10 +150,11 @@ ascends_others (p ∷ ps) qs t (above, up) (here, rest) more later =
     (before_others (moment p) ps qs above (before_more (moment p) t qs here later), ascends_others ps qs t up rest more later)
 
 -- nothing was late
-no_late : (late last : Bool) (c : OrderCounts) → (counted_by late last c).late ≡ 0 → (late ≡ false) × (c.late ≡ 0)
-no_late true last c none = absurd (omega arith)
-no_late false true c none = (refl, none)
-no_late false false c none = (refl, none)
+no_late : (late last off : Bool) (c : OrderCounts) → (counted_by late last off c).late ≡ 0 → (counted_by late last off c).out_of_order ≡ 0 → (late ≡ false) × (c.late ≡ 0) × (c.out_of_order ≡ 0)
+no_late true last true c none ordered = absurd (omega arith)
+no_late true last false c none ordered = absurd (omega arith)
+no_late false true off c none ordered = (refl, none, ordered)
+no_late false false off c none ordered = (refl, none, ordered)
 
 in_time : (s : Option ℕ) (p : Packet) (passed : ℕ) → p.time ≡ s → IsSome s → is_late passed s ≡ false → passed ≤ moment p
 in_time (Some a) p passed is some not = let le = ltb-false a passed not in let e : moment p ≡ a = ap (λ z. unwrap_or z 0) is in omega arith
@@ -163,12 +164,12 @@ passed_by : (s : Option ℕ) (p : Packet) (passed : ℕ) → p.time ≡ s → Is
 passed_by (Some a) p passed is some le = let e : moment p ≡ a = ap (λ z. unwrap_or z 0) is in omega arith
 passed_by None p passed is some le = absurd (let l = some in cc)
 
-pub ordered : (limits : OrderLimits) (came left : List Packet) (o : Order) → Runs limits came left o → HaveTimes came → o.counts.late ≡ 0 → Ordered left o
-ordered limits _ _ _ Begins times none = record { gone = tt; past = tt; up = tt; later = tt; times = tt }
-ordered limits _ _ _ (Comes {came} {left} {o} r p) times none =
-    let counted = no_late (is_late o.passed p.time) (place p.time o.waiting == length o.waiting) o.counts none in
+pub ordered : (limits : OrderLimits) (came left : List Packet) (o : Order) → Runs limits came left o → HaveTimes came → o.counts.late ≡ 0 → o.counts.out_of_order ≡ 0 → Ordered left o
+ordered limits _ _ _ Begins times none in_order = record { gone = tt; past = tt; up = tt; later = tt; times = tt }
+ordered limits _ _ _ (Comes {came} {left} {o} r p) times none in_order =
+    let counted = no_late (is_late o.passed p.time) (place p.time o.waiting == length o.waiting) (is_off o.limits) o.counts none in_order in
     let some = times_last came p times in
-    let was = ordered limits came left o r (times_front came (p ∷ []) times) counted.1 in
+    let was = ordered limits came left o r (times_front came (p ∷ []) times) counted.1 counted.2 in
     let le = in_time p.time p o.passed refl some counted.0 in
     record {
       gone = was.gone;
@@ -177,9 +178,9 @@ ordered limits _ _ _ (Comes {came} {left} {o} r p) times none =
       later = before_inserted o.passed o.waiting (place p.time o.waiting) p le was.later;
       times = times_inserted o.waiting (place p.time o.waiting) p some was.times;
     }
-ordered limits _ _ _ (Leaves {came} {left} {o} r p u e) times none =
+ordered limits _ _ _ (Leaves {came} {left} {o} r p u e) times none in_order =
     let went = went_first o u o.waiting p e in
-    let was = ordered limits came left o r times (sym (ap (λ (c : OrderCounts). c.late) went.counts) ∙ none) in
+    let was = ordered limits came left o r times (sym (ap (λ (c : OrderCounts). c.late) went.counts) ∙ none) (sym (ap (λ (c : OrderCounts). c.out_of_order) went.counts) ∙ in_order) in
     let up = subst (λ z. Ascends z) went.first was.up in
     let later = subst (λ z. NoneBefore o.passed z) went.first was.later in
     let timed = subst (λ z. HaveTimes z) went.first was.times in
@@ -192,7 +193,7 @@ ordered limits _ _ _ (Leaves {came} {left} {o} r p u e) times none =
       times = timed.1;
     }
 
-pub leaves_in_order : (limits : OrderLimits) (came left : List Packet) (o : Order) → Runs limits came left o → HaveTimes came → o.counts.late ≡ 0 → Ascends (left ++ o.waiting)
-leaves_in_order limits came left o r times none =
-    let is = ordered limits came left o r times none in
+pub leaves_in_order : (limits : OrderLimits) (came left : List Packet) (o : Order) → Runs limits came left o → HaveTimes came → o.counts.late ≡ 0 → o.counts.out_of_order ≡ 0 → Ascends (left ++ o.waiting)
+leaves_in_order limits came left o r times none in_order =
+    let is = ordered limits came left o r times none in_order in
     ascends_others left o.waiting o.passed is.gone is.past is.up is.later

@@ -8,7 +8,7 @@ use Rattle.cqlp_packet_order.specs.declared.limits.OrderCounts.{OrderCounts}
 use Rattle.cqlp_packet_order.specs.declared.limits.OrderLimits.{OrderLimits}
 use Rattle.cqlp_packet_order.specs.declared.packet.KeptPacket.{KeptPacket}
 use Rattle.cqlp_packet_order.specs.Packets.{Packet, packet_in}
-use Rattle.cqlp_packet_order.specs.Orders.{Order, Release, are_later, arrived, bytes_in, counted_by, due_left, first_left, if_none, is_due, is_late, is_later, last_time, must_leave, must_leave_by, order, passes, place, releasing, with_passed, without_first}
+use Rattle.cqlp_packet_order.specs.Orders.{Order, Release, are_later, arrived, bytes_in, counted_by, due_left, first_left, if_none, is_due, is_late, is_later, is_off, last_time, must_leave, must_leave_by, order, passes, place, releasing, with_passed, without_first}
 
 -- ---- where a packet stands
 
@@ -107,7 +107,7 @@ module _ {A : Type 0} where
       let long = ap (λ (q : Packet). length q.bytes) same in
       omega (arith, after, there, long)
 
-  pub has_arrived : (o : Order) (l : OrderLimits) (ks ks' : List (KeptPacket A)) (passed at n : ℕ) (counts counts' : OrderCounts) (k : KeptPacket A) (p : Packet) → order l (map packet_in ks) passed counts ≡ o → ks' ≡ insert ks at k → packet_in k ≡ p → at ≡ place p.time o.waiting → n ≡ length ks → counts' ≡ counted_by (is_late passed p.time) (at == n) counts → order l (map packet_in ks') passed counts' ≡ arrived p o
+  pub has_arrived : (o : Order) (l : OrderLimits) (ks ks' : List (KeptPacket A)) (passed at n : ℕ) (counts counts' : OrderCounts) (k : KeptPacket A) (p : Packet) → order l (map packet_in ks) passed counts ≡ o → ks' ≡ insert ks at k → packet_in k ≡ p → at ≡ place p.time o.waiting → n ≡ length ks → counts' ≡ counted_by (is_late passed p.time) (at == n) (is_off l) counts → order l (map packet_in ks') passed counts' ≡ arrived p o
   has_arrived o l ks ks' passed at n counts counts' k p view is same there all count =
       subst (λ (z : Order). order l (map packet_in ks') passed counts' ≡ arrived p z) view (by (subst (λ (z : Order). at ≡ place p.time z.waiting) (sym view) there))
     where
@@ -115,7 +115,7 @@ module _ {A : Type 0} where
       by here =
           let mapped = ap (λ (z : List (KeptPacket A)). map packet_in z) is ∙ inserted ks at k ∙ ap (λ (q : Packet). insert (map packet_in ks) at q) same ∙ ap (λ i. insert (map packet_in ks) i p) here in
           let many = all ∙ sym (length-map ks packet_in) in
-          let counted = count ∙ ap (λ i. counted_by (is_late passed p.time) (i == n) counts) here ∙ ap (λ j. counted_by (is_late passed p.time) (place p.time (map packet_in ks) == j) counts) many in
+          let counted = count ∙ ap (λ i. counted_by (is_late passed p.time) (i == n) (is_off l) counts) here ∙ ap (λ j. counted_by (is_late passed p.time) (place p.time (map packet_in ks) == j) (is_off l) counts) many in
           ap (λ (z : List Packet). order l z passed counts') mapped ∙ ap (λ (c : OrderCounts). order l (insert (map packet_in ks) (place p.time (map packet_in ks)) p) passed c) counted
 
 -- It does what it would if it were kept.

@@ -36,11 +36,11 @@ abbrev pub Ascends : List Packet → Type 0
 Ascends [] = ⊤
 Ascends (p ∷ ps) = NoneBefore (moment p) ps × Ascends ps
 
--- Where all have a time and none was late, they leave in the order of their times.
+-- Where all have a time and none was late, or out of order with no window, they leave in the order of their times.
 abbrev pub LeavesInOrder : Type 0
 LeavesInOrder =
     (limits : OrderLimits) (came left : List Packet) (o : Order) → Runs limits came left o
-    → HaveTimes came → o.counts.late ≡ 0 → Ascends (left ++ o.waiting)
+    → HaveTimes came → o.counts.late ≡ 0 → o.counts.out_of_order ≡ 0 → Ascends (left ++ o.waiting)
 
 -- ---- limits
 

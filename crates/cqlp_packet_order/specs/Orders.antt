@@ -16,7 +16,7 @@ abbrev pub order : OrderLimits → List Packet → (passed : ℕ) → OrderCount
 order l ps passed counts = record { limits = l; waiting = ps; passed = passed; counts = counts }
 
 abbrev pub none_counted : OrderCounts
-none_counted = record { reordered = 0; late = 0 }
+none_counted = record { reordered = 0; late = 0; out_of_order = 0 }
 
 abbrev pub new_order : OrderLimits → Order
 new_order l = order l [] 0 none_counted
@@ -44,20 +44,25 @@ is_late passed time = is_later (Some passed) time
 abbrev pub one_more : ℕ → ℕ
 one_more n = min (n + 1) (2 ^ 64 - 1)
 
-abbrev pub with_late : OrderCounts → OrderCounts
-with_late c = record c { late = one_more c.late }
+-- late where there is a window, and only out of order where it is off
+abbrev pub with_late : (off : Bool) → OrderCounts → OrderCounts
+with_late true c = record c { out_of_order = one_more c.out_of_order }
+with_late false c = record c { late = one_more c.late }
 
 abbrev pub with_reordered : OrderCounts → OrderCounts
 with_reordered c = record c { reordered = one_more c.reordered }
 
 -- late, or before others that wait
-abbrev pub counted_by : (late last : Bool) → OrderCounts → OrderCounts
-counted_by true last c = with_late c
-counted_by false true c = c
-counted_by false false c = with_reordered c
+abbrev pub counted_by : (late last off : Bool) → OrderCounts → OrderCounts
+counted_by true last off c = with_late off c
+counted_by false true off c = c
+counted_by false false off c = with_reordered c
+
+abbrev pub is_off : OrderLimits → Bool
+is_off l = l.packets == 0
 
 abbrev pub counted : (time : Option ℕ) → Order → OrderCounts
-counted time o = counted_by (is_late o.passed time) (place time o.waiting == length o.waiting) o.counts
+counted time o = counted_by (is_late o.passed time) (place time o.waiting == length o.waiting) (is_off o.limits) o.counts
 
 -- It waits behind all but those at the end that are later.
 abbrev pub arrived : Packet → Order → Order

@@ -7,7 +7,7 @@ pub fn keeps_all()
     ensures { KeepsAll }
 {}
 
-/// Where all packets have a time and none was late, they leave in the order of their times.
+/// Where all packets have a time and none was late, nor out of order with no window, they leave in the order of their times.
 pub fn leaves_in_order()
     ensures { LeavesInOrder }
 {}

@@ -29,15 +29,18 @@ pub struct KeptPacket<A: Allocator = Global> {
 impl<A: Allocator> KeptPacket<A> {
     ghost use Rattle.cqlp_packet_order.specs.Packets.{packet_in, packet_of};
 
-    /// A copy of a packet.
-    pub(crate) fn copy_of(alloc: A, packet: &Packet<'_>) -> Result<Self, AllocError>
+    /// A copy of a packet, in this memory or more.
+    pub(crate) fn copy_of(packet: &Packet<'_>, room: Vec<u8, A>) -> Result<Self, AllocError>
         ensures { IfOk result (λ kept. packet_in kept ≡ packet_of packet.now) }
     {
+        let mut bytes = room;
+        bytes.clear();
+        bytes.extend_from_slice(packet.bytes)?;
         Ok(KeptPacket {
             link: packet.link,
             time: packet.time,
             original: packet.original,
-            bytes: Vec::from_slice(alloc, packet.bytes)?,
+            bytes,
         })
     }
 

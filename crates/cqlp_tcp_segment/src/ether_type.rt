@@ -25,6 +25,7 @@ pub(crate) struct IpPacket<'a> {
 
 /// The packet of IP after an EtherType: behind tags, and behind labels of MPLS or the header of a session of PPPoE.
 #[tactic(auto, unfolding(crate::specs::EtherType::after_ether_type))]
+#[inline]
 pub(crate) fn after_ether_type(ether_type: u16, bytes: &[u8]) -> Result<IpPacket<'_>, NoSegment>
     ensures { Gives view result (after_ether_type ether_type bytes.now) }
 {
@@ -45,6 +46,7 @@ pub(crate) fn after_ether_type(ether_type: u16, bytes: &[u8]) -> Result<IpPacket
 }
 
 /// The EtherType after all tags, and the bytes after it.
+#[inline]
 fn untagged(ether_type: u16, bytes: &[u8]) -> Result<(u16, &[u8]), NoSegment>
     ensures { Gives (λ x. (x.0, x.1.now)) result (untagged ether_type bytes.now) }
 {
@@ -61,6 +63,7 @@ fn untagged(ether_type: u16, bytes: &[u8]) -> Result<(u16, &[u8]), NoSegment>
 }
 
 /// Whether an EtherType is that of a tag of a virtual network.
+#[inline]
 fn is_tag(ether_type: u16) -> bool
     ensures { result ≡ is_tag ether_type }
 {

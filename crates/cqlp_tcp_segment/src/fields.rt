@@ -4,6 +4,7 @@ ghost use Rattle.std.specs.Prelude.{◌≡◌, ◌+◌, ◌≤◌, length};
 ghost use Rattle.cqlp_tcp_segment.specs.Fields.{number_16, number_32};
 
 /// The number in two bytes, from this index on.
+#[inline]
 pub(crate) fn number_16(bytes: &[u8], index: usize) -> u16
     requires { index + 2 ≤ length bytes.now }
     ensures { result ≡ number_16 index bytes.now }
@@ -12,6 +13,7 @@ pub(crate) fn number_16(bytes: &[u8], index: usize) -> u16
 }
 
 /// The number in four bytes, from this index on.
+#[inline]
 pub(crate) fn number_32(bytes: &[u8], index: usize) -> u32
     requires { index + 4 ≤ length bytes.now }
     ensures { result ≡ number_32 index bytes.now }

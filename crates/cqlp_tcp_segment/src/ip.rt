@@ -42,6 +42,7 @@ pub(crate) struct Upper<'a> {
 }
 
 /// What a packet of IP carries that had this many bytes beyond those that were captured.
+#[inline]
 pub(crate) fn carried_by(ip: IpPacket<'_>, beyond: usize) -> Result<Carried<'_>, NoSegment>
     requires { length ip.bytes.now + beyond < 2 ^ 64 }
     ensures { Gives view result (carried_by ip.entry.version beyond ip.entry.bytes.now) }
@@ -53,6 +54,7 @@ pub(crate) fn carried_by(ip: IpPacket<'_>, beyond: usize) -> Result<Carried<'_>,
 }
 
 /// A length in a header of IP, or the length of all that there was where it is 0.
+#[inline]
 fn length_or_all(said: u16, bytes: &[u8], beyond: usize) -> usize
     requires { length bytes.now + beyond < 2 ^ 64 }
     ensures { result ≡ length_or_all said beyond bytes.now }
@@ -65,6 +67,7 @@ fn length_or_all(said: u16, bytes: &[u8], beyond: usize) -> usize
 
 /// What a packet of IPv4 carries. RFC 791, section 3.1.
 #[tactic(auto, unfolding(crate::specs::Ip::carried_by_4))]
+#[inline]
 fn carried_by_4(bytes: &[u8], beyond: usize) -> Result<Carried<'_>, NoSegment>
     requires { length bytes.now + beyond < 2 ^ 64 }
     ensures { Gives view result (carried_by_4 beyond bytes.now) }

@@ -36,6 +36,7 @@ impl LinkType {
     /// # Errors
     ///
     /// `UnknownLink`, for any other number.
+    #[inline]
     pub fn from_number(number: u16) -> Result<LinkType, NoSegment>
         ensures { result ≡ link_of number }
     {
@@ -55,6 +56,7 @@ impl LinkType {
 
 /// The packet of IP in a captured packet.
 #[tactic(auto, unfolding(crate::specs::Link::ip_packet))]
+#[inline]
 pub(crate) fn ip_packet(link: LinkType, packet: &[u8]) -> Result<IpPacket<'_>, NoSegment>
     ensures { Gives view result (ip_packet link packet.now) }
 {
@@ -110,6 +112,7 @@ fn version_of_family(family: u32) -> Option<IpVersion>
 
 /// What follows a header of this many bytes, which has an EtherType at this index.
 #[tactic(auto, unfolding(crate::specs::Link::after_type))]
+#[inline]
 pub(crate) fn after_type(
     packet: &[u8],
     index: usize,

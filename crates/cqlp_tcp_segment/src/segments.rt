@@ -49,6 +49,7 @@ pub struct Segment<'a> {
 ///
 /// The first reason, from the outer header to the inner, why there is no segment.
 #[tactic(auto, unfolding(crate::specs::Segment::segment_of))]
+#[inline]
 pub fn read_segment(link: LinkType, packet: &[u8], original: u32) -> Result<Segment<'_>, NoSegment>
     ensures { Gives seen result (segment_of link packet.now original) }
 {
@@ -65,6 +66,7 @@ pub fn read_segment(link: LinkType, packet: &[u8], original: u32) -> Result<Segm
 }
 
 /// The bytes after a header of this length that were captured of those that IP carries.
+#[inline]
 fn payload_of<'a>(carried: &Carried<'a>, header: usize) -> &'a [u8]
     requires carried { header ≤ carried.now.size }
     requires captured { header ≤ length carried.now.bytes.now }
@@ -75,6 +77,7 @@ fn payload_of<'a>(carried: &Carried<'a>, header: usize) -> &'a [u8]
 }
 
 /// What the headers say, of which all of TCP's was captured.
+#[inline]
 fn head_of(carried: &Carried<'_>) -> SegmentHead
     requires { 20 ≤ length carried.now.bytes.now }
     ensures { result ≡ head_of (view carried.now) }

@@ -23,6 +23,7 @@ pub struct Flags {
 
 impl Flags {
     /// The flags in the byte of control bits.
+    #[inline]
     pub(crate) fn of_byte(bits: u8) -> Flags
         ensures { result ≡ flags_of bits }
     {
@@ -36,6 +37,7 @@ impl Flags {
 }
 
 /// How many bytes the header of TCP has, all of which were captured. RFC 9293, section 3.1.
+#[inline]
 pub(crate) fn header_length(carried: &Carried<'_>) -> Result<usize, NoSegment>
     ensures { result ≡ header_length (view carried.now) }
 {

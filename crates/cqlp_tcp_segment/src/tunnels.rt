@@ -25,6 +25,7 @@ const ETHERNET_FRAME: u16 = 0x6558;
 const VXLAN_PORT: u16 = 4789;
 
 /// What the innermost packet of IP carries, which is TCP, of a packet that had this many bytes beyond those that were captured.
+#[inline]
 pub(crate) fn innermost(ip: IpPacket<'_>, beyond: usize) -> Result<Carried<'_>, NoSegment>
     requires { length ip.bytes.now + beyond < 2 ^ 64 }
     ensures { Gives view result (innermost 5 beyond (ip.entry.version, ip.entry.bytes.now)) }

@@ -7,7 +7,13 @@ pub returns-in_err-put_count : goal.returns-in_err-put_count
 returns-in_err-put_count g c =
     part_stops _ c.from_residual.result c.from_residual.ensures.0 (progress_starts _ _) refl refl c.in_err-put_count.ensures
 
+pub returns-in_err-put_count-2 : goal.returns-in_err-put_count-2
+returns-in_err-put_count-2 g c =
+    let s1 = part_taken _ (progress_starts _ _) refl refl c.in_ok-put_count.ensures in
+    part_stops _ c.from_residual-in_err-put_count-2.result c.from_residual-in_err-put_count-2.ensures.0 s1 refl refl c.in_err-put_count-2.ensures
+
 pub returns : goal.returns
 returns g c =
     let s1 = part_taken _ (progress_starts _ _) refl refl c.in_ok-put_count.ensures in
-    part_last _ _ c.put_count-2.result s1 refl refl c.put_count-2.ensures
+    let s2 = part_taken _ s1 refl refl c.in_ok-put_count-2.ensures in
+    part_last _ _ c.put_count-3.result s2 refl refl c.put_count-3.ensures
