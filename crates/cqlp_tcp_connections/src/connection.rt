@@ -66,9 +66,12 @@ impl<A: Allocator> Connection<A> {
     pub(crate) fn begins_anew(&self, way: Way, head: &SegmentHead) -> bool
         ensures { result ≡ begins_anew way head.now self.now }
     {
+        if !head.flags.syn {
+            return false;
+        }
         let own = self.totals_of(way);
         let others = self.totals_of(way.other());
-        head.flags.syn && !own.may_begin(&others, head.sequence)
+        !own.may_begin(&others, head.sequence)
     }
 
     fn totals_of(&self, way: Way) -> DirectionTotals
@@ -118,7 +121,7 @@ impl<A: Allocator> Connection<A> {
         ensures within { IfOk result (λ told. IsToldWithin told (length segment.now.payload.now)) }
         ensures refused { OnErr result (self.new ≡ pull_refused way (seen segment.now) time self.old) }
     {
-        let head = segment.head;
+        let head = &segment.head;
         if head.flags.ack {
             let told = self.acknowledge(way.other(), head.acknowledgement);
             if told.is_some() {
@@ -126,7 +129,7 @@ impl<A: Allocator> Connection<A> {
             }
         }
         let own = StreamSegment {
-            control: control_of(&head, segment.missing),
+            control: control_of(head, segment.missing),
             payload: segment.payload,
             time,
         };

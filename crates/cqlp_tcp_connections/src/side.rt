@@ -5,6 +5,7 @@ ghost use Rattle.cqlp_tcp_reassembly.specs.Segments.{captured};
 ghost use Rattle.cqlp_tcp_reassembly.specs.Streams.{IsWithin, held};
 ghost use Rattle.cqlp_tcp_connections.specs.Totals.{one_more};
 
+use crate::tally::Tally;
 use crate::totals::DirectionTotals;
 use cqlp_tcp_reassembly::{Stream, StreamSegment, StreamStep};
 use std::alloc::{AllocError, Allocator};
@@ -21,7 +22,7 @@ pub(crate) struct SideStep {
 #[derive(Drop)]
 pub(crate) struct Side<A: Allocator> {
     stream: Stream<A>,
-    totals: DirectionTotals,
+    totals: Tally,
 }
 
 impl<A: Allocator> Model for Side<A> {
@@ -41,7 +42,7 @@ impl<A: Allocator> Side<A> {
     {
         Side {
             stream: Stream::new(alloc),
-            totals: DirectionTotals::NONE,
+            totals: Tally::new(),
         }
     }
 
@@ -49,7 +50,7 @@ impl<A: Allocator> Side<A> {
     pub(crate) fn totals(&self) -> DirectionTotals
         ensures { result ≡ self.now.totals }
     {
-        self.totals
+        self.totals.totals()
     }
 
     /// How much it holds of what came early, in the measure of `Stream::size`.
@@ -81,7 +82,7 @@ impl<A: Allocator> Side<A> {
         let at = self.totals.position();
         let step = self.stream.take(segment, room)?;
         if let StreamStep::Began { syn } = step {
-            self.totals.begin(syn, segment.control.sequence);
+            self.totals.note_begin(syn, segment.control.sequence);
         }
         self.totals.note(step);
         Ok(SideStep { at, step })

@@ -2,8 +2,7 @@
 
 ghost use Rattle.std.specs.Prelude.{◌≡◌};
 
-use cqlp_tcp_reassembly::{GapCause, StreamStep};
-use cqlp_tcp_segment::{Endpoint, SegmentHead};
+use cqlp_tcp_segment::Endpoint;
 
 /// Whether the begin of a direction was told.
 #[derive(Clone, Copy, Debug, PartialEq, Eq)]
@@ -81,80 +80,14 @@ impl ConnectionCounts {
 }
 
 impl DirectionTotals {
-    ghost use Rattle.cqlp_tcp_connections.specs.Totals.{begun, handed_on, noted, one_more, passed_over, position};
+    ghost use Rattle.cqlp_tcp_connections.specs.Totals.{position};
 
-    /// Of a direction of which nothing was told.
-    pub(crate) const NONE: DirectionTotals = DirectionTotals {
-        segments: 0,
-        bytes: 0,
-        gaps: 0,
-        missing: 0,
-        snapped: 0,
-        snapped_bytes: 0,
-        begin: Begin::Unseen,
-        end: End::Open,
-    };
-
-    /// How many bytes and bytes of gaps were told.
+    /// How many bytes and bytes of gaps were reported.
     pub fn position(&self) -> u64
         ensures { result ≡ position self.now }
     {
         self.bytes
             .saturating_add(self.missing)
             .saturating_add(self.snapped_bytes)
-    }
-
-    /// Counts a segment.
-    pub(crate) fn count_segment(&mut self)
-        ensures { self.new ≡ one_more self.old }
-    {
-        self.segments = self.segments.saturating_add(1);
-    }
-
-    /// Counts bytes that were handed on.
-    pub(crate) fn count_bytes(&mut self, count: usize)
-        ensures { self.new ≡ handed_on count self.old }
-    {
-        self.bytes = self.bytes.saturating_add(count as u64);
-    }
-
-    /// Notes that it begins with a segment of this head, with SYN or without.
-    pub(crate) fn begin(&mut self, syn: bool, sequence: u32)
-        ensures { self.new ≡ begun syn sequence self.old }
-    {
-        self.begin = if syn {
-            Begin::Syn(sequence)
-        } else {
-            Begin::Middle(sequence)
-        };
-    }
-
-    /// Counts a gap of so many bytes.
-    fn pass_over(&mut self, cause: GapCause, length: u64)
-        ensures { self.new ≡ passed_over cause length self.old }
-    {
-        match cause {
-            GapCause::Lost => {
-                self.gaps = self.gaps.saturating_add(1);
-                self.missing = self.missing.saturating_add(length);
-            }
-            GapCause::Snapped => {
-                self.snapped = self.snapped.saturating_add(1);
-                self.snapped_bytes = self.snapped_bytes.saturating_add(length);
-            }
-        }
-    }
-
-    /// Notes what was told of it.
-    pub(crate) fn note(&mut self, step: StreamStep)
-        ensures { self.new ≡ noted step self.old }
-    {
-        match step {
-            StreamStep::Payload { count, .. } => self.count_bytes(count),
-            StreamStep::Gap { length, cause, .. } => self.pass_over(cause, length),
-            StreamStep::Ended => self.end = End::Fin,
-            StreamStep::Reset => self.end = End::Reset,
-            _ => {}
-        }
     }
 }
