@@ -1,7 +1,7 @@
 -- What a stream holds after a call.
-use Rattle.std.proofs.Common.{◌≡◌, ℕ, ◌+◌, ◌-◌, ◌≤◌, Bool, true, false, cond, List, [], ◌∷◌, length, refl, sym, ap, subst, arith}
+use Rattle.std.proofs.Common.{◌≡◌, ℕ, ◌+◌, ◌-◌, ◌≤◌, Bool, true, false, cond, List, [], ◌∷◌, length, refl, sym, arith}
 use Rattle.std.proofs.lemmas.Bool.{leb-true}
-use Rattle.std.specs.Prelude.{◌==◌, ◌&&◌, ◌||◌, Option, Some, None, insert, min, nat_le, nat_lt}
+use Rattle.std.specs.Prelude.{◌==◌, ◌&&◌, Option, Some, None, insert, min, nat_le, nat_lt}
 use Rattle.cqlp_tcp_reassembly.specs.declared.run.Part.{Part}
 use Rattle.cqlp_tcp_reassembly.specs.declared.run.RunSummary.{RunSummary}
 use Rattle.cqlp_tcp_reassembly.specs.declared.segment.Place.{Place}

@@ -125,15 +125,12 @@ impl<A: Allocator> Runs<A> {
     pub(crate) fn pass_first(&mut self)
         ensures { self.new ≡ behind_first self.old }
     {
-        let is_empty = match &mut self.queue {
-            None => return,
-            Some(queue) => {
-                queue.pass_first();
-                queue.is_empty()
-            }
+        let Some(mut queue) = self.queue.take() else {
+            return;
         };
-        if is_empty {
-            self.queue = None;
+        queue.pass_first();
+        if !queue.is_empty() {
+            self.queue = Some(queue);
         }
     }
 
