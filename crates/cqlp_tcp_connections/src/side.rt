@@ -1,4 +1,4 @@
-//! One direction of a connection, and what was told of it.
+//! One direction of a connection, and what was reported of it.
 
 ghost use Rattle.std.specs.Prelude.{◌≡◌, ◌≤◌, IfOk, OnErr, length};
 ghost use Rattle.cqlp_tcp_reassembly.specs.Segments.{captured};
@@ -11,7 +11,7 @@ use cqlp_tcp_reassembly::{Stream, StreamSegment, StreamStep};
 use std::alloc::{AllocError, Allocator};
 use std::marker::Model;
 
-/// What a stream tells, and after how many bytes and bytes of gaps.
+/// What a stream reports, and after how many bytes and bytes of gaps.
 #[derive(Clone, Copy, Debug, PartialEq, Eq)]
 pub(crate) struct SideStep {
     pub(crate) at: u64,
@@ -36,7 +36,7 @@ impl<A: Allocator> Model for Side<A> {
 impl<A: Allocator> Side<A> {
     ghost use Rattle.cqlp_tcp_connections.specs.Sides.{acknowledged, closed, new_side, passed, refused, side, side_told, size_of, taken};
 
-    /// A direction of which nothing was told. It takes no memory.
+    /// A direction of which nothing was reported. It takes no memory.
     pub(crate) fn new(alloc: A) -> Self
         ensures { result ≡ new_side }
     {
@@ -46,7 +46,7 @@ impl<A: Allocator> Side<A> {
         }
     }
 
-    /// What was told.
+    /// What was reported.
     pub(crate) fn totals(&self) -> DirectionTotals
         ensures { result ≡ self.now.totals }
     {
@@ -67,7 +67,7 @@ impl<A: Allocator> Side<A> {
         self.totals.count_segment();
     }
 
-    /// The next that a segment of this direction tells, which may hold this much in all.
+    /// The next report of a segment of this direction, which may hold this much in all.
     pub(crate) fn take(
         &mut self,
         segment: &StreamSegment<'_>,
@@ -88,7 +88,7 @@ impl<A: Allocator> Side<A> {
         Ok(SideStep { at, step })
     }
 
-    /// The next that an acknowledgement of the other direction tells.
+    /// The next report for an acknowledgement of the other direction.
     pub(crate) fn acknowledge(&mut self, number: u32) -> SideStep
         ensures { side_told result self.new ≡ acknowledged self.old number }
     {
@@ -98,7 +98,7 @@ impl<A: Allocator> Side<A> {
         SideStep { at, step }
     }
 
-    /// The next that is told where no more segments come.
+    /// The next report where no more segments come.
     pub(crate) fn close(&mut self) -> SideStep
         ensures { side_told result self.new ≡ closed self.old }
     {

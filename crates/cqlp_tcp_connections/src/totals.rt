@@ -1,10 +1,10 @@
-//! What was told of connections, in numbers.
+//! What was reported of connections, in numbers.
 
 ghost use Rattle.std.specs.Prelude.{◌≡◌};
 
 use cqlp_tcp_segment::Endpoint;
 
-/// Whether the begin of a direction was told.
+/// Whether the begin of a direction was reported.
 #[derive(Clone, Copy, Debug, PartialEq, Eq)]
 pub enum Begin {
     /// Nothing of it was.
@@ -15,7 +15,7 @@ pub enum Begin {
     Middle(u32),
 }
 
-/// Whether the end of a direction was told.
+/// Whether the end of a direction was reported.
 #[derive(Clone, Copy, Debug, PartialEq, Eq)]
 pub enum End {
     /// It was not.
@@ -26,10 +26,10 @@ pub enum End {
     Reset,
 }
 
-/// What was told of one direction of a connection. A number stays at 2^64 - 1 once it is there.
+/// What was reported of one direction of a connection. A number stays at 2^64 - 1 once it is there.
 #[derive(Clone, Copy, Debug, PartialEq, Eq)]
 pub struct DirectionTotals {
-    /// Segments, with those that told nothing.
+    /// Segments, with those of which nothing was reported.
     pub segments: u64,
     /// Bytes that were handed on.
     pub bytes: u64,
@@ -45,7 +45,7 @@ pub struct DirectionTotals {
     pub end: End,
 }
 
-/// What was told of a connection.
+/// What was reported of a connection.
 #[derive(Clone, Copy, Debug, PartialEq, Eq)]
 pub struct ConnectionTotals {
     /// Connections are numbered from 1 on, in the order in which their first segments came.
