@@ -4,7 +4,11 @@ use Rattle.cqlp_tcp_reassembly.specs.declared.step.GapCause.{GapCause}
 use Rattle.cqlp_tcp_reassembly.specs.declared.step.GapCause.TheVariants.{Lost, Snapped}
 use Rattle.cqlp_tcp_reassembly.specs.declared.step.StreamStep.{StreamStep}
 use Rattle.cqlp_tcp_reassembly.specs.declared.step.StreamStep.TheVariants as step
+use Rattle.cqlp_tcp_connections.specs.declared.tally.BeginKind.{BeginKind}
+use Rattle.cqlp_tcp_connections.specs.declared.tally.BeginKind.TheVariants as kind
+use Rattle.cqlp_tcp_connections.specs.declared.totals.Begin.{Begin}
 use Rattle.cqlp_tcp_connections.specs.declared.totals.Begin.TheVariants.{Unseen, Syn, Middle}
+use Rattle.cqlp_tcp_connections.specs.declared.totals.End.{End}
 use Rattle.cqlp_tcp_connections.specs.declared.totals.End.TheVariants.{Open, Fin, Reset}
 use Rattle.cqlp_tcp_connections.specs.declared.totals.DirectionTotals.{DirectionTotals}
 
@@ -12,8 +16,26 @@ use Rattle.cqlp_tcp_connections.specs.declared.totals.DirectionTotals.{Direction
 abbrev pub counted : ℕ → (more : ℕ) → ℕ
 counted n more = min (n + more) (2 ^ 64 - 1)
 
+abbrev pub direction_totals : (segments bytes gaps missing snapped snapped_bytes : ℕ) → Begin → End → DirectionTotals
+direction_totals segments bytes gaps missing snapped snapped_bytes begin end = record {
+  segments = segments;
+  bytes = bytes;
+  gaps = gaps;
+  missing = missing;
+  snapped = snapped;
+  snapped_bytes = snapped_bytes;
+  begin = begin;
+  end = end;
+}
+
+-- how it began, with a number that one of which nothing was seen does not have
+abbrev pub begin_of : BeginKind → (first : ℕ) → Begin
+begin_of kind.Unseen first = Unseen
+begin_of kind.Syn first = Syn first
+begin_of kind.Middle first = Middle first
+
 abbrev pub none_told : DirectionTotals
-none_told = record { segments = 0; bytes = 0; gaps = 0; missing = 0; snapped = 0; snapped_bytes = 0; begin = Unseen; end = Open }
+none_told = direction_totals 0 0 0 0 0 0 Unseen Open
 
 abbrev pub one_more : DirectionTotals → DirectionTotals
 one_more t = record t { segments = counted t.segments 1 }

@@ -35,7 +35,7 @@ impl<A: Allocator> Connection<A> {
     ghost use Rattle.cqlp_tcp_connections.specs.Known.{acknowledged, begins_anew, closed, closed_way, counted_on, known, new_flows, passed};
     ghost use Rattle.cqlp_tcp_connections.specs.Known.{pull_refused, pulled, refused, side_of, size_of, taken, telling, totals_of};
 
-    /// A connection of which nothing was told. It takes no memory.
+    /// A connection of which nothing was reported. It takes no memory.
     pub(crate) fn new(alloc: A, number: u64) -> Result<Self, AllocError>
     where
         A: Clone,
@@ -66,9 +66,12 @@ impl<A: Allocator> Connection<A> {
     pub(crate) fn begins_anew(&self, way: Way, head: &SegmentHead) -> bool
         ensures { result ≡ begins_anew way head.now self.now }
     {
+        if !head.flags.syn {
+            return false;
+        }
         let own = self.totals_of(way);
         let others = self.totals_of(way.other());
-        head.flags.syn && !own.may_begin(&others, head.sequence)
+        !own.may_begin(&others, head.sequence)
     }
 
     fn totals_of(&self, way: Way) -> DirectionTotals
@@ -80,7 +83,7 @@ impl<A: Allocator> Connection<A> {
         }
     }
 
-    /// What was told of it, which is between these ends.
+    /// What was reported of it, which is between these ends.
     pub(crate) fn totals(&self, ends: &Ends) -> ConnectionTotals
         ensures { result ≡ totals_of (known ends.now self.now) }
     {
@@ -103,8 +106,8 @@ impl<A: Allocator> Connection<A> {
         }
     }
 
-    /// The next that a segment tells which goes this way, captured then: first its acknowledgement, of the other way. Its own way may
-    /// hold this much in all. Nothing is told of its own where memory is refused.
+    /// The next report of a segment that goes this way, captured then: first its acknowledgement, of the other way. Its own way may
+    /// hold this much in all. Nothing is reported of its own where memory is refused.
     pub(crate) fn pull(
         &mut self,
         way: Way,
@@ -118,7 +121,7 @@ impl<A: Allocator> Connection<A> {
         ensures within { IfOk result (λ told. IsToldWithin told (length segment.now.payload.now)) }
         ensures refused { OnErr result (self.new ≡ pull_refused way (seen segment.now) time self.old) }
     {
-        let head = segment.head;
+        let head = &segment.head;
         if head.flags.ack {
             let told = self.acknowledge(way.other(), head.acknowledgement);
             if told.is_some() {
@@ -126,14 +129,14 @@ impl<A: Allocator> Connection<A> {
             }
         }
         let own = StreamSegment {
-            control: control_of(&head, segment.missing),
+            control: control_of(head, segment.missing),
             payload: segment.payload,
             time,
         };
         self.take(way, &own, room)
     }
 
-    /// The next that a segment tells which goes this way.
+    /// The next report of a segment that goes this way.
     fn take(
         &mut self,
         way: Way,
@@ -153,7 +156,7 @@ impl<A: Allocator> Connection<A> {
         Ok(tell(self.number, way, step))
     }
 
-    /// The next of this way that an acknowledgement tells.
+    /// The next report of this way for an acknowledgement.
     fn acknowledge(&mut self, way: Way, number: u32) -> Option<Told>
         ensures { telling result self.new ≡ acknowledged way number self.old }
     {
@@ -164,7 +167,7 @@ impl<A: Allocator> Connection<A> {
         tell(self.number, way, step)
     }
 
-    /// The next that is told where no more segments come: first of the requests.
+    /// The next report where no more segments come: first of the requests.
     pub(crate) fn close(&mut self) -> Option<Told>
         ensures { telling result self.new ≡ closed self.old }
     {
@@ -237,7 +240,7 @@ fn control_of(head: &SegmentHead, missing: usize) -> Control
     }
 }
 
-/// What is told of this way of the connection with this number, if that is not `Done`.
+/// What is reported of this way of the connection with this number, if that is not `Done`.
 fn tell(number: u64, way: Way, step: SideStep) -> Option<Told>
     ensures { result ≡ tell number way step }
 {

@@ -1,7 +1,7 @@
 //! The ends of connections, and which way a segment goes between them.
 
-ghost use Rattle.std.specs.Prelude.{◌≡◌};
-ghost use Rattle.cqlp_tcp_connections.specs.Ends.{asks, ends_of, first_way, other, same_ends, way_between};
+ghost use Rattle.std.specs.Prelude.{◌≡◌, ◌&&◌};
+ghost use Rattle.cqlp_tcp_connections.specs.Ends.{asks, ends_of, first_way, other, same_end, way_between};
 
 use cqlp_tcp_segment::{Endpoint, SegmentHead};
 
@@ -57,21 +57,28 @@ impl Ends {
     pub(crate) fn way_of(&self, head: &SegmentHead) -> Option<Way>
         ensures { result ≡ way_between self.now head.now }
     {
-        if ends_of(Way::Requests, head).are_same(self) {
+        if self.are(&head.source, &head.destination) {
             Some(Way::Requests)
-        } else if ends_of(Way::Responses, head).are_same(self) {
+        } else if self.are(&head.destination, &head.source) {
             Some(Way::Responses)
         } else {
             None
         }
     }
 
-    /// Whether they are these.
-    fn are_same(&self, other: &Ends) -> bool
-        ensures { result ≡ same_ends self.now other.now }
+    /// Whether they are this client and this node.
+    fn are(&self, client: &Endpoint, node: &Endpoint) -> bool
+        ensures { result ≡ (same_end client.now self.now.client && same_end node.now self.now.node) }
     {
-        self == other
+        is_same(client, &self.client) && is_same(node, &self.node)
     }
+}
+
+/// Whether two ends have the same port and address.
+fn is_same(end: &Endpoint, other: &Endpoint) -> bool
+    ensures { result ≡ same_end end.now other.now }
+{
+    end.port == other.port && end.address == other.address
 }
 
 /// Whether this port is asked for.

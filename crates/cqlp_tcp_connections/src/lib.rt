@@ -9,6 +9,7 @@ mod pool;
 mod ports;
 mod side;
 mod table;
+mod tally;
 mod told;
 mod totals;
 

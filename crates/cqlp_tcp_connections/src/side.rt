@@ -1,16 +1,17 @@
-//! One direction of a connection, and what was told of it.
+//! One direction of a connection, and what was reported of it.
 
 ghost use Rattle.std.specs.Prelude.{◌≡◌, ◌≤◌, IfOk, OnErr, length};
 ghost use Rattle.cqlp_tcp_reassembly.specs.Segments.{captured};
 ghost use Rattle.cqlp_tcp_reassembly.specs.Streams.{IsWithin, held};
 ghost use Rattle.cqlp_tcp_connections.specs.Totals.{one_more};
 
+use crate::tally::Tally;
 use crate::totals::DirectionTotals;
 use cqlp_tcp_reassembly::{Stream, StreamSegment, StreamStep};
 use std::alloc::{AllocError, Allocator};
 use std::marker::Model;
 
-/// What a stream tells, and after how many bytes and bytes of gaps.
+/// What a stream reports, and after how many bytes and bytes of gaps.
 #[derive(Clone, Copy, Debug, PartialEq, Eq)]
 pub(crate) struct SideStep {
     pub(crate) at: u64,
@@ -21,7 +22,7 @@ pub(crate) struct SideStep {
 #[derive(Drop)]
 pub(crate) struct Side<A: Allocator> {
     stream: Stream<A>,
-    totals: DirectionTotals,
+    totals: Tally,
 }
 
 impl<A: Allocator> Model for Side<A> {
@@ -35,21 +36,21 @@ impl<A: Allocator> Model for Side<A> {
 impl<A: Allocator> Side<A> {
     ghost use Rattle.cqlp_tcp_connections.specs.Sides.{acknowledged, closed, new_side, passed, refused, side, side_told, size_of, taken};
 
-    /// A direction of which nothing was told. It takes no memory.
+    /// A direction of which nothing was reported. It takes no memory.
     pub(crate) fn new(alloc: A) -> Self
         ensures { result ≡ new_side }
     {
         Side {
             stream: Stream::new(alloc),
-            totals: DirectionTotals::NONE,
+            totals: Tally::new(),
         }
     }
 
-    /// What was told.
+    /// What was reported.
     pub(crate) fn totals(&self) -> DirectionTotals
         ensures { result ≡ self.now.totals }
     {
-        self.totals
+        self.totals.totals()
     }
 
     /// How much it holds of what came early, in the measure of `Stream::size`.
@@ -66,7 +67,7 @@ impl<A: Allocator> Side<A> {
         self.totals.count_segment();
     }
 
-    /// The next that a segment of this direction tells, which may hold this much in all.
+    /// The next report of a segment of this direction, which may hold this much in all.
     pub(crate) fn take(
         &mut self,
         segment: &StreamSegment<'_>,
@@ -81,13 +82,13 @@ impl<A: Allocator> Side<A> {
         let at = self.totals.position();
         let step = self.stream.take(segment, room)?;
         if let StreamStep::Began { syn } = step {
-            self.totals.begin(syn, segment.control.sequence);
+            self.totals.note_begin(syn, segment.control.sequence);
         }
         self.totals.note(step);
         Ok(SideStep { at, step })
     }
 
-    /// The next that an acknowledgement of the other direction tells.
+    /// The next report for an acknowledgement of the other direction.
     pub(crate) fn acknowledge(&mut self, number: u32) -> SideStep
         ensures { side_told result self.new ≡ acknowledged self.old number }
     {
@@ -97,7 +98,7 @@ impl<A: Allocator> Side<A> {
         SideStep { at, step }
     }
 
-    /// The next that is told where no more segments come.
+    /// The next report where no more segments come.
     pub(crate) fn close(&mut self) -> SideStep
         ensures { side_told result self.new ≡ closed self.old }
     {

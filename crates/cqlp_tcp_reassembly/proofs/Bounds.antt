@@ -1,7 +1,7 @@
 -- What a stream holds after a call.
-use Rattle.std.proofs.Common.{◌≡◌, ℕ, ◌+◌, ◌-◌, ◌≤◌, Bool, true, false, cond, List, [], ◌∷◌, length, refl, sym, ap, subst, arith}
+use Rattle.std.proofs.Common.{◌≡◌, ℕ, ◌+◌, ◌-◌, ◌≤◌, Bool, true, false, cond, List, [], ◌∷◌, length, refl, sym, arith}
 use Rattle.std.proofs.lemmas.Bool.{leb-true}
-use Rattle.std.specs.Prelude.{◌==◌, ◌&&◌, ◌||◌, Option, Some, None, insert, min, nat_le, nat_lt}
+use Rattle.std.specs.Prelude.{◌==◌, ◌&&◌, Option, Some, None, insert, min, nat_le, nat_lt}
 use Rattle.cqlp_tcp_reassembly.specs.declared.run.Part.{Part}
 use Rattle.cqlp_tcp_reassembly.specs.declared.run.RunSummary.{RunSummary}
 use Rattle.cqlp_tcp_reassembly.specs.declared.segment.Place.{Place}
@@ -59,9 +59,9 @@ size_or_else s o n p q =
 -- ---- a segment
 
 size_early_if : (b : Bool) (runs : List EarlyRun) (i : ℕ) (r : EarlyRun) (s : StreamState) (y : Told) (room n : ℕ)
-    → room ≤ n → b ≡ nat_le (runs_size runs + length r.bytes + 128) room → size y.state ≤ n → size (cond b (told step.Kept (with_runs (insert runs i r) s)) y).state ≤ n
+    → room ≤ n → b ≡ nat_le (runs_size runs + length r.bytes + 144) room → size y.state ≤ n → size (cond b (told step.Kept (with_runs (insert runs i r) s)) y).state ≤ n
 size_early_if true runs i r s y room n p e q =
-    let le = leb-true (runs_size runs + length r.bytes + 128) room (sym e) in
+    let le = leb-true (runs_size runs + length r.bytes + 144) room (sym e) in
     let h = size_insert runs i r in
     omega (arith, le, h, p)
 size_early_if false runs i r s y room n p e q = q
@@ -80,7 +80,7 @@ size_placed s g l p room n most now =
     (early_part s g l p room)
     n
     (told_if (nat_lt 0 (min (length g.bytes - l.skip) (p.to - p.from))) _ _ n now now)
-    (size_early_if (nat_le (size s + length (early_bytes g l p) + 128) room) s.runs p.index (early_run_of g l p) s (lost (first_at p.from s.runs - s.position) s) room n most refl now))
+    (size_early_if (nat_le (size s + length (early_bytes g l p) + 144) room) s.runs p.index (early_run_of g l p) s (lost (first_at p.from s.runs - s.position) s) room n most refl now))
 
 size_received : (s : StreamState) (g : Segment) (room n : ℕ) → room ≤ n → size s ≤ n → size (received s g room).state ≤ n
 size_received s g room n most now =

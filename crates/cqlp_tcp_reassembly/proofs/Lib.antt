@@ -1,3 +1,4 @@
+pub mod Empties
 pub mod Sizes
 pub mod Lasts
 pub mod Settled

@@ -56,7 +56,7 @@ next_in_time count old s g l p room = elim (cases_lt 0 count) [
 early_in_time : (old s : StreamState) (g : Segment) (l : Place) (p : Part) (room : ℕ) → size s ≡ size old
     → IsInTime (early_part s g l p room).step old (early_part s g l p room).state g room
 early_in_time old s g l p room same =
-    let count = size s + length (early_bytes g l p) + 128 in
+    let count = size s + length (early_bytes g l p) + 144 in
     let few = early_length g l p in
     elim (cases_lt room count) [
       | inl full ↦ rw (lt-leb count room full) (omega arith)

@@ -13,7 +13,7 @@ size_parts [] (suc i) = refl
 size_parts (r ∷ runs) zero = omega arith
 size_parts (r ∷ runs) (suc i) = let h = size_parts runs i in omega arith
 
-pub size_insert : (runs : List EarlyRun) (i : ℕ) (r : EarlyRun) → size_of (insert runs i r) ≡ size_of runs + (length r.bytes + 128)
+pub size_insert : (runs : List EarlyRun) (i : ℕ) (r : EarlyRun) → size_of (insert runs i r) ≡ size_of runs + (length r.bytes + 144)
 size_insert runs i r =
     let parts = size_parts runs i in
     let whole = size_append (take i runs) (r ∷ drop i runs) in

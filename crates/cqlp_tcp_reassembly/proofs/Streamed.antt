@@ -246,7 +246,7 @@ put_early : (s : StreamState) (origin start : ℕ) (segments : List Carried) (g 
     → p.from < p.to → AreInOrder (suc s.position) s.runs
     → Tells (early_part s g l p room).step segments origin s.position start g (early_part s g l p room).state
 put_early s origin start segments g l p room holds lies free later some behind =
-    let count = size s + length (early_bytes g l p) + 128 in
+    let count = size s + length (early_bytes g l p) + 144 in
     elim (cases_lt room count) [
       | inl full ↦
           let n = first_at p.from s.runs - s.position in

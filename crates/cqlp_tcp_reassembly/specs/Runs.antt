@@ -1,5 +1,7 @@
 -- Bytes that came early.
-use Rattle.std.specs.Prelude.{ℕ, ◌+◌, ◌-◌, ◌==◌, ◌&&◌, Bool, false, List, [], ◌∷◌, length, max, min, Option, Some, None, nat_lt, if◌then◌else◌}
+use Rattle.std.specs.Prelude.{ℕ, ◌+◌, ◌-◌, ◌==◌, ◌&&◌, Bool, false, List, [], ◌∷◌, length, insert, max, min, Option, Some, None, nat_lt, if◌then◌else◌}
+use Rattle.std.specs.Prelude.{Box}
+use Rattle.cqlp_tcp_reassembly.specs.declared.run.EarlyPart.{EarlyPart}
 use Rattle.cqlp_tcp_reassembly.specs.declared.run.Part.{Part}
 use Rattle.cqlp_tcp_reassembly.specs.declared.run.RunSummary.{RunSummary}
 
@@ -20,6 +22,13 @@ early_run at bytes missing begins time =
 abbrev pub run_of : Part → List ℕ → Bool → Option ℕ → EarlyRun
 run_of p bytes begins time = early_run p.from bytes (p.to - p.from - length bytes) begins time
 
+abbrev pub kept : EarlyPart → EarlyRun
+kept e = run_of e.part e.bytes.now e.begins e.time
+
+-- a time, if it is known
+abbrev pub time_if : (is_known : Bool) → ℕ → Option ℕ
+time_if is_known time = if is_known then Some time else None
+
 -- the position behind it
 abbrev pub run_end : EarlyRun → ℕ
 run_end r = r.at + length r.bytes + r.missing
@@ -33,10 +42,15 @@ without_bytes r = early_run (r.at + length r.bytes) [] r.missing false r.time
 
 -- ---- those that are kept, by position
 
--- what they count: their bytes, and 128 for each
+-- those of a queue, which has memory only while there are any
+abbrev pub runs_in : {B : Type 0} → Option (Box (List EarlyRun) B) → List EarlyRun
+runs_in (Some queue) = queue.value
+runs_in None = []
+
+-- what they count: their bytes, and 144 for each
 abbrev pub size_of : List EarlyRun → ℕ
 size_of [] = 0
-size_of (r ∷ runs) = length r.bytes + 128 + size_of runs
+size_of (r ∷ runs) = length r.bytes + 144 + size_of runs
 
 -- the position of the first, or another one where it is less
 abbrev pub first_at : (other : ℕ) → List EarlyRun → ℕ
@@ -56,6 +70,10 @@ bytes_at position (r ∷ runs) = if r.at == position then r.bytes else []
 abbrev pub behind_first : List EarlyRun → List EarlyRun
 behind_first [] = []
 behind_first (r ∷ runs) = if nat_lt 0 (length r.bytes) && nat_lt 0 r.missing then without_bytes r ∷ runs else runs
+
+-- with one more
+abbrev pub with_run : EarlyPart → List EarlyRun → List EarlyRun
+with_run e runs = insert runs e.part.index (kept e)
 
 -- The first part from one position up to another that none covers. So many lie before these.
 abbrev pub part : (index from to : ℕ) → Part

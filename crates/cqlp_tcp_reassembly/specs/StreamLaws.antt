@@ -108,7 +108,7 @@ GoesOnBehindTheHeld =
 
 -- A segment brings a loss only where there is no room for it, and what is kept is within the room.
 abbrev pub IsInTime : StreamStep → (old new : StreamState) → Segment → (room : ℕ) → Type 0
-IsInTime (Gap n Lost time) old new g room = room < size old + length g.bytes + 128
+IsInTime (Gap n Lost time) old new g room = room < size old + length g.bytes + 144
 IsInTime Kept old new g room = size new ≤ room
 IsInTime t old new g room = ⊤
 

@@ -28,6 +28,10 @@ abbrev pub stream_state : Stage → (first position : ℕ) → List EarlyRun →
 stream_state stage first position runs end =
     record { stage = stage; first = first; position = position; runs = runs; end = end }
 
+-- a position by the one behind it, which is not 0
+abbrev pub fin_before : ℕ → Option ℕ
+fin_before next = if next == 0 then None else Some (next - 1)
+
 -- nothing of it was seen
 abbrev pub unseen : StreamState
 unseen = stream_state Unseen 0 0 [] None
@@ -166,7 +170,7 @@ early_run_of g l p = run_of p (early_bytes g l p) (begins_at l p) g.time
 
 abbrev pub early_part : StreamState → Segment → Place → Part → (room : ℕ) → Told
 early_part s g l p room =
-    if nat_le (size s + length (early_bytes g l p) + 128) room
+    if nat_le (size s + length (early_bytes g l p) + 144) room
     then told step.Kept (with_runs (insert s.runs p.index (early_run_of g l p)) s)
     else lost (first_at p.from s.runs - s.position) s
 

@@ -1,7 +1,9 @@
 //! The bytes of one direction of a TCP connection, in order.
 #![tactic(auto)]
 
+mod fin;
 pub mod laws;
+mod queue;
 mod run;
 mod runs;
 mod segment;
@@ -9,7 +11,7 @@ mod sequence;
 mod step;
 mod stream;
 
-pub use runs::RUN_SIZE;
+pub use run::RUN_SIZE;
 pub use segment::{Control, StreamSegment};
 pub use sequence::{Distance, distance_to};
 pub use step::{GapCause, StreamStep};

@@ -1,10 +1,14 @@
 //! A part of a segment that came early.
 
 ghost use Rattle.std.specs.Prelude.{◌≡◌, ◌+◌, ◌-◌, ◌≤◌, ◌^◌, drop, length, take, IfOk};
-ghost use Rattle.cqlp_tcp_reassembly.specs.Runs.{EarlyRun, early_run, run_end, run_of, summary, without_bytes};
+ghost use Rattle.cqlp_tcp_reassembly.specs.Runs.{EarlyRun, early_run, kept, run_end, summary, without_bytes};
 
 use std::alloc::{AllocError, Allocator};
 use std::marker::Model;
+
+/// What `size` counts for each part of a segment that is kept, beside its bytes: what it takes beside them at most. That is 56 bytes for its
+/// record, as many where the queue has memory for one more, up to 31 of the allocator, and a share of the queue's own record.
+pub const RUN_SIZE: usize = 144;
 
 /// A part of a segment: that from one position up to another.
 #[derive(Clone, Copy)]
@@ -44,17 +48,19 @@ pub(crate) struct Run<A: Allocator> {
     at: u64,
     bytes: Vec<u8, A>,
     missing: u64,
+    /// When the packet was captured, where that is known.
+    time: u64,
+    has_time: bool,
     begins: bool,
-    time: Option<u64>,
 }
 
 impl<A: Allocator> Model for Run<A> {
     ghost use Rattle.std.specs.Prelude.{◌+◌, ◌≤◌, ◌^◌, length};
-    ghost use Rattle.cqlp_tcp_reassembly.specs.Runs.{EarlyRun, early_run};
+    ghost use Rattle.cqlp_tcp_reassembly.specs.Runs.{EarlyRun, early_run, time_if};
 
     ghost Value = { EarlyRun };
 
-    ghost view = { λ r. early_run r.at r.bytes.items r.missing r.begins r.time };
+    ghost view = { λ r. early_run r.at r.bytes.items r.missing r.begins (time_if r.has_time r.time) };
 
     ghost invariant = { λ r. r.at + length r.bytes.items + r.missing ≤ 2 ^ 62 };
 }
@@ -64,7 +70,7 @@ impl<A: Allocator> Run<A> {
     pub(crate) fn new(alloc: A, early: EarlyPart<'_>) -> Result<Self, AllocError>
         requires order { early.part.from + length early.bytes.now ≤ early.part.to }
         requires bound { early.part.to ≤ 2 ^ 62 }
-        ensures { IfOk result (λ run. run ≡ run_of early.entry.part early.entry.bytes.now early.entry.begins early.entry.time) }
+        ensures { IfOk result (λ run. run ≡ kept early.entry) }
     {
         let count = early.bytes.len() as u64;
         let bytes = Vec::from_slice(alloc, early.bytes)?;
@@ -72,8 +78,9 @@ impl<A: Allocator> Run<A> {
             at: early.part.from,
             bytes,
             missing: early.part.to - early.part.from - count,
+            time: early.time.unwrap_or(0),
+            has_time: early.time.is_some(),
             begins: early.begins,
-            time: early.time,
         })
     }
 
@@ -105,8 +112,14 @@ impl<A: Allocator> Run<A> {
             length: self.bytes.len(),
             missing: self.missing,
             begins: self.begins,
-            time: self.time,
+            time: self.time(),
         }
+    }
+
+    fn time(&self) -> Option<u64>
+        ensures { result ≡ self.now.time }
+    {
+        if self.has_time { Some(self.time) } else { None }
     }
 
     /// Drops its bytes, and goes on behind them.

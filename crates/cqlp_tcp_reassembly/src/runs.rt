@@ -1,33 +1,27 @@
 //! What came early.
 
-ghost use Rattle.std.specs.Prelude.{◌≡◌, ◌+◌, ◌-◌, ◌<◌, ◌≤◌, ◌==◌, ◌^◌, [], insert, length, IfOk, IfSome, OnErr};
-ghost use Rattle.cqlp_tcp_reassembly.specs.Runs.{behind_first, behind_last, bytes_at, first_at, first_free, free_part, last_of, run_of, size_of, summary_at};
+ghost use Rattle.std.specs.Prelude.{◌≡◌, ◌+◌, ◌<◌, ◌≤◌, ◌==◌, ◌^◌, [], length, IfOk, OnErr};
+ghost use Rattle.cqlp_tcp_reassembly.specs.Runs.{behind_first, bytes_at, first_at, first_free, size_of, summary_at, with_run};
 
-use crate::run::{EarlyPart, Part, Run, RunSummary};
+use crate::queue::RunQueue;
+use crate::run::{EarlyPart, Part, RunSummary};
 use std::alloc::{AllocError, Allocator};
-use std::collections::VecDeque;
 use std::marker::Model;
 
-/// What `size` counts for each part of a segment that is kept, beside its bytes.
-pub const RUN_SIZE: usize = 128;
-
-/// Parts of segments that came early, by position. None covers another.
+/// Parts of segments that came early, by position. None covers another. It has memory only while there are any.
 #[derive(Drop)]
 pub(crate) struct Runs<A: Allocator> {
-    runs: VecDeque<Run<A>, A>,
-    /// Their bytes, and 128 for each.
-    size: usize,
+    queue: Option<Box<RunQueue<A>, A>>,
+    alloc: A,
 }
 
 impl<A: Allocator> Model for Runs<A> {
-    ghost use Rattle.std.specs.Prelude.{◌≡◌, List};
-    ghost use Rattle.cqlp_tcp_reassembly.specs.Runs.{EarlyRun, size_of};
+    ghost use Rattle.std.specs.Prelude.{List};
+    ghost use Rattle.cqlp_tcp_reassembly.specs.Runs.{EarlyRun, runs_in};
 
     ghost Value = { List EarlyRun };
 
-    ghost view = { λ r. r.runs.items };
-
-    ghost invariant = { λ r. r.size ≡ size_of r.runs.items };
+    ghost view = { λ r. runs_in r.queue };
 }
 
 impl<A: Allocator> Runs<A> {
@@ -35,23 +29,26 @@ impl<A: Allocator> Runs<A> {
     pub(crate) fn new(alloc: A) -> Self
         ensures { result ≡ [] }
     {
-        Runs {
-            runs: VecDeque::new(alloc),
-            size: 0,
-        }
+        Runs { queue: None, alloc }
     }
 
     /// What they count.
     pub(crate) fn size(&self) -> usize
         ensures { result ≡ size_of self.now }
     {
-        self.size
+        match &self.queue {
+            None => 0,
+            Some(queue) => queue.size(),
+        }
     }
 
     pub(crate) fn is_empty(&self) -> bool
         ensures { result ≡ (length self.now == 0) }
     {
-        self.runs.is_empty()
+        match &self.queue {
+            None => true,
+            Some(queue) => queue.is_empty(),
+        }
     }
 
     /// The position of the first, or this one where it is less or there is none.
@@ -59,9 +56,9 @@ impl<A: Allocator> Runs<A> {
         ensures is { result ≡ first_at other self.now }
         ensures bound { result ≤ other }
     {
-        match self.runs.front() {
+        match &self.queue {
             None => other,
-            Some(run) => other.min(run.at()),
+            Some(queue) => queue.first_at(other),
         }
     }
 
@@ -69,15 +66,9 @@ impl<A: Allocator> Runs<A> {
     pub(crate) fn summary_at(&self, position: u64) -> Option<RunSummary>
         ensures { result ≡ summary_at position self.now }
     {
-        match self.runs.front() {
+        match &self.queue {
             None => None,
-            Some(run) => {
-                if run.at() == position {
-                    Some(run.summary())
-                } else {
-                    None
-                }
-            }
+            Some(queue) => queue.summary_at(position),
         }
     }
 
@@ -85,15 +76,9 @@ impl<A: Allocator> Runs<A> {
     pub(crate) fn bytes_at(&self, position: u64) -> &[u8]
         ensures { result.now ≡ bytes_at position self.now }
     {
-        match self.runs.front() {
+        match &self.queue {
             None => &[],
-            Some(run) => {
-                if run.at() == position {
-                    run.bytes()
-                } else {
-                    &[]
-                }
-            }
+            Some(queue) => queue.bytes_at(position),
         }
     }
 
@@ -104,57 +89,9 @@ impl<A: Allocator> Runs<A> {
         ensures from { from ≤ result.from }
         ensures to { result.to ≤ to }
     {
-        match self.behind_last(from) {
-            None => self.free_part(from, to),
-            Some(start) => Part {
-                index: self.runs.len(),
-                from: start,
-                to,
-            },
-        }
-    }
-
-    /// The position behind the last, or this one if it is greater, where the last begins no later.
-    #[tactic(auto, using(crate::proofs::Lasts::last_read))]
-    fn behind_last(&self, from: u64) -> Option<u64>
-        ensures is { result ≡ behind_last (last_of self.now) from }
-        ensures from { IfSome result (λ start. from ≤ start) }
-    {
-        match self.runs.back() {
-            None => None,
-            Some(last) => {
-                if from < last.at() {
-                    None
-                } else {
-                    Some(from.max(last.end()))
-                }
-            }
-        }
-    }
-
-    /// That part, from the first of them on.
-    fn free_part(&self, from: u64, to: u64) -> Part
-        ensures is { result ≡ free_part 0 from to self.now }
-        ensures index { result.index ≤ length self.now }
-        ensures from { from ≤ result.from }
-        ensures to { result.to ≤ to }
-    {
-        let mut start = from;
-        for index in 0..self.runs.len() {
-            let run = &self.runs[index];
-            if start < run.at() {
-                return Part {
-                    index,
-                    from: start,
-                    to: to.min(run.at()),
-                };
-            }
-            start = start.max(run.end());
-        }
-        Part {
-            index: self.runs.len(),
-            from: start,
-            to,
+        match &self.queue {
+            None => Part { index: 0, from, to },
+            Some(queue) => queue.first_free(from, to),
         }
     }
 
@@ -163,40 +100,37 @@ impl<A: Allocator> Runs<A> {
     /// # Errors
     ///
     /// Memory that is refused. Then nothing changes.
-    #[tactic(auto, using(crate::proofs::Sizes::size_insert))]
     pub(crate) fn insert(&mut self, early: EarlyPart<'_>) -> Result<(), AllocError>
     where
         A: Clone,
         requires order { early.part.from + length early.bytes.now ≤ early.part.to }
         requires bound { early.part.to ≤ 2 ^ 62 }
         requires index { early.part.index ≤ length self.old }
-        requires size { size_of self.old + length early.bytes.now + 128 < 2 ^ 64 }
-        ensures ok { IfOk result (λ x. self.new ≡ insert self.old early.entry.part.index (run_of early.entry.part early.entry.bytes.now early.entry.begins early.entry.time)) }
+        requires size { size_of self.old + length early.bytes.now + 144 < 2 ^ 64 }
+        ensures ok { IfOk result (λ x. self.new ≡ with_run early.entry self.old) }
         ensures err { OnErr result (self.new ≡ self.old) }
     {
-        let run = Run::new(self.runs.allocator().clone()?, early)?;
-        self.runs.insert(early.part.index, run)?;
-        self.size += early.bytes.len() + RUN_SIZE;
-        Ok(())
+        match &mut self.queue {
+            Some(queue) => queue.insert(early),
+            None => {
+                let mut queue = RunQueue::new(self.alloc.clone()?);
+                queue.insert(early)?;
+                self.queue = Some(Box::new(self.alloc.clone()?, queue)?);
+                Ok(())
+            }
+        }
     }
 
     /// Goes on behind the bytes of the first, or where it has none behind all of it.
     pub(crate) fn pass_first(&mut self)
         ensures { self.new ≡ behind_first self.old }
     {
-        if self.runs.is_empty() {
+        let Some(mut queue) = self.queue.take() else {
             return;
-        }
-        let run = self.runs[0].summary();
-        self.size -= run.length;
-        if run.length > 0 && run.missing > 0 {
-            self.runs[0].drop_bytes();
-        } else {
-            self.size -= RUN_SIZE;
-            self.runs.pop_front();
-        }
-        if self.runs.len() <= self.runs.capacity() / 4 {
-            self.runs.shrink_to_fit();
+        };
+        queue.pass_first();
+        if !queue.is_empty() {
+            self.queue = Some(queue);
         }
     }
 
@@ -204,8 +138,6 @@ impl<A: Allocator> Runs<A> {
     pub(crate) fn clear(&mut self)
         ensures { self.new ≡ [] }
     {
-        self.runs.clear();
-        self.runs.shrink_to_fit();
-        self.size = 0;
+        self.queue = None;
     }
 }

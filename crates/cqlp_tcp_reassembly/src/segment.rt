@@ -63,7 +63,7 @@ impl StreamSegment<'_> {
     pub(crate) fn place(&self, first: u32, position: u64) -> Place
         requires { position ≤ 2 ^ 62 }
         ensures place { result ≡ place first position (captured self.now) }
-        ensures bound { result.to < 2 ^ 64 }
+        ensures bound { result.to + 1 < 2 ^ 64 }
     {
         let length = self.payload.len() as u64 + u64::from(self.control.missing);
         let next = next_number(first, position);

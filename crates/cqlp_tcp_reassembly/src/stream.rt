@@ -4,8 +4,9 @@ ghost use Rattle.std.specs.Prelude.{◌≡◌, ◌+◌, ◌-◌, ◌<◌, ◌≤
 ghost use Rattle.cqlp_tcp_reassembly.specs.Segments.{captured};
 ghost use Rattle.cqlp_tcp_reassembly.specs.Streams.{IsWithin, settling};
 
-use crate::run::{EarlyPart, Part, cut};
-use crate::runs::{RUN_SIZE, Runs};
+use crate::fin::FinPosition;
+use crate::run::{EarlyPart, Part, RUN_SIZE, cut};
+use crate::runs::Runs;
 use crate::segment::{Place, StreamSegment, next_number};
 use crate::sequence::{Distance, distance_to};
 use crate::step::{GapCause, StreamStep};
@@ -37,7 +38,7 @@ pub struct Stream<A: Allocator = Global> {
     position: u64,
     runs: Runs<A>,
     /// The position of FIN.
-    end: Option<u64>,
+    end: FinPosition,
 }
 
 impl<A: Allocator> Model for Stream<A> {
@@ -66,7 +67,7 @@ impl<A: Allocator> Stream<A> {
             first: 0,
             position: 0,
             runs: Runs::new(alloc),
-            end: None,
+            end: FinPosition::none(),
         }
     }
 
@@ -147,7 +148,7 @@ impl<A: Allocator> Stream<A> {
         self.stage = Stage::Unseen;
         self.first = 0;
         self.position = 0;
-        self.end = None;
+        self.end = FinPosition::none();
     }
 
     /// Whether it has ended.
@@ -157,7 +158,7 @@ impl<A: Allocator> Stream<A> {
         matches!(self.stage, Stage::Over)
     }
 
-    /// What it holds, in bytes: those that came early, and 128 for each part of a segment.
+    /// What it holds, in bytes: those that came early, and 144 for each part of a segment.
     pub fn size(&self) -> usize
         ensures { result ≡ size self.now }
     {
@@ -188,7 +189,7 @@ impl<A: Allocator> Stream<A> {
         ensures is { result ≡ stop self.now }
         ensures bound { result ≤ 2 ^ 62 }
     {
-        match self.end {
+        match self.end.get() {
             None => LONGEST,
             Some(end) => end.min(LONGEST),
         }
@@ -254,10 +255,11 @@ impl<A: Allocator> Stream<A> {
 
     /// Notes where FIN lies, if this is the first.
     fn note_end(&mut self, fin: bool, to: u64)
+        requires { to + 1 < 2 ^ 64 }
         ensures { self.new ≡ with_end fin to self.old }
     {
-        if self.end.is_none() && fin {
-            self.end = Some(to);
+        if fin && self.end.get().is_none() {
+            self.end = FinPosition::at(to);
         }
     }
 
@@ -389,7 +391,7 @@ impl<A: Allocator> Stream<A> {
     fn knows_hole(&self) -> bool
         ensures { result ≡ knows_hole self.now }
     {
-        !self.runs.is_empty() || self.end.is_some()
+        !self.runs.is_empty() || self.end.get().is_some()
     }
 
     /// Whether the other side has all bytes of the hole.

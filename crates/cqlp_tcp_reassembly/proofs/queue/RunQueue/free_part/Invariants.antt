@@ -1,6 +1,6 @@
 use Rattle.std.proofs.Common.{◌≡◌, ◌≤◌, drop}
 use Rattle.cqlp_tcp_reassembly.specs.Runs.{free_part}
-use Rattle.cqlp_tcp_reassembly.proofs.runs.Runs.free_part.Given as goal
+use Rattle.cqlp_tcp_reassembly.proofs.queue.RunQueue.free_part.Given as goal
 
 abbrev pub invariant-loop-index : goal.invariant-loop-index
 invariant-loop-index g l = record {
