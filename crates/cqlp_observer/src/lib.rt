@@ -14,6 +14,7 @@ mod room;
 mod side;
 mod speaker;
 mod subject;
+mod unread;
 mod watch;
 
 pub use cqlp_observer_facts::Facts;
@@ -26,4 +27,5 @@ pub use paired::Paired;
 pub use pairing::Pairing;
 pub use room::WatchRoom;
 pub use subject::subject_of;
+pub use unread::Unread;
 pub use watch::{Watch, WatchStep};
