@@ -1,6 +1,6 @@
 //! One direction of a connection.
 
-ghost use Rattle.std.specs.Prelude.{◌≡◌, true, IfOk, OnOk};
+ghost use Rattle.std.specs.Prelude.{◌≡◌, ◌&&◌, ◌==◌, true, IfOk, OnOk};
 ghost use Rattle.cqlp_note.specs.Limits.{rules_of};
 ghost use Rattle.cqlp_capture_frames.specs.Directions.{is_done, is_plain};
 
@@ -8,7 +8,7 @@ use crate::drain::behind;
 use crate::reader::FrameReader;
 use crate::transcript::Transcript;
 use cqlp_note::{Header, Limits};
-use cqlp_observer::{Heads, Heard, HeardStep, Unread};
+use cqlp_observer::{Heads, Heard, HeardStep};
 use cqlp_tcp_reassembly::StreamStep;
 use cqlp_text::{Pen, TextWriter};
 use cqlp_type::TypeTable;
@@ -170,17 +170,20 @@ impl<A: Allocator + Clone> Direction<A> {
             result writer.old writer.new self.new (T.Transcript.state transcript.new) }
         ensures same { IsSame self.old self.new }
     {
-        let mut unread = Unread::new(bytes, begins);
+        let mut steps = 2 * bytes.len() as u128 + 2;
+        let mut rest = bytes;
+        let mut is_first = begins;
         let mut end = at;
-        while unread.steps > 0 {
-            let HeardStep { used, heard } = self.heads.take(unread.bytes, None, unread.begins);
+        while steps > 0 {
+            let HeardStep { used, heard } = self.heads.take(rest, None, is_first);
             end = behind(end, used as u64);
-            let taken = &unread.bytes[..used];
-            self.tell(has_room, end, heard, taken, transcript, writer)?;
+            self.tell(has_room, end, heard, &rest[..used], transcript, writer)?;
             if is_done(heard) {
                 return Ok(());
             }
-            unread = unread.after(used);
+            is_first = still_first(is_first, used);
+            rest = &rest[used..];
+            steps -= 1;
         }
         Ok(())
     }
@@ -307,6 +310,13 @@ fn is_done(heard: Heard) -> bool
         Heard::More => true,
         Heard::Begins(_) | Heard::Body | Heard::Ends(_) | Heard::Stray => false,
     }
+}
+
+/// Whether what follows the bytes that were used still begins a segment.
+fn still_first(is_first: bool, used: usize) -> bool
+    ensures { result ≡ (is_first && used == 0) }
+{
+    is_first && used == 0
 }
 
 /// Whether a frame is not compressed, goes in its opcode's direction, and is not too long.
