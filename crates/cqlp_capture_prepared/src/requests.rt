@@ -1,13 +1,13 @@
 //! The requests of a connection, of which the EXECUTEs name statements.
 
-ghost use Rattle.std.specs.Prelude.{◌≡◌, ◌&&◌, ◌==◌, None};
+ghost use Rattle.std.specs.Prelude.{◌≡◌, None};
 ghost use Rattle.cqlp_capture_prepared.specs.Requests.{asked, begins, body_of, bytes_asked, execute_of, heard_as, is_done, names_statement};
 ghost use Rattle.cqlp_capture_prepared.specs.Requests.{silent, step_asked};
 
 use crate::execute::Execute;
 use crate::prepared_types::PreparedTypes;
 use cqlp_note::{Header, Opcode};
-use cqlp_observer::{Heads, Heard, HeardStep};
+use cqlp_observer::{Heads, Heard, HeardStep, Unread};
 use cqlp_tcp_reassembly::StreamStep;
 use std::alloc::Allocator;
 
@@ -69,23 +69,19 @@ impl Requests {
     fn hear_bytes<A: Allocator>(&mut self, begins: bool, bytes: &[u8], known: &mut PreparedTypes<A>)
         ensures { asked self.new known.new ≡ bytes_asked begins bytes.now (asked self.old known.old) }
     {
-        let mut steps = 2 * bytes.len() as u128 + 2;
-        let mut rest = bytes;
-        let mut is_first = begins;
-        while steps > 0 {
-            let HeardStep { used, heard } = self.heads.take(rest, None, is_first);
-            self.tell(heard, &rest[..used], known);
+        let mut unread = Unread::new(bytes, begins);
+        while unread.steps > 0 {
+            let HeardStep { used, heard } = self.heads.take(unread.bytes, None, unread.begins);
+            self.take_heard(heard, &unread.bytes[..used], known);
             if is_done(heard) {
                 return;
             }
-            is_first = still_first(is_first, used);
-            rest = &rest[used..];
-            steps -= 1;
+            unread = unread.after(used);
         }
     }
 
     /// Takes what bytes are.
-    fn tell<A: Allocator>(&mut self, heard: Heard, bytes: &[u8], known: &mut PreparedTypes<A>)
+    fn take_heard<A: Allocator>(&mut self, heard: Heard, bytes: &[u8], known: &mut PreparedTypes<A>)
         ensures { asked self.new known.new ≡ heard_as bytes.now heard (asked self.old known.old) }
     {
         match heard {
@@ -140,11 +136,4 @@ fn is_done(heard: Heard) -> bool
         Heard::More => true,
         Heard::Begins(_) | Heard::Body | Heard::Ends(_) | Heard::Stray => false,
     }
-}
-
-/// Whether what follows the bytes that were used still begins a segment.
-fn still_first(is_first: bool, used: usize) -> bool
-    ensures { result ≡ (is_first && used == 0) }
-{
-    is_first && used == 0
 }
