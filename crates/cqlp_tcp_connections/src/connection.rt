@@ -244,7 +244,7 @@ fn control_of(head: &SegmentHead, missing: usize) -> Control
 fn tell(number: u64, way: Way, step: SideStep) -> Option<Told>
     ensures { result ≡ tell number way step }
 {
-    if step.step == StreamStep::Done {
+    if matches!(step.step, StreamStep::Done) {
         return None;
     }
     Some(Told {

@@ -54,6 +54,7 @@ impl Way {
 
 impl Ends {
     /// Which way a segment goes between them, if it is of theirs.
+    #[inline]
     pub(crate) fn way_of(&self, head: &SegmentHead) -> Option<Way>
         ensures { result ≡ way_between self.now head.now }
     {

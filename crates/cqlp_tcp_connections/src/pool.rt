@@ -37,9 +37,9 @@ impl<A: Allocator> Model for Pool<A> {
 }
 
 impl<A: Allocator> Pool<A> {
-    ghost use Rattle.cqlp_tcp_connections.specs.Known.{closed, counted_on, known, new_flows, passed, pull_refused, pulled};
+    ghost use Rattle.cqlp_tcp_connections.specs.Known.{closed, counted_on, known, new_flows, passed, pull_refused};
     ghost use Rattle.cqlp_tcp_connections.specs.Tables.{early_of, first_becomes, first_telling, first_tells, found_in, held_of, last_first, room_in};
-    ghost use Rattle.cqlp_tcp_connections.specs.Pools.{bringing, brought, first_of, pool, with_known};
+    ghost use Rattle.cqlp_tcp_connections.specs.Pools.{bringing, brought, first_of, pool, pulled_first, with_known};
 
     /// A pool without connections. It takes memory as they come.
     pub(crate) fn new(alloc: A, limits: ConnectionLimits) -> Result<Self, AllocError>
@@ -158,7 +158,7 @@ impl<A: Allocator> Pool<A> {
     ) -> Result<Option<Told>, AllocError>
     where
         A: Clone,
-        ensures told { IfOk result (λ told. first_telling told self.new.known ≡ first_tells (pulled way (seen segment.now) time (room_in self.old.limits self.old.known)) self.old.known) }
+        ensures told { IfOk result (λ told. first_telling told self.new.known ≡ pulled_first way (seen segment.now) time self.old) }
         ensures within { IfOk result (λ told. IsToldWithin told (length segment.now.payload.now)) }
         ensures refused { OnErr result (self.new.known ≡ first_becomes (pull_refused way (seen segment.now) time) self.old.known) }
         ensures limits { self.new.limits ≡ self.old.limits }

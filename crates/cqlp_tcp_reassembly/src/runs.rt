@@ -33,6 +33,7 @@ impl<A: Allocator> Runs<A> {
     }
 
     /// What they count.
+    #[inline]
     pub(crate) fn size(&self) -> usize
         ensures { result ≡ size_of self.now }
     {
@@ -42,6 +43,7 @@ impl<A: Allocator> Runs<A> {
         }
     }
 
+    #[inline]
     pub(crate) fn is_empty(&self) -> bool
         ensures { result ≡ (length self.now == 0) }
     {
@@ -52,6 +54,7 @@ impl<A: Allocator> Runs<A> {
     }
 
     /// The position of the first, or this one where it is less or there is none.
+    #[inline]
     pub(crate) fn first_at(&self, other: u64) -> u64
         ensures is { result ≡ first_at other self.now }
         ensures bound { result ≤ other }
@@ -63,6 +66,7 @@ impl<A: Allocator> Runs<A> {
     }
 
     /// The first, if it begins at this position.
+    #[inline]
     pub(crate) fn summary_at(&self, position: u64) -> Option<RunSummary>
         ensures { result ≡ summary_at position self.now }
     {
@@ -83,6 +87,7 @@ impl<A: Allocator> Runs<A> {
     }
 
     /// The first part from a position on, up to another, that none covers. It is empty where they cover all.
+    #[inline]
     pub(crate) fn first_free(&self, from: u64, to: u64) -> Part
         ensures is { result ≡ first_free from to self.now }
         ensures index { result.index ≤ length self.now }
@@ -135,6 +140,7 @@ impl<A: Allocator> Runs<A> {
     }
 
     /// Drops all, with their memory.
+    #[cold]
     pub(crate) fn clear(&mut self)
         ensures { self.new ≡ [] }
     {

@@ -1,11 +1,11 @@
 //! One direction of a connection.
 
-ghost use Rattle.std.specs.Prelude.{◌≡◌, ◌+◌, ◌-◌, ◌<◌, ◌≤◌, ◌^◌, length, MatchOption, IfOk, OnErr, ⊤};
+ghost use Rattle.std.specs.Prelude.{◌≡◌, ◌+◌, ◌-◌, ◌<◌, ◌≤◌, ◌^◌, length, MatchOption, IfOk, OnErr, Some, ⊤};
 ghost use Rattle.cqlp_tcp_reassembly.specs.Segments.{captured};
 ghost use Rattle.cqlp_tcp_reassembly.specs.Streams.{IsWithin, settling};
 
 use crate::fin::FinPosition;
-use crate::run::{EarlyPart, Part, RUN_SIZE, cut};
+use crate::run::{EarlyPart, Part, RUN_SIZE, RunSummary, cut};
 use crate::runs::Runs;
 use crate::segment::{Place, StreamSegment, next_number};
 use crate::sequence::{Distance, distance_to};
@@ -55,7 +55,7 @@ impl<A: Allocator> Model for Stream<A> {
 impl<A: Allocator> Stream<A> {
     ghost use Rattle.cqlp_tcp_reassembly.specs.Streams.{after_acknowledgement, after_close, after_refusal, after_segment, begun, early_part, ended};
     ghost use Rattle.cqlp_tcp_reassembly.specs.Streams.{held, hole, is_lost, is_over, knows_hole, lost, lost_or_done, moved, next_part, passed};
-    ghost use Rattle.cqlp_tcp_reassembly.specs.Streams.{placed, received, settled, size, stop, told, unseen, up_to_stop, with_end};
+    ghost use Rattle.cqlp_tcp_reassembly.specs.Streams.{placed, received, settled, settled_by, size, stop, told, unseen, up_to_stop, with_end};
     ghost use Rattle.cqlp_tcp_reassembly.specs.Runs.{behind_first};
 
     /// A stream of which nothing was seen. It has no memory.
@@ -207,6 +207,7 @@ impl<A: Allocator> Stream<A> {
     }
 
     /// Ends it, and gives its memory back.
+    #[cold]
     fn finish(&mut self, step: StreamStep) -> StreamStep
         ensures { told result self.new ≡ told step (ended self.old) }
     {
@@ -216,6 +217,7 @@ impl<A: Allocator> Stream<A> {
     }
 
     /// Begins it at a segment with SYN, FIN or bytes.
+    #[cold]
     fn begin(&mut self, segment: &StreamSegment<'_>) -> StreamStep
         ensures told { told result self.new ≡ begun self.old (captured segment.now) }
         ensures within { IsWithin result 0 }
@@ -232,6 +234,7 @@ impl<A: Allocator> Stream<A> {
     }
 
     /// The end of the stream or what came early, if either is next.
+    #[inline]
     fn settle(&mut self) -> Option<StreamStep>
         ensures told { settling result self.new ≡ settled self.old }
         ensures within { MatchOption result ⊤ (λ step. IsWithin step 0) }
@@ -240,17 +243,26 @@ impl<A: Allocator> Stream<A> {
             return Some(self.finish(StreamStep::Ended));
         }
         let run = self.runs.summary_at(self.position)?;
+        Some(self.settle_run(run))
+    }
+
+    /// The bytes of the first run, or where it has none those that were not captured.
+    #[cold]
+    fn settle_run(&mut self, run: RunSummary) -> StreamStep
+        ensures told { settling (Some result) self.new ≡ settled_by (Some run) self.old }
+        ensures within { IsWithin result 0 }
+    {
         if run.length > 0 {
-            return Some(StreamStep::Held {
+            return StreamStep::Held {
                 time: run.time,
                 begins: run.begins,
-            });
+            };
         }
-        Some(StreamStep::Gap {
+        StreamStep::Gap {
             length: self.pass_run(run.missing),
             cause: GapCause::Snapped,
             time: run.time,
-        })
+        }
     }
 
     /// Notes where FIN lies, if this is the first.
@@ -337,6 +349,7 @@ impl<A: Allocator> Stream<A> {
     }
 
     /// A part of the segment came early. It is kept where there is room; else the first hole is lost.
+    #[cold]
     fn keep_part(
         &mut self,
         segment: &StreamSegment<'_>,
