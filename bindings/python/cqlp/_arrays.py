@@ -15,8 +15,10 @@ from ._missing import Missing, numpy_of
 from ._pages import _NO_METADATA, _ROWS_RESULT, Row, Types, _cells, _Metadata
 from ._sources import Progress, Source, _must_be_whole, _pieces, _pieces_of_frames
 from ._turns import Error
-from ._types import Column, column_text
+from ._types import Column, Type, column_text
 from .numbers import Code, Field, Kind, Stop, Tag
+
+_compiled: Any = _native.compiled("_nested")
 
 # The kinds whose values are numbers in their array, and the code of its items.
 _CODES: Dict[int, str] = {
@@ -34,7 +36,8 @@ _CODES: Dict[int, str] = {
 # How many bytes the values of a kind have that all have the same.
 _FIXED: Dict[int, int] = {int(kind): array(code).itemsize for kind, code in _CODES.items()}
 _FIXED.update({int(Kind.BOOLEAN): 1, int(Kind.UUID): 16, int(Kind.TIMEUUID): 16})
-_FULL, _REFUSED = int(Stop.FULL), int(Stop.REFUSED)
+_FULL, _MORE, _REFUSED = int(Stop.FULL), int(Stop.MORE), int(Stop.REFUSED)
+_MANY = 512  # how many events of cells with items are read at once
 _LEAF, _PART, _END = int(Tag.LEAF), int(Tag.PART), int(Tag.END)
 
 
@@ -121,6 +124,14 @@ def _array_of_members(kind: int, column: Optional[Column], count: int, members: 
     cells = count if offsets is None else offsets[count]
     items = tuple(_array_of_members(type.kind, None, cells, one) for type, one in inner)
     return ColumnArray(column, _KINDS[kind], count, values, offsets, validity, empties, items)
+
+
+def _array_of_built(type: Type, column: Optional[Column], built: Tuple[Any, ...]) -> ColumnArray:
+    """What _nested.c built of the cells of a column."""
+    cells, values, ends, validity, empties, inner = built
+    offsets = None if ends is None else memoryview(ends).cast("q")
+    items = tuple(_array_of_built(one, None, each) for one, each in zip(type.inner, inner))
+    return ColumnArray(column, _KINDS[type.kind], cells, values, offsets, validity, empties, items)
 
 
 def _unpickled(members: Tuple[Any, ...], offsets: Optional[bytes]) -> ColumnArray:
@@ -327,8 +338,11 @@ class _Reader:
         self.metadata = _Metadata()
         self.page: Optional[_Page] = None
         self.behind = Behind()
-        self.pages = self.first = self.body = 0
-        # of a page with values that have items: what makes its rows, of one event at a time, and those that wait for a batch
+        self.pages = self.first = self.body = self.offset = self.end = 0
+        # of a page with values that have items: what makes its arrays, of many events at a time
+        self.nested: Any = None
+        self.many = (_native.Event * _MANY)()
+        # the same without the module in C: what makes its rows, of one event at a time, and those that wait for a batch
         self.cells: Any = None
         self.rows: List[Row] = []
         self.event, self.batch = _native.Event(), _native.Batch()
@@ -341,23 +355,27 @@ class _Reader:
         while stop == _FULL:
             self.call(place + used, length - used)
             used, stop = used + self.batch.used, self.batch.stop
+            self.offset += self.batch.used
+            refusal = self.decoder._refusal(self.batch) if stop == _REFUSED else None
             if self.batch.events:
-                yield from self.take()
+                yield from self.take_many() if self.nested else self.take()
             elif stop == _FULL:
                 yield from self.rest()
-            elif stop == _REFUSED:
-                refusal = self.decoder._refusal(self.batch)
+            if refusal:
                 yield from self.rest()
                 self.pass_over(refusal, skip, place, length)
+            if refusal or (stop == _MORE and used < length):  # the frame has ended, and there are more
                 stop = _FULL
         last = min(8, length)
         self.behind.offset += length - last
         self.behind.add(ctypes.string_at(place + length - last, last))
 
     def call(self, place: int, length: int) -> None:
-        """One call of the library: within a page it fills the arrays, else it puts one event."""
+        """One call of the library: within a page it fills the arrays, or puts many events and none of the next frame; else it puts one."""
         decoder, event, batch = self.decoder._handle, self.event, self.batch
-        if self.page is None or self.cells:
+        if self.nested:
+            code = _native.library.cqlp_next(decoder, place, min(length, self.end - self.offset), ctypes.addressof(self.many), _MANY, batch)
+        elif self.page is None or self.cells:
             code = _native.library.cqlp_next(decoder, place, length, ctypes.addressof(event), 1, batch)
         else:
             code = _native.library.cqlp_columns_next(decoder, self.arrays.handle, place, length, event, batch)
@@ -379,10 +397,24 @@ class _Reader:
                 self.page = None
         elif tag == Tag.FRAME:
             self.metadata, self.body = _Metadata(), self.event.number
+            self.end = self.event.at + 9 + self.body
         elif field == Field.ROWS and self.metadata.kind == _ROWS_RESULT:
             yield from self.begin(self.event.number)
         elif not _LEAF <= tag <= _END:
             self.metadata.add(self.whole_event())
+
+    def take_many(self) -> Iterator[ArrayBatch]:
+        """Takes events of cells, and the end of the frame after them."""
+        at, count = 0, self.batch.events
+        while at < count and self.nested:
+            at, state = self.nested.take(ctypes.addressof(self.many), at, count)
+            if state == 2:
+                raise CellTooLong(self.many[at - 1].row, self.many[at - 1].column)
+            ended = not state and at < count
+            if state or ended:
+                yield from self.rest(ended)
+            if ended:
+                self.page = self.nested = None
 
     def whole_event(self) -> Event:
         content = ctypes.string_at(self.event.content, self.event.length) if self.event.length else b""
@@ -401,8 +433,11 @@ class _Reader:
         if metadata.width > self.arrays.limits.entries:
             raise BadCall(Code.TOO_MANY_COLUMNS)
         kinds = tuple(int(one.type.kind) for one in columns) if typed and columns else (int(Kind.RAW),) * metadata.width
-        self.cells, self.rows = None, []
-        if ITEMS & set(kinds):
+        self.nested, self.cells, self.rows = None, None, []
+        if ITEMS & set(kinds) and _compiled:
+            types = tuple(column.type if self.is_wanted(column) else None for column in columns)
+            self.nested = _compiled.Nested(types, self.arrays.rows, self.arrays.memory)
+        elif ITEMS & set(kinds):
             self.cells = _cells(metadata.width, tuple(column.type for column in columns))
         else:
             self.arrays.begin(kinds, rows, self.body)
@@ -413,7 +448,11 @@ class _Reader:
         if self.page is None:
             return
         page, first = self.page, self.first
-        if self.cells:
+        if self.nested:
+            count, built = self.nested.arrays()
+            wanted = filter(self.is_wanted, page.columns)
+            arrays = [_array_of_built(column.type, column, one) for column, one in zip(wanted, built)]
+        elif self.cells:
             count, arrays = len(self.rows), self.of_rows(page.columns)
         else:
             arrays = self.arrays.take(page.columns)
@@ -441,7 +480,7 @@ class _Reader:
         if skip is not None:
             code, skipped = self.decoder._skip()
             if not code:
-                self.page = None
+                self.page = self.nested = None
                 skip(skipped)
                 return
         raise Refused(*refusal, [], header=self.behind.header(refusal, ctypes.string_at(place, length)))
