@@ -15,8 +15,10 @@ from ._missing import Missing, numpy_of
 from ._pages import _NO_METADATA, _ROWS_RESULT, Row, Types, _cells, _Metadata
 from ._sources import Progress, Source, _must_be_whole, _pieces, _pieces_of_frames
 from ._turns import Error
-from ._types import Column, column_text
+from ._types import Column, Type, column_text
 from .numbers import Code, Field, Kind, Stop, Tag
+
+_compiled: Any = _native.compiled("_nested")
 
 # The kinds whose values are numbers in their array, and the code of its items.
 _CODES: Dict[int, str] = {
@@ -34,7 +36,8 @@ _CODES: Dict[int, str] = {
 # How many bytes the values of a kind have that all have the same.
 _FIXED: Dict[int, int] = {int(kind): array(code).itemsize for kind, code in _CODES.items()}
 _FIXED.update({int(Kind.BOOLEAN): 1, int(Kind.UUID): 16, int(Kind.TIMEUUID): 16})
-_FULL, _REFUSED = int(Stop.FULL), int(Stop.REFUSED)
+_FULL, _MORE, _REFUSED = int(Stop.FULL), int(Stop.MORE), int(Stop.REFUSED)
+_MANY = 512  # how many events of cells with items are read at once
 _LEAF, _PART, _END = int(Tag.LEAF), int(Tag.PART), int(Tag.END)
 
 
@@ -69,6 +72,8 @@ class ColumnArray(NamedTuple):
     items: "Tuple[ColumnArray, ...]" = ()
     """The arrays of the values in it: of a list or a set one, of a map that of keys and that of values, between its `offsets`; of a tuple or a udt
     one for each field, with as many cells."""
+    decimals: _arrow.Decimals = "decimal"
+    """What decimals and varints in it are in Arrow."""
 
     def __repr__(self) -> str:
         return "<ColumnArray of %d cells: %s>" % (self.cells, column_text(self.column, self.kind))
@@ -101,15 +106,32 @@ class ColumnArray(NamedTuple):
         return _arrow.capsules().schema(*self._arrow_schema())
 
     def __arrow_c_array__(self, requested_schema: Any = None) -> Tuple[Any, Any]:
-        """Capsules with the schema and the array, without a copy but of dates. No other schema is made on request."""
-        return self.__arrow_c_schema__(), _arrow.capsules().array(*self._arrow_array())
+        """Capsules with the schema and the array, without a copy but of dates and decimals. No other schema is made on request."""
+        schema = self._arrow_schema()
+        return _arrow.capsules().schema(*schema), _arrow.capsules().array(*self._arrow_array(schema))
 
-    def _arrow_schema(self) -> _arrow.Told:
-        return _arrow.schema_of_column(self.column, self.kind)
+    def _arrow_schema(self, like: Optional[_arrow.Told] = None) -> _arrow.Told:
+        """What the schema is made of. Decimals are as in a schema that is given."""
+        typed = self.column is not None and self.column.type.kind == self.kind
+        type, name = (self.column.type, self.column.name) if self.column and typed else (Type(self.kind), self.column.name if self.column else "")
+        return _arrow.schema_of(type, name, self._forms(like))
 
-    def _arrow_array(self) -> _arrow.Told:
-        items = tuple(one._arrow_array() for one in self.items)
-        return _arrow.array_of_column(self.kind, self.cells, self.values, self.offsets, self.validity, items)
+    def _forms(self, like: Optional[_arrow.Told]) -> _arrow.Told:
+        """The forms of the decimals in it, those of a schema where one is given."""
+        if self.kind in _arrow.DECIMALS:
+            return (like[0] if like else _arrow.form_of_decimals(self),)
+        inner = like[4] if like else ()
+        if self.kind == Kind.MAP and inner:
+            inner = inner[0][4]
+        if len(inner) != len(self.items):
+            inner = (None,) * len(self.items)
+        return tuple(one._forms(each) for one, each in zip(self.items, inner))
+
+    def _arrow_array(self, schema: _arrow.Told) -> _arrow.Told:
+        return _arrow.array_of(self, schema, self.column.name if self.column else "")
+
+    def _with(self, decimals: _arrow.Decimals) -> "ColumnArray":
+        return self._replace(decimals=decimals, items=tuple(one._with(decimals) for one in self.items))
 
     def __reduce__(self) -> Tuple[Any, ...]:
         """Offsets pickle as their bytes."""
@@ -121,6 +143,14 @@ def _array_of_members(kind: int, column: Optional[Column], count: int, members: 
     cells = count if offsets is None else offsets[count]
     items = tuple(_array_of_members(type.kind, None, cells, one) for type, one in inner)
     return ColumnArray(column, _KINDS[kind], count, values, offsets, validity, empties, items)
+
+
+def _array_of_built(type: Type, column: Optional[Column], built: Tuple[Any, ...]) -> ColumnArray:
+    """What _nested.c built of the cells of a column."""
+    cells, values, ends, validity, empties, inner = built
+    offsets = None if ends is None else memoryview(ends).cast("q")
+    items = tuple(_array_of_built(one, None, each) for one, each in zip(type.inner, inner))
+    return ColumnArray(column, _KINDS[type.kind], cells, values, offsets, validity, empties, items)
 
 
 def _unpickled(members: Tuple[Any, ...], offsets: Optional[bytes]) -> ColumnArray:
@@ -160,14 +190,17 @@ class ArrayBatch:
         return _arrow.capsules().schema(*self._arrow_schema())
 
     def __arrow_c_array__(self, requested_schema: Any = None) -> Tuple[Any, Any]:
-        """Capsules with the schema and the array, without a copy but of dates. No other schema is made on request."""
-        return self.__arrow_c_schema__(), _arrow.capsules().array(*self._arrow_array())
+        """Capsules with the schema and the array, without a copy but of dates and decimals. No other schema is made on request."""
+        schema = self._arrow_schema()
+        return _arrow.capsules().schema(*schema), _arrow.capsules().array(*self._arrow_array(schema))
 
-    def _arrow_schema(self) -> _arrow.Told:
-        return _arrow.schema_of_batch(tuple(one._arrow_schema() for one in self.arrays))
+    def _arrow_schema(self, like: Optional[_arrow.Told] = None) -> _arrow.Told:
+        """What the schema is made of. Decimals are as in a schema that is given, where it has as many columns."""
+        inner = like[4] if like and len(like[4]) == len(self.arrays) else (None,) * len(self.arrays)
+        return _arrow.schema_of_batch(tuple(one._arrow_schema(each) for one, each in zip(self.arrays, inner)))
 
-    def _arrow_array(self) -> _arrow.Told:
-        return _arrow.array_of_batch(self.count, tuple(one._arrow_array() for one in self.arrays))
+    def _arrow_array(self, schema: _arrow.Told) -> _arrow.Told:
+        return _arrow.array_of_batch(self.count, tuple(one._arrow_array(each) for one, each in zip(self.arrays, schema[4])))
 
 
 class Batches(Iterator[ArrayBatch]):
@@ -194,9 +227,9 @@ class Batches(Iterator[ArrayBatch]):
 
     def _arrow_arrays(self, batch: Optional[ArrayBatch], schema: _arrow.Told) -> Iterator[_arrow.Told]:
         while batch is not None:
-            if batch._arrow_schema() != schema:
+            if batch._arrow_schema(schema) != schema:
                 raise ValueError("page %d has other columns than the page before it" % batch.page)
-            yield batch._arrow_array()
+            yield batch._arrow_array(schema)
             batch = next(self._found, None)
 
 
@@ -318,17 +351,27 @@ class _Reader:
     """Reads the frames of one stream, the cells of pages into arrays, and each other event alone."""
 
     def __init__(
-        self, decoder: Decoder, arrays: _Arrays, given: Optional[Tuple[Column, ...]], names: Optional[FrozenSet[str]]
+        self,
+        decoder: Decoder,
+        arrays: _Arrays,
+        given: Optional[Tuple[Column, ...]],
+        names: Optional[FrozenSet[str]],
+        decimals: _arrow.Decimals,
     ) -> None:
         self.names = names
+        self.decimals: _arrow.Decimals = decimals
         self.decoder = decoder
         self.arrays = arrays
         self.given = given
         self.metadata = _Metadata()
         self.page: Optional[_Page] = None
         self.behind = Behind()
-        self.pages = self.first = self.body = 0
-        # of a page with values that have items: what makes its rows, of one event at a time, and those that wait for a batch
+        self.pages = self.first = self.body = self.offset = self.end = 0
+        # of a page with values that have items: what makes its arrays, of many events at a time
+        self.nested: Any = None
+        self.types: List[Optional[Type]] = []
+        self.many = (_native.Event * _MANY)()
+        # the same without the module in C: what makes its rows, of one event at a time, and those that wait for a batch
         self.cells: Any = None
         self.rows: List[Row] = []
         self.event, self.batch = _native.Event(), _native.Batch()
@@ -341,23 +384,27 @@ class _Reader:
         while stop == _FULL:
             self.call(place + used, length - used)
             used, stop = used + self.batch.used, self.batch.stop
+            self.offset += self.batch.used
+            refusal = self.decoder._refusal(self.batch) if stop == _REFUSED else None
             if self.batch.events:
-                yield from self.take()
+                yield from self.take_many() if self.nested else self.take()
             elif stop == _FULL:
                 yield from self.rest()
-            elif stop == _REFUSED:
-                refusal = self.decoder._refusal(self.batch)
+            if refusal:
                 yield from self.rest()
                 self.pass_over(refusal, skip, place, length)
+            if refusal or (stop == _MORE and used < length):  # the frame has ended, and there are more
                 stop = _FULL
         last = min(8, length)
         self.behind.offset += length - last
         self.behind.add(ctypes.string_at(place + length - last, last))
 
     def call(self, place: int, length: int) -> None:
-        """One call of the library: within a page it fills the arrays, else it puts one event."""
+        """One call of the library: within a page it fills the arrays, or puts many events and none of the next frame; else it puts one."""
         decoder, event, batch = self.decoder._handle, self.event, self.batch
-        if self.page is None or self.cells:
+        if self.nested:
+            code = _native.library.cqlp_next(decoder, place, min(length, self.end - self.offset), ctypes.addressof(self.many), _MANY, batch)
+        elif self.page is None or self.cells:
             code = _native.library.cqlp_next(decoder, place, length, ctypes.addressof(event), 1, batch)
         else:
             code = _native.library.cqlp_columns_next(decoder, self.arrays.handle, place, length, event, batch)
@@ -379,10 +426,24 @@ class _Reader:
                 self.page = None
         elif tag == Tag.FRAME:
             self.metadata, self.body = _Metadata(), self.event.number
+            self.end = self.event.at + 9 + self.body
         elif field == Field.ROWS and self.metadata.kind == _ROWS_RESULT:
             yield from self.begin(self.event.number)
         elif not _LEAF <= tag <= _END:
             self.metadata.add(self.whole_event())
+
+    def take_many(self) -> Iterator[ArrayBatch]:
+        """Takes events of cells, and the end of the frame after them."""
+        at, count = 0, self.batch.events
+        while at < count and self.nested:
+            at, state = self.nested.take(ctypes.addressof(self.many), at, count)
+            if state == 2:
+                raise CellTooLong(self.many[at - 1].row, self.many[at - 1].column)
+            ended = not state and at < count
+            if state or ended:
+                yield from self.rest(ended)
+            if ended:
+                self.page = self.nested = None
 
     def whole_event(self) -> Event:
         content = ctypes.string_at(self.event.content, self.event.length) if self.event.length else b""
@@ -401,8 +462,12 @@ class _Reader:
         if metadata.width > self.arrays.limits.entries:
             raise BadCall(Code.TOO_MANY_COLUMNS)
         kinds = tuple(int(one.type.kind) for one in columns) if typed and columns else (int(Kind.RAW),) * metadata.width
-        self.cells, self.rows = None, []
-        if ITEMS & set(kinds):
+        self.nested, self.cells, self.rows = None, None, []
+        left = {kind for kind, column in zip(kinds, columns) if not self.is_wanted(column)}
+        if _compiled and (ITEMS & set(kinds) or not left <= _FIXED.keys()):  # columns that are left out hold nothing then
+            self.types = [(column.type if typed else Type(Kind.RAW)) if self.is_wanted(column) else None for column in columns]
+            self.nested = _compiled.Nested(tuple(self.types), self.arrays.rows, self.arrays.memory)
+        elif ITEMS & set(kinds):
             self.cells = _cells(metadata.width, tuple(column.type for column in columns))
         else:
             self.arrays.begin(kinds, rows, self.body)
@@ -413,12 +478,18 @@ class _Reader:
         if self.page is None:
             return
         page, first = self.page, self.first
-        if self.cells:
+        if self.nested:
+            count, built = self.nested.arrays()
+            wanted = [(type, column) for type, column in zip(self.types, page.columns) if type is not None]
+            arrays = [_array_of_built(type, column, one) for (type, column), one in zip(wanted, built)]
+        elif self.cells:
             count, arrays = len(self.rows), self.of_rows(page.columns)
         else:
             arrays = self.arrays.take(page.columns)
             count, arrays = arrays[-1].cells, [one for one in arrays if self.is_wanted(one.column)]
         self.first += count
+        if self.decimals != "decimal":
+            arrays = [one._with(self.decimals) for one in arrays]
         if count or last and not first:
             yield ArrayBatch(tuple(arrays), count, first, page.number, page.rows, page.paging_state)
 
@@ -441,7 +512,7 @@ class _Reader:
         if skip is not None:
             code, skipped = self.decoder._skip()
             if not code:
-                self.page = None
+                self.page = self.nested = None
                 skip(skipped)
                 return
         raise Refused(*refusal, [], header=self.behind.header(refusal, ctypes.string_at(place, length)))
@@ -472,24 +543,28 @@ def arrays(
     types: Optional[Types] = None,
     skip: Optional[Skip] = None,
     columns: Optional[Iterable[str]] = None,
+    decimals: _arrow.Decimals = "decimal",
 ) -> Batches:
     """The rows of all pages of a stream as arrays in the layout of Apache Arrow, in batches of at most this many rows. A page has a batch at
     least, also where it has no rows. Each batch is a copy, and lives on.
 
-    The library's own arrays have no more than `memory` bytes, and what `Limits` say comes beside them. A batch is shorter where its columns are many or its values
-    long. A value for which there is no room even so, longer than a quarter of a column's share of the memory, raises CellTooLong, and so does a
-    part, where `limits.parts` is set. A page with more columns than `limits.entries` raises BadCall with TOO_MANY_COLUMNS.
+    With `columns`, names, only these columns are handed out, and of others with texts, bytes or items nothing is kept. `decimals` says what decimals
+    and varints are in Arrow: by default numbers where all of a batch have one scale, else texts; "text" or "bytes".
 
-    A page with a column of lists, sets, maps, tuples or udts is read by way of the values that `cqlp.rows` gives: that takes longer, and only the number
-    of rows limits a batch, so do not read such pages of peers that you do not trust. With `columns`, names, only these columns are handed out.
+    The arrays of a batch have no more than `memory` bytes, and what `Limits` say comes beside them. A batch is shorter where its columns are many or its
+    values long. A value for which there is no room even so raises CellTooLong: one longer than a quarter of a column's share of the memory, or that in a
+    row which has no room, of a page with lists, sets, maps, tuples or udts or where columns are left out. So does a part, where `limits.parts` is set, but
+    of such a page. A page with more columns than `limits.entries` raises BadCall with TOO_MANY_COLUMNS.
 
     Where the stream is refused or cut, Refused or Cut is raised after the last row before that place. `types` and `skip` are as in `Pages`.
     """
     if rows < 1 or memory < 1:
         raise ValueError("rows and memory are over 0")
+    if decimals not in ("decimal", "text", "bytes"):
+        raise ValueError('decimals is "decimal", "text" or "bytes"')
     places = _places(source, piece, types is not None)
     names = None if columns is None else frozenset(columns)
-    return Batches(_batches_of(places, limits, min(rows, 1 << 24), memory, progress, types, skip, names))
+    return Batches(_batches_of(places, limits, min(rows, 1 << 24), memory, progress, types, skip, names, decimals))
 
 
 def _batches_of(
@@ -501,9 +576,10 @@ def _batches_of(
     types: Optional[Types],
     skip: Optional[Skip],
     names: Optional[FrozenSet[str]],
+    decimals: _arrow.Decimals,
 ) -> Iterator[ArrayBatch]:
     with Decoder(limits, room=1) as decoder, _Arrays(limits, rows, memory) as held:
-        reader = _Reader(decoder, held, types.columns if types else None, names)
+        reader = _Reader(decoder, held, types.columns if types else None, names, decimals)
         for place, length, total in places:
             if types:
                 types._give(decoder)

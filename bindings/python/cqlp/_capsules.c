@@ -1,6 +1,6 @@
 /* Hands columns on by the C data interface of Apache Arrow, in the capsules that other packages take: `_arrow.py` says what is in them. Nothing is
- * copied: an array holds the bytes objects that its buffers are in until it is released, which may be in any thread. It calls nothing of libcqlp. It is
- * of the stable ABI, from Python 3.9 on, and bindings/build makes cqlp/_capsules.abi3.so of it. */
+ * copied but dates and decimals: an array holds the bytes objects that its buffers are in until it is released, which may be in any thread. It calls
+ * nothing of libcqlp. It is of the stable ABI, from Python 3.9 on, and bindings/build makes cqlp/_capsules.abi3.so of it. */
 #define Py_LIMITED_API 0x03090000
 #define PY_SSIZE_T_CLEAN
 #include <Python.h>
@@ -263,7 +263,167 @@ static PyObject *stream(PyObject *module, PyObject *told) {
   return NULL;
 }
 
+/* ---- decimals */
+
+enum { WORDS = 8 };
+
+/* A number of at most 256 bits and a sign; the lowest 32 bits come first. */
+typedef struct number {
+  uint32_t words[WORDS];
+  int is_negative;
+} number;
+
+/* The cells of a column of decimals or varints, and whether each is there, a bit each, or NULL where all are. */
+typedef struct cells {
+  const uint8_t *values, *offsets, *there;
+  size_t size, count;
+  int has_scale;
+} cells;
+
+static int negate(number *of) {
+  uint64_t carry = 1;
+  for (int at = 0; at < WORDS; at++) {
+    carry += (uint32_t)~of->words[at];
+    of->words[at] = (uint32_t)carry;
+    carry >>= 32;
+  }
+  return carry == 0;
+}
+
+/* Whether a number in two's complement, its highest byte first, has at most 256 bits and a sign. */
+static int read_number(const uint8_t *bytes, size_t length, number *to) {
+  uint8_t fill = length > 0 && bytes[0] & 0x80 ? 0xff : 0;
+  while (length > 4 * WORDS && *bytes == fill) bytes++, length--;
+  if (length > 4 * WORDS) return 0;
+  memset(to->words, fill, sizeof to->words);
+  for (size_t at = 0; at < length; at++) {
+    size_t place = length - 1 - at;
+    to->words[place / 4] &= ~((uint32_t)0xff << 8 * (place % 4));
+    to->words[place / 4] |= (uint32_t)bytes[at] << 8 * (place % 4);
+  }
+  to->is_negative = fill != 0;
+  return !to->is_negative || negate(to);
+}
+
+static int is_zero(const number *of) {
+  uint32_t bits = 0;
+  for (int at = 0; at < WORDS; at++) bits |= of->words[at];
+  return bits == 0;
+}
+
+static int times_ten(number *of) {
+  uint64_t carry = 0;
+  for (int at = 0; at < WORDS; at++) {
+    carry += (uint64_t)of->words[at] * 10;
+    of->words[at] = (uint32_t)carry;
+    carry >>= 32;
+  }
+  return carry == 0;
+}
+
+/* Whether a number has no more than so many digits. */
+static int has_digits(const number *of, int digits) {
+  number bound = {{1}, 0};
+  while (digits-- > 0) times_ten(&bound);
+  for (int at = WORDS - 1; at >= 0; at--)
+    if (of->words[at] != bound.words[at]) return of->words[at] < bound.words[at];
+  return 0;
+}
+
+static int read_cells(PyObject *arguments, cells *of, long long *scale, int *digits) {
+  Py_ssize_t size, ends, bits = 0, count;
+  const char *values, *offsets, *there;
+  if (!PyArg_ParseTuple(arguments, "y#y#z#np|Li", &values, &size, &offsets, &ends, &there, &bits, &count, &of->has_scale, scale, digits)) return 0;
+  if (count < 0 || ends / 8 <= count || (there != NULL && bits < (count + 7) / 8)) {
+    PyErr_SetString(PyExc_ValueError, "there are fewer offsets or bits than cells");
+    return 0;
+  }
+  *of = (cells){(const uint8_t *)values, (const uint8_t *)offsets, (const uint8_t *)there, (size_t)size, (size_t)count, of->has_scale};
+  return 1;
+}
+
+/* Of a cell the scale and the bytes of its number. Answers 0 where it has no value. */
+static int read_cell(const cells *of, size_t at, int32_t *scale, const uint8_t **bytes, size_t *length) {
+  uint64_t begin, end;
+  if (of->there != NULL && !(of->there[at / 8] >> at % 8 & 1)) return 0;
+  memcpy(&begin, of->offsets + 8 * at, 8);
+  memcpy(&end, of->offsets + 8 * at + 8, 8);
+  if (begin > end || end > of->size || (of->has_scale && end - begin < 4)) return 0;
+  uint32_t bits = 0;
+  for (int k = 0; of->has_scale && k < 4; k++) bits = bits << 8 | of->values[begin + k];
+  memcpy(scale, &bits, 4);
+  *bytes = of->values + begin + (of->has_scale ? 4 : 0);
+  *length = (size_t)(end - begin) - (of->has_scale ? 4 : 0);
+  return 1;
+}
+
+static PyObject *scale_of(PyObject *module, PyObject *arguments) {
+  cells of = {0};
+  long long none;
+  int digits = 38, some = 0;
+  int32_t scale = 0, first = 0;
+  const uint8_t *bytes;
+  size_t length;
+  number found;
+  (void)module;
+  if (!read_cells(arguments, &of, &none, &digits)) return NULL;
+  digits = 38;
+  for (size_t at = 0; at < of.count; at++) {
+    if (!read_cell(&of, at, &scale, &bytes, &length)) continue;
+    if (!some++) first = scale;
+    if (scale != first || scale > 76 || !read_number(bytes, length, &found)) Py_RETURN_NONE;
+    for (long long less = scale; less < 0 && !is_zero(&found); less++)
+      if (!times_ten(&found)) Py_RETURN_NONE;
+    if (scale > 38 || !has_digits(&found, digits)) digits = 76;
+    if (digits == 76 && !has_digits(&found, digits)) Py_RETURN_NONE;
+  }
+  if (!some) Py_RETURN_NONE;
+  return Py_BuildValue("ii", digits, first < 0 ? 0 : (int)first);
+}
+
+/* Writes a number, which has this scale, with a greater one. Answers 0 where it has more digits than are there. */
+static int write_number(number *of, long long scale, long long greater, int digits, uint8_t *to) {
+  if (!is_zero(of) && scale > greater) return 0;
+  for (; !is_zero(of) && scale < greater; scale++)
+    if (!times_ten(of) || !has_digits(of, digits)) return 0;
+  if (!has_digits(of, digits)) return 0;
+  if (of->is_negative) negate(of);
+  for (int at = 0; at < (digits == 38 ? 16 : 32); at++) to[at] = (uint8_t)(of->words[at / 4] >> 8 * (at % 4));
+  return 1;
+}
+
+static PyObject *decimals(PyObject *module, PyObject *arguments) {
+  cells of = {0};
+  long long greater = 0;
+  int digits = 0;
+  int32_t scale;
+  const uint8_t *bytes;
+  size_t length;
+  number found;
+  (void)module;
+  if (!read_cells(arguments, &of, &greater, &digits)) return NULL;
+  size_t width = digits == 38 ? 16 : 32;
+  PyObject *made = of.count > PY_SSIZE_T_MAX / width ? PyErr_NoMemory() : PyBytes_FromStringAndSize(NULL, (Py_ssize_t)(of.count * width));
+  if (made == NULL) return NULL;
+  uint8_t *to = (uint8_t *)PyBytes_AsString(made);
+  memset(to, 0, of.count * width);
+  for (size_t at = 0; at < of.count; at++) {
+    if (!read_cell(&of, at, &scale, &bytes, &length)) continue;
+    if (!read_number(bytes, length, &found) || !write_number(&found, scale, greater, digits, to + at * width)) {
+      Py_DECREF(made);
+      return Py_BuildValue("n", (Py_ssize_t)at);
+    }
+  }
+  return made;
+}
+
 static PyMethodDef methods[] = {
+    {"scale_of", scale_of, METH_VARARGS,
+     "scale_of(values, offsets, there, count, has_scale): 38 or 76, the digits that all numbers have room in, and the scale that all have, or 0 where that is "
+     "less; None where there is no number, or no such scale."},
+    {"decimals", decimals, METH_VARARGS,
+     "decimals(values, offsets, there, count, has_scale, scale, digits): the numbers in 16 or 32 bytes each, the lowest first; the first cell that does not "
+     "fit, where there is one."},
     {"schema", schema, METH_VARARGS, "schema(format, name, metadata, flags, children): a capsule with an ArrowSchema; each child is such a tuple."},
     {"array", array, METH_VARARGS, "array(length, nulls, buffers, children): a capsule with an ArrowArray; a buffer is bytes or None, a child such a tuple."},
     {"stream", stream, METH_VARARGS, "stream(schema, arrays): a capsule with an ArrowArrayStream, of such tuples."},

@@ -1,5 +1,6 @@
 """Arrays have what rows have, wherever a stream is cut into pieces."""
 
+import ctypes
 import gc
 import pickle
 import struct
@@ -7,13 +8,14 @@ import sys
 import tracemalloc
 import types
 import unittest
+from dataclasses import replace
 from ipaddress import ip_address
 from typing import Any, List, Optional, Tuple
 from unittest import mock
 from uuid import UUID
 
 import cqlp
-from cqlp import Code, Kind
+from cqlp import Code, Kind, Tag, _arrays, _native
 from cqlp._pages import _frozen
 from cqlp._values import LEAVES
 
@@ -239,6 +241,99 @@ class Arrays(unittest.TestCase):
         self.assertEqual((one.kind, one.values, list(one.offsets or ()), one.validity, one.empties), (Kind.LIST, b"", [0, 2, 2, 2], b"\5", None))
         self.assertEqual([(each.kind, each.cells, each.validity) for each in one.items], [(Kind.INT, 2, b"\1")])
         self.assertEqual(pickle.loads(pickle.dumps(batch)), batch)
+
+    @unittest.skipUnless(_arrays._compiled, "the module in C was not built")
+    def test_values_with_items_by_either_way(self) -> None:
+        """Without the module in C the arrays are the same, where no set and no map has equal items."""
+        for stream in streams():
+            if stream.limits.parts:
+                continue
+            for limits in (stream.limits, replace(stream.limits, types=False)):
+                given = read(stream.bytes, limits, rows=3)
+                with mock.patch.object(_arrays, "_compiled", None):
+                    wanted = read(stream.bytes, limits, rows=3)
+                for one, two in zip(given[0], wanted[0]):
+                    for column, other in zip(one.arrays, two.arrays):
+                        if not any(word in str(column.column) for word in ("Kind.SET", "Kind.MAP")):
+                            self.assertEqual(column, other, stream.name)
+                self.assertEqual((told(rows_of(given[0])), given[1]), (told(rows_of(wanted[0])), wanted[1]), stream.name)
+
+    def test_columns_by_name_of_all_streams(self) -> None:
+        """Those that are left out change nothing in the others, and are checked too."""
+        for stream in streams():
+            for limits in (replace(stream.limits, parts=False), replace(stream.limits, parts=False, types=False)):
+                whole, end = read(stream.bytes, limits, rows=4)
+                names = sorted({one.column.name for batch in whole for one in batch.arrays if one.column})
+                for kept in ([], names[:1], names[1:], names):
+                    batches, ending = read(stream.bytes, limits, rows=4, columns=kept)
+                    for one, all_of in zip(batches, whole):
+                        found = tuple(each for each in all_of.arrays if each.column is None or each.column.name in kept)
+                        self.assertEqual((one.arrays, one.count, one.first), (found, all_of.count, all_of.first), stream.name)
+                    self.assertEqual((len(batches), ending), (len(whole), end))
+
+    @unittest.skipUnless(_arrays._compiled, "the module in C was not built")
+    def test_a_column_that_is_left_out_takes_no_memory(self) -> None:
+        data = page([INT, b"\0\3", b"\0\x20" + INT], [[cell(b"\0\0\0\7"), cell(bytes(900_000)), list_of(*[NULL] * 300_000)]] * 2)
+        self.assertRaises(cqlp.CellTooLong, list, cqlp.arrays(data, memory=100_000))
+        tracemalloc.start()
+        batches = list(cqlp.arrays(data, memory=100_000, columns=["c0"]))
+        self.assertLess(tracemalloc.get_traced_memory()[1], 1_000_000)
+        tracemalloc.stop()
+        self.assertEqual([(batch.count, list(batch["c0"].numbers())) for batch in batches], [(2, [7, 7])])
+        with self.assertRaises(cqlp.CellTooLong) as raised:
+            list(cqlp.arrays(data, memory=100_000, columns=["c0", "c2"]))
+        self.assertEqual((raised.exception.row, raised.exception.column), (0, 2))
+
+    @unittest.skipUnless(_arrays._compiled, "the module in C was not built")
+    def test_memory_bounds_values_with_items(self) -> None:
+        data = page([b"\0\x20" + INT], [[list_of(*[cell(b"\0\0\0\1")] * (at % 40))] for at in range(2000)])
+        for memory in (2_000, 10_000, 1 << 20):
+            batches, end = read(data, memory=memory, rows=1 << 20)
+            self.assertEqual((rows_of(batches), end), (list(cqlp.rows(data)), None))
+            for batch in batches:
+                one = batch.arrays[0]
+                self.assertLess(8 * one.cells + len(one.items[0].values), memory)
+        # a tuple of 4,000 fields that did not come takes 8 bytes of a page
+        wide = b"\0\x20\0\x31" + struct.pack(">H", 4000) + INT * 4000
+        many = page([wide], [[list_of(*[cell(cell(b"\0\0\0\1"))] * 20_000)]])
+        tracemalloc.start()
+        self.assertRaises(cqlp.CellTooLong, list, cqlp.arrays(many, memory=1 << 22))
+        self.assertLess(tracemalloc.get_traced_memory()[1], 1 << 24)
+        tracemalloc.stop()
+
+    def test_parts_of_values_with_items(self) -> None:
+        limits = cqlp.Limits(cell=4096, parts=True)
+        long = cell(b"x" * 10_000)
+        data = page([b"\0\x20\0\3", b"\0\x0d"], [[list_of(long, NULL, cell(b"y")), cell(b"t" * 4_000)], [NULL, NOTHING]])
+        for rows in (1, 9):
+            for piece in (1000, 1 << 20):
+                batches, end = read(data, limits, rows=rows, piece=piece)
+                self.assertEqual((rows_of(batches), end), ([([b"x" * 10_000, None, b"y"], "t" * 4_000), (None, "")], None))
+
+    @unittest.skipUnless(_arrays._compiled, "the module in C was not built")
+    def test_the_module_in_c_refuses_what_is_no_cell(self) -> None:
+        nested, event = _arrays._compiled.Nested, _native.Event()
+        for wrong in ((), ((), 1, 1), (((9, ()),), 0, 1), (((9, ()),), 1, 0), ((9,), 1, 1), (((9,),), 1, 1), (((300, ()),), 1, 1), (((32, ()),), 1, 1)):
+            self.assertRaises((TypeError, ValueError), nested, *wrong)
+        endless: Any = (9, ())
+        for _ in range(70):
+            endless = (32, (endless,))
+        self.assertRaises(ValueError, nested, (endless,), 1, 1)
+        for call in (lambda: nested.__new__(nested).take(1, 0, 0), lambda: nested.__new__(nested).arrays()):
+            self.assertRaises(ValueError, call)
+        begun = nested(((32, ((9, ()),)),), 9, 1 << 20)
+        self.assertRaises(TypeError, begun.__init__, ((9, ()),), 1, 1)
+
+        def give(tag: int, kind: int) -> None:
+            event.tag, event.kind = tag, kind
+            begun.take(ctypes.addressof(event), 0, 1)
+
+        for tag, kind in ((Tag.LEAVE, 0), (Tag.LEAF, 9), (Tag.ENTER, 33), (Tag.PART, 0)):
+            self.assertRaises(ValueError, give, tag, kind)
+        give(Tag.ENTER, 32)
+        self.assertRaises(ValueError, give, Tag.LEAF, 2)
+        give(Tag.LEAVE, 0)
+        self.assertEqual(begun.arrays()[0], 1)
 
     def test_what_arrays_do_not_have(self) -> None:
         for words in ({"rows": 0}, {"memory": 0}):

@@ -1,10 +1,12 @@
 """The C data interface of Apache Arrow: a consumer takes batches as the interface says, and finds the values that `rows` gives."""
 
 import ctypes
+import decimal
 import gc
 import struct
 import sys
 import threading
+import tracemalloc
 import unittest
 from ctypes import POINTER, c_char_p, c_int64, c_void_p
 from typing import Any, Dict, List, Optional, Tuple
@@ -15,6 +17,8 @@ from cqlp import Kind, Type, _arrow, messages
 
 from .streams import BINDINGS
 from .test_message_events import VALUES
+from .test_pages import cell
+from .test_pages import page as made_page
 
 try:
     _arrow.capsules()
@@ -22,6 +26,7 @@ try:
 except ImportError:
     BUILT = False
 
+EXACT = decimal.Context(prec=decimal.MAX_PREC, Emin=decimal.MIN_EMIN, Emax=decimal.MAX_EMAX)
 PAGES = (BINDINGS / "pages.bin").read_bytes()
 
 
@@ -128,6 +133,14 @@ def values(schema: Schema, array: Array) -> List[Any]:
         ends = (c_int64 * (count + 1)).from_address(array.buffers[1])
         found = [ctypes.string_at(array.buffers[2] + one, two - one) for one, two in zip(ends, ends[1:])]
         found = [one.decode() if form == b"U" else one for one in found]
+    elif form.startswith(b"d:"):
+        digits, scale, *width = map(int, form[2:].split(b","))
+        size, exact = (width or [128])[0] // 8, decimal.Context(prec=digits)
+        assert (digits, size) in ((38, 16), (76, 32))
+        bits = ctypes.string_at(array.buffers[1], size * count)
+        numbers = [int.from_bytes(bits[size * at : size * at + size], "little", signed=True) for at in range(count)]
+        assert all(abs(number) < 10**digits for number in numbers)
+        found = [decimal.Decimal(number).scaleb(-scale, exact) for number in numbers]
     elif form == b"b":
         found = [bit(array.buffers[1], at) for at in range(count)]
     else:
@@ -150,10 +163,13 @@ def said(schema: Schema) -> Any:
     return schema.format, schema.name, schema.flags, metadata(schema), inner
 
 
-def in_arrow(kind: int, value: Any) -> Any:
-    """A value as its array has it."""
-    if value is None or (value is cqlp.EMPTY and kind not in (Kind.VARINT, Kind.DECIMAL, Kind.INET)):
+def in_arrow(kind: int, value: Any, decimals: bytes = b"U") -> Any:
+    """A value as its array has it, a decimal or a varint as in this format."""
+    numbers = (Kind.VARINT, Kind.DECIMAL)
+    if value is None or (value is cqlp.EMPTY and (kind != Kind.INET and (kind not in numbers or decimals != b"Z"))):
         return None
+    if kind in numbers and decimals != b"Z":
+        return str(decimal.Decimal(value)) if decimals == b"U" else value
     (event,) = cqlp.cell_events(Type(Kind(kind)), value)
     if event.tag == cqlp.Tag.EMPTY:
         return "" if kind in (Kind.ASCII, Kind.VARCHAR) else b""
@@ -199,11 +215,14 @@ class Arrow(unittest.TestCase):
                 found = []
                 for batch in cqlp.arrays(page, rows=rows):
                     (form, name, flags, words, inner), column = taken(batch["a"])
+                    self.assertEqual(form[:1] in (b"d", b"U") or type.kind not in (Kind.VARINT, Kind.DECIMAL), True)
                     self.assertEqual((name, flags, inner, words[b"cqlp.type"]), (b"a", 2, [], str(type).encode()))
                     self.assertEqual(words.get(b"ARROW:extension:name"), b"arrow.uuid" if form == b"w:16" else None)
                     self.assertEqual([(value,) for value in column], taken(batch)[1])
+                    first = len(found)
                     found += column
-                self.assertEqual(found, [in_arrow(type.kind, value) for value in given], text)
+                    self.assertEqual(column, [in_arrow(type.kind, value, form) for value in given[first : len(found)]], text)
+                self.assertEqual(len(found), len(given))
 
     def nested(self, type: Type, some: List[Any]) -> None:
         given = [*some, None, *some]
@@ -215,6 +234,158 @@ class Arrow(unittest.TestCase):
                 self.assertEqual((form, columns[1]), (b"+s", taken(batch["a"])[0]))
                 found += both
             self.assertEqual(found, [(at, in_items(type, value)) for at, value in enumerate(given)], type)
+
+    def test_decimals_of_one_scale(self) -> None:
+        most, more = decimal.Decimal("9" * 38), decimal.Decimal("9" * 76)
+        for given, form in (
+            (["1.50", "-2.25", "0.00"], b"d:38,2"),
+            (["0"], b"d:38,0"),
+            (["3E+5", "-1E+5", "0E+5"], b"d:38,0"),
+            (["0E+2147483648"], b"d:38,0"),
+            ([most, most.copy_negate()], b"d:38,0"),
+            ([EXACT.add(most, 1)], b"d:76,0,256"),
+            ([more, more.copy_negate()], b"d:76,0,256"),
+            ([EXACT.add(more, 1)], b"U"),
+            (["1E+37"], b"d:38,0"),
+            (["1E+38"], b"d:76,0,256"),
+            (["1E+76"], b"U"),
+            (["1E-38"], b"d:38,38"),
+            (["1E-39"], b"d:76,39,256"),
+            (["-1E-76"], b"d:76,76,256"),
+            (["1E-77"], b"U"),
+            (["1.5", "2.25"], b"U"),
+            ([str(1 << 4000)], b"U"),
+            ([], b"U"),
+        ):
+            numbers = [None, *map(EXACT.create_decimal, given), cqlp.EMPTY]
+            for type, wrap in (("decimal", lambda one: one), ("list<decimal>", lambda one: [one, one])):
+                page = cqlp.encode(messages.Rows.of([("a", type)], [(wrap(one),) for one in numbers]))
+                (batch,) = cqlp.arrays(page)
+                (found, _, _, _, inner), column = taken(batch["a"])
+                self.assertEqual((inner[0][0] if inner else found), form, given)
+                wanted = [in_arrow(Kind.DECIMAL, one, form) for one in numbers]
+                self.assertEqual(column, list(map(wrap, wanted)), given)
+
+    def test_varints(self) -> None:
+        for number in (0, 10**38 - 1, 10**38, 10**76 - 1, 10**76, 1 << 255, (1 << 255) - 1, 1 << 256, 1 << 2000, 1 << 40000):
+            for given in ([number], [-number], [None, number, -number, cqlp.EMPTY]):
+                digits = len(str(decimal.Decimal(number))) if number < 1 << 300 else 999
+                form = b"d:38,0" if digits <= 38 else b"d:76,0,256" if digits <= 76 else b"U"
+                page = cqlp.encode(messages.Rows.of([("a", "varint")], [(one,) for one in given]))
+                (batch,) = cqlp.arrays(page)
+                (found, *_), column = taken(batch["a"])
+                self.assertEqual((found, column), (form, [in_arrow(Kind.VARINT, one, form) for one in given]))
+        # two's complement with more bytes than it needs
+        for content in (bytes(40) + b"\x80", b"\xff" * 40 + b"\x80"):
+            (batch,) = cqlp.arrays(made_page([b"\0\x0e"], [[cell(content)]]))
+            self.assertEqual(taken(batch["c0"])[1], [128 if content[0] == 0 else -128])
+
+    def test_decimals_by_choice(self) -> None:
+        columns = [("a", "decimal"), ("b", "varint"), ("c", "map<decimal, list<varint>>")]
+        rows = [(decimal.Decimal("1.50"), 7, {decimal.Decimal("-0.5"): [1, None]}), (None, cqlp.EMPTY, None)]
+        page = cqlp.encode(messages.Rows.of(columns, rows))
+        (batch,) = cqlp.arrays(page, decimals="text")
+        self.assertEqual(taken(batch)[1], [("1.50", "7", [("-0.5", ["1", None])]), (None, None, None)])
+        (batch,) = cqlp.arrays(page, decimals="bytes")
+        scaled = [struct.pack(">i", 2) + b"\0\x96", struct.pack(">i", 1) + b"\xfb"]
+        self.assertEqual(taken(batch)[1], [(scaled[0], b"\7", [(scaled[1], [b"\1", None])]), (None, b"", None)])
+        self.assertRaises(ValueError, cqlp.arrays, page, decimals="float")
+
+    def test_streams_of_decimals(self) -> None:
+        """The first batch says what type they have, and a number that has another scale is written with that, where it can be."""
+
+        def pages(*groups: List[Any]) -> bytes:
+            columns = [("id", "int"), ("price", "decimal"), ("n", "list<varint>")]
+            return b"".join(cqlp.encode(messages.Rows.of(columns, [(1, one, [2]) for one in map(EXACT.create_decimal, group)])) for group in groups)
+
+        one, two, three = ["1.50"], ["2", "3.5", "4E+1", "0E+9", "0.000"], ["1.505"]
+        self.assertEqual([str(row[1]) for row in read(cqlp.arrays(pages(one, two)))[0]], ["1.50", "2.00", "3.50", "40.00", "0.00", "0.00"])
+        rows, error = read(cqlp.arrays(pages(one, three)))
+        self.assertEqual([len(rows), error], [1, b"the column 'price' has the number 1.505, which is no decimal128(38, 2): pass decimals=\"text\" for texts in its place"])
+        self.assertEqual([row[1] for row in read(cqlp.arrays(pages(one, three), decimals="text"))[0]], ["1.50", "1.505"])
+        self.assertEqual([row[1] for row in read(cqlp.arrays(pages(one + three, one)))[0]], ["1.50", "1.505", "1.50"])
+        rows, error = read(cqlp.arrays(pages(one, ["1" * 5000])))
+        self.assertTrue(len(rows) == 1 and error and b"1111.., which is no decimal128(38, 2)" in error)
+        other = cqlp.encode(messages.Rows.of([("id", "int"), ("price", "int"), ("n", "list<varint>")], [(1, 1, [2])]))
+        for given in (other + pages(one), pages(one) + other, pages(one) + cqlp.encode(messages.Rows.of([("id", "int")], []))):
+            self.assertEqual(read(cqlp.arrays(given))[1], b"page 1 has other columns than the page before it")
+
+    def test_decimals_in_c_refuse_other_buffers(self) -> None:
+        capsules, ends = _arrow.capsules(), struct.pack("=2q", 0, 5)
+        self.assertEqual(capsules.scale_of(b"\0\0\0\2\7", ends, None, 1, True), (38, 2))
+        for wrong in ((b"", b"", None, 0, True), (b"", ends, None, 2, True), (b"", ends, None, -1, True), (b"", ends, b"", 1, True)):
+            self.assertRaises(ValueError, capsules.scale_of, *wrong)
+            self.assertRaises(ValueError, capsules.decimals, *wrong, 0, 38)
+        for offsets in ((0, 6), (5, 0), (-1, 5), (0, 3)):  # a cell that is not there
+            self.assertIsNone(capsules.scale_of(b"\0\0\0\2\7", struct.pack("=2q", *offsets), None, 1, True))
+
+    def test_layout(self) -> None:
+        """Each buffer begins at a multiple of 8 bytes, is as long as its cells ask, and has zeros behind the last bit; where values are missing there are
+        zeros, and no offset goes back."""
+        for text, some in VALUES.items():
+            given = [*some, None] * 5
+            page = cqlp.encode(messages.Rows.of([("a", text), ("b", "list<int>")], [(one, [1]) for one in given]))
+            for alone in (page, cqlp.encode(messages.Rows.of([("a", text)], [(one,) for one in given]))):
+                (batch,) = cqlp.arrays(alone)
+                schema = batch._arrow_schema()
+                self.laid_out(batch._arrow_array(schema), schema)
+                capsules = batch.__arrow_c_array__()
+                array = moved(Array, capsules[1])
+                self.aligned(array)
+                release(array)
+
+    def aligned(self, array: Array) -> None:
+        for at in range(array.n_buffers):
+            self.assertEqual((array.buffers[at] or 0) % 8, 0)
+        for at in range(array.n_children):
+            self.aligned(array.children[at][0])
+
+    def laid_out(self, told: Any, schema: Any) -> None:
+        cells, nulls, (validity, *buffers), items = told
+        form, _, _, _, children = schema
+        if validity is not None:
+            self.assertEqual(len(validity), (cells + 7) // 8)
+            self.assertEqual((int.from_bytes(validity, "little") >> cells, bin(int.from_bytes(validity, "little")).count("1")), (0, cells - nulls))
+        if form in (b"U", b"Z", b"+L", b"+m"):
+            ends = struct.unpack("=%d%s" % (cells + 1, "i" if form == b"+m" else "q"), buffers[0])
+            last = items[0][0] if items else len(buffers[1])
+            self.assertTrue(ends[0] == 0 and ends[-1] == last and list(ends) == sorted(ends))
+        elif form == b"b":
+            self.assertEqual((len(buffers[0]), int.from_bytes(buffers[0], "little") >> cells), ((cells + 7) // 8, 0))
+        elif form != b"+s":
+            size = struct.calcsize(NUMBERS[form]) if form in NUMBERS else 32 if form.endswith(b"256") else 16
+            self.assertEqual(len(buffers[0]), size * cells)
+            for at in range(cells):
+                if validity is not None and not validity[at // 8] >> at % 8 & 1 and form != b"tdD":
+                    self.assertEqual(buffers[0][size * at : size * at + size], bytes(size))
+        self.assertEqual(len(items), len(children))
+        for item, inner in zip(items, children):
+            self.assertTrue(form != b"+s" or item[0] == cells)
+            self.laid_out(item, inner)
+
+    def test_releases_once_and_leaks_nothing(self) -> None:
+        page = cqlp.encode(messages.Rows.of([("a", text) for text in VALUES], [tuple(some[0] for some in VALUES.values()), (None,) * len(VALUES)]))
+
+        def once() -> None:
+            for rows in (1, 99):
+                for batch in cqlp.arrays(page, rows=rows):
+                    taken(batch)
+                    batch.__arrow_c_array__()
+                read(cqlp.arrays(page, rows=rows))
+                next(cqlp.arrays(page, rows=rows)).__arrow_c_schema__()
+
+        once()
+        gc.collect()
+        tracemalloc.start()
+        once()
+        gc.collect()
+        before = tracemalloc.get_traced_memory()[0]
+        for _ in range(5):
+            once()
+        gc.collect()
+        after = tracemalloc.get_traced_memory()[0]
+        tracemalloc.stop()
+        self.assertLess(after - before, 20_000)
 
     def test_scalars_beside_values_with_items(self) -> None:
         """Their arrays are those that the library makes of a page of scalars alone."""
