@@ -207,6 +207,7 @@ struct Readme;
 
 // What dist/erase writes has the layout of its source.
 mod checked;
+mod clones;
 mod conversions;
 #[rustfmt::skip]
 mod cqlp_build;
@@ -268,10 +269,12 @@ mod errors;
 mod hex;
 mod itoa;
 mod jiff_core;
+mod messages;
 mod names;
 mod params;
 pub mod rows;
 mod uuid;
+pub mod wire;
 
 #[cfg(feature = "cli")]
 mod clap;
@@ -350,6 +353,7 @@ pub use cqlp_note::{
 pub use cqlp_skip::{NotSkippable, Skipped, SkippingDecoder};
 #[cfg(feature = "std")]
 pub use cqlp_sockets::{Cause, OfSocket};
+pub use conversions::OtherValue;
 pub use cqlp_type::TypeTable;
 pub use cqlp_type_tables::{TableError, table_of, table_of_specs};
 pub use kit_std::alloc::Global;
