@@ -11,7 +11,6 @@ use cqlp::wire::{ClientSide, FrameReader, Heard};
 use cqlp::{Consistency, Decoder, Global, Limits, bind, row, table_of_specs};
 use std::net::{Ipv4Addr, TcpStream};
 use std::thread;
-use std::time::Instant;
 
 type Result<T> = std::result::Result<T, Box<dyn std::error::Error + Send + Sync>>;
 
@@ -91,10 +90,9 @@ impl Connection {
     }
 }
 
-fn main() -> Result<()> {
-    let words: Vec<String> = std::env::args().skip(1).collect();
-    let [port, rows] = &words[..] else { return Err("ask_rows PORT ROWS".into()) };
-    let (mut connection, rows): (_, i32) = (Connection::open(port.parse()?)?, rows.parse()?);
+/// Asks for many pages at once, and then for one of so many rows. Returns how many rows came of it, and the sum of their totals.
+pub(crate) fn ask(port: u16, rows: i32) -> Result<(u32, i64)> {
+    let mut connection = Connection::open(port)?;
     let statement = connection.prepare("ROWS 0")?;
     for number in 0..i32::from(OPEN) {
         connection.execute(&statement, number)?;
@@ -109,9 +107,14 @@ fn main() -> Result<()> {
     println!("{items} rows of {OPEN} pages; the last {last:?}");
     println!("{}", bind!(&statement.specs; 7i64).unwrap_err());
     println!("{:?}", connection.exchange(Message::query("x", QueryParams::new(Consistency::One)))?);
-    let start = Instant::now();
-    let (count, sum) = thread::spawn(move || connection.sum(&statement, rows)).join().expect("no panic")?;
+    thread::spawn(move || connection.sum(&statement, rows)).join().expect("no panic")
+}
+
+#[allow(dead_code)]
+fn main() -> Result<()> {
+    let words: Vec<String> = std::env::args().skip(1).collect();
+    let [port, rows] = &words[..] else { return Err("ask_rows PORT ROWS".into()) };
+    let (count, sum) = ask(port.parse()?, rows.parse()?)?;
     println!("{count} rows, whose totals sum to {sum}");
-    eprintln!("in {:?}", start.elapsed());
     Ok(())
 }

@@ -86,6 +86,7 @@ fn main() -> Result<()> {
     let words: Vec<String> = std::env::args().skip(1).collect();
     let [port, node, column] = &words[..] else { return Err("redact PORT NODE_PORT COLUMN".into()) };
     let (listener, node): (_, u16) = (TcpListener::bind((Ipv4Addr::LOCALHOST, port.parse()?))?, node.parse()?);
+    println!("listening on {}", listener.local_addr()?);
     loop {
         let (client, _) = listener.accept()?;
         let node = TcpStream::connect((Ipv4Addr::LOCALHOST, node))?;

@@ -67,10 +67,8 @@ fn page(server: &mut ServerSide, stream: &TcpStream, id: i16, rows: u32, is_bare
     server.send_rows(stream, &Frame::plain(id, Message::bare_rows(meta, rows)), &specs, (0..rows).map(row))
 }
 
-fn main() -> Result<()> {
-    let port = std::env::args().nth(1).ok_or("serve_rows PORT")?.parse()?;
-    let listener = TcpListener::bind((Ipv4Addr::LOCALHOST, port))?;
-    println!("listening on {}", listener.local_addr()?);
+/// Serves connections, each in a thread of its own.
+pub(crate) fn listen(listener: &TcpListener) -> Result<()> {
     for stream in listener.incoming() {
         let mut stream = stream?;
         stream.set_nodelay(true)?;
@@ -81,4 +79,12 @@ fn main() -> Result<()> {
         });
     }
     Ok(())
+}
+
+#[allow(dead_code)]
+fn main() -> Result<()> {
+    let port = std::env::args().nth(1).ok_or("serve_rows PORT")?.parse()?;
+    let listener = TcpListener::bind((Ipv4Addr::LOCALHOST, port))?;
+    println!("listening on {}", listener.local_addr()?);
+    listen(&listener)
 }

@@ -104,13 +104,11 @@
 //!
 //! | driver | option |
 //! |---|---|
-//! | Java, 4 | `advanced.protocol.compression = none`, which is the default |
-//! | Python | `Cluster(compression=False)` |
+//! | Java, from 4 on | `advanced.protocol.compression = none`, which is the default |
+//! | Java, 3 | `Cluster.builder().withCompression(ProtocolOptions.Compression.NONE)`, which is the default |
+//! | Python | `Cluster(compression=False)`; else it compresses where lz4 or snappy is installed |
 //! | Go, gocql | `ClusterConfig.Compressor = nil`, which is the default |
 //! | Rust, scylla | `SessionBuilder::compression(None)`, which is the default |
-//! | C++ | none is asked for |
-//! | Node.js | `encoding` has no compression: none is asked for |
-//! | `cqlsh` | `[connection] compression = off` of `cqlshrc` |
 //!
 //! A proxy takes the offer away: of each SUPPORTED that passes, the values of `COMPRESSION` are left out by
 //! [`Message::without_compression`](crate::frame::Message::without_compression), and the frame is written again. It does the same with
