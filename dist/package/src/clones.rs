@@ -1,7 +1,8 @@
 //! Copies and hashes of what a program owns. Written by hand, and not proved.
 //!
 //! A copy asks for memory as those of std do, which ends the program where it is refused; `from_slice` and `from_str` of
-//! [`memory`](crate::memory) answer an error. Two values that are equal have the same hash.
+//! [`memory`](crate::memory) answer an error. Two values that are equal have the same hash. With the feature `cli`, `kit_host` has the copies
+//! of vectors, boxes and texts.
 use core::hash::{Hash, Hasher};
 use core::mem::discriminant;
 
@@ -19,6 +20,7 @@ use crate::kit_std::boxed::Box;
 use crate::kit_std::string::String;
 use crate::kit_std::vec::Vec;
 
+#[cfg(not(feature = "cli"))]
 impl<T: Clone, A: Allocator + Clone> Clone for Vec<T, A> {
     fn clone(&self) -> Self {
         Vec { items: self.items.clone(), alloc: self.alloc.clone() }
@@ -31,6 +33,7 @@ impl<T: Hash, A: Allocator> Hash for Vec<T, A> {
     }
 }
 
+#[cfg(not(feature = "cli"))]
 impl<A: Allocator + Clone> Clone for String<A> {
     fn clone(&self) -> Self {
         String { text: self.text.clone(), alloc: self.alloc.clone() }
@@ -43,6 +46,7 @@ impl<A: Allocator> Hash for String<A> {
     }
 }
 
+#[cfg(not(feature = "cli"))]
 impl<T: Clone, A: Allocator + Clone> Clone for Box<T, A> {
     fn clone(&self) -> Self {
         Box { of: self.of.clone(), alloc: self.alloc.clone() }

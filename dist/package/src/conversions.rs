@@ -77,6 +77,8 @@ impl<T> FromIterator<T> for Vec<T> {
     }
 }
 
+// With the feature `cli`, `kit_host` has it.
+#[cfg(not(feature = "cli"))]
 impl<T> IntoIterator for Vec<T> {
     type Item = T;
     type IntoIter = alloc::vec::IntoIter<T>;

@@ -20,82 +20,18 @@
 //! [`Inbox::room`], say how many bytes came by [`Inbox::filled`], call `hear` or `next` **until it answers None**, and write what the
 //! [`Outbox`] has.
 //!
-//! # Answer a driver
+//! [`ClientSide`] has the loop of a client, the front page of this package [that of a server](crate#answer-a-driver) and
+//! [that of a proxy](crate#pass-on-and-alter).
 //!
-//! A server with one row, which any driver can ask for:
+//! # Sockets that do not wait
 //!
-#![cfg_attr(feature = "std", doc = "```no_run")]
-#![cfg_attr(not(feature = "std"), doc = "```ignore")]
-//! use cqlp::frame::{Frame, Message, Spec, Value};
-//! use cqlp::wire::ServerSide;
-//! use cqlp::{ErrorCode, Kind};
-//! use std::net::{TcpListener, TcpStream};
+//! A call of `receive` or `send` that answers `WouldBlock` has lost nothing: what came is in the inbox, what was not taken stays in the
+//! outbox. `examples/poll` of this package is that loop over many connections with std alone. The same loop over other crates:
 //!
-//! fn answer(request: Message) -> Message {
-//!     match request {
-//!         Message::Options => Message::supported(&[("CQL_VERSION", &["3.4.5"]), ("COMPRESSION", &[])]),
-//!         Message::Startup(_) | Message::Register(_) => Message::Ready,
-//!         Message::Query { text, .. } if text.contains("shop.price") => {
-//!             Message::rows("shop", "price", vec![Spec::new("cents", Kind::Int)], vec![Value::from(250)])
-//!         }
-//!         _ => Message::error(ErrorCode::Invalid, "there is only shop.price"),
-//!     }
-//! }
-//!
-//! fn serve(mut stream: &TcpStream) -> Result<(), Box<dyn std::error::Error>> {
-//!     let mut server = ServerSide::new(1 << 20)?;
-//!     while server.inbox().receive(stream)? > 0 {
-//!         let heard = loop {
-//!             match server.hear() {
-//!                 Ok(Some(request)) => server.answer(&Frame::plain(request.stream, answer(request.message)))?,
-//!                 other => break other,
-//!             }
-//!         };
-//!         server.outbox().send(&mut stream)?; // also the ERROR for a request that is refused
-//!         heard?;
-//!     }
-//!     Ok(())
-//! }
-//!
-//! let listener = TcpListener::bind("127.0.0.1:9042")?;
-//! for stream in listener.incoming() {
-//!     if let Err(fault) = serve(&stream?) {
-//!         eprintln!("{fault}");
-//!     }
-//! }
-//! # Ok::<(), std::io::Error>(())
-//! ```
-//!
-//! # Pass on and alter
-//!
-//! One direction of a proxy, which renames a keyspace in queries. What is no query passes on as it came, whatever its version:
-//!
-#![cfg_attr(feature = "std", doc = "```")]
-#![cfg_attr(not(feature = "std"), doc = "```ignore")]
-//! use cqlp::wire::{Arrival, Inbox, TextAlterer};
-//! use cqlp::{Field, Opcode};
-//! use std::io::{Read, Write};
-//!
-//! fn relay(mut from: impl Read, mut to: impl Write) -> Result<(), Box<dyn std::error::Error>> {
-//!     let (mut inbox, mut alterer) = (Inbox::new(1 << 20), TextAlterer::new(2 << 20)?);
-//!     let asks = |opcode| matches!(opcode, Opcode::Query | Opcode::Prepare | Opcode::Batch);
-//!     while inbox.receive(&mut from)? > 0 {
-//!         while let Some((arrival, bytes)) = inbox.next(|header| header.to_header().is_ok_and(|header| asks(header.opcode))) {
-//!             let altered = match arrival {
-//!                 Arrival::Frame(_) => alterer.alter(bytes, |field, text| (field == Field::Query).then(|| text.replace("shop.", "store.")))?,
-//!                 Arrival::Passing(_) => None,
-//!             };
-//!             to.write_all(altered.as_deref().unwrap_or(bytes))?;
-//!         }
-//!     }
-//!     Ok(to.write_all(inbox.rest())?)
-//! }
-//!
-//! let (asked, mut sent) = (*b"\x04\0\0\x01\x09\0\0\0\x0a\0\0\0\x06shop.t\x05\0\0\x02\x05\0\0\0\0", Vec::new());
-//! relay(&asked[..], &mut sent)?;
-//! assert_eq!(sent, b"\x04\0\0\x01\x09\0\0\0\x0b\0\0\0\x07store.t\x05\0\0\x02\x05\0\0\0\0");
-//! # Ok::<(), Box<dyn std::error::Error>>(())
-//! ```
+//! - mio: after `poll.poll(&mut events, None)?`, of each readable token `receive` until it would wait, of each writable one `send`.
+//! - tokio: a task for each connection, with `let count = stream.read(side.inbox().room()?).await?; side.inbox().filled(count);`, and after
+//!   `hear` answered None `stream.write_all(side.outbox().bytes()).await?`, after which [`Outbox::sent`] is called.
+//! - futures, async-std and smol: the same calls of `AsyncReadExt` and `AsyncWriteExt`.
 //!
 //! # Compressed bodies
 //!
