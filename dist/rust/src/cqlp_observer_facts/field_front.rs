@@ -20,6 +20,10 @@ impl FieldFront {
         FieldFront { bytes, len }
     }
 
+    pub(crate) fn is_empty(&self) -> bool {
+        self.len == 0
+    }
+
     /// These bytes and one more, and how many they are then.
     pub(crate) fn with(&self, byte: u8) -> ([u8; 16], usize) {
         let mut bytes = self.bytes;

@@ -106,6 +106,16 @@ impl FactsReader {
         if self.due.is_idle() {
             return rest.len();
         }
+        self.take_field(rest)
+    }
+
+    /// Takes bytes of the field that is due: all of it, if it has not begun and lies whole in these bytes; else one byte.
+    fn take_field(&mut self, rest: &[u8]) -> usize {
+        let width = self.due.width();
+        if self.front.is_empty() && width <= rest.len() {
+            self.pass_field(&rest[..width]);
+            return width;
+        }
         self.take(rest[0]);
         1
     }

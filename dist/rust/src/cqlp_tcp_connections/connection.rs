@@ -18,7 +18,7 @@ pub(crate) struct Connection<A: Allocator> {
 }
 
 impl<A: Allocator> Connection<A> {
-    /// A connection of which nothing was told. It takes no memory.
+    /// A connection of which nothing was reported. It takes no memory.
     pub(crate) fn new(alloc: A, number: u64) -> Result<Self, AllocError>
     where
         A: Clone,
@@ -41,9 +41,12 @@ impl<A: Allocator> Connection<A> {
 
     /// Whether a segment that goes this way begins another connection between the same ends.
     pub(crate) fn begins_anew(&self, way: Way, head: &SegmentHead) -> bool {
+        if !head.flags.syn {
+            return false;
+        }
         let own = self.totals_of(way);
         let others = self.totals_of(way.other());
-        head.flags.syn && !own.may_begin(&others, head.sequence)
+        !own.may_begin(&others, head.sequence)
     }
 
     fn totals_of(&self, way: Way) -> DirectionTotals {
@@ -53,7 +56,7 @@ impl<A: Allocator> Connection<A> {
         }
     }
 
-    /// What was told of it, which is between these ends.
+    /// What was reported of it, which is between these ends.
     pub(crate) fn totals(&self, ends: &Ends) -> ConnectionTotals {
         ConnectionTotals {
             number: self.number,
@@ -72,8 +75,8 @@ impl<A: Allocator> Connection<A> {
         }
     }
 
-    /// The next that a segment tells which goes this way, captured then: first its acknowledgement, of the other way. Its own way may
-    /// hold this much in all. Nothing is told of its own where memory is refused.
+    /// The next report of a segment that goes this way, captured then: first its acknowledgement, of the other way. Its own way may
+    /// hold this much in all. Nothing is reported of its own where memory is refused.
     pub(crate) fn pull(
         &mut self,
         way: Way,
@@ -84,7 +87,7 @@ impl<A: Allocator> Connection<A> {
     where
         A: Clone,
     {
-        let head = segment.head;
+        let head = &segment.head;
         if head.flags.ack {
             let told = self.acknowledge(way.other(), head.acknowledgement);
             if told.is_some() {
@@ -92,14 +95,14 @@ impl<A: Allocator> Connection<A> {
             }
         }
         let own = StreamSegment {
-            control: control_of(&head, segment.missing),
+            control: control_of(head, segment.missing),
             payload: segment.payload,
             time,
         };
         self.take(way, &own, room)
     }
 
-    /// The next that a segment tells which goes this way.
+    /// The next report of a segment that goes this way.
     fn take(
         &mut self,
         way: Way,
@@ -116,7 +119,7 @@ impl<A: Allocator> Connection<A> {
         Ok(tell(self.number, way, step))
     }
 
-    /// The next of this way that an acknowledgement tells.
+    /// The next report of this way for an acknowledgement.
     fn acknowledge(&mut self, way: Way, number: u32) -> Option<Told> {
         let step = match way {
             Way::Requests => self.requests.acknowledge(number),
@@ -125,7 +128,7 @@ impl<A: Allocator> Connection<A> {
         tell(self.number, way, step)
     }
 
-    /// The next that is told where no more segments come: first of the requests.
+    /// The next report where no more segments come: first of the requests.
     pub(crate) fn close(&mut self) -> Option<Told> {
         let told = self.close_way(Way::Requests);
         if told.is_some() {
@@ -184,9 +187,9 @@ fn control_of(head: &SegmentHead, missing: usize) -> Control {
     }
 }
 
-/// What is told of this way of the connection with this number, if that is not `Done`.
+/// What is reported of this way of the connection with this number, if that is not `Done`.
 fn tell(number: u64, way: Way, step: SideStep) -> Option<Told> {
-    if step.step == StreamStep::Done {
+    if matches!(step.step, StreamStep::Done) {
         return None;
     }
     Some(Told {

@@ -48,20 +48,26 @@ impl Way {
 
 impl Ends {
     /// Which way a segment goes between them, if it is of theirs.
+    #[inline]
     pub(crate) fn way_of(&self, head: &SegmentHead) -> Option<Way> {
-        if ends_of(Way::Requests, head).are_same(self) {
+        if self.are(&head.source, &head.destination) {
             Some(Way::Requests)
-        } else if ends_of(Way::Responses, head).are_same(self) {
+        } else if self.are(&head.destination, &head.source) {
             Some(Way::Responses)
         } else {
             None
         }
     }
 
-    /// Whether they are these.
-    fn are_same(&self, other: &Ends) -> bool {
-        self == other
+    /// Whether they are this client and this node.
+    fn are(&self, client: &Endpoint, node: &Endpoint) -> bool {
+        is_same(client, &self.client) && is_same(node, &self.node)
     }
+}
+
+/// Whether two ends have the same port and address.
+fn is_same(end: &Endpoint, other: &Endpoint) -> bool {
+    end.port == other.port && end.address == other.address
 }
 
 /// Whether this port is asked for.

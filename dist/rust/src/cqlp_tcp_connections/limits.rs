@@ -6,7 +6,7 @@
 pub struct ConnectionLimits {
     /// How many connections there are at one time: 1 to 1,048,576.
     pub connections: u32,
-    /// How much all directions together hold of what came early, in the measure of `Stream::size`: of each packet its bytes and 128
+    /// How much all directions together hold of what came early, in the measure of `Stream::size`: of each packet its bytes and 144
     /// more.
     pub early: usize,
     /// How much one direction holds of it.

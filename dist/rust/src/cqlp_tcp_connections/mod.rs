@@ -8,6 +8,7 @@ mod pool;
 mod ports;
 mod side;
 mod table;
+mod tally;
 mod told;
 mod totals;
 

@@ -73,7 +73,7 @@ impl<A: Allocator> Pool<A> {
         self.cache.peek_mru()
     }
 
-    /// Puts a connection before the others, between ends that have none. Nothing was told of it, and a segment went this way.
+    /// Puts a connection before the others, between ends that have none. Nothing was reported of it, and a segment went this way.
     pub(crate) fn add(&mut self, ends: Ends, number: u64, way: Way) -> Result<(), AllocError>
     where
         A: Clone,
@@ -103,7 +103,7 @@ impl<A: Allocator> Pool<A> {
         first.count_segment(way);
     }
 
-    /// The next that a segment tells which goes this way of the first one.
+    /// The next report of a segment that goes this way of the first one.
     pub(crate) fn pull(
         &mut self,
         way: Way,
@@ -127,7 +127,7 @@ impl<A: Allocator> Pool<A> {
         told
     }
 
-    /// The next that is told of the first one where no more segments of it come.
+    /// The next report of the first one where no more segments of it come.
     pub(crate) fn close(&mut self) -> Option<Told> {
         let ends = self.first_ends()?;
         let first = self.cache.peek_mut(&ends)?;

@@ -1,12 +1,13 @@
 // Written by dist/erase from crates/cqlp_tcp_connections/src/side.rt.
-//! One direction of a connection, and what was told of it.
+//! One direction of a connection, and what was reported of it.
 
 use crate::kit_host::prelude::{AllocGlobal, Clone};
+use crate::cqlp_tcp_connections::tally::Tally;
 use crate::cqlp_tcp_connections::totals::DirectionTotals;
 use crate::cqlp_tcp_reassembly::{Stream, StreamSegment, StreamStep};
 use crate::kit_std::alloc::{AllocError, Allocator};
 
-/// What a stream tells, and after how many bytes and bytes of gaps.
+/// What a stream reports, and after how many bytes and bytes of gaps.
 #[derive(Clone, Copy, Debug, PartialEq, Eq)]
 pub(crate) struct SideStep {
     pub(crate) at: u64,
@@ -16,21 +17,21 @@ pub(crate) struct SideStep {
 /// One direction of a connection.
 pub(crate) struct Side<A: Allocator> {
     stream: Stream<A>,
-    totals: DirectionTotals,
+    totals: Tally,
 }
 
 impl<A: Allocator> Side<A> {
-    /// A direction of which nothing was told. It takes no memory.
+    /// A direction of which nothing was reported. It takes no memory.
     pub(crate) fn new(alloc: A) -> Self {
         Side {
             stream: Stream::new(alloc),
-            totals: DirectionTotals::NONE,
+            totals: Tally::new(),
         }
     }
 
-    /// What was told.
+    /// What was reported.
     pub(crate) fn totals(&self) -> DirectionTotals {
-        self.totals
+        self.totals.totals()
     }
 
     /// How much it holds of what came early, in the measure of `Stream::size`.
@@ -43,7 +44,7 @@ impl<A: Allocator> Side<A> {
         self.totals.count_segment();
     }
 
-    /// The next that a segment of this direction tells, which may hold this much in all.
+    /// The next report of a segment of this direction, which may hold this much in all.
     pub(crate) fn take(
         &mut self,
         segment: &StreamSegment<'_>,
@@ -55,13 +56,13 @@ impl<A: Allocator> Side<A> {
         let at = self.totals.position();
         let step = self.stream.take(segment, room)?;
         if let StreamStep::Began { syn } = step {
-            self.totals.begin(syn, segment.control.sequence);
+            self.totals.note_begin(syn, segment.control.sequence);
         }
         self.totals.note(step);
         Ok(SideStep { at, step })
     }
 
-    /// The next that an acknowledgement of the other direction tells.
+    /// The next report for an acknowledgement of the other direction.
     pub(crate) fn acknowledge(&mut self, number: u32) -> SideStep {
         let at = self.totals.position();
         let step = self.stream.acknowledge(number);
@@ -69,7 +70,7 @@ impl<A: Allocator> Side<A> {
         SideStep { at, step }
     }
 
-    /// The next that is told where no more segments come.
+    /// The next report where no more segments come.
     pub(crate) fn close(&mut self) -> SideStep {
         let at = self.totals.position();
         let step = self.stream.close();

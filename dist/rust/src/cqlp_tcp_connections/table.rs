@@ -14,8 +14,8 @@ use crate::kit_std::alloc::{AllocError, Allocator, Global};
 
 /// The connections of a capture, of which there are at most as many at one time as the caller's limit says.
 ///
-/// Of each segment `take` says whose it is, and then `pull`, again and again until it says `None`, what it hands on. Where it tells of
-/// `Held`, `held` lends the bytes, and `pass_held` comes before the next call. Where a connection has to leave first, `leave` tells what
+/// Of each segment `take` says whose it is, and then `pull`, again and again until it says `None`, what it hands on. Where it reports
+/// `Held`, `held` lends the bytes, and `pass_held` comes before the next call. Where a connection has to leave first, `leave` reports what
 /// it still has, until it says `Left`. At the end of the file `finish` does so for all that are there, until it says `Empty`.
 ///
 /// Memory is taken as connections and early bytes come, and given back. A connection that holds nothing takes about 450 bytes.
@@ -104,8 +104,8 @@ impl<A: Allocator> Connections<A> {
         first_way(&self.ports, head).is_some()
     }
 
-    /// The next that a segment tells which was taken, and was captured then. First its acknowledgement tells of the other way, gaps and
-    /// bytes that were held behind them; then its own bytes are told, and where its own way begins and ends. `None` once all is told,
+    /// The next report of the segment that was taken, and was captured then. First its acknowledgement reports of the other way gaps and
+    /// bytes that were held behind them; then its own bytes, and where its own way begins and ends. `None` once all is reported,
     /// and of a segment of another connection than the one that was taken last.
     ///
     /// A direction holds what comes early while all hold no more than the limit, and it no more than is left and than its own limit.
@@ -131,7 +131,7 @@ impl<A: Allocator> Connections<A> {
         Ok(told)
     }
 
-    /// The bytes of `Held`: the next of this way of the connection that was told of last.
+    /// The bytes of `Held`: the next of this way of the connection that was reported of last.
     pub fn held(&self, way: Way) -> &[u8] {
         self.pool.held(way)
     }
@@ -141,7 +141,7 @@ impl<A: Allocator> Connections<A> {
         self.pool.pass_held(way);
     }
 
-    /// The next that is told of the connection that has to leave: what it still holds, a hole before it as a gap, first of the
+    /// The next report of the connection that has to leave: what it still holds, a hole before it as a gap, first of the
     /// requests. At last that it has left.
     pub fn leave(&mut self) -> Departure {
         if let Some(told) = self.pool.close() {
@@ -157,7 +157,7 @@ impl<A: Allocator> Connections<A> {
         Departure::Left(totals)
     }
 
-    /// At the end of the file: the next that is told of the connection that was silent longest, which leaves. `Empty` once all have
+    /// At the end of the file: the next report of the connection that was silent longest, which leaves. `Empty` once all have
     /// left.
     pub fn finish(&mut self) -> Departure {
         if !self.leaving {
@@ -254,7 +254,7 @@ impl<A: Allocator> Connections<A> {
     }
 }
 
-/// Whether what a segment of this way told is a gap of its own way, which is declared where there is no room.
+/// Whether the report of a segment of this way is a gap of its own way, which is declared where there is no room.
 fn gives_up(way: Way, told: &Option<Told>) -> bool {
     match told {
         Some(told) => {

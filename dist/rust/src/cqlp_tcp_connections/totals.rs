@@ -1,10 +1,9 @@
 // Written by dist/erase from crates/cqlp_tcp_connections/src/totals.rt.
-//! What was told of connections, in numbers.
+//! What was reported of connections, in numbers.
 
-use crate::cqlp_tcp_reassembly::{GapCause, StreamStep};
-use crate::cqlp_tcp_segment::{Endpoint};
+use crate::cqlp_tcp_segment::Endpoint;
 
-/// Whether the begin of a direction was told.
+/// Whether the begin of a direction was reported.
 #[derive(Clone, Copy, Debug, PartialEq, Eq)]
 pub enum Begin {
     /// Nothing of it was.
@@ -15,7 +14,7 @@ pub enum Begin {
     Middle(u32),
 }
 
-/// Whether the end of a direction was told.
+/// Whether the end of a direction was reported.
 #[derive(Clone, Copy, Debug, PartialEq, Eq)]
 pub enum End {
     /// It was not.
@@ -26,10 +25,10 @@ pub enum End {
     Reset,
 }
 
-/// What was told of one direction of a connection. A number stays at 2^64 - 1 once it is there.
+/// What was reported of one direction of a connection. A number stays at 2^64 - 1 once it is there.
 #[derive(Clone, Copy, Debug, PartialEq, Eq)]
 pub struct DirectionTotals {
-    /// Segments, with those that told nothing.
+    /// Segments, with those of which nothing was reported.
     pub segments: u64,
     /// Bytes that were handed on.
     pub bytes: u64,
@@ -45,7 +44,7 @@ pub struct DirectionTotals {
     pub end: End,
 }
 
-/// What was told of a connection.
+/// What was reported of a connection.
 #[derive(Clone, Copy, Debug, PartialEq, Eq)]
 pub struct ConnectionTotals {
     /// Connections are numbered from 1 on, in the order in which their first segments came.
@@ -80,66 +79,10 @@ impl ConnectionCounts {
 }
 
 impl DirectionTotals {
-    /// Of a direction of which nothing was told.
-    pub(crate) const NONE: DirectionTotals = DirectionTotals {
-        segments: 0,
-        bytes: 0,
-        gaps: 0,
-        missing: 0,
-        snapped: 0,
-        snapped_bytes: 0,
-        begin: Begin::Unseen,
-        end: End::Open,
-    };
-
-    /// How many bytes and bytes of gaps were told.
+    /// How many bytes and bytes of gaps were reported.
     pub fn position(&self) -> u64 {
         self.bytes
             .saturating_add(self.missing)
             .saturating_add(self.snapped_bytes)
-    }
-
-    /// Counts a segment.
-    pub(crate) fn count_segment(&mut self) {
-        self.segments = self.segments.saturating_add(1);
-    }
-
-    /// Counts bytes that were handed on.
-    pub(crate) fn count_bytes(&mut self, count: usize) {
-        self.bytes = self.bytes.saturating_add(count as u64);
-    }
-
-    /// Notes that it begins with a segment of this head, with SYN or without.
-    pub(crate) fn begin(&mut self, syn: bool, sequence: u32) {
-        self.begin = if syn {
-            Begin::Syn(sequence)
-        } else {
-            Begin::Middle(sequence)
-        };
-    }
-
-    /// Counts a gap of so many bytes.
-    fn pass_over(&mut self, cause: GapCause, length: u64) {
-        match cause {
-            GapCause::Lost => {
-                self.gaps = self.gaps.saturating_add(1);
-                self.missing = self.missing.saturating_add(length);
-            }
-            GapCause::Snapped => {
-                self.snapped = self.snapped.saturating_add(1);
-                self.snapped_bytes = self.snapped_bytes.saturating_add(length);
-            }
-        }
-    }
-
-    /// Notes what was told of it.
-    pub(crate) fn note(&mut self, step: StreamStep) {
-        match step {
-            StreamStep::Payload { count, .. } => self.count_bytes(count),
-            StreamStep::Gap { length, cause, .. } => self.pass_over(cause, length),
-            StreamStep::Ended => self.end = End::Fin,
-            StreamStep::Reset => self.end = End::Reset,
-            _ => {}
-        }
     }
 }

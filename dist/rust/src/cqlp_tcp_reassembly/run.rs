@@ -4,6 +4,10 @@
 use crate::kit_std::prelude::{Vec};
 use crate::kit_std::alloc::{AllocError, Allocator};
 
+/// What `size` counts for each part of a segment that is kept, beside its bytes: what it takes beside them at most. That is 56 bytes for its
+/// record, as many where the queue has memory for one more, up to 31 of the allocator, and a share of the queue's own record.
+pub const RUN_SIZE: usize = 144;
+
 /// A part of a segment: that from one position up to another.
 #[derive(Clone, Copy)]
 pub(crate) struct Part {
@@ -41,8 +45,10 @@ pub(crate) struct Run<A: Allocator> {
     at: u64,
     bytes: Vec<u8, A>,
     missing: u64,
+    /// When the packet was captured, where that is known.
+    time: u64,
+    has_time: bool,
     begins: bool,
-    time: Option<u64>,
 }
 
 impl<A: Allocator> Run<A> {
@@ -54,8 +60,9 @@ impl<A: Allocator> Run<A> {
             at: early.part.from,
             bytes,
             missing: early.part.to - early.part.from - count,
+            time: early.time.unwrap_or(0),
+            has_time: early.time.is_some(),
             begins: early.begins,
-            time: early.time,
         })
     }
 
@@ -78,8 +85,12 @@ impl<A: Allocator> Run<A> {
             length: self.bytes.len(),
             missing: self.missing,
             begins: self.begins,
-            time: self.time,
+            time: self.time(),
         }
+    }
+
+    fn time(&self) -> Option<u64> {
+        if self.has_time { Some(self.time) } else { None }
     }
 
     /// Drops its bytes, and goes on behind them.

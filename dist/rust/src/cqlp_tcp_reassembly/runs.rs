@@ -1,119 +1,72 @@
 // Written by dist/erase from crates/cqlp_tcp_reassembly/src/runs.rt.
 //! What came early.
 
-use crate::kit_std::prelude::{Clone};
-use crate::cqlp_tcp_reassembly::run::{EarlyPart, Part, Run, RunSummary};
+use crate::kit_std::prelude::{Box, Clone};
+use crate::cqlp_tcp_reassembly::queue::RunQueue;
+use crate::cqlp_tcp_reassembly::run::{EarlyPart, Part, RunSummary};
 use crate::kit_std::alloc::{AllocError, Allocator};
-use crate::kit_std::collections::VecDeque;
 
-/// What `size` counts for each part of a segment that is kept, beside its bytes.
-pub const RUN_SIZE: usize = 128;
-
-/// Parts of segments that came early, by position. None covers another.
+/// Parts of segments that came early, by position. None covers another. It has memory only while there are any.
 pub(crate) struct Runs<A: Allocator> {
-    runs: VecDeque<Run<A>, A>,
-    /// Their bytes, and 128 for each.
-    size: usize,
+    queue: Option<Box<RunQueue<A>, A>>,
+    alloc: A,
 }
 
 impl<A: Allocator> Runs<A> {
     /// None, without memory.
     pub(crate) fn new(alloc: A) -> Self {
-        Runs {
-            runs: VecDeque::new(alloc),
-            size: 0,
-        }
+        Runs { queue: None, alloc }
     }
 
     /// What they count.
+    #[inline]
     pub(crate) fn size(&self) -> usize {
-        self.size
+        match &self.queue {
+            None => 0,
+            Some(queue) => queue.size(),
+        }
     }
 
+    #[inline]
     pub(crate) fn is_empty(&self) -> bool {
-        self.runs.is_empty()
+        match &self.queue {
+            None => true,
+            Some(queue) => queue.is_empty(),
+        }
     }
 
     /// The position of the first, or this one where it is less or there is none.
+    #[inline]
     pub(crate) fn first_at(&self, other: u64) -> u64 {
-        match self.runs.front() {
+        match &self.queue {
             None => other,
-            Some(run) => other.min(run.at()),
+            Some(queue) => queue.first_at(other),
         }
     }
 
     /// The first, if it begins at this position.
+    #[inline]
     pub(crate) fn summary_at(&self, position: u64) -> Option<RunSummary> {
-        match self.runs.front() {
+        match &self.queue {
             None => None,
-            Some(run) => {
-                if run.at() == position {
-                    Some(run.summary())
-                } else {
-                    None
-                }
-            }
+            Some(queue) => queue.summary_at(position),
         }
     }
 
     /// Its bytes.
     pub(crate) fn bytes_at(&self, position: u64) -> &[u8] {
-        match self.runs.front() {
+        match &self.queue {
             None => &[],
-            Some(run) => {
-                if run.at() == position {
-                    run.bytes()
-                } else {
-                    &[]
-                }
-            }
+            Some(queue) => queue.bytes_at(position),
         }
     }
 
     /// The first part from a position on, up to another, that none covers. It is empty where they cover all.
+    #[inline]
     pub(crate) fn first_free(&self, from: u64, to: u64) -> Part {
-        match self.behind_last(from) {
-            None => self.free_part(from, to),
-            Some(start) => Part {
-                index: self.runs.len(),
-                from: start,
-                to,
-            },
-        }
-    }
-
-    /// The position behind the last, or this one if it is greater, where the last begins no later.
-    fn behind_last(&self, from: u64) -> Option<u64> {
-        match self.runs.back() {
-            None => None,
-            Some(last) => {
-                if from < last.at() {
-                    None
-                } else {
-                    Some(from.max(last.end()))
-                }
-            }
-        }
-    }
-
-    /// That part, from the first of them on.
-    fn free_part(&self, from: u64, to: u64) -> Part {
-        let mut start = from;
-        for index in 0..self.runs.len() {
-            let run = &self.runs[index];
-            if start < run.at() {
-                return Part {
-                    index,
-                    from: start,
-                    to: to.min(run.at()),
-                };
-            }
-            start = start.max(run.end());
-        }
-        Part {
-            index: self.runs.len(),
-            from: start,
-            to,
+        match &self.queue {
+            None => Part { index: 0, from, to },
+            Some(queue) => queue.first_free(from, to),
         }
     }
 
@@ -126,34 +79,31 @@ impl<A: Allocator> Runs<A> {
     where
         A: Clone,
     {
-        let run = Run::new(self.runs.allocator().clone()?, early)?;
-        self.runs.insert(early.part.index, run)?;
-        self.size += early.bytes.len() + RUN_SIZE;
-        Ok(())
+        match &mut self.queue {
+            Some(queue) => queue.insert(early),
+            None => {
+                let mut queue = RunQueue::new(self.alloc.clone()?);
+                queue.insert(early)?;
+                self.queue = Some(Box::new(self.alloc.clone()?, queue)?);
+                Ok(())
+            }
+        }
     }
 
     /// Goes on behind the bytes of the first, or where it has none behind all of it.
     pub(crate) fn pass_first(&mut self) {
-        if self.runs.is_empty() {
+        let Some(mut queue) = self.queue.take() else {
             return;
-        }
-        let run = self.runs[0].summary();
-        self.size -= run.length;
-        if run.length > 0 && run.missing > 0 {
-            self.runs[0].drop_bytes();
-        } else {
-            self.size -= RUN_SIZE;
-            self.runs.pop_front();
-        }
-        if self.runs.len() <= self.runs.capacity() / 4 {
-            self.runs.shrink_to_fit();
+        };
+        queue.pass_first();
+        if !queue.is_empty() {
+            self.queue = Some(queue);
         }
     }
 
     /// Drops all, with their memory.
+    #[cold]
     pub(crate) fn clear(&mut self) {
-        self.runs.clear();
-        self.runs.shrink_to_fit();
-        self.size = 0;
+        self.queue = None;
     }
 }

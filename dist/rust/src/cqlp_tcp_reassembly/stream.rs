@@ -2,8 +2,9 @@
 //! One direction of a connection.
 
 use crate::kit_std::prelude::{Clone};
-use crate::cqlp_tcp_reassembly::run::{EarlyPart, Part, cut};
-use crate::cqlp_tcp_reassembly::runs::{RUN_SIZE, Runs};
+use crate::cqlp_tcp_reassembly::fin::FinPosition;
+use crate::cqlp_tcp_reassembly::run::{EarlyPart, Part, RUN_SIZE, RunSummary, cut};
+use crate::cqlp_tcp_reassembly::runs::Runs;
 use crate::cqlp_tcp_reassembly::segment::{Place, StreamSegment, next_number};
 use crate::cqlp_tcp_reassembly::sequence::{Distance, distance_to};
 use crate::cqlp_tcp_reassembly::step::{GapCause, StreamStep};
@@ -33,7 +34,7 @@ pub struct Stream<A: Allocator = Global> {
     position: u64,
     runs: Runs<A>,
     /// The position of FIN.
-    end: Option<u64>,
+    end: FinPosition,
 }
 
 impl<A: Allocator> Stream<A> {
@@ -44,7 +45,7 @@ impl<A: Allocator> Stream<A> {
             first: 0,
             position: 0,
             runs: Runs::new(alloc),
-            end: None,
+            end: FinPosition::none(),
         }
     }
 
@@ -116,7 +117,7 @@ impl<A: Allocator> Stream<A> {
         self.stage = Stage::Unseen;
         self.first = 0;
         self.position = 0;
-        self.end = None;
+        self.end = FinPosition::none();
     }
 
     /// Whether it has ended.
@@ -124,7 +125,7 @@ impl<A: Allocator> Stream<A> {
         matches!(self.stage, Stage::Over)
     }
 
-    /// What it holds, in bytes: those that came early, and 128 for each part of a segment.
+    /// What it holds, in bytes: those that came early, and 144 for each part of a segment.
     pub fn size(&self) -> usize {
         self.runs.size()
     }
@@ -146,7 +147,7 @@ impl<A: Allocator> Stream<A> {
 
     /// Where it ends: at FIN, or after 2^62 bytes.
     fn stop(&self) -> u64 {
-        match self.end {
+        match self.end.get() {
             None => LONGEST,
             Some(end) => end.min(LONGEST),
         }
@@ -161,6 +162,7 @@ impl<A: Allocator> Stream<A> {
     }
 
     /// Ends it, and gives its memory back.
+    #[cold]
     fn finish(&mut self, step: StreamStep) -> StreamStep {
         self.stage = Stage::Over;
         self.runs.clear();
@@ -168,6 +170,7 @@ impl<A: Allocator> Stream<A> {
     }
 
     /// Begins it at a segment with SYN, FIN or bytes.
+    #[cold]
     fn begin(&mut self, segment: &StreamSegment<'_>) -> StreamStep {
         if !segment.begins_stream() {
             return StreamStep::Done;
@@ -181,28 +184,35 @@ impl<A: Allocator> Stream<A> {
     }
 
     /// The end of the stream or what came early, if either is next.
+    #[inline]
     fn settle(&mut self) -> Option<StreamStep> {
         if self.stop() <= self.position {
             return Some(self.finish(StreamStep::Ended));
         }
         let run = self.runs.summary_at(self.position)?;
+        Some(self.settle_run(run))
+    }
+
+    /// The bytes of the first run, or where it has none those that were not captured.
+    #[cold]
+    fn settle_run(&mut self, run: RunSummary) -> StreamStep {
         if run.length > 0 {
-            return Some(StreamStep::Held {
+            return StreamStep::Held {
                 time: run.time,
                 begins: run.begins,
-            });
+            };
         }
-        Some(StreamStep::Gap {
+        StreamStep::Gap {
             length: self.pass_run(run.missing),
             cause: GapCause::Snapped,
             time: run.time,
-        })
+        }
     }
 
     /// Notes where FIN lies, if this is the first.
     fn note_end(&mut self, fin: bool, to: u64) {
-        if self.end.is_none() && fin {
-            self.end = Some(to);
+        if fin && self.end.get().is_none() {
+            self.end = FinPosition::at(to);
         }
     }
 
@@ -265,6 +275,7 @@ impl<A: Allocator> Stream<A> {
     }
 
     /// A part of the segment came early. It is kept where there is room; else the first hole is lost.
+    #[cold]
     fn keep_part(
         &mut self,
         segment: &StreamSegment<'_>,
@@ -306,7 +317,7 @@ impl<A: Allocator> Stream<A> {
 
     /// Whether the end of a hole at the position is known.
     fn knows_hole(&self) -> bool {
-        !self.runs.is_empty() || self.end.is_some()
+        !self.runs.is_empty() || self.end.get().is_some()
     }
 
     /// Whether the other side has all bytes of the hole.

@@ -26,6 +26,10 @@ impl<T, A: Allocator> VecDeque<T, A> {
         self.items.try_reserve(more).map_err(|_| AllocError)
     }
 
+    pub fn reserve_exact(&mut self, more: usize) -> Result<(), AllocError> {
+        self.items.try_reserve_exact(more).map_err(|_| AllocError)
+    }
+
     pub fn push_back(&mut self, item: T) -> Result<(), AllocError> {
         self.reserve(1)?;
         self.items.push_back(item);

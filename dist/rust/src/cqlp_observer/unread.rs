@@ -1,0 +1,36 @@
+// Written by dist/erase from crates/cqlp_observer/src/unread.rt.
+//! What is still to be read of a piece.
+
+/// The bytes of a piece that are still to be read, step by step.
+///
+/// A step uses some of them, or ends a frame: so a piece of n bytes takes at most 2 n + 2 steps.
+#[derive(Clone, Copy, Debug, PartialEq, Eq)]
+pub struct Unread<'a> {
+    pub bytes: &'a [u8],
+    /// Whether the first of them begins a segment.
+    pub begins: bool,
+    /// How many steps are left at most.
+    pub steps: u128,
+}
+
+impl<'a> Unread<'a> {
+    /// All bytes of a piece, the first of which begins a segment or not.
+    #[must_use]
+    pub fn new(bytes: &'a [u8], begins: bool) -> Self {
+        Unread {
+            bytes,
+            begins,
+            steps: 2 * bytes.len() as u128 + 2,
+        }
+    }
+
+    /// What is left after a step that used so many bytes. The first of them still begins a segment if none was used.
+    #[must_use]
+    pub(crate) fn after(self, used: usize) -> Self {
+        Unread {
+            bytes: &self.bytes[used..],
+            begins: self.begins && used == 0,
+            steps: self.steps.saturating_sub(1),
+        }
+    }
+}
