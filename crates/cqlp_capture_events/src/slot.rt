@@ -107,9 +107,8 @@ fn hear_in<A: Allocator + Clone, P: Pen>(
     lines: &mut Lines,
     writer: &mut TextWriter<P>,
 ) -> Result<(), TellFault>
-    ensures told {
-        let room = has_room || is_some direction.old.frame in
-        IsTold is_memory (step_told line_manner room told.now.step told.now.at bytes.now lines.old direction.old)
+    ensures told { IsTold is_memory
+        (step_told line_manner (has_room || is_some direction.old.frame) told.now.step told.now.at bytes.now lines.old direction.old)
         result writer.old writer.new direction.new lines.new }
     ensures same { IsSame direction.old direction.new }
 {
