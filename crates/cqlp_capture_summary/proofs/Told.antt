@@ -6,7 +6,8 @@ use Rattle.std.proofs.lemmas.List.Elements.{All-cons, All-nil}
 use Rattle.std.specs.List.{All}
 use Rattle.cqlp_capture_summary.specs.Buckets.{bucket_of, greatest_in}
 use Rattle.cqlp_capture_summary.specs.Counts.{Entry, Tally}
-use Rattle.cqlp_capture_summary.specs.Laws.{IsAtRank, TellsTimeAtRank, tallied_all, times_in, with_known}
+use Rattle.cqlp_capture_summary.specs.Heaviest.{tallied_all}
+use Rattle.cqlp_capture_summary.specs.Laws.{IsAtRank, TellsTimeAtRank, times_in, with_known}
 use Rattle.cqlp_capture_summary.specs.Tallies.{bucket_at, none_counted, tallied, time_in, with_time_if}
 use Rattle.cqlp_capture_summary.proofs.Bounds.{in_bucket}
 use Rattle.cqlp_capture_summary.proofs.Ranks.{buckets_after, filter_all, filter_some, found_in, front_sum}

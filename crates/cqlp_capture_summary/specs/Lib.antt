@@ -1,8 +1,11 @@
 pub mod Buckets
 pub mod Columns
 pub mod Counts
+pub mod Fingerprints
+pub mod Heaviest
 pub mod Laws
 pub mod Lines
+pub mod Merging
 pub mod Names
 pub mod Order
 pub mod Shown

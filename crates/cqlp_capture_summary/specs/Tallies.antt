@@ -24,6 +24,11 @@ abbrev pub with_time_if : Option ℕ → Tally → Tally
 with_time_if None t = t
 with_time_if (Some n) t = with_time n t
 
+-- what is counted of it where sums are
+abbrev pub time_of : Option ℕ → ℕ
+time_of None = 0
+time_of (Some n) = n
+
 abbrev pub error_count : (is_error : Bool) → ℕ
 error_count true = 1
 error_count false = 0

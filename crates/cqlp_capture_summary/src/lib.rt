@@ -2,16 +2,22 @@
 #![tactic(auto)]
 
 mod buckets;
+mod class;
 mod columns;
+mod fingerprint;
 pub mod laws;
 mod lines;
+mod mode;
 mod name;
 mod occurrence;
 mod order;
 mod shown;
 mod summary;
 mod tally;
+mod weights;
+mod written;
 
+pub use fingerprint::Fingerprint;
 pub use occurrence::Occurrence;
 pub use shown::put_shown_text;
 pub use summary::Summary;

@@ -1,7 +1,8 @@
 //! What is counted of a statement.
 
-ghost use Rattle.std.specs.Prelude.{◌≡◌, option_map};
-ghost use Rattle.cqlp_capture_summary.specs.Tallies.{bucket_at, error_count};
+ghost use Rattle.std.specs.Prelude.{◌≡◌, length, option_map};
+ghost use Rattle.cqlp_capture_summary.specs.Merging.{added};
+ghost use Rattle.cqlp_capture_summary.specs.Tallies.{bucket_at, error_count, time_of};
 
 use crate::buckets::{BUCKETS, bucket_of, greatest_in};
 use crate::occurrence::Occurrence;
@@ -59,6 +60,7 @@ pub(crate) struct Times {
 
 impl Tally {
     ghost use Rattle.cqlp_capture_summary.specs.Counts.{entry_of};
+    ghost use Rattle.cqlp_capture_summary.specs.Merging.{merged};
     ghost use Rattle.cqlp_capture_summary.specs.Tallies.{figures_of, none_counted, tallied, time_at, times_of, with_time};
 
     /// Nothing is counted.
@@ -113,6 +115,34 @@ impl Tally {
         self.buckets[bucket] = self.buckets[bucket].saturating_add(1);
     }
 
+    /// Counts what another one counted.
+    pub(crate) fn merge(&mut self, more: &Tally)
+        ensures { self.new ≡ merged more.now self.old }
+    {
+        self.count = self.count.saturating_add(more.count);
+        self.errors = self.errors.saturating_add(more.errors);
+        self.rows = self.rows.saturating_add(more.rows);
+        self.bytes = self.bytes.saturating_add(more.bytes);
+        self.timed = self.timed.saturating_add(more.timed);
+        self.time = self.time.saturating_add(more.time);
+        self.greatest = self.greatest.max(more.greatest);
+        add_buckets(&mut self.buckets, &more.buckets);
+    }
+
+    /// Counts nothing any more.
+    pub(crate) fn clear(&mut self)
+        ensures { self.new ≡ none_counted }
+    {
+        self.count = 0;
+        self.errors = 0;
+        self.rows = 0;
+        self.bytes = 0;
+        self.timed = 0;
+        self.time = 0;
+        self.greatest = 0;
+        self.buckets = [0; BUCKETS];
+    }
+
     /// The numbers of its line.
     pub(crate) fn figures(&self) -> Figures
         ensures { result ≡ figures_of self.now }
@@ -151,13 +181,33 @@ impl Tally {
     }
 }
 
+/// Adds counts, bucket by bucket.
+fn add_buckets(buckets: &mut [u64], more: &[u64])
+    requires { length buckets.old ≡ length more.now }
+    ensures { buckets.new ≡ added more.now buckets.old }
+{
+    for bucket in 0..buckets.len() {
+        buckets[bucket] = buckets[bucket].saturating_add(more[bucket]);
+    }
+}
+
+/// What is counted of a time where sums are.
+pub(crate) fn time_of(took: Option<u64>) -> u64
+    ensures { result ≡ time_of took }
+{
+    match took {
+        Some(took) => took,
+        None => 0,
+    }
+}
+
 fn error_count(is_error: bool) -> u64
     ensures { result ≡ error_count is_error }
 {
     if is_error { 1 } else { 0 }
 }
 
-ghost use Rattle.std.specs.Prelude.{length, IfSome, ◌<◌};
+ghost use Rattle.std.specs.Prelude.{IfSome, ◌<◌};
 
 /// The bucket of the time at a rank, counted from 1.
 fn bucket_at(buckets: &[u64], rank: u64) -> Option<usize>
