@@ -7,11 +7,11 @@ use Rattle.std.proofs.lemmas.List.Recursion.{is_position_or_len}
 use Rattle.std.proofs.lemmas.Slice.Eq.{bytes_eq-Decides}
 use Rattle.std.specs.List.{filter, position, position_or_len}
 use Rattle.std.specs.Str.{bytes_eq}
-use Rattle.cqlp_capture_summary.specs.Counts.{Entry, Tally}
-use Rattle.cqlp_capture_summary.specs.Heaviest.{entries_of, is_of, tallied_all, time_under, whole_time}
+use Rattle.cqlp_capture_summary.specs.Counts.{Entry, Request, Tally, tally}
+use Rattle.cqlp_capture_summary.specs.Heaviest.{requests_of, is_of, tallied_all, time_under, whole_time}
 use Rattle.cqlp_capture_summary.specs.Names.{Name, is_equal, is_same, name}
-use Rattle.cqlp_capture_summary.specs.Summaries.{entry_name}
-use Rattle.cqlp_capture_summary.specs.Tallies.{counted, tallied, time_of, with_time_if}
+use Rattle.cqlp_capture_summary.specs.Summaries.{request_name}
+use Rattle.cqlp_capture_summary.specs.Tallies.{counted, error_count, tallied, tallied_request, time_of, with_answer, with_seen_if, with_time_if}
 
 -- ---- names that are the same are equal
 
@@ -48,51 +48,77 @@ differ x y ne = differ_at (is_same x y) x y refl ne
 
 -- ---- the entries of a statement
 
-pub whole_append : (xs ys : List Entry) → whole_time (xs ++ ys) ≡ whole_time xs + whole_time ys
+pub whole_append : (xs ys : List Request) → whole_time (xs ++ ys) ≡ whole_time xs + whole_time ys
 whole_append [] ys = omega arith
 whole_append (x ∷ xs) ys = let later = whole_append xs ys in omega (arith, later)
 
-pub under_append : (x : Name) (xs ys : List Entry) → time_under x (xs ++ ys) ≡ time_under x xs + time_under x ys
-under_append x xs ys = ap whole_time (filter-append (is_of x) xs ys) ∙ whole_append (entries_of x xs) (entries_of x ys)
+pub under_append : (x : Name) (xs ys : List Request) → time_under x (xs ++ ys) ≡ time_under x xs + time_under x ys
+under_append x xs ys = ap whole_time (filter-append (is_of x) xs ys) ∙ whole_append (requests_of x xs) (requests_of x ys)
 
-pub own_entry : (x : Name) (e : Entry) → x ≡ entry_name e → entries_of x (e ∷ []) ≡ e ∷ []
+pub own_entry : (x : Name) (e : Request) → x ≡ request_name e → requests_of x (e ∷ []) ≡ e ∷ []
 own_entry x e is = let t : is_of x e ≡ true = ap (is_same x) (sym is) ∙ same_self x in rw t refl
 
-pub no_entry : (x : Name) (e : Entry) → (x ≡ entry_name e → ⊥) → entries_of x (e ∷ []) ≡ []
-no_entry x e ne = let t : is_of x e ≡ false = differ x (entry_name e) ne in rw t refl
+pub no_entry : (x : Name) (e : Request) → (x ≡ request_name e → ⊥) → requests_of x (e ∷ []) ≡ []
+no_entry x e ne = let t : is_of x e ≡ false = differ x (request_name e) ne in rw t refl
 
-pub under_own : (x : Name) (es : List Entry) (e : Entry) → x ≡ entry_name e → time_under x (es ++ e ∷ []) ≡ time_under x es + time_of e.took
-under_own x es e is = let f = under_append x es (e ∷ []) in let g : time_under x (e ∷ []) ≡ time_of e.took + 0 = ap whole_time (own_entry x e is) in omega (arith, f, g)
+pub under_own : (x : Name) (es : List Request) (e : Request) → x ≡ request_name e → time_under x (es ++ e ∷ []) ≡ time_under x es + time_of e.entry.took
+under_own x es e is = let f = under_append x es (e ∷ []) in let g : time_under x (e ∷ []) ≡ time_of e.entry.took + 0 = ap whole_time (own_entry x e is) in omega (arith, f, g)
 
-pub under_other : (x : Name) (es : List Entry) (e : Entry) → (x ≡ entry_name e → ⊥) → time_under x (es ++ e ∷ []) ≡ time_under x es
+pub under_other : (x : Name) (es : List Request) (e : Request) → (x ≡ request_name e → ⊥) → time_under x (es ++ e ∷ []) ≡ time_under x es
 under_other x es e ne = let f = under_append x es (e ∷ []) in let g : time_under x (e ∷ []) ≡ 0 = ap whole_time (no_entry x e ne) in omega (arith, f, g)
 
-part_at : (b : Bool) (x : Name) (e : Entry) (es : List Entry) → is_of x e ≡ b → time_under x es ≤ whole_time es → time_under x (e ∷ es) ≤ whole_time (e ∷ es)
+part_at : (b : Bool) (x : Name) (e : Request) (es : List Request) → is_of x e ≡ b → time_under x es ≤ whole_time es → time_under x (e ∷ es) ≤ whole_time (e ∷ es)
 part_at true x e es is later = rw is (omega (arith, later))
 part_at false x e es is later = rw is (omega (arith, later))
 
-pub under_part : (x : Name) (es : List Entry) → time_under x es ≤ whole_time es
+pub under_part : (x : Name) (es : List Request) → time_under x es ≤ whole_time es
 under_part x [] = omega arith
 under_part x (e ∷ es) = part_at (is_of x e) x e es refl (under_part x es)
 
 -- ---- what is counted of entries
 
-pub tallied_append : (xs ys : List Entry) (t : Tally) → tallied_all (xs ++ ys) t ≡ tallied_all ys (tallied_all xs t)
+pub tallied_append : (xs ys : List Request) (t : Tally) → tallied_all (xs ++ ys) t ≡ tallied_all ys (tallied_all xs t)
 tallied_append [] ys t = refl
-tallied_append (x ∷ xs) ys t = tallied_append xs ys (tallied x t)
+tallied_append (x ∷ xs) ys t = tallied_append xs ys (tallied_request x t)
 
 time_if : (took : Option ℕ) (t : Tally) → t.time + time_of took < 2 ^ 64 → (with_time_if took t).time ≡ t.time + time_of took
 time_if None t fits = omega arith
 time_if (Some n) t fits = omega arith
 
-time_once : (e : Entry) (t : Tally) → t.time + time_of e.took < 2 ^ 64 → (tallied e t).time ≡ t.time + time_of e.took
-time_once e t fits = time_if e.took _ fits
+-- what is counted of an entry beside its time
+abbrev pub counts_more : Entry → Tally → Tally
+counts_more e t =
+    tally (counted t.count 1) (counted t.errors (error_count e.is_error)) t.unanswered (counted t.rows e.rows) (counted t.bytes e.bytes) t.first t.last
+    t.timed t.time t.greatest t.buckets
 
-pub tallied_time : (es : List Entry) (t : Tally) → t.time + whole_time es < 2 ^ 64 → (tallied_all es t).time ≡ t.time + whole_time es
+-- what neither an answer nor a moment changes
+pub record IsAsTimed (t u : Tally) : Type 0 where
+  pub time : t.time ≡ u.time
+  pub greatest : t.greatest ≡ u.greatest
+  pub buckets : t.buckets ≡ u.buckets
+
+answer_timed : (is_answered : Bool) (t : Tally) → IsAsTimed (with_answer is_answered t) t
+answer_timed true t = record { time = refl; greatest = refl; buckets = refl }
+answer_timed false t = record { time = refl; greatest = refl; buckets = refl }
+
+seen_timed : (at : Option ℕ) (t : Tally) → IsAsTimed (with_seen_if at t) t
+seen_timed None t = record { time = refl; greatest = refl; buckets = refl }
+seen_timed (Some n) t = record { time = refl; greatest = refl; buckets = refl }
+
+pub as_timed : (r : Request) (t : Tally) → IsAsTimed (tallied_request r t) (with_time_if r.entry.took (counts_more r.entry t))
+as_timed r t =
+    let s = seen_timed r.at (with_answer r.is_answered (tallied r.entry t)) in
+    let a = answer_timed r.is_answered (tallied r.entry t) in
+    record { time = s.time ∙ a.time; greatest = s.greatest ∙ a.greatest; buckets = s.buckets ∙ a.buckets }
+
+time_once : (e : Request) (t : Tally) → t.time + time_of e.entry.took < 2 ^ 64 → (tallied_request e t).time ≡ t.time + time_of e.entry.took
+time_once e t fits = (as_timed e t).time ∙ time_if e.entry.took (counts_more e.entry t) fits
+
+pub tallied_time : (es : List Request) (t : Tally) → t.time + whole_time es < 2 ^ 64 → (tallied_all es t).time ≡ t.time + whole_time es
 tallied_time [] t fits = omega arith
 tallied_time (e ∷ es) t fits =
     let here = time_once e t (omega arith) in
-    let later = tallied_time es (tallied e t) (omega (arith, here)) in
+    let later = tallied_time es (tallied_request e t) (omega (arith, here)) in
     omega (arith, here, later)
 
 -- ---- the place of a name

@@ -1,4 +1,4 @@
--- The table of a summary, over all that was noted.
+-- The table of a summary, over all that was noted_request.
 use Rattle.std.proofs.Common.{◌≡◌, ◌∙◌, ◌+◌, ◌-◌, ◌*◌, ◌^◌, ◌<◌, ◌≤◌, ℕ, zero, suc, Bool, true, false, List, [], ◌∷◌, ◌++◌, length, replicate, Option, Some, None, ◌⊎◌, inl, inr, refl, sym, ap, subst, arith, append_assoc, append-nil, length-append, slice_index_or, slice_set, nat_lt, if◌then◌else◌}
 use Rattle.std.proofs.Math.Nat.{mul-le-mul_left, mul-le-mul_right}
 use Rattle.std.proofs.Math.ListN.{get_or-append}
@@ -7,11 +7,11 @@ use Rattle.std.proofs.lemmas.Bool.{cases_eq, cases_lt, lt-ltb, le-ltb}
 use Rattle.std.proofs.lemmas.List.{get_or-set_same, get_or-set_other, length-set, length-replicate, get_or-replicate}
 use Rattle.std.proofs.lemmas.List.Elements.{filter-append}
 use Rattle.std.specs.List.{position}
-use Rattle.cqlp_capture_summary.specs.Counts.{Entry, Tally}
-use Rattle.cqlp_capture_summary.specs.Heaviest.{IsExactSince, IsKept, KeepsEachOnce, KeepsTheHeaviest, ShowsExactlySince, all_noted, entries_of, is_of, name_at, tallied_all, tally_of, time_under, whole_time}
+use Rattle.cqlp_capture_summary.specs.Counts.{Request, Tally}
+use Rattle.cqlp_capture_summary.specs.Heaviest.{IsExactSince, IsKept, KeepsEachOnce, KeepsTheHeaviest, ShowsExactlySince, all_noted, requests_of, is_of, name_at, tallied_all, tally_of, time_under, whole_time}
 use Rattle.cqlp_capture_summary.specs.Names.{Name, is_same, name}
-use Rattle.cqlp_capture_summary.specs.Summaries.{Summary, entry_name, lightest, missing_at, summary, new_place, new_summary, noted, place_of, place_or, taken_in, with_entry, with_entry_at, with_in_place_of, with_name, with_name_if, with_new}
-use Rattle.cqlp_capture_summary.specs.Tallies.{counted, none_counted, tallied, time_of}
+use Rattle.cqlp_capture_summary.specs.Summaries.{Summary, request_name, lightest, missing_at, summary, new_place, new_summary, noted_request, place_of, place_or, taken_in, with_request, with_request_at, with_in_place_of, with_name, with_name_if, with_new}
+use Rattle.cqlp_capture_summary.specs.Tallies.{counted, none_counted, tallied_request, time_of}
 use Rattle.cqlp_capture_summary.proofs.Entries.{Absent, Found, no_entry, own_entry, search_name, tallied_append, tallied_time, under_append, under_other, under_own, under_part, whole_append}
 use Rattle.cqlp_capture_summary.proofs.Lightest.{IsLeast, lightest_is, one_of_sum, sum, sum_append, sum_of_least, sum_set}
 
@@ -19,11 +19,11 @@ abbrev weight_of : Summary → (place : ℕ) → ℕ
 weight_of s place = slice_index_or s.weights place 0
 
 -- what a place says of its statement
-record Since (n : ℕ) (es : List Entry) (x : Name) (t : Tally) (weight : ℕ) : Type 0 where
-  before : List Entry
-  after : List Entry
+record Since (n : ℕ) (es : List Request) (x : Name) (t : Tally) (weight : ℕ) : Type 0 where
+  before : List Request
+  after : List Request
   parts : es ≡ before ++ after
-  exact : t ≡ tallied_all (entries_of x after) none_counted
+  exact : t ≡ tallied_all (requests_of x after) none_counted
   missing : ℕ
   adds : weight ≡ missing + time_under x after
   most : time_under x before ≤ missing
@@ -32,8 +32,8 @@ record Since (n : ℕ) (es : List Entry) (x : Name) (t : Tally) (weight : ℕ) :
 abbrev IsAway : Name → Summary → Type 0
 IsAway x s = (i : ℕ) → i < length s.names → x ≡ name_at s i → ⊥
 
--- what holds of a table after what was noted
-record Table (n : ℕ) (es : List Entry) (s : Summary) : Type 0 where
+-- what holds of a table after what was noted_request
+record Table (n : ℕ) (es : List Request) (s : Summary) : Type 0 where
   room : s.statements ≡ n
   few : length s.names ≤ n
   weights : length s.weights ≡ length s.names
@@ -45,7 +45,7 @@ record Table (n : ℕ) (es : List Entry) (s : Summary) : Type 0 where
   free : (x : Name) → IsAway x s → length s.names < n → time_under x es ≡ 0
   sums : sum s.weights ≡ whole_time es
 
--- ---- nothing is noted
+-- ---- nothing is noted_request
 
 table_new : (n : ℕ) → Table n [] (new_summary n)
 table_new n = record {
@@ -63,23 +63,23 @@ table_new n = record {
 
 -- ---- an entry is counted at the place of its name
 
-later_parts : (es before after : List Entry) (e : Entry) → es ≡ before ++ after → es ++ e ∷ [] ≡ before ++ (after ++ e ∷ [])
+later_parts : (es before after : List Request) (e : Request) → es ≡ before ++ after → es ++ e ∷ [] ≡ before ++ (after ++ e ∷ [])
 later_parts es before after e is = ap (λ z. z ++ e ∷ []) is ∙ append_assoc before after (e ∷ [])
 
-one_more : (x : Name) (after : List Entry) (e : Entry) (t : Tally) → x ≡ entry_name e → t ≡ tallied_all (entries_of x after) none_counted → tallied e t ≡ tallied_all (entries_of x (after ++ e ∷ [])) none_counted
+one_more : (x : Name) (after : List Request) (e : Request) (t : Tally) → x ≡ request_name e → t ≡ tallied_all (requests_of x after) none_counted → tallied_request e t ≡ tallied_all (requests_of x (after ++ e ∷ [])) none_counted
 one_more x after e t is exact =
-    let parts : entries_of x (after ++ e ∷ []) ≡ entries_of x after ++ e ∷ [] = filter-append (is_of x) after (e ∷ []) ∙ ap (λ z. entries_of x after ++ z) (own_entry x e is) in
-    ap (tallied e) exact ∙ sym (tallied_append (entries_of x after) (e ∷ []) none_counted) ∙ sym (ap (λ z. tallied_all z none_counted) parts)
+    let parts : requests_of x (after ++ e ∷ []) ≡ requests_of x after ++ e ∷ [] = filter-append (is_of x) after (e ∷ []) ∙ ap (λ z. requests_of x after ++ z) (own_entry x e is) in
+    ap (tallied_request e) exact ∙ sym (tallied_append (requests_of x after) (e ∷ []) none_counted) ∙ sym (ap (λ z. tallied_all z none_counted) parts)
 
-none_more : (x : Name) (after : List Entry) (e : Entry) (t : Tally) → (x ≡ entry_name e → ⊥) → t ≡ tallied_all (entries_of x after) none_counted → t ≡ tallied_all (entries_of x (after ++ e ∷ [])) none_counted
+none_more : (x : Name) (after : List Request) (e : Request) (t : Tally) → (x ≡ request_name e → ⊥) → t ≡ tallied_all (requests_of x after) none_counted → t ≡ tallied_all (requests_of x (after ++ e ∷ [])) none_counted
 none_more x after e t ne exact =
-    let parts : entries_of x (after ++ e ∷ []) ≡ entries_of x after = filter-append (is_of x) after (e ∷ []) ∙ ap (λ z. entries_of x after ++ z) (no_entry x e ne) ∙ append-nil (entries_of x after) in
+    let parts : requests_of x (after ++ e ∷ []) ≡ requests_of x after = filter-append (is_of x) after (e ∷ []) ∙ ap (λ z. requests_of x after ++ z) (no_entry x e ne) ∙ append-nil (requests_of x after) in
     exact ∙ sym (ap (λ z. tallied_all z none_counted) parts)
 
-error_later : (n missing : ℕ) (es : List Entry) (e : Entry) → n * missing ≤ whole_time es → n * missing ≤ whole_time (es ++ e ∷ [])
+error_later : (n missing : ℕ) (es : List Request) (e : Request) → n * missing ≤ whole_time es → n * missing ≤ whole_time (es ++ e ∷ [])
 error_later n missing es e error = let w = whole_append es (e ∷ []) in omega (arith, w, error)
 
-since_own : (n : ℕ) (es : List Entry) (e : Entry) (x : Name) (t : Tally) (weight : ℕ) → x ≡ entry_name e → Since n es x t weight → Since n (es ++ e ∷ []) x (tallied e t) (weight + time_of e.took)
+since_own : (n : ℕ) (es : List Request) (e : Request) (x : Name) (t : Tally) (weight : ℕ) → x ≡ request_name e → Since n es x t weight → Since n (es ++ e ∷ []) x (tallied_request e t) (weight + time_of e.entry.took)
 since_own n es e x t weight is s = record {
   before = s.before;
   after = s.after ++ e ∷ [];
@@ -91,7 +91,7 @@ since_own n es e x t weight is s = record {
   error = error_later n s.missing es e s.error;
 }
 
-since_other : (n : ℕ) (es : List Entry) (e : Entry) (x : Name) (t : Tally) (weight : ℕ) → (x ≡ entry_name e → ⊥) → Since n es x t weight → Since n (es ++ e ∷ []) x t weight
+since_other : (n : ℕ) (es : List Request) (e : Request) (x : Name) (t : Tally) (weight : ℕ) → (x ≡ request_name e → ⊥) → Since n es x t weight → Since n (es ++ e ∷ []) x t weight
 since_other n es e x t weight ne s = record {
   before = s.before;
   after = s.after ++ e ∷ [];
@@ -103,7 +103,7 @@ since_other n es e x t weight ne s = record {
   error = error_later n s.missing es e s.error;
 }
 
-since_at : (n : ℕ) (es : List Entry) (x : Name) (t u : Tally) (v w : ℕ) → t ≡ u → v ≡ w → Since n es x u w → Since n es x t v
+since_at : (n : ℕ) (es : List Request) (x : Name) (t u : Tally) (v w : ℕ) → t ≡ u → v ≡ w → Since n es x u w → Since n es x t v
 since_at n es x t u v w same equal s = record {
   before = s.before;
   after = s.after;
@@ -115,12 +115,12 @@ since_at n es x t u v w same equal s = record {
   error = s.error;
 }
 
-since_named : (n : ℕ) (es : List Entry) (x y : Name) (t : Tally) (w : ℕ) → x ≡ y → Since n es y t w → Since n es x t w
+since_named : (n : ℕ) (es : List Request) (x y : Name) (t : Tally) (w : ℕ) → x ≡ y → Since n es y t w → Since n es x t w
 since_named n es x y t w same s = subst (λ z. Since n es z t w) (sym same) s
 
-table_counted : (n : ℕ) (es : List Entry) (e : Entry) (p : ℕ) (s : Summary) → whole_time (es ++ e ∷ []) < 2 ^ 64 → p < length s.names → name_at s p ≡ entry_name e → Table n es s → Table n (es ++ e ∷ []) (with_entry_at p e s)
+table_counted : (n : ℕ) (es : List Request) (e : Request) (p : ℕ) (s : Summary) → whole_time (es ++ e ∷ []) < 2 ^ 64 → p < length s.names → name_at s p ≡ request_name e → Table n es s → Table n (es ++ e ∷ []) (with_request_at p e s)
 table_counted n es e p s fits inside here b =
-    let took = time_of e.took in
+    let took = time_of e.entry.took in
     let wa : whole_time (es ++ e ∷ []) ≡ whole_time es + (took + 0) = whole_append es (e ∷ []) in
     let bw = b.weights in
     let bt = b.tallies in
@@ -130,29 +130,29 @@ table_counted n es e p s fits inside here b =
     let at_tallies : p < length s.tallies = omega arith in
     let one = one_of_sum s.weights p in
     let exactly : counted (weight_of s p) took ≡ weight_of s p + took = omega (arith, one, bs, wa, fits) in
-    let own_weight : weight_of (with_entry_at p e s) p ≡ weight_of s p + took = get_or-set_same s.weights p (counted (weight_of s p) took) 0 at_weights ∙ exactly in
-    let own_tally : tally_of (with_entry_at p e s) p ≡ tallied e (tally_of s p) = get_or-set_same s.tallies p (tallied e (tally_of s p)) none_counted at_tallies in
-    let heavier : (i : ℕ) → weight_of s i ≤ weight_of (with_entry_at p e s) i = λ i. elim (cases_eq i p) [
-      | inl same ↦ let f = ap (weight_of s) same in let g = ap (weight_of (with_entry_at p e s)) same in omega (arith, f, g, own_weight)
+    let own_weight : weight_of (with_request_at p e s) p ≡ weight_of s p + took = get_or-set_same s.weights p (counted (weight_of s p) took) 0 at_weights ∙ exactly in
+    let own_tally : tally_of (with_request_at p e s) p ≡ tallied_request e (tally_of s p) = get_or-set_same s.tallies p (tallied_request e (tally_of s p)) none_counted at_tallies in
+    let heavier : (i : ℕ) → weight_of s i ≤ weight_of (with_request_at p e s) i = λ i. elim (cases_eq i p) [
+      | inl same ↦ let f = ap (weight_of s) same in let g = ap (weight_of (with_request_at p e s)) same in omega (arith, f, g, own_weight)
       | inr ne ↦ let f = get_or-set_other s.weights p i (counted (weight_of s p) took) 0 ne in omega (arith, f)
     ] in
-    let not_own : (x : Name) → IsAway x s → x ≡ entry_name e → ⊥ = λ x none same. none p inside (same ∙ sym here) in
+    let not_own : (x : Name) → IsAway x s → x ≡ request_name e → ⊥ = λ x none same. none p inside (same ∙ sym here) in
     record {
       room = b.room;
       few = b.few;
       weights = length-set s.weights p (counted (weight_of s p) took) ∙ b.weights;
-      tallies = length-set s.tallies p (tallied e (tally_of s p)) ∙ b.tallies;
-      fresh = λ i from less. get_or-set_other s.tallies p i (tallied e (tally_of s p)) none_counted (λ same. absurd (omega arith)) ∙ b.fresh i from less;
+      tallies = length-set s.tallies p (tallied_request e (tally_of s p)) ∙ b.tallies;
+      fresh = λ i from less. get_or-set_other s.tallies p i (tallied_request e (tally_of s p)) none_counted (λ same. absurd (omega arith)) ∙ b.fresh i from less;
       apart = b.apart;
       since = λ i within. elim (cases_eq i p) [
         | inl same ↦
-            since_at n (es ++ e ∷ []) (name_at s i) _ (tallied e (tally_of s i)) _ (weight_of s i + took)
-            (ap (tally_of (with_entry_at p e s)) same ∙ own_tally ∙ sym (ap (λ k. tallied e (tally_of s k)) same))
-            (ap (weight_of (with_entry_at p e s)) same ∙ own_weight ∙ sym (ap (λ k. weight_of s k + took) same))
+            since_at n (es ++ e ∷ []) (name_at s i) _ (tallied_request e (tally_of s i)) _ (weight_of s i + took)
+            (ap (tally_of (with_request_at p e s)) same ∙ own_tally ∙ sym (ap (λ k. tallied_request e (tally_of s k)) same))
+            (ap (weight_of (with_request_at p e s)) same ∙ own_weight ∙ sym (ap (λ k. weight_of s k + took) same))
             (since_own n es e (name_at s i) (tally_of s i) (weight_of s i) (ap (name_at s) same ∙ here) (b.since i within))
         | inr ne ↦
             since_at n (es ++ e ∷ []) (name_at s i) _ (tally_of s i) _ (weight_of s i)
-            (get_or-set_other s.tallies p i (tallied e (tally_of s p)) none_counted ne)
+            (get_or-set_other s.tallies p i (tallied_request e (tally_of s p)) none_counted ne)
             (get_or-set_other s.weights p i (counted (weight_of s p) took) 0 ne)
             (since_other n es e (name_at s i) (tally_of s i) (weight_of s i) (λ same. ne (b.apart i p within inside (same ∙ sym here))) (b.since i within))
       ];
@@ -163,7 +163,7 @@ table_counted n es e p s fits inside here b =
 
 -- ---- a statement is taken in at a free place
 
-table_with_new : (n : ℕ) (es : List Entry) (x : Name) (s : Summary) → length s.names < n → IsAway x s → Table n es s → Table n es (with_new x s)
+table_with_new : (n : ℕ) (es : List Request) (x : Name) (s : Summary) → length s.names < n → IsAway x s → Table n es s → Table n es (with_new x s)
 table_with_new n es x s room none b =
     let p = length s.names in
     let bw = b.weights in
@@ -217,7 +217,7 @@ table_with_new n es x s room none b =
 -- ---- a statement is taken in at the place of the lightest
 
 -- what left the table took no more than its weight
-was_lighter : (n : ℕ) (es : List Entry) (x : Name) (t : Tally) (weight : ℕ) → Since n es x t weight → time_under x es ≤ weight
+was_lighter : (n : ℕ) (es : List Request) (x : Name) (t : Tally) (weight : ℕ) → Since n es x t weight → time_under x es ≤ weight
 was_lighter n es x t weight s =
     let p = ap (time_under x) s.parts in
     let u = under_append x s.before s.after in
@@ -225,7 +225,7 @@ was_lighter n es x t weight s =
     let m = s.most in
     omega (arith, p, u, a, m)
 
-table_in_place : (n : ℕ) (es : List Entry) (x : Name) (p : ℕ) (s : Summary) → n ≤ length s.names → IsLeast s.weights p → IsAway x s → Table n es s → Table n es (with_in_place_of p x s)
+table_in_place : (n : ℕ) (es : List Request) (x : Name) (p : ℕ) (s : Summary) → n ≤ length s.names → IsLeast s.weights p → IsAway x s → Table n es s → Table n es (with_in_place_of p x s)
 table_in_place n es x p s full least none b =
     let bw = b.weights in
     let bt = b.tallies in
@@ -293,16 +293,16 @@ table_in_place n es x p s full least none b =
       sums = bs;
     }
 
--- ---- an entry is noted
+-- ---- an entry is noted_request
 
-record Taken (n : ℕ) (es : List Entry) (x : Name) (s : Summary) : Type 0 where
+record Taken (n : ℕ) (es : List Request) (x : Name) (s : Summary) : Type 0 where
   place : ℕ
   is : place_of x s ≡ Some place
   inside : place < length (with_name x s).names
   here : name_at (with_name x s) place ≡ x
   table : Table n es (with_name x s)
 
-taken_found : (n : ℕ) (es : List Entry) (x : Name) (s : Summary) (at : ℕ) → Found x s.names at → Table n es s → Taken n es x s
+taken_found : (n : ℕ) (es : List Request) (x : Name) (s : Summary) (at : ℕ) → Found x s.names at → Table n es s → Taken n es x s
 taken_found n es x s at f b =
     let same : with_name x s ≡ s = ap (λ o. with_name_if o x s) f.is in
     record {
@@ -313,7 +313,7 @@ taken_found n es x s at f b =
       table = subst (Table n es) (sym same) b;
     }
 
-taken_by : (n : ℕ) (es : List Entry) (x : Name) (s t : Summary) (at : ℕ) → with_name x s ≡ t → place_of x s ≡ Some at → at < length t.names → name_at t at ≡ x → Table n es t → Taken n es x s
+taken_by : (n : ℕ) (es : List Request) (x : Name) (s t : Summary) (at : ℕ) → with_name x s ≡ t → place_of x s ≡ Some at → at < length t.names → name_at t at ≡ x → Table n es t → Taken n es x s
 taken_by n es x s t at same is inside here b = record {
   place = at;
   is = is;
@@ -322,14 +322,14 @@ taken_by n es x s t at same is inside here b = record {
   table = subst (Table n es) (sym same) b;
 }
 
-taken_new : (n : ℕ) (es : List Entry) (x : Name) (s : Summary) → length s.names < n → Absent x s.names → Table n es s → Taken n es x s
+taken_new : (n : ℕ) (es : List Request) (x : Name) (s : Summary) → length s.names < n → Absent x s.names → Table n es s → Taken n es x s
 taken_new n es x s room a b =
     let test : nat_lt (length s.names) s.statements ≡ true = let r = b.room in lt-ltb (length s.names) s.statements (omega (arith, r)) in
     taken_by n es x s (with_new x s) (length s.names) (ap (λ o. with_name_if o x s) a.is ∙ rw test refl) (ap (λ o. place_or o (new_place s)) a.is ∙ rw test refl)
     (let l : length (s.names ++ x ∷ []) ≡ length s.names + 1 = length-append s.names (x ∷ []) in omega (arith, l))
     (get_or-append_seam s.names x [] (name [] true)) (table_with_new n es x s room a.none b)
 
-taken_place : (n : ℕ) (es : List Entry) (x : Name) (s : Summary) → 0 < n → n ≤ length s.names → Absent x s.names → Table n es s → Taken n es x s
+taken_place : (n : ℕ) (es : List Request) (x : Name) (s : Summary) → 0 < n → n ≤ length s.names → Absent x s.names → Table n es s → Taken n es x s
 taken_place n es x s some full a b =
     let test : nat_lt (length s.names) s.statements ≡ false = let r = b.room in le-ltb (length s.names) s.statements (omega (arith, r)) in
     let bw = b.weights in
@@ -341,7 +341,7 @@ taken_place n es x s some full a b =
     (let e : length (slice_set s.names l.0 x) ≡ length s.names = length-set s.names l.0 x in omega (arith, e, inside))
     (get_or-set_same s.names l.0 x (name [] true) inside) (table_in_place n es x l.0 s full l.1.1 a.none b)
 
-taken : (n : ℕ) (es : List Entry) (x : Name) (s : Summary) → 0 < n → Table n es s → Taken n es x s
+taken : (n : ℕ) (es : List Request) (x : Name) (s : Summary) → 0 < n → Table n es s → Taken n es x s
 taken n es x s some b = elim (search_name x s.names) [
   | inl (at, found) ↦ taken_found n es x s at found b
   | inr absent ↦ elim (cases_lt (length s.names) n) [
@@ -350,27 +350,27 @@ taken n es x s some b = elim (search_name x s.names) [
   ]
 ]
 
-table_noted : (n : ℕ) (es : List Entry) (e : Entry) (s : Summary) → 0 < n → whole_time (es ++ e ∷ []) < 2 ^ 64 → Table n es s → Table n (es ++ e ∷ []) (noted e s)
+table_noted : (n : ℕ) (es : List Request) (e : Request) (s : Summary) → 0 < n → whole_time (es ++ e ∷ []) < 2 ^ 64 → Table n es s → Table n (es ++ e ∷ []) (noted_request e s)
 table_noted n es e s some fits b =
-    let t = taken n es (entry_name e) s some b in
-    subst (λ o. Table n (es ++ e ∷ []) (with_entry o e (with_name (entry_name e) s))) (sym t.is)
-    (table_counted n es e t.place (with_name (entry_name e) s) fits t.inside t.here t.table)
+    let t = taken n es (request_name e) s some b in
+    subst (λ o. Table n (es ++ e ∷ []) (with_request o e (with_name (request_name e) s))) (sym t.is)
+    (table_counted n es e t.place (with_name (request_name e) s) fits t.inside t.here t.table)
 
-table_after : (n : ℕ) (es before : List Entry) (s : Summary) → 0 < n → whole_time (before ++ es) < 2 ^ 64 → Table n before s → Table n (before ++ es) (all_noted es s)
+table_after : (n : ℕ) (es before : List Request) (s : Summary) → 0 < n → whole_time (before ++ es) < 2 ^ 64 → Table n before s → Table n (before ++ es) (all_noted es s)
 table_after n [] before s some fits b = subst (λ z. Table n z s) (sym (append-nil before)) b
 table_after n (e ∷ es) before s some fits b =
     let parts : (before ++ e ∷ []) ++ es ≡ before ++ e ∷ es = append_assoc before (e ∷ []) es in
     let w = ap whole_time parts in
     let a = whole_append (before ++ e ∷ []) es in
     let here = table_noted n before e s some (omega (arith, w, a, fits)) b in
-    subst (λ z. Table n z (all_noted es (noted e s))) parts (table_after n es (before ++ e ∷ []) (noted e s) some (omega (arith, w, fits)) here)
+    subst (λ z. Table n z (all_noted es (noted_request e s))) parts (table_after n es (before ++ e ∷ []) (noted_request e s) some (omega (arith, w, fits)) here)
 
-table_of : (n : ℕ) (es : List Entry) → 0 < n → whole_time es < 2 ^ 64 → Table n es (all_noted es (new_summary n))
+table_of : (n : ℕ) (es : List Request) → 0 < n → whole_time es < 2 ^ 64 → Table n es (all_noted es (new_summary n))
 table_of n es some fits = table_after n es [] (new_summary n) some fits (table_new n)
 
 -- ---- the laws
 
-kept_of : (n : ℕ) (es : List Entry) (x : Name) (s : Summary) → whole_time es < n * time_under x es → Table n es s → IsKept x s
+kept_of : (n : ℕ) (es : List Request) (x : Name) (s : Summary) → whole_time es < n * time_under x es → Table n es s → IsKept x s
 kept_of n es x s heavy b = elim (search_name x s.names) [
   | inl (at, found) ↦ (at, (found.inside, found.here))
   | inr absent ↦ elim (cases_lt (length s.names) n) [
@@ -389,13 +389,13 @@ pub keeps_the_heaviest : KeepsTheHeaviest
 keeps_the_heaviest zero es x fits heavy = absurd (omega arith)
 keeps_the_heaviest (suc n) es x fits heavy = kept_of (suc n) es x (all_noted es (new_summary (suc n))) heavy (table_of (suc n) es (omega arith) fits)
 
-exact_of : (n : ℕ) (es : List Entry) (s : Summary) (place : ℕ) → whole_time es < 2 ^ 64 → Since n es (name_at s place) (tally_of s place) (weight_of s place) → IsExactSince n es s place
+exact_of : (n : ℕ) (es : List Request) (s : Summary) (place : ℕ) → whole_time es < 2 ^ 64 → Since n es (name_at s place) (tally_of s place) (weight_of s place) → IsExactSince n es s place
 exact_of n es s place fits i =
     let x = name_at s place in
     let p = ap whole_time i.parts in
     let w = whole_append i.before i.after in
     let part = under_part x i.after in
-    let timed = tallied_time (entries_of x i.after) none_counted (omega (arith, p, w, part, fits)) in
+    let timed = tallied_time (requests_of x i.after) none_counted (omega (arith, p, w, part, fits)) in
     let same = ap (λ t. t.time) i.exact in
     let adds = i.adds in
     let missing : missing_at place s ≡ i.missing = omega (arith, timed, same, adds) in
@@ -411,9 +411,9 @@ exact_of n es s place fits i =
     }
 
 -- where there are no places there are no names
-none_kept : (es : List Entry) (ts : List Tally) (o : Tally) → (all_noted es (summary 0 [] [] ts o)).names ≡ []
+none_kept : (es : List Request) (ts : List Tally) (o : Tally) → (all_noted es (summary 0 [] [] ts o)).names ≡ []
 none_kept [] ts o = refl
-none_kept (e ∷ es) ts o = none_kept es ts (tallied e o)
+none_kept (e ∷ es) ts o = none_kept es ts (tallied_request e o)
 
 pub shows_exactly_since : ShowsExactlySince
 shows_exactly_since zero es place fits inside = let e = ap length (none_kept es [] none_counted) in absurd (omega (arith, e))

@@ -2,11 +2,11 @@
 use Rattle.std.specs.Prelude.{◌≡◌, ℕ, ◌-◌, ◌*◌, ◌^◌, ◌<◌, ◌≤◌, nat_le, nat_lt, List, [], ◌∷◌, ◌++◌, Option, Some, None, length}
 use Rattle.std.specs.List.{filter, All}
 use Rattle.cqlp_capture_summary.specs.Buckets.{bucket_of, greatest_in}
-use Rattle.cqlp_capture_summary.specs.Counts.{Entry, Tally}
+use Rattle.cqlp_capture_summary.specs.Counts.{Request, Tally}
 use Rattle.cqlp_capture_summary.specs.Heaviest.{tallied_all}
 use Rattle.cqlp_capture_summary.specs.Merging.{merged}
 use Rattle.cqlp_capture_summary.specs.Order.{rank_of, tally_at}
-use Rattle.cqlp_capture_summary.specs.Summaries.{Summary, new_summary, noted}
+use Rattle.cqlp_capture_summary.specs.Summaries.{Summary, new_summary, noted_request}
 use Rattle.cqlp_capture_summary.specs.Tallies.{none_counted, time_at}
 
 -- ---- what one call answers is what any call answers
@@ -15,7 +15,7 @@ abbrev pub OneAnswerOfNew : Type 0
 OneAnswerOfNew = (n : ℕ) (s t : Summary) → s ≡ new_summary n → t ≡ new_summary n → t ≡ s
 
 abbrev pub OneAnswerOfNote : Type 0
-OneAnswerOfNote = (old s t : Summary) (e : Entry) → s ≡ noted e old → t ≡ noted e old → t ≡ s
+OneAnswerOfNote = (old s t : Summary) (r : Request) → s ≡ noted_request r old → t ≡ noted_request r old → t ≡ s
 
 -- ---- buckets: a time lies in its bucket, and what is told of it is at most 1/32 more
 
@@ -29,10 +29,10 @@ abbrev pub with_known : Option ℕ → List ℕ → List ℕ
 with_known None times = times
 with_known (Some n) times = n ∷ times
 
--- the known times among entries, in order
-abbrev pub times_in : List Entry → List ℕ
+-- the known times among requests, in order
+abbrev pub times_in : List Request → List ℕ
 times_in [] = []
-times_in (e ∷ es) = with_known e.took (times_in es)
+times_in (e ∷ es) = with_known e.entry.took (times_in es)
 
 -- Of the times, fewer than so many are less than this one, and at least so many are not above it.
 pub record IsAtRank (rank : ℕ) (times : List ℕ) (time : ℕ) : Type 0 where
@@ -42,7 +42,7 @@ pub record IsAtRank (rank : ℕ) (times : List ℕ) (time : ℕ) : Type 0 where
 -- What is told of a rank is at least the time at this rank, and at most 1/32 more.
 abbrev pub TellsTimeAtRank : Type 0
 TellsTimeAtRank =
-    (os : List Entry) (rank time : ℕ) → length (times_in os) < 2 ^ 64 → All (λ t. t < 2 ^ 64) (times_in os) → time < 2 ^ 64
+    (os : List Request) (rank time : ℕ) → length (times_in os) < 2 ^ 64 → All (λ t. t < 2 ^ 64) (times_in os) → time < 2 ^ 64
     → IsAtRank rank (times_in os) time
     → (time ≤ time_at rank (tallied_all os none_counted)) × (32 * (time_at rank (tallied_all os none_counted) - time) ≤ time)
 
@@ -62,7 +62,7 @@ FirstComesFirst =
 
 -- ---- merging
 
--- What is counted of two lists of entries together is what is counted of the one list behind the other: each count, each sum and each bucket, and so
+-- What is counted of two lists of requests together is what is counted of the one list behind the other: each count, each sum and each bucket, and so
 -- each percentile.
 abbrev pub MergeCountsBoth : Type 0
-MergeCountsBoth = (xs ys : List Entry) → merged (tallied_all ys none_counted) (tallied_all xs none_counted) ≡ tallied_all (xs ++ ys) none_counted
+MergeCountsBoth = (xs ys : List Request) → merged (tallied_all ys none_counted) (tallied_all xs none_counted) ≡ tallied_all (xs ++ ys) none_counted

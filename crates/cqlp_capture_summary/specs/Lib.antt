@@ -8,6 +8,7 @@ pub mod Lines
 pub mod Merging
 pub mod Names
 pub mod Order
+pub mod Rows
 pub mod Shown
 pub mod Summaries
 pub mod Tallies

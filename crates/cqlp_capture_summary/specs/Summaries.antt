@@ -5,10 +5,10 @@
 -- of the one that it replaces: no statement outside of the table took more. So what may be missing of a statement is its weight less its time.
 use Rattle.std.specs.Prelude.{ℕ, ◌+◌, ◌-◌, nat_lt, List, [], ◌∷◌, ◌++◌, length, replicate, Option, Some, None, if◌then◌else◌, slice_index_or, slice_set}
 use Rattle.std.specs.List.{position}
-use Rattle.cqlp_capture_summary.specs.Counts.{Entry, Tally}
+use Rattle.cqlp_capture_summary.specs.Counts.{Entry, Request, Tally, answered}
 use Rattle.cqlp_capture_summary.specs.Merging.{merged}
 use Rattle.cqlp_capture_summary.specs.Names.{Name, is_same, name_of}
-use Rattle.cqlp_capture_summary.specs.Tallies.{counted, none_counted, tallied, time_of}
+use Rattle.cqlp_capture_summary.specs.Tallies.{counted, none_counted, tallied_request, time_of}
 
 -- how many places there are; the names and weights of those that are taken, a tally for each place, and one for all other statements
 pub record Summary : Type 0 where
@@ -74,22 +74,28 @@ with_name_if None n s = taken_in n s
 abbrev pub with_name : Name → Summary → Summary
 with_name n s = with_name_if (position (is_same n) s.names) n s
 
--- ---- an entry is counted
+-- ---- a request is counted
 
-abbrev pub with_entry_at : (place : ℕ) → Entry → Summary → Summary
-with_entry_at at e s =
-    summary s.statements s.names (slice_set s.weights at (counted (slice_index_or s.weights at 0) (time_of e.took)))
-    (slice_set s.tallies at (tallied e (slice_index_or s.tallies at none_counted))) s.others
+abbrev pub with_request_at : (place : ℕ) → Request → Summary → Summary
+with_request_at at r s =
+    summary s.statements s.names (slice_set s.weights at (counted (slice_index_or s.weights at 0) (time_of r.entry.took)))
+    (slice_set s.tallies at (tallied_request r (slice_index_or s.tallies at none_counted))) s.others
 
-abbrev pub with_entry : (place : Option ℕ) → Entry → Summary → Summary
-with_entry (Some at) e s = with_entry_at at e s
-with_entry None e s = summary s.statements s.names s.weights s.tallies (tallied e s.others)
+abbrev pub with_request : (place : Option ℕ) → Request → Summary → Summary
+with_request (Some at) r s = with_request_at at r s
+with_request None r s = summary s.statements s.names s.weights s.tallies (tallied_request r s.others)
 
 abbrev pub entry_name : Entry → Name
 entry_name e = name_of e.name e.is_whole_name
 
+abbrev pub request_name : Request → Name
+request_name r = entry_name r.entry
+
+abbrev pub noted_request : Request → Summary → Summary
+noted_request r s = with_request (place_of (request_name r) s) r (with_name (request_name r) s)
+
 abbrev pub noted : Entry → Summary → Summary
-noted e s = with_entry (place_of (entry_name e) s) e (with_name (entry_name e) s)
+noted e s = noted_request (answered e) s
 
 -- what may be missing of a statement: the most nanoseconds that it took before it was last taken in
 abbrev pub missing_at : (place : ℕ) → Summary → ℕ

@@ -11,6 +11,7 @@ mod mode;
 mod name;
 mod occurrence;
 mod order;
+mod row;
 mod shown;
 mod summary;
 mod tally;
@@ -19,5 +20,7 @@ mod written;
 
 pub use fingerprint::Fingerprint;
 pub use occurrence::Occurrence;
+pub use row::Row;
 pub use shown::put_shown_text;
 pub use summary::Summary;
+pub use tally::{Figures, Times};

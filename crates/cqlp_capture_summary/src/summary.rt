@@ -1,16 +1,17 @@
 //! The statements of a capture.
 
-ghost use Rattle.std.specs.Prelude.{◌≡◌, ◌+◌, ◌<◌, ◌≤◌, IfOk, IfSome, None, Some, length, replicate, vec_capacity};
+ghost use Rattle.std.specs.Prelude.{◌≡◌, ◌+◌, ◌<◌, ◌≤◌, IfOk, IfSome, MatchOption, None, Some, length, replicate, vec_capacity};
 ghost use Rattle.std.specs.List.{position};
 ghost use Rattle.cqlp_text.specs.Written.{Writes};
 ghost use Rattle.cqlp_capture_summary.specs.Lines.{summary_text};
 ghost use Rattle.cqlp_capture_summary.specs.Names.{is_same};
-ghost use Rattle.cqlp_capture_summary.specs.Tallies.{none_counted};
+ghost use Rattle.cqlp_capture_summary.specs.Tallies.{figures_of, none_counted};
 
 use crate::lines::put_summary;
 use crate::name::Name;
 use crate::occurrence::Occurrence;
-use crate::tally::{Tally, time_of};
+use crate::row::Row;
+use crate::tally::{Figures, Tally, time_of};
 use crate::weights::{add_weight_at, lightest};
 use cqlp_grammar::SinkFault;
 use cqlp_text::{Pen, TextWriter};
@@ -18,8 +19,8 @@ use std::alloc::{AllocError, Allocator, Global};
 use std::marker::Model;
 
 /// How often the statements of a capture were asked for, and how long they took: the heaviest statements in a table of bounded size, and the others together.
-/// A statement that took more than one in N of the whole time is in a table of N places. All memory is taken in `new`: for each place 15,704 bytes, and
-/// 23,608 besides; 4 MB for 256 places.
+/// A statement that took more than one in N of the whole time is in a table of N places. All memory is taken in `new`: for each place 15,744 bytes, and
+/// 23,648 besides; 4 MB for 256 places.
 #[derive(Drop)]
 pub struct Summary<A: Allocator = Global> {
     statements: usize,
@@ -56,8 +57,10 @@ impl<A: Allocator> Model for Summary<A> {
 }
 
 impl<A: Allocator> Summary<A> {
-    ghost use Rattle.cqlp_capture_summary.specs.Counts.{entry_of};
-    ghost use Rattle.cqlp_capture_summary.specs.Summaries.{new_place, new_summary, noted, place_of, taken_in, with_entry, with_entry_at, with_in_place_of, with_name, with_new};
+    ghost use Rattle.cqlp_capture_summary.specs.Counts.{entry_of, request_of};
+    ghost use Rattle.cqlp_capture_summary.specs.Rows.{IsRowAt};
+    ghost use Rattle.cqlp_capture_summary.specs.Summaries.{new_place, new_summary, noted, noted_request, place_of, taken_in};
+    ghost use Rattle.cqlp_capture_summary.specs.Summaries.{with_in_place_of, with_name, with_new, with_request, with_request_at};
 
     /// Nothing is noted. At most so many statements have places. All memory is taken here, in five requests, or in two where there are no places.
     pub fn new(alloc: A, statements: usize) -> Result<Self, AllocError>
@@ -75,28 +78,41 @@ impl<A: Allocator> Summary<A> {
         })
     }
 
-    /// Counts one time that a statement was asked for.
+    /// Counts one time that a statement was asked for and answered.
     pub fn note(&mut self, occurrence: &Occurrence<'_>)
         ensures { self.new ≡ noted (entry_of occurrence.now) self.old }
+    {
+        self.note_request(occurrence, true, None);
+    }
+
+    /// Counts one time that a statement was asked for: whether it was answered, and when it was asked for, in nanoseconds since some moment.
+    pub fn note_request(&mut self, occurrence: &Occurrence<'_>, is_answered: bool, at: Option<u64>)
+        ensures { self.new ≡ noted_request (request_of occurrence.now is_answered at) self.old }
     {
         let name = Name::new(occurrence.name, occurrence.is_whole_name);
         let slot = name.slot();
         match self.place_for(name) {
-            Some(at) => {
-                self.slots[slot] = at;
-                self.add_at(at, occurrence);
+            Some(place) => {
+                self.slots[slot] = place;
+                self.add_at(place, occurrence, is_answered, at);
             }
-            None => self.others[0].add(occurrence),
+            None => self.others[0].add_request(occurrence, is_answered, at),
         }
     }
 
     /// Counts one time that the statement at a place was asked for.
-    fn add_at(&mut self, at: usize, occurrence: &Occurrence<'_>)
-        requires { at < self.old.statements }
-        ensures { self.new ≡ with_entry_at at (entry_of occurrence.now) self.old }
+    fn add_at(
+        &mut self,
+        place: usize,
+        occurrence: &Occurrence<'_>,
+        is_answered: bool,
+        at: Option<u64>,
+    )
+        requires { place < self.old.statements }
+        ensures { self.new ≡ with_request_at place (request_of occurrence.now is_answered at) self.old }
     {
-        add_weight_at(&mut self.weights, at, time_of(occurrence.took));
-        self.tallies[at].add(occurrence);
+        add_weight_at(&mut self.weights, place, time_of(occurrence.took));
+        self.tallies[place].add_request(occurrence, is_answered, at);
     }
 
     /// The place where a statement is counted, which takes it in if it is not in the table.
@@ -159,6 +175,36 @@ impl<A: Allocator> Summary<A> {
         self.others[0].merge(&self.tallies[at]);
         self.tallies[at].clear();
         self.names[at] = name;
+    }
+
+    /// How many statements are in the table.
+    pub fn len(&self) -> usize
+        ensures { result ≡ length self.now.names }
+    {
+        self.names.len()
+    }
+
+    /// What is shown of the statement at a place.
+    pub fn row(&self, place: usize) -> Option<Row<'_>>
+        ensures { MatchOption result (length self.now.names ≤ place) (λ row. IsRowAt self.now place row) }
+    {
+        if place >= self.names.len() {
+            return None;
+        }
+        let (name, tally) = (&self.names[place], &self.tallies[place]);
+        Some(Row {
+            name: name.as_slice(),
+            is_whole_name: name.is_whole(),
+            missing: self.weights[place].saturating_sub(tally.time()),
+            figures: tally.figures(),
+        })
+    }
+
+    /// What is counted of all other statements.
+    pub fn others(&self) -> Figures
+        ensures { result ≡ figures_of self.now.others }
+    {
+        self.others[0].figures()
     }
 
     /// Writes a line for each statement, the one that took most time in sum first, and a line for all others.
