@@ -28,7 +28,7 @@ def quantile(times, hundredths):
     return min(greatest_in_bucket(sorted(times)[rank - 1]), max(times))
 
 
-def line(name, entries, total):
+def line(name, entries, total, missing=0):
     times = [e[3] for e in entries if e[3] is not None]
     time = min(sum(times), MOST)
     share = min(time * 1000 // max(total, 1), 1000)
@@ -39,22 +39,42 @@ def line(name, entries, total):
         text += f' {ms(4, quantile(times, 50))} {ms(4, quantile(times, 99))} {ms(5, max(times))}'
     else:
         text += f' {"-":>8} {"-":>8} {"-":>9}'
+    if missing:
+        text += f' (up to {ms(1, missing)} ms more)'
     return f'{text} {name}\n'
 
 
-def summary(limit, entries):
-    names, others = {}, []
+def time_of(entries):
+    return min(sum(e[3] or 0 for e in entries), MOST)
+
+
+def table_of(limit, entries):
+    """The table: for each place its name, the most time that the statement may have taken, and its entries; and the entries of the others."""
+    table, others = [], []
     for entry in entries:
-        if entry[4] in names or len(names) < limit:
-            names.setdefault(entry[4], []).append(entry)
-        else:
+        place = next((p for p in table if p['name'] == entry[4]), None)
+        if place is None and len(table) < limit:
+            place = {'name': entry[4], 'weight': 0, 'entries': []}
+            table.append(place)
+        elif place is None and limit:
+            place = min(table, key=lambda p: p['weight'])
+            others += place['entries']
+            place['name'], place['entries'] = entry[4], []
+        if place is None:
             others.append(entry)
-    total = min(sum(e[3] or 0 for e in entries), MOST)
-    time = {name: min(sum(e[3] or 0 for e in of), MOST) for name, of in names.items()}
-    text = HEADER
-    for name in sorted(names, key=lambda n: -time[n]):
-        kept, whole = name
-        text += line(shown(kept.decode('utf-8', 'ignore')) + ('' if whole else '..'), names[name], total)
+        else:
+            place['weight'] = min(place['weight'] + (entry[3] or 0), MOST)
+            place['entries'].append(entry)
+    return table, others
+
+
+def summary(limit, entries):
+    table, others = table_of(limit, entries)
+    total, text = time_of(entries), HEADER
+    for place in sorted(table, key=lambda p: -time_of(p['entries'])):
+        kept, whole = place['name']
+        missing = max(place['weight'] - time_of(place['entries']), 0)
+        text += line(shown(kept.decode('utf-8', 'ignore')) + ('' if whole else '..'), place['entries'], total, missing)
     return text + (line('others', others, total) if others else '')
 
 

@@ -1,8 +1,14 @@
+mod Added
+mod Apart
 mod Bounds
-mod Gathered
+mod Entries
+mod Heaviest
+mod Lightest
 mod Lists
+mod Merges
 mod Names
 mod Orders
 mod Ranks
+mod Roomy
 pub mod Texts
 mod Told

@@ -1,12 +1,13 @@
 -- Laws of summaries.
-use Rattle.std.specs.Prelude.{◌≡◌, ℕ, ◌-◌, ◌*◌, ◌^◌, ◌<◌, ◌≤◌, ◌==◌, Bool, nat_le, nat_lt, List, [], ◌∷◌, Option, Some, None, length}
-use Rattle.std.specs.List.{filter, All, position}
+use Rattle.std.specs.Prelude.{◌≡◌, ℕ, ◌-◌, ◌*◌, ◌^◌, ◌<◌, ◌≤◌, nat_le, nat_lt, List, [], ◌∷◌, ◌++◌, Option, Some, None, length}
+use Rattle.std.specs.List.{filter, All}
 use Rattle.cqlp_capture_summary.specs.Buckets.{bucket_of, greatest_in}
-use Rattle.cqlp_capture_summary.specs.Counts.{Entry, Tally}
-use Rattle.cqlp_capture_summary.specs.Names.{Name, is_same}
+use Rattle.cqlp_capture_summary.specs.Counts.{Request, Tally}
+use Rattle.cqlp_capture_summary.specs.Heaviest.{tallied_all}
+use Rattle.cqlp_capture_summary.specs.Merging.{merged}
 use Rattle.cqlp_capture_summary.specs.Order.{rank_of, tally_at}
-use Rattle.cqlp_capture_summary.specs.Summaries.{Summary, entry_name, new_summary, noted, place_or}
-use Rattle.cqlp_capture_summary.specs.Tallies.{none_counted, tallied, time_at}
+use Rattle.cqlp_capture_summary.specs.Summaries.{Summary, new_summary, noted_request}
+use Rattle.cqlp_capture_summary.specs.Tallies.{none_counted, time_at}
 
 -- ---- what one call answers is what any call answers
 
@@ -14,7 +15,7 @@ abbrev pub OneAnswerOfNew : Type 0
 OneAnswerOfNew = (n : ℕ) (s t : Summary) → s ≡ new_summary n → t ≡ new_summary n → t ≡ s
 
 abbrev pub OneAnswerOfNote : Type 0
-OneAnswerOfNote = (old s t : Summary) (e : Entry) → s ≡ noted e old → t ≡ noted e old → t ≡ s
+OneAnswerOfNote = (old s t : Summary) (r : Request) → s ≡ noted_request r old → t ≡ noted_request r old → t ≡ s
 
 -- ---- buckets: a time lies in its bucket, and what is told of it is at most 1/32 more
 
@@ -28,15 +29,10 @@ abbrev pub with_known : Option ℕ → List ℕ → List ℕ
 with_known None times = times
 with_known (Some n) times = n ∷ times
 
--- the known times among entries, in order
-abbrev pub times_in : List Entry → List ℕ
+-- the known times among requests, in order
+abbrev pub times_in : List Request → List ℕ
 times_in [] = []
-times_in (e ∷ es) = with_known e.took (times_in es)
-
--- what is counted already, and then of these
-abbrev pub tallied_all : List Entry → Tally → Tally
-tallied_all [] t = t
-tallied_all (e ∷ es) t = tallied_all es (tallied e t)
+times_in (e ∷ es) = with_known e.entry.took (times_in es)
 
 -- Of the times, fewer than so many are less than this one, and at least so many are not above it.
 pub record IsAtRank (rank : ℕ) (times : List ℕ) (time : ℕ) : Type 0 where
@@ -46,7 +42,7 @@ pub record IsAtRank (rank : ℕ) (times : List ℕ) (time : ℕ) : Type 0 where
 -- What is told of a rank is at least the time at this rank, and at most 1/32 more.
 abbrev pub TellsTimeAtRank : Type 0
 TellsTimeAtRank =
-    (os : List Entry) (rank time : ℕ) → length (times_in os) < 2 ^ 64 → All (λ t. t < 2 ^ 64) (times_in os) → time < 2 ^ 64
+    (os : List Request) (rank time : ℕ) → length (times_in os) < 2 ^ 64 → All (λ t. t < 2 ^ 64) (times_in os) → time < 2 ^ 64
     → IsAtRank rank (times_in os) time
     → (time ≤ time_at rank (tallied_all os none_counted)) × (32 * (time_at rank (tallied_all os none_counted) - time) ≤ time)
 
@@ -64,22 +60,9 @@ abbrev pub FirstComesFirst : Type 0
 FirstComesFirst =
     (ts : List Tally) (a b : ℕ) → a < b → b < length ts → (tally_at ts b).time ≡ (tally_at ts a).time → rank_of a ts < rank_of b ts
 
--- ---- what is counted at each place
+-- ---- merging
 
-abbrev pub all_noted : List Entry → Summary → Summary
-all_noted [] s = s
-all_noted (e ∷ es) s = all_noted es (noted e s)
-
--- the place of an entry's name among these, or that of the others
-abbrev pub place_in : List Name → Entry → ℕ
-place_in names e = place_or (position (is_same (entry_name e)) names) (length names)
-
-abbrev pub is_at : List Name → (place : ℕ) → Entry → Bool
-is_at names place e = place_in names e == place
-
--- At each place is counted what was noted under its name, and nothing else; and behind the names what was noted under none of them.
-abbrev pub CountsEachByItsName : Type 0
-CountsEachByItsName =
-    (n : ℕ) (es : List Entry) (place : ℕ) → place ≤ n
-    → tally_at (all_noted es (new_summary n)).tallies place
-    ≡ tallied_all (filter (is_at (all_noted es (new_summary n)).names place) es) none_counted
+-- What is counted of two lists of requests together is what is counted of the one list behind the other: each count, each sum and each bucket, and so
+-- each percentile.
+abbrev pub MergeCountsBoth : Type 0
+MergeCountsBoth = (xs ys : List Request) → merged (tallied_all ys none_counted) (tallied_all xs none_counted) ≡ tallied_all (xs ++ ys) none_counted

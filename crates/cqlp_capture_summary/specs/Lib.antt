@@ -1,10 +1,14 @@
 pub mod Buckets
 pub mod Columns
 pub mod Counts
+pub mod Fingerprints
+pub mod Heaviest
 pub mod Laws
 pub mod Lines
+pub mod Merging
 pub mod Names
 pub mod Order
+pub mod Rows
 pub mod Shown
 pub mod Summaries
 pub mod Tallies

@@ -1,5 +1,5 @@
 -- What a summary says.
-use Rattle.std.specs.Prelude.{ℕ, ◌==◌, Bool, true, false, List, [], ◌∷◌, Option, Some, None, codes, length, slice_index_or, take, if◌then◌else◌}
+use Rattle.std.specs.Prelude.{ℕ, ◌-◌, ◌==◌, Bool, true, false, List, [], ◌∷◌, Option, Some, None, codes, length, slice_index_or, take, if◌then◌else◌}
 use Rattle.std.specs.List.{flat_map}
 use Rattle.std.specs.Str.Lossy.{utf8_valid_len}
 use Rattle.cqlp_capture_summary.specs.declared.tally.Figures.{Figures}
@@ -36,39 +36,48 @@ abbrev pub times_text : Option Times → List ℕ
 times_text None = joined (text_column 8 (codes "-") ∷ text_column 8 (codes "-") ∷ text_column 9 (codes "-") ∷ [])
 times_text (Some t) = joined (time_column 4 t.median ∷ time_column 4 t.percentile_99 ∷ time_column 5 t.greatest ∷ [])
 
-abbrev pub figures_line : (total : ℕ) → Name → Figures → List ℕ
-figures_line total n f = joined (share_text (share_of f.time total) ∷ counts_text f ∷ times_text f.times ∷ name_text n ∷ [])
+-- what may be missing of a statement that left the table before
+abbrev pub some_missing_text : (missing : ℕ) → List ℕ
+some_missing_text n = joined (codes " (up to" ∷ time_column 1 n ∷ codes " ms more)" ∷ [])
 
-abbrev pub line : (total : ℕ) → Name → Tally → List ℕ
-line total n t = figures_line total n (figures_of t)
+abbrev pub missing_text : (missing : ℕ) → List ℕ
+missing_text n = if n == 0 then [] else some_missing_text n
+
+abbrev pub figures_line : (total : ℕ) → Name → (missing : ℕ) → Figures → List ℕ
+figures_line total n missing f =
+    joined (share_text (share_of f.time total) ∷ counts_text f ∷ times_text f.times ∷ missing_text missing ∷ name_text n ∷ [])
+
+abbrev pub line : (total : ℕ) → Name → (missing : ℕ) → Tally → List ℕ
+line total n missing t = figures_line total n missing (figures_of t)
 
 -- ---- the lines of the statements that are told apart, by their ranks, and the line of the others if there are any
 
-abbrev pub line_at : (total : ℕ) → List Name → List Tally → (place : ℕ) → List ℕ
-line_at total names ts place = line total (slice_index_or names place (name [] true)) (tally_at ts place)
+abbrev pub line_at : (total : ℕ) → List Name → (weights : List ℕ) → List Tally → (place : ℕ) → List ℕ
+line_at total names ws ts place =
+    line total (slice_index_or names place (name [] true)) (slice_index_or ws place 0 - (tally_at ts place).time) (tally_at ts place)
 
-abbrev pub line_if : (total : ℕ) → List Name → List Tally → (rank place : ℕ) → List ℕ
-line_if total names ts rank place = if rank_of place ts == rank then line_at total names ts place else []
+abbrev pub line_if : (total : ℕ) → List Name → (weights : List ℕ) → List Tally → (rank place : ℕ) → List ℕ
+line_if total names ws ts rank place = if rank_of place ts == rank then line_at total names ws ts place else []
 
-abbrev pub lines_of_rank : (total : ℕ) → List Name → List Tally → (rank : ℕ) → List ℕ
-lines_of_rank total names ts rank = flat_map (line_if total names ts rank) (upto 0 (length ts))
+abbrev pub lines_of_rank : (total : ℕ) → List Name → (weights : List ℕ) → List Tally → (rank : ℕ) → List ℕ
+lines_of_rank total names ws ts rank = flat_map (line_if total names ws ts rank) (upto 0 (length ts))
 
-abbrev pub lines : (total : ℕ) → List Name → List Tally → List ℕ
-lines total names ts = flat_map (lines_of_rank total names ts) (upto 0 (length ts))
+abbrev pub lines : (total : ℕ) → List Name → (weights : List ℕ) → List Tally → List ℕ
+lines total names ws ts = flat_map (lines_of_rank total names ws ts) (upto 0 (length ts))
 
 abbrev pub others_line : (total : ℕ) → Tally → List ℕ
-others_line total t = if t.count == 0 then [] else line total (name (codes "others") true) t
+others_line total t = if t.count == 0 then [] else line total (name (codes "others") true) 0 t
 
 -- the time of all of them
 abbrev pub time_with : (sum : ℕ) → List Tally → ℕ
 time_with sum [] = sum
 time_with sum (t ∷ ts) = time_with (counted sum t.time) ts
 
-abbrev pub text_of : (total : ℕ) → List Name → List Tally → (others : Tally) → List ℕ
-text_of total names ts others = joined (header ∷ lines total names ts ∷ others_line total others ∷ [])
+abbrev pub text_of : (total : ℕ) → List Name → (weights : List ℕ) → List Tally → (others : Tally) → List ℕ
+text_of total names ws ts others = joined (header ∷ lines total names ws ts ∷ others_line total others ∷ [])
 
-abbrev pub known_and_others : List Name → (known : List Tally) → (others : Tally) → List ℕ
-known_and_others names ts others = text_of (time_with others.time ts) names ts others
+abbrev pub known_and_others : List Name → (weights : List ℕ) → (known : List Tally) → (others : Tally) → List ℕ
+known_and_others names ws ts others = text_of (time_with others.time ts) names ws ts others
 
 abbrev pub summary_text : Summary → List ℕ
-summary_text s = known_and_others s.names (take (length s.names) s.tallies) (tally_at s.tallies s.statements)
+summary_text s = known_and_others s.names s.weights (take (length s.names) s.tallies) s.others

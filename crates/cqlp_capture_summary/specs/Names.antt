@@ -1,5 +1,6 @@
 -- Names of statements.
-use Rattle.std.specs.Prelude.{ℕ, ◌+◌, ◌*◌, ◌^◌, ◌%◌, Bool, true, false, ◌&&◌, nat_le, List, [], ◌∷◌, length, take}
+use Rattle.std.specs.Prelude.{◌≡◌, ℕ, ◌<◌, Bool, true, false, ◌&&◌, nat_le, List, [], length, slice_index_or, take}
+use Rattle.std.specs.Hash.DefaultHasher as sip
 use Rattle.std.specs.Str.{bytes_eq}
 
 -- the first bytes of a name, and whether they are all of it
@@ -22,11 +23,12 @@ is_equal false false = true
 abbrev pub is_same : Name → Name → Bool
 is_same n known = is_equal known.is_whole n.is_whole && bytes_eq known.bytes n.bytes
 
--- ---- a sum of bytes, which is compared before they are
+-- ---- a hash of the bytes, which is compared before they are
 
-abbrev pub sum_from : (sum : ℕ) → List ℕ → ℕ
-sum_from sum [] = sum
-sum_from sum (b ∷ bs) = sum_from ((sum * 31 + b) % 2 ^ 64) bs
+abbrev pub hash_of : List ℕ → ℕ
+hash_of bytes = sip.finish (sip.write sip.initial bytes)
 
-abbrev pub sum_of : List ℕ → ℕ
-sum_of bytes = sum_from 0 bytes
+-- no name is there twice
+abbrev pub AreApart : List Name → Type 0
+AreApart names =
+    (i j : ℕ) → i < length names → j < length names → slice_index_or names i (name [] true) ≡ slice_index_or names j (name [] true) → i ≡ j

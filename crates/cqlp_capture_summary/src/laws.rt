@@ -1,7 +1,8 @@
 //! Laws of summaries. No code needs them.
 
-ghost use Rattle.cqlp_capture_summary.specs.Laws.{CountsEachByItsName, DearerComesFirst, EachHasItsRank, FirstComesFirst};
-ghost use Rattle.cqlp_capture_summary.specs.Laws.{LiesInItsBucket, OneAnswerOfNew, OneAnswerOfNote, TellsTimeAtRank};
+ghost use Rattle.cqlp_capture_summary.specs.Heaviest.{CountsAllWhereThereIsRoom, KeepsEachOnce, KeepsTheHeaviest, ShowsExactlySince};
+ghost use Rattle.cqlp_capture_summary.specs.Laws.{DearerComesFirst, EachHasItsRank, FirstComesFirst};
+ghost use Rattle.cqlp_capture_summary.specs.Laws.{LiesInItsBucket, MergeCountsBoth, OneAnswerOfNew, OneAnswerOfNote, TellsTimeAtRank};
 
 /// Where memory is granted `Summary::new` has one answer, and so has `note`.
 pub fn one_answer()
@@ -27,7 +28,21 @@ pub fn each_has_its_rank()
     ensures first { FirstComesFirst }
 {}
 
-/// What is counted of a statement is what was noted under its name, and what is counted of the others is what was noted under none of the names.
-pub fn counts_each_by_its_name()
-    ensures { CountsEachByItsName }
+/// In a table of N places, of fewer than 2^64 nanoseconds in all: a statement that took more than one in N of the whole time has a place, and no statement has
+/// two. What is counted of a statement is exact from one time on that it was asked for. Before, it took at most what is shown as missing, which is at most one
+/// in N of the whole time.
+pub fn keeps_the_heaviest()
+    ensures heaviest { KeepsTheHeaviest }
+    ensures once { KeepsEachOnce }
+    ensures exact { ShowsExactlySince }
+{}
+
+/// Where at most N different statements come, N places count each of them whole, in the order in which they came first, and nothing as others.
+pub fn counts_all_where_there_is_room()
+    ensures { CountsAllWhereThereIsRoom }
+{}
+
+/// What is counted of two captures together, from what is counted of each, is what is counted of the one behind the other.
+pub fn merge_counts_both()
+    ensures { MergeCountsBoth }
 {}

@@ -2,16 +2,25 @@
 #![tactic(auto)]
 
 mod buckets;
+mod class;
 mod columns;
+mod fingerprint;
 pub mod laws;
 mod lines;
+mod mode;
 mod name;
 mod occurrence;
 mod order;
+mod row;
 mod shown;
 mod summary;
 mod tally;
+mod weights;
+mod written;
 
+pub use fingerprint::Fingerprint;
 pub use occurrence::Occurrence;
+pub use row::Row;
 pub use shown::put_shown_text;
 pub use summary::Summary;
+pub use tally::{Figures, Times};

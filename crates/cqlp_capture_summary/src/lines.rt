@@ -2,8 +2,8 @@
 
 ghost use Rattle.std.specs.Prelude.{◌≡◌, ◌<◌, length};
 ghost use Rattle.cqlp_text.specs.Written.{Writes};
-ghost use Rattle.cqlp_capture_summary.specs.Lines.{counts_text, figures_line, known_and_others, line_at, line_if, lines, lines_of_rank};
-ghost use Rattle.cqlp_capture_summary.specs.Lines.{more, name_text, others_line, text_front, time_with, times_text};
+ghost use Rattle.cqlp_capture_summary.specs.Lines.{counts_text, figures_line, known_and_others, line_at, line_if, lines, lines_of_rank, missing_text};
+ghost use Rattle.cqlp_capture_summary.specs.Lines.{more, name_text, others_line, some_missing_text, text_front, time_with, times_text};
 ghost use Rattle.cqlp_capture_summary.specs.Names.{name};
 
 use crate::columns::{put_number_column, put_share, put_text_column, put_time_column, share_of};
@@ -22,15 +22,17 @@ const HEADER: &str =
 pub(crate) fn put_summary<P: Pen>(
     writer: &mut TextWriter<P>,
     names: &[Name],
+    weights: &[u64],
     tallies: &[Tally],
     others: &Tally,
 ) -> Result<(), SinkFault>
-    requires { length names.now ≡ length tallies.now }
-    ensures { Writes writer.old (known_and_others names.now tallies.now others.now) result writer.new }
+    requires lengths { length names.now ≡ length tallies.now }
+    requires weights { length weights.now ≡ length tallies.now }
+    ensures { Writes writer.old (known_and_others names.now weights.now tallies.now others.now) result writer.new }
 {
     let total = time_with(others.time(), tallies);
     writer.put_str(HEADER)?;
-    put_lines(writer, total, names, tallies)?;
+    put_lines(writer, total, names, weights, tallies)?;
     put_others(writer, total, others)
 }
 
@@ -50,13 +52,15 @@ fn put_lines<P: Pen>(
     writer: &mut TextWriter<P>,
     total: u64,
     names: &[Name],
+    weights: &[u64],
     tallies: &[Tally],
 ) -> Result<(), SinkFault>
-    requires { length names.now ≡ length tallies.now }
-    ensures { Writes writer.old (lines total names.now tallies.now) result writer.new }
+    requires lengths { length names.now ≡ length tallies.now }
+    requires weights { length weights.now ≡ length tallies.now }
+    ensures { Writes writer.old (lines total names.now weights.now tallies.now) result writer.new }
 {
     for rank in 0..tallies.len() {
-        put_rank(writer, total, names, tallies, rank)?;
+        put_rank(writer, total, names, weights, tallies, rank)?;
     }
     Ok(())
 }
@@ -66,14 +70,16 @@ fn put_rank<P: Pen>(
     writer: &mut TextWriter<P>,
     total: u64,
     names: &[Name],
+    weights: &[u64],
     tallies: &[Tally],
     rank: usize,
 ) -> Result<(), SinkFault>
-    requires { length names.now ≡ length tallies.now }
-    ensures { Writes writer.old (lines_of_rank total names.now tallies.now rank) result writer.new }
+    requires lengths { length names.now ≡ length tallies.now }
+    requires weights { length weights.now ≡ length tallies.now }
+    ensures { Writes writer.old (lines_of_rank total names.now weights.now tallies.now rank) result writer.new }
 {
     for place in 0..tallies.len() {
-        put_if(writer, total, names, tallies, rank, place)?;
+        put_if(writer, total, names, weights, tallies, rank, place)?;
     }
     Ok(())
 }
@@ -83,16 +89,18 @@ fn put_if<P: Pen>(
     writer: &mut TextWriter<P>,
     total: u64,
     names: &[Name],
+    weights: &[u64],
     tallies: &[Tally],
     rank: usize,
     place: usize,
 ) -> Result<(), SinkFault>
     requires lengths { length names.now ≡ length tallies.now }
+    requires weights { length weights.now ≡ length tallies.now }
     requires within { place < length tallies.now }
-    ensures { Writes writer.old (line_if total names.now tallies.now rank place) result writer.new }
+    ensures { Writes writer.old (line_if total names.now weights.now tallies.now rank place) result writer.new }
 {
     if rank_of(tallies, place) == rank {
-        put_at(writer, total, names, tallies, place)
+        put_at(writer, total, names, weights, tallies, place)
     } else {
         writer.put(b"")
     }
@@ -103,16 +111,26 @@ fn put_at<P: Pen>(
     writer: &mut TextWriter<P>,
     total: u64,
     names: &[Name],
+    weights: &[u64],
     tallies: &[Tally],
     place: usize,
 ) -> Result<(), SinkFault>
     requires lengths { length names.now ≡ length tallies.now }
+    requires weights { length weights.now ≡ length tallies.now }
     requires within { place < length tallies.now }
-    ensures { Writes writer.old (line_at total names.now tallies.now place) result writer.new }
+    ensures { Writes writer.old (line_at total names.now weights.now tallies.now place) result writer.new }
 {
     let name = &names[place];
-    let figures = tallies[place].figures();
-    put_line(writer, total, name.as_slice(), name.is_whole(), &figures)
+    let tally = &tallies[place];
+    let missing = weights[place].saturating_sub(tally.time());
+    put_line(
+        writer,
+        total,
+        name.as_slice(),
+        name.is_whole(),
+        missing,
+        &tally.figures(),
+    )
 }
 
 /// Takes the line of the statements that are not told apart, if there are any.
@@ -126,7 +144,7 @@ fn put_others<P: Pen>(
     if others.count() == 0 {
         return writer.put(b"");
     }
-    put_line(writer, total, b"others", true, &others.figures())
+    put_line(writer, total, b"others", true, 0, &others.figures())
 }
 
 fn put_line<P: Pen>(
@@ -134,13 +152,15 @@ fn put_line<P: Pen>(
     total: u64,
     bytes: &[u8],
     is_whole: bool,
+    missing: u64,
     figures: &Figures,
 ) -> Result<(), SinkFault>
-    ensures { Writes writer.old (figures_line total (name bytes.now is_whole) figures.now) result writer.new }
+    ensures { Writes writer.old (figures_line total (name bytes.now is_whole) missing figures.now) result writer.new }
 {
     put_share(writer, share_of(figures.time, total))?;
     put_counts(writer, figures)?;
     put_times(writer, figures.times)?;
+    put_missing(writer, missing)?;
     put_name(writer, bytes, is_whole)
 }
 
@@ -179,6 +199,24 @@ fn put_no_times<P: Pen>(writer: &mut TextWriter<P>) -> Result<(), SinkFault>
     put_text_column(writer, 8, b"-")?;
     put_text_column(writer, 8, b"-")?;
     put_text_column(writer, 9, b"-")
+}
+
+/// Writes what may be missing, if there is any.
+fn put_missing<P: Pen>(writer: &mut TextWriter<P>, missing: u64) -> Result<(), SinkFault>
+    ensures { Writes writer.old (missing_text missing) result writer.new }
+{
+    if missing == 0 {
+        return writer.put(b"");
+    }
+    put_some_missing(writer, missing)
+}
+
+fn put_some_missing<P: Pen>(writer: &mut TextWriter<P>, missing: u64) -> Result<(), SinkFault>
+    ensures { Writes writer.old (some_missing_text missing) result writer.new }
+{
+    writer.put(b" (up to")?;
+    put_time_column(writer, 1, missing)?;
+    writer.put(b" ms more)")
 }
 
 /// Takes a name and the end of its line.

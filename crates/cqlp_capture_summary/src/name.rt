@@ -1,15 +1,16 @@
 //! Names of statements.
 
-ghost use Rattle.std.specs.Prelude.{◌≡◌, ◌&&◌, nat_le, length};
-ghost use Rattle.cqlp_capture_summary.specs.Names.{is_same, name_of, sum_from};
+ghost use Rattle.std.specs.Prelude.{◌≡◌, ◌&&◌, ◌<◌, nat_le, length};
+ghost use Rattle.cqlp_capture_summary.specs.Names.{hash_of, is_same, name_of};
 
+use std::hash::{DefaultHasher, Hasher};
 use std::marker::Model;
 
 /// The first bytes of a statement's name.
 #[derive(Drop)]
 pub(crate) struct Name {
-    /// A sum of the bytes, which is compared first.
-    sum: u64,
+    /// A hash of the bytes, which is compared first.
+    hash: u64,
     len: usize,
     bytes: [u8; MOST],
     is_whole: bool,
@@ -20,13 +21,13 @@ const MOST: usize = 256;
 
 impl Model for Name {
     ghost use Rattle.std.specs.Prelude.{◌≡◌, ◌≤◌, take};
-    ghost use Rattle.cqlp_capture_summary.specs.Names.{Name, name, sum_of};
+    ghost use Rattle.cqlp_capture_summary.specs.Names.{Name, hash_of, name};
 
     ghost Value = { Name };
 
     ghost view = { λ n. name (take n.len n.bytes) n.is_whole };
 
-    ghost invariant = { λ n. (n.len ≤ 256) × (n.sum ≡ sum_of (take n.len n.bytes)) };
+    ghost invariant = { λ n. (n.len ≤ 256) × (n.hash ≡ hash_of (take n.len n.bytes)) };
 }
 
 impl Name {
@@ -38,7 +39,7 @@ impl Name {
         let mut bytes = [0; MOST];
         bytes[..front.len()].copy_from_slice(front);
         Name {
-            sum: sum_of(front),
+            hash: hash_of(front),
             len: front.len(),
             bytes,
             is_whole: is_kept_whole(name, is_whole),
@@ -57,11 +58,18 @@ impl Name {
         self.is_whole
     }
 
+    /// A number below 1,024 by its hash.
+    pub(crate) fn slot(&self) -> usize
+        ensures { result < 1024 }
+    {
+        (self.hash % 1024) as usize
+    }
+
     /// Whether it is the other.
     pub(crate) fn is(&self, other: &Name) -> bool
         ensures { result ≡ is_same other.now self.now }
     {
-        self.sum == other.sum
+        self.hash == other.hash
             && self.is_whole == other.is_whole
             && self.as_slice() == other.as_slice()
     }
@@ -74,13 +82,11 @@ fn is_kept_whole(name: &[u8], is_whole: bool) -> bool
     is_whole && name.len() <= MOST
 }
 
-/// A sum of bytes.
-fn sum_of(bytes: &[u8]) -> u64
-    ensures { result ≡ sum_from 0 bytes.now }
+/// A hash of bytes.
+fn hash_of(bytes: &[u8]) -> u64
+    ensures { result ≡ hash_of bytes.now }
 {
-    let mut sum: u64 = 0;
-    for byte in bytes {
-        sum = sum.wrapping_mul(31).wrapping_add(u64::from(*byte));
-    }
-    sum
+    let mut hasher = DefaultHasher::new();
+    hasher.write(bytes);
+    hasher.finish()
 }

@@ -1,47 +1,68 @@
 //! The statements of a capture.
 
-ghost use Rattle.std.specs.Prelude.{◌≡◌, ◌+◌, ◌<◌, ◌≤◌, IfOk, IfSome, None, length, position, replicate, vec_capacity};
+ghost use Rattle.std.specs.Prelude.{◌≡◌, ◌+◌, ◌<◌, ◌≤◌, IfOk, IfSome, MatchOption, None, Some, length, replicate, vec_capacity};
+ghost use Rattle.std.specs.List.{position};
 ghost use Rattle.cqlp_text.specs.Written.{Writes};
 ghost use Rattle.cqlp_capture_summary.specs.Lines.{summary_text};
 ghost use Rattle.cqlp_capture_summary.specs.Names.{is_same};
-ghost use Rattle.cqlp_capture_summary.specs.Tallies.{none_counted};
+ghost use Rattle.cqlp_capture_summary.specs.Tallies.{figures_of, none_counted};
 
 use crate::lines::put_summary;
 use crate::name::Name;
 use crate::occurrence::Occurrence;
-use crate::tally::Tally;
+use crate::row::Row;
+use crate::tally::{Figures, Tally, time_of};
+use crate::weights::{add_weight_at, lightest};
 use cqlp_grammar::SinkFault;
 use cqlp_text::{Pen, TextWriter};
 use std::alloc::{AllocError, Allocator, Global};
 use std::marker::Model;
 
-/// How often the statements of a capture were asked for, and how long they took. The statements beyond a bound are counted together. All memory is taken
-/// in `new`: for each statement 280 bytes, and for each and one more 15,416; 4 MB for 256.
+/// How often the statements of a capture were asked for, and how long they took: the heaviest statements in a table of bounded size, and the others together.
+/// A statement that took more than one in N of the whole time is in a table of N places. All memory is taken in `new`: for each place 15,744 bytes, and
+/// 23,648 besides; 4 MB for 256 places.
 #[derive(Drop)]
 pub struct Summary<A: Allocator = Global> {
     statements: usize,
+    /// The statements at the places that are taken.
     names: Vec<Name, A>,
-    /// One for each statement that may be told apart, and one for all others.
+    /// The most nanoseconds that each of these may have taken.
+    weights: Vec<u64, A>,
+    /// One for each place.
     tallies: Vec<Tally, A>,
+    /// One, of all other statements.
+    others: Vec<Tally, A>,
+    /// By the hash of a name, where it was seen last. A name that is not there is sought at each place.
+    slots: Vec<usize, A>,
 }
 
+/// How many slots there are.
+const SLOTS: usize = 1024;
+
 impl<A: Allocator> Model for Summary<A> {
-    ghost use Rattle.std.specs.Prelude.{◌≡◌, ◌+◌, ◌≤◌, length, vec_capacity};
+    ghost use Rattle.std.specs.Prelude.{◌≡◌, ◌≤◌, length, slice_index_or, vec_capacity};
+    ghost use Rattle.cqlp_capture_summary.specs.Names.{AreApart};
     ghost use Rattle.cqlp_capture_summary.specs.Summaries.{Summary, summary};
+    ghost use Rattle.cqlp_capture_summary.specs.Tallies.{none_counted};
 
     ghost Value = { Summary };
 
-    ghost view = { λ s. summary s.statements s.names.items s.tallies.items };
+    ghost view = { λ s. summary s.statements s.names.items s.weights.items s.tallies.items (slice_index_or s.others.items 0 none_counted) };
 
     ghost invariant = { λ s. (length s.names.items ≤ s.statements) × (vec_capacity s.names ≡ s.statements)
-        × (length s.tallies.items ≡ s.statements + 1) × (vec_capacity s.tallies ≡ s.statements + 1) };
+        × (length s.weights.items ≡ length s.names.items) × (vec_capacity s.weights ≡ s.statements)
+        × (length s.tallies.items ≡ s.statements) × (vec_capacity s.tallies ≡ s.statements)
+        × (length s.others.items ≡ 1) × (vec_capacity s.others ≡ 1)
+        × (length s.slots.items ≡ 1024) × AreApart s.names.items };
 }
 
 impl<A: Allocator> Summary<A> {
-    ghost use Rattle.cqlp_capture_summary.specs.Counts.{entry_of};
-    ghost use Rattle.cqlp_capture_summary.specs.Summaries.{new_summary, noted, place_of, with_name};
+    ghost use Rattle.cqlp_capture_summary.specs.Counts.{entry_of, request_of};
+    ghost use Rattle.cqlp_capture_summary.specs.Rows.{IsRowAt};
+    ghost use Rattle.cqlp_capture_summary.specs.Summaries.{new_place, new_summary, noted, noted_request, place_of, taken_in};
+    ghost use Rattle.cqlp_capture_summary.specs.Summaries.{with_in_place_of, with_name, with_new, with_request, with_request_at};
 
-    /// Nothing is noted. At most so many statements will be told apart. All memory is taken here, in two requests, or in one where there are none.
+    /// Nothing is noted. At most so many statements have places. All memory is taken here, in five requests, or in two where there are no places.
     pub fn new(alloc: A, statements: usize) -> Result<Self, AllocError>
     where
         A: Clone,
@@ -50,43 +71,140 @@ impl<A: Allocator> Summary<A> {
         Ok(Summary {
             statements,
             names: Vec::with_capacity(alloc.clone()?, statements)?,
-            tallies: make_tallies(alloc, statements)?,
+            weights: Vec::with_capacity(alloc.clone()?, statements)?,
+            tallies: make_tallies(alloc.clone()?, statements)?,
+            others: make_tallies(alloc.clone()?, 1)?,
+            slots: make_slots(alloc)?,
         })
     }
 
-    /// Counts one time that a statement was asked for.
+    /// Counts one time that a statement was asked for and answered.
     pub fn note(&mut self, occurrence: &Occurrence<'_>)
         ensures { self.new ≡ noted (entry_of occurrence.now) self.old }
     {
-        let name = Name::new(occurrence.name, occurrence.is_whole_name);
-        let at = self.place_for(name);
-        self.tallies[at].add(occurrence);
+        self.note_request(occurrence, true, None);
     }
 
-    /// The place of what is counted under a name. Where there is room for it, a name that is new is kept.
-    fn place_for(&mut self, name: Name) -> usize
-        ensures place { result ≡ place_of name self.old }
-        ensures names { self.new ≡ with_name name self.old }
-        ensures within { result ≤ self.old.statements }
+    /// Counts one time that a statement was asked for: whether it was answered, and when it was asked for, in nanoseconds since some moment.
+    pub fn note_request(&mut self, occurrence: &Occurrence<'_>, is_answered: bool, at: Option<u64>)
+        ensures { self.new ≡ noted_request (request_of occurrence.now is_answered at) self.old }
     {
-        match position_of(&self.names, &name) {
-            Some(at) => at,
-            None => self.place_for_new(name),
+        let name = Name::new(occurrence.name, occurrence.is_whole_name);
+        let slot = name.slot();
+        match self.place_for(name) {
+            Some(place) => {
+                self.slots[slot] = place;
+                self.add_at(place, occurrence, is_answered, at);
+            }
+            None => self.others[0].add_request(occurrence, is_answered, at),
         }
     }
 
-    /// The place of what is counted under a name that is new.
-    fn place_for_new(&mut self, name: Name) -> usize
-        requires { position (is_same name) self.old.names ≡ None }
+    /// Counts one time that the statement at a place was asked for.
+    fn add_at(
+        &mut self,
+        place: usize,
+        occurrence: &Occurrence<'_>,
+        is_answered: bool,
+        at: Option<u64>,
+    )
+        requires { place < self.old.statements }
+        ensures { self.new ≡ with_request_at place (request_of occurrence.now is_answered at) self.old }
+    {
+        add_weight_at(&mut self.weights, place, time_of(occurrence.took));
+        self.tallies[place].add_request(occurrence, is_answered, at);
+    }
+
+    /// The place where a statement is counted, which takes it in if it is not in the table.
+    fn place_for(&mut self, name: Name) -> Option<usize>
         ensures place { result ≡ place_of name self.old }
         ensures names { self.new ≡ with_name name self.old }
-        ensures within { result ≤ self.old.statements }
+        ensures within { IfSome result (λ at. at < self.old.statements) }
+    {
+        match self.find(&name) {
+            Some(at) => Some(at),
+            None => self.take_in(name),
+        }
+    }
+
+    /// The place of a statement that is in the table.
+    fn find(&self, name: &Name) -> Option<usize>
+        ensures position { result ≡ position (is_same name.now) self.now.names }
+        ensures within { IfSome result (λ at. at < self.now.statements) }
+    {
+        let seen = self.slots[name.slot()];
+        if seen < self.names.len() && self.names[seen].is(name) {
+            return Some(seen);
+        }
+        position_of(&self.names, name)
+    }
+
+    /// Takes a statement in, at a free place or at that of the lightest.
+    fn take_in(&mut self, name: Name) -> Option<usize>
+        requires { position (is_same name) self.old.names ≡ None }
+        ensures place { result ≡ new_place self.old }
+        ensures names { self.new ≡ taken_in name self.old }
+        ensures within { IfSome result (λ at. at < self.old.statements) }
     {
         let place = self.names.len();
         if place < self.statements {
-            self.names.push_reserved(name);
+            self.push(name);
+            return Some(place);
         }
-        place
+        let at = lightest(&self.weights)?;
+        self.replace(at, name);
+        Some(at)
+    }
+
+    /// Takes a statement in at a free place.
+    fn push(&mut self, name: Name)
+        requires room { length self.old.names < self.old.statements }
+        requires absent { position (is_same name) self.old.names ≡ None }
+        ensures { self.new ≡ with_new name self.old }
+    {
+        self.names.push_reserved(name);
+        self.weights.push_reserved(0);
+    }
+
+    /// Takes a statement in at a place whose counts go to the others.
+    fn replace(&mut self, at: usize, name: Name)
+        requires within { at < length self.old.names }
+        requires absent { position (is_same name) self.old.names ≡ None }
+        ensures { self.new ≡ with_in_place_of at name self.old }
+    {
+        self.others[0].merge(&self.tallies[at]);
+        self.tallies[at].clear();
+        self.names[at] = name;
+    }
+
+    /// How many statements are in the table.
+    pub fn len(&self) -> usize
+        ensures { result ≡ length self.now.names }
+    {
+        self.names.len()
+    }
+
+    /// What is shown of the statement at a place.
+    pub fn row(&self, place: usize) -> Option<Row<'_>>
+        ensures { MatchOption result (length self.now.names ≤ place) (λ row. IsRowAt self.now place row) }
+    {
+        if place >= self.names.len() {
+            return None;
+        }
+        let (name, tally) = (&self.names[place], &self.tallies[place]);
+        Some(Row {
+            name: name.as_slice(),
+            is_whole_name: name.is_whole(),
+            missing: self.weights[place].saturating_sub(tally.time()),
+            figures: tally.figures(),
+        })
+    }
+
+    /// What is counted of all other statements.
+    pub fn others(&self) -> Figures
+        ensures { result ≡ figures_of self.now.others }
+    {
+        self.others[0].figures()
     }
 
     /// Writes a line for each statement, the one that took most time in sum first, and a line for all others.
@@ -94,7 +212,7 @@ impl<A: Allocator> Summary<A> {
         ensures { Writes writer.old (summary_text self.now) result writer.new }
     {
         let known = &self.tallies[..self.names.len()];
-        put_summary(writer, &self.names, known, &self.tallies[self.statements])
+        put_summary(writer, &self.names, &self.weights, known, &self.others[0])
     }
 }
 
@@ -106,13 +224,20 @@ fn position_of(names: &[Name], name: &Name) -> Option<usize>
     names.iter().position(|known| known.is(name))
 }
 
-fn make_tallies<A: Allocator>(alloc: A, statements: usize) -> Result<Vec<Tally, A>, AllocError>
-    ensures tallies { IfOk result (λ tallies. tallies.items ≡ replicate (statements + 1) none_counted) }
-    ensures capacity { IfOk result (λ tallies. vec_capacity tallies ≡ statements + 1) }
+fn make_slots<A: Allocator>(alloc: A) -> Result<Vec<usize, A>, AllocError>
+    ensures { IfOk result (λ slots. length slots.items ≡ 1024) }
 {
-    let Some(count) = statements.checked_add(1) else {
-        return Err(AllocError);
-    };
+    let mut slots = Vec::with_capacity(alloc, SLOTS)?;
+    for _ in 0..SLOTS {
+        slots.push_reserved(0);
+    }
+    Ok(slots)
+}
+
+fn make_tallies<A: Allocator>(alloc: A, count: usize) -> Result<Vec<Tally, A>, AllocError>
+    ensures tallies { IfOk result (λ tallies. tallies.items ≡ replicate count none_counted) }
+    ensures capacity { IfOk result (λ tallies. vec_capacity tallies ≡ count) }
+{
     let mut tallies = Vec::with_capacity(alloc, count)?;
     for _ in 0..count {
         tallies.push_reserved(Tally::new());

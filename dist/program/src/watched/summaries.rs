@@ -2,7 +2,7 @@
 //! nanoseconds or `-`, and the statement, `..` before it if it is not whole.
 use super::text;
 use crate::cqlp_note::OfStd;
-use crate::cqlp_capture_summary::{Occurrence, Summary};
+use crate::cqlp_capture_summary::{Fingerprint, Occurrence, Summary};
 use crate::cqlp_text::TextWriter;
 use crate::heap::refusing;
 use crate::kit_std::alloc::Global;
@@ -24,9 +24,21 @@ fn what_summaries_say() {
     assert_eq!(said, text("summaries/said.txt"));
 }
 
-/// A summary of at most this many statements, for which memory is asked twice, or once for none, and each time needed.
+/// Each second line of fingerprints.txt is the fingerprint of the line before it.
+#[test]
+fn what_fingerprints_are() {
+    let lines = text("summaries/fingerprints.txt");
+    let lines: Vec<&str> = lines.lines().collect();
+    for pair in lines.chunks(2) {
+        let fingerprint = Fingerprint::new(pair[0].as_bytes(), true);
+        assert_eq!((String::from_utf8_lossy(fingerprint.as_slice()), fingerprint.is_whole()), (pair[1].into(), true));
+    }
+    assert_eq!(lines.len(), 40);
+}
+
+/// A summary of at most this many statements, for which memory is asked five times, or twice for none, and each time needed.
 fn begun(statements: usize) -> Summary {
-    for number in 1..=1 + statements.min(1) as u64 {
+    for number in 1..=2 + 3 * statements.min(1) as u64 {
         assert!(refusing(number, number, || Summary::new(Global, statements).is_err()).0, "made without request {number}");
     }
     Summary::new(Global, statements).unwrap()

@@ -19,9 +19,17 @@ returns-in_err-put_times g c =
     let s2 = said_next _ s1 refl refl c.in_ok-put_counts.ensures in
     said_stops _ c.from_residual-in_err-put_times.result c.from_residual-in_err-put_times.ensures.0 s2 refl refl c.in_err-put_times.ensures
 
+pub returns-in_err-put_missing : goal.returns-in_err-put_missing
+returns-in_err-put_missing g c =
+    let s1 = said_next _ (progress_starts _ _) refl (ap share_text c.share_of.ensures.share) c.in_ok-put_share.ensures in
+    let s2 = said_next _ s1 refl refl c.in_ok-put_counts.ensures in
+    let s3 = said_next _ s2 refl refl c.in_ok-put_times.ensures in
+    said_stops _ c.from_residual-in_err-put_missing.result c.from_residual-in_err-put_missing.ensures.0 s3 refl refl c.in_err-put_missing.ensures
+
 pub returns : goal.returns
 returns g c =
     let s1 = said_next _ (progress_starts _ _) refl (ap share_text c.share_of.ensures.share) c.in_ok-put_share.ensures in
     let s2 = said_next _ s1 refl refl c.in_ok-put_counts.ensures in
     let s3 = said_next _ s2 refl refl c.in_ok-put_times.ensures in
-    said_last _ _ c.put_name.result s3 refl refl c.put_name.ensures
+    let s4 = said_next _ s3 refl refl c.in_ok-put_missing.ensures in
+    said_last _ _ c.put_name.result s4 refl refl c.put_name.ensures

@@ -7,5 +7,5 @@ use Rattle.cqlp_capture_summary.proofs.lines.put_lines.Given as goal
 
 abbrev pub invariant-loop-rank : goal.invariant-loop-rank
 invariant-loop-rank g l =
-    Progress l.fn.writer (lines l.total l.names l.tallies)
-    (flat_map (lines_of_rank l.total l.names l.tallies) (upto l.rank (length l.tallies - l.rank))) l.writer
+    Progress l.fn.writer (lines l.total l.names l.weights l.tallies)
+    (flat_map (lines_of_rank l.total l.names l.weights l.tallies) (upto l.rank (length l.tallies - l.rank))) l.writer

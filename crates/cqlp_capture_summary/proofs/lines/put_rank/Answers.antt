@@ -12,16 +12,16 @@ loop-place-init g c = rw (sub-zero (length c.args.tallies.now)) (progress_starts
 pub returns-in_err-put_if : goal.returns-in_err-put_if
 returns-in_err-put_if g c =
     progress_stops _ c.from_residual.result c.from_residual.ensures.0 c.loop-place.invariant
-    (ap (flat_map (line_if c.args.total c.args.names.now c.args.tallies.now c.args.rank)) (upto_next c.loop-place.place (length c.args.tallies.now) c.loop-place-test.true))
+    (ap (flat_map (line_if c.args.total c.args.names.now c.args.weights.now c.args.tallies.now c.args.rank)) (upto_next c.loop-place.place (length c.args.tallies.now) c.loop-place-test.true))
     c.in_err-put_if.ensures
 
 pub loop-place-preserved : goal.loop-place-preserved
 loop-place-preserved g c =
     progress_goes_on _ c.loop-place.invariant
-    (ap (flat_map (line_if c.args.total c.args.names.now c.args.tallies.now c.args.rank)) (upto_next c.loop-place.place (length c.args.tallies.now) c.loop-place-test.true))
+    (ap (flat_map (line_if c.args.total c.args.names.now c.args.weights.now c.args.tallies.now c.args.rank)) (upto_next c.loop-place.place (length c.args.tallies.now) c.loop-place-test.true))
     c.in_ok-put_if.ensures
 
 pub returns : goal.returns
 returns g c =
     progress_ends c.loop-place.invariant
-    (ap (flat_map (line_if c.args.total c.args.names.now c.args.tallies.now c.args.rank)) (upto_none c.loop-place.place (length c.args.tallies.now) (c.loop-place-test.false)))
+    (ap (flat_map (line_if c.args.total c.args.names.now c.args.weights.now c.args.tallies.now c.args.rank)) (upto_none c.loop-place.place (length c.args.tallies.now) (c.loop-place-test.false)))

@@ -7,5 +7,5 @@ use Rattle.cqlp_capture_summary.proofs.lines.put_rank.Given as goal
 
 abbrev pub invariant-loop-place : goal.invariant-loop-place
 invariant-loop-place g l =
-    Progress l.fn.writer (lines_of_rank l.total l.names l.tallies l.rank)
-    (flat_map (line_if l.total l.names l.tallies l.rank) (upto l.place (length l.tallies - l.place))) l.writer
+    Progress l.fn.writer (lines_of_rank l.total l.names l.weights l.tallies l.rank)
+    (flat_map (line_if l.total l.names l.weights l.tallies l.rank) (upto l.place (length l.tallies - l.place))) l.writer
