@@ -40,6 +40,14 @@ var waiters = map[string]func(io.Reader) (io.Closer, func(context.Context) error
 			return r.Err()
 		}, err
 	},
+	"RowReader, pages": func(source io.Reader) (io.Closer, func(context.Context) error, error) {
+		r, err := NewRowReader(source, DefaultLimits())
+		return r, func(ctx context.Context) error {
+			for r.NextPageContext(ctx) {
+			}
+			return r.Err()
+		}, err
+	},
 	"ColumnReader": func(source io.Reader) (io.Closer, func(context.Context) error, error) {
 		r, err := NewColumnReader(source, DefaultLimits(), DefaultBatchLimits())
 		return r, func(ctx context.Context) error {

@@ -57,6 +57,9 @@ type Refusal struct {
 
 func (e *Refusal) Error() string { return fmt.Sprintf("cqlp: refused %d %v", e.At, e.Reason) }
 
+// Unwrap makes it the Reason, for errors.Is.
+func (e *Refusal) Unwrap() error { return e.Reason }
+
 // A Cut says that a stream ended within a frame. It wraps io.ErrUnexpectedEOF.
 type Cut struct {
 	// At is the offset of the frame.

@@ -137,8 +137,7 @@ func ExampleReader() {
 	for {
 		event, err := reader.Next()
 		if err != nil {
-			var refusal *cqlp.Refusal
-			fmt.Println(err, errors.As(err, &refusal) && refusal.Reason == cqlp.ReasonBadVersion)
+			fmt.Println(err, errors.Is(err, cqlp.ReasonBadVersion))
 			return
 		}
 		fmt.Println(&event)

@@ -98,6 +98,9 @@ type ServerError struct {
 // Error is the code's name, and the message.
 func (e *ServerError) Error() string { return fmt.Sprintf("cqlp: %v: %s", e.Code, e.Message) }
 
+// Unwrap makes it the ErrorCode, for errors.Is.
+func (e *ServerError) Unwrap() error { return e.Code }
+
 // Unavailable is 1000: too few replicas are alive.
 type Unavailable struct {
 	ServerError

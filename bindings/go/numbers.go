@@ -413,6 +413,9 @@ var reasonNames = map[Reason]string{
 // String is its name as lines have it; a number that has none is itself.
 func (n Reason) String() string { return named(reasonNames[n], uint8(n)) }
 
+// Error is its name: errors.Is finds the Reason of a Refusal.
+func (n Reason) Error() string { return n.String() }
+
 // End is how a stream ends.
 type End uint8
 
@@ -649,6 +652,9 @@ const (
 
 // String is its name; a number that has none is itself.
 func (n ErrorCode) String() string { return wordOf(GroupError, int64(n)) }
+
+// Error is its name: errors.Is finds the ErrorCode of a ServerError.
+func (n ErrorCode) Error() string { return n.String() }
 
 // ResultKind is what a RESULT is. Section 4.2.5.
 type ResultKind int32

@@ -108,6 +108,12 @@ func (r *RowReader) NextPage() bool {
 	return r.nextPage()
 }
 
+// NextPageContext is NextPage, but ends once ctx is done, as NextContext does: the metadata of a Page have the paging state of a paged query.
+func (r *RowReader) NextPageContext(ctx context.Context) bool {
+	defer r.during(ctx)()
+	return r.NextPage()
+}
+
 func (r *RowReader) nextPage() bool {
 	p := &r.parser
 	for r.within && r.cells.next() {

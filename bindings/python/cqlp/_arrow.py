@@ -57,12 +57,12 @@ def schema_of(type: Type, name: str, forms: Told = (), flags: int = _NULLABLE) -
     for each type in it."""
     form = _FORMATS.get(type.kind) or (forms[0] if type.kind in DECIMALS else _BINARY)
     words = _UUID_WORDS if form == b"w:16" else ()
-    metadata = _metadata(*words, (b"cqlp.type", str(type).encode()))
+    metadata, word = _metadata(*words, (b"cqlp.type", str(type).encode())), name.replace("\0", "\\0").encode()  # no string in C has a zero
     if type.kind == Kind.MAP:
         inner = tuple(map(schema_of, type.inner, ("key", "value"), forms, (0, _NULLABLE)))
-        return form, name.encode(), metadata, flags, ((_STRUCT, b"entries", None, 0, inner),)
+        return form, word, metadata, flags, ((_STRUCT, b"entries", None, 0, inner),)
     names = list(type.names) or (["item"] if form == _LIST else [str(at) for at in range(len(type.inner))])
-    return form, name.encode(), metadata, flags, tuple(map(schema_of, type.inner, names, forms))
+    return form, word, metadata, flags, tuple(map(schema_of, type.inner, names, forms))
 
 
 DECIMALS = (Kind.DECIMAL, Kind.VARINT)

@@ -3,12 +3,14 @@
 import ctypes
 import decimal
 import gc
+import os
 import struct
 import sys
 import threading
 import tracemalloc
 import unittest
 from ctypes import POINTER, c_char_p, c_int64, c_void_p
+from random import Random
 from typing import Any, Dict, List, Optional, Tuple
 from unittest import mock
 
@@ -27,6 +29,7 @@ except ImportError:
     BUILT = False
 
 EXACT = decimal.Context(prec=decimal.MAX_PREC, Emin=decimal.MIN_EMIN, Emax=decimal.MAX_EMAX)
+CHANGES = int(os.environ.get("CQLP_CHANGES", 100_000)) // 100
 PAGES = (BINDINGS / "pages.bin").read_bytes()
 
 
@@ -463,6 +466,85 @@ class Arrow(unittest.TestCase):
         self.assertRaises(ValueError, cqlp.arrays(b"").__arrow_c_stream__)
         cqlp.arrays(page).__arrow_c_stream__()  # is let go, and nothing was taken
 
+    def test_a_stream_that_ended_has_no_more(self) -> None:
+        page = cqlp.encode(messages.Rows.of([("a", "int")], [(1,)]))
+        for data, wanted in ((page, 0), (page[:-1] + b"x", 0), (page + page[:-1], 5)):
+            stream = moved(Stream, cqlp.arrays(data).__arrow_c_stream__())
+            place, codes = ctypes.addressof(stream), []
+            for _ in range(4):
+                array = Array()
+                codes.append(FILL(stream.get_next)(place, ctypes.addressof(array)))
+                if array.release:
+                    release(array)
+            self.assertEqual(codes, [0, wanted, 0, 0])
+            self.assertEqual(SAY(stream.get_last_error)(place) is not None, wanted > 0)
+            release(stream)
+        batches = cqlp.arrays(page)
+        batches.close()
+        self.assertEqual(list(batches), [])
+        self.assertRaises(ValueError, batches.__arrow_c_stream__)
+
+    def test_pages_that_are_changed(self) -> None:
+        """A consumer takes what comes of pages with bytes changed, and finds the values that the arrays have without the module in C."""
+        random = Random(7)
+        columns = [("a%d" % at, text) for at, text in enumerate(VALUES)]
+        whole = cqlp.encode(messages.Rows.of(columns, [tuple(some[at % len(some)] for some in VALUES.values()) for at in range(3)]))
+        begin = len(cqlp.encode(messages.Rows.of(columns, [])))
+        counts = [0, 0]
+        for _ in range(CHANGES):
+            data = bytearray(whole)
+            for _ in range(random.choice((1, 1, 2, 5))):
+                data[random.randrange(begin if random.random() < 0.9 else 13, len(data))] = random.choice((0, 1, 0xFF, random.randrange(256)))
+            given, rows = {"rows": random.choice((1, 2, 99)), "piece": random.choice((1, 100, 1 << 20))}, 0
+            try:
+                for batch in cqlp.arrays(bytes(data), **given, decimals=random.choice(("decimal", "text", "bytes"))):
+                    rows += batch.count
+                    try:
+                        self.assertEqual(len(taken(batch)[1]), batch.count)
+                    except ValueError as error:
+                        self.assertRegex(str(error), "a key of a map in the column 'a[0-9]+' is null")
+                ended = None
+            except (cqlp.Refused, cqlp.Cut) as error:
+                ended = str(error)
+            counts[ended is None] += 1
+            self.assertEqual((rows, ended), ended_rows(bytes(data)))
+        self.assertTrue(all(counts), counts)
+
+    def test_threads_that_share_a_stream(self) -> None:
+        """Each array comes to one of them; one that comes while another reads gets an error."""
+        page = cqlp.encode(messages.Rows.of([("a", "int"), ("b", "list<text>")], [(at, ["x"]) for at in range(2000)]))
+        stream = moved(Stream, cqlp.arrays(page, rows=1).__arrow_c_stream__())
+        found: List[Any] = []
+
+        def take() -> None:
+            while True:
+                array = Array()
+                if FILL(stream.get_next)(ctypes.addressof(stream), ctypes.addressof(array)):
+                    continue
+                if not array.release:
+                    return
+                first = array.children[0][0]
+                found.append(ctypes.c_int32.from_address(first.buffers[1]).value)
+                release(array)
+
+        threads = [threading.Thread(target=take) for _ in range(4)]
+        for thread in threads:
+            thread.start()
+        for thread in threads:
+            thread.join()
+        release(stream)
+        self.assertEqual(sorted(found), list(range(2000)))
+
+    def test_a_buffer_that_changes(self) -> None:
+        """Texts are those that were read, whatever is put into the buffer between two batches."""
+        page = cqlp.encode(messages.Rows.of([("a", "list<text>")], [(["text %d" % at],) for at in range(1000)]))
+        data = bytearray(page)
+        batches = cqlp.arrays(data, rows=10)
+        found = [next(batches)]
+        data[len(data) // 100 :] = b"\xff" * (len(data) - len(data) // 100)
+        found += batches
+        self.assertEqual([row for batch in found for row in taken(batch)[1]], list(cqlp.rows(page)))
+
     def test_streams_that_end_with_an_error(self) -> None:
         page = cqlp.encode(messages.Rows.of([("a", "int")], [(1,)]))
         other = cqlp.encode(messages.Rows.of([("b", "int")], [(1,)]))
@@ -471,14 +553,26 @@ class Arrow(unittest.TestCase):
         self.assertRaises(cqlp.Cut, cqlp.arrays(page[:-1]).__arrow_c_stream__)
 
     def test_names_and_types_that_c_cannot_tell(self) -> None:
-        (batch,) = cqlp.arrays(cqlp.encode(messages.Rows.of([("a\0b", "int")], [(1,)])))
-        self.assertRaises(ValueError, batch.__arrow_c_array__)
+        (batch,) = cqlp.arrays(cqlp.encode(messages.Rows.of([("a\0b", Type.udt("k.u", [("c\0", "int")]))], [({"c\0": 1},)])))
+        (_, name, _, _, inner), column = taken(batch["a\0b"])
+        self.assertEqual((name, inner[0][1], column), (b"a\\0b", b"c\\0", [(1,)]))
         capsules = _arrow.capsules()
         for wrong in ((), (b"i", b"a", None, 0, (1,)), (b"i", b"a", None, 0, ((b"i", b"a", None, 0, (), 5),)), (5, b"", None, 0, ())):
             self.assertRaises((TypeError, SystemError), capsules.schema, *wrong)
         for wrong in ((), (1, 0, (5,), ()), (1, 0, (b"",), (5,)), (1, 0, [], ()), (1, 0, (None,), ((1, 0, (5,), ()),))):
             self.assertRaises((TypeError, SystemError), capsules.array, *wrong)
         self.assertRaises(TypeError, capsules.stream, 5)
+
+
+def ended_rows(data: bytes) -> Tuple[int, Optional[str]]:
+    """How many rows a stream has, and how it ends."""
+    rows = 0
+    try:
+        for _ in cqlp.rows(data):
+            rows += 1
+    except (cqlp.Refused, cqlp.Cut) as error:
+        return rows, str(error)
+    return rows, None
 
 
 def read(source: Any) -> Tuple[List[Any], Optional[bytes]]:

@@ -79,6 +79,16 @@ class Session:
 
 
 class Client(unittest.TestCase):
+    def test_slots_by_default(self) -> None:
+        with cqlp.Client() as client, cqlp.Server() as server:
+            client.begin(Opcode.STARTUP)
+            client.reply(event(0, Opcode.READY))
+            self.assertEqual([client.begin(Opcode.QUERY).id for _ in range(1024)], list(range(1024)))
+            with self.assertRaises(cqlp.BadCall) as full:
+                client.begin(Opcode.QUERY)
+            self.assertEqual(full.exception.code, Code.FULL)
+            server.accept(event(32767, Opcode.STARTUP, response=False))  # drivers use any id
+
     def test_a_session_is_that_of_c(self) -> None:
         wanted = (BINDINGS / "c" / "expected-client").read_text().splitlines()
         self.assertEqual(Session().run(), wanted[1 : wanted.index("free: 0, again: 8")])

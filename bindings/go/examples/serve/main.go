@@ -101,8 +101,7 @@ func serve(in io.Reader, out io.Writer) error {
 	defer open.Close()
 	for {
 		frame, err := frames.Next()
-		var refusal *cqlp.Refusal
-		if errors.As(err, &refusal) && refusal.Reason == cqlp.ReasonBadVersion {
+		if errors.Is(err, cqlp.ReasonBadVersion) {
 			out.Write(cqlp.VersionError(frames.Header())) // drivers try version 4 after this reply
 		}
 		if err != nil {
