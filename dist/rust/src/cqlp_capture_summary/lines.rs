@@ -17,12 +17,13 @@ const HEADER: &str =
 pub(crate) fn put_summary<P: Pen>(
     writer: &mut TextWriter<P>,
     names: &[Name],
+    weights: &[u64],
     tallies: &[Tally],
     others: &Tally,
 ) -> Result<(), SinkFault> {
     let total = time_with(others.time(), tallies);
     writer.put_str(HEADER)?;
-    put_lines(writer, total, names, tallies)?;
+    put_lines(writer, total, names, weights, tallies)?;
     put_others(writer, total, others)
 }
 
@@ -40,10 +41,11 @@ fn put_lines<P: Pen>(
     writer: &mut TextWriter<P>,
     total: u64,
     names: &[Name],
+    weights: &[u64],
     tallies: &[Tally],
 ) -> Result<(), SinkFault> {
     for rank in 0..tallies.len() {
-        put_rank(writer, total, names, tallies, rank)?;
+        put_rank(writer, total, names, weights, tallies, rank)?;
     }
     Ok(())
 }
@@ -53,11 +55,12 @@ fn put_rank<P: Pen>(
     writer: &mut TextWriter<P>,
     total: u64,
     names: &[Name],
+    weights: &[u64],
     tallies: &[Tally],
     rank: usize,
 ) -> Result<(), SinkFault> {
     for place in 0..tallies.len() {
-        put_if(writer, total, names, tallies, rank, place)?;
+        put_if(writer, total, names, weights, tallies, rank, place)?;
     }
     Ok(())
 }
@@ -67,12 +70,13 @@ fn put_if<P: Pen>(
     writer: &mut TextWriter<P>,
     total: u64,
     names: &[Name],
+    weights: &[u64],
     tallies: &[Tally],
     rank: usize,
     place: usize,
 ) -> Result<(), SinkFault> {
     if rank_of(tallies, place) == rank {
-        put_at(writer, total, names, tallies, place)
+        put_at(writer, total, names, weights, tallies, place)
     } else {
         writer.put(b"")
     }
@@ -83,12 +87,21 @@ fn put_at<P: Pen>(
     writer: &mut TextWriter<P>,
     total: u64,
     names: &[Name],
+    weights: &[u64],
     tallies: &[Tally],
     place: usize,
 ) -> Result<(), SinkFault> {
     let name = &names[place];
-    let figures = tallies[place].figures();
-    put_line(writer, total, name.as_slice(), name.is_whole(), &figures)
+    let tally = &tallies[place];
+    let missing = weights[place].saturating_sub(tally.time());
+    put_line(
+        writer,
+        total,
+        name.as_slice(),
+        name.is_whole(),
+        missing,
+        &tally.figures(),
+    )
 }
 
 /// Takes the line of the statements that are not told apart, if there are any.
@@ -100,7 +113,7 @@ fn put_others<P: Pen>(
     if others.count() == 0 {
         return writer.put(b"");
     }
-    put_line(writer, total, b"others", true, &others.figures())
+    put_line(writer, total, b"others", true, 0, &others.figures())
 }
 
 fn put_line<P: Pen>(
@@ -108,11 +121,13 @@ fn put_line<P: Pen>(
     total: u64,
     bytes: &[u8],
     is_whole: bool,
+    missing: u64,
     figures: &Figures,
 ) -> Result<(), SinkFault> {
     put_share(writer, share_of(figures.time, total))?;
     put_counts(writer, figures)?;
     put_times(writer, figures.times)?;
+    put_missing(writer, missing)?;
     put_name(writer, bytes, is_whole)
 }
 
@@ -141,6 +156,20 @@ fn put_no_times<P: Pen>(writer: &mut TextWriter<P>) -> Result<(), SinkFault> {
     put_text_column(writer, 8, b"-")?;
     put_text_column(writer, 8, b"-")?;
     put_text_column(writer, 9, b"-")
+}
+
+/// Writes what may be missing, if there is any.
+fn put_missing<P: Pen>(writer: &mut TextWriter<P>, missing: u64) -> Result<(), SinkFault> {
+    if missing == 0 {
+        return writer.put(b"");
+    }
+    put_some_missing(writer, missing)
+}
+
+fn put_some_missing<P: Pen>(writer: &mut TextWriter<P>, missing: u64) -> Result<(), SinkFault> {
+    writer.put(b" (up to")?;
+    put_time_column(writer, 1, missing)?;
+    writer.put(b" ms more)")
 }
 
 /// Takes a name and the end of its line.

@@ -2,15 +2,24 @@
 //! How much time the statements of a capture took, in a table of bounded size.
 
 mod buckets;
+mod class;
 mod columns;
+mod fingerprint;
 mod lines;
+mod mode;
 mod name;
 mod occurrence;
 mod order;
+mod row;
 mod shown;
 mod summary;
 mod tally;
+mod weights;
+mod written;
 
+pub use fingerprint::Fingerprint;
 pub use occurrence::Occurrence;
+pub use row::Row;
 pub use shown::put_shown_text;
 pub use summary::Summary;
+pub use tally::{Figures, Times};

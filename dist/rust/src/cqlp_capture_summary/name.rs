@@ -1,10 +1,12 @@
 // Written by dist/erase from crates/cqlp_capture_summary/src/name.rt.
 //! Names of statements.
 
+use std::hash::{DefaultHasher};
+
 /// The first bytes of a statement's name.
 pub(crate) struct Name {
-    /// A sum of the bytes, which is compared first.
-    sum: u64,
+    /// A hash of the bytes, which is compared first.
+    hash: u64,
     len: usize,
     bytes: [u8; MOST],
     is_whole: bool,
@@ -20,7 +22,7 @@ impl Name {
         let mut bytes = [0; MOST];
         bytes[..front.len()].copy_from_slice(front);
         Name {
-            sum: sum_of(front),
+            hash: hash_of(front),
             len: front.len(),
             bytes,
             is_whole: is_kept_whole(name, is_whole),
@@ -35,9 +37,14 @@ impl Name {
         self.is_whole
     }
 
+    /// A number below 1,024 by its hash.
+    pub(crate) fn slot(&self) -> usize {
+        (self.hash % 1024) as usize
+    }
+
     /// Whether it is the other.
     pub(crate) fn is(&self, other: &Name) -> bool {
-        self.sum == other.sum
+        self.hash == other.hash
             && self.is_whole == other.is_whole
             && self.as_slice() == other.as_slice()
     }
@@ -48,11 +55,9 @@ fn is_kept_whole(name: &[u8], is_whole: bool) -> bool {
     is_whole && name.len() <= MOST
 }
 
-/// A sum of bytes.
-fn sum_of(bytes: &[u8]) -> u64 {
-    let mut sum: u64 = 0;
-    for byte in bytes {
-        sum = sum.wrapping_mul(31).wrapping_add(u64::from(*byte));
-    }
-    sum
+/// A hash of bytes.
+fn hash_of(bytes: &[u8]) -> u64 {
+    let mut hasher = DefaultHasher::new();
+    hasher.write(bytes);
+    hasher.finish()
 }

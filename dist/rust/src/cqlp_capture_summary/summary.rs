@@ -5,22 +5,35 @@ use crate::kit_host::prelude::{AllocGlobal, Clone, ToCopy, Vec};
 use crate::cqlp_capture_summary::lines::put_summary;
 use crate::cqlp_capture_summary::name::Name;
 use crate::cqlp_capture_summary::occurrence::Occurrence;
-use crate::cqlp_capture_summary::tally::Tally;
+use crate::cqlp_capture_summary::row::Row;
+use crate::cqlp_capture_summary::tally::{Figures, Tally, time_of};
+use crate::cqlp_capture_summary::weights::{add_weight_at, lightest};
 use crate::cqlp_grammar::SinkFault;
 use crate::cqlp_text::{Pen, TextWriter};
 use crate::kit_std::alloc::{AllocError, Allocator, Global};
 
-/// How often the statements of a capture were asked for, and how long they took. The statements beyond a bound are counted together. All memory is taken
-/// in `new`: for each statement 280 bytes, and for each and one more 15,416; 4 MB for 256.
+/// How often the statements of a capture were asked for, and how long they took: the heaviest statements in a table of bounded size, and the others together.
+/// A statement that took more than one in N of the whole time is in a table of N places. All memory is taken in `new`: for each place 15,744 bytes, and
+/// 23,648 besides; 4 MB for 256 places.
 pub struct Summary<A: Allocator = Global> {
     statements: usize,
+    /// The statements at the places that are taken.
     names: Vec<Name, A>,
-    /// One for each statement that may be told apart, and one for all others.
+    /// The most nanoseconds that each of these may have taken.
+    weights: Vec<u64, A>,
+    /// One for each place.
     tallies: Vec<Tally, A>,
+    /// One, of all other statements.
+    others: Vec<Tally, A>,
+    /// By the hash of a name, where it was seen last. A name that is not there is sought at each place.
+    slots: Vec<usize, A>,
 }
 
+/// How many slots there are.
+const SLOTS: usize = 1024;
+
 impl<A: Allocator> Summary<A> {
-    /// Nothing is noted. At most so many statements will be told apart. All memory is taken here, in two requests, or in one where there are none.
+    /// Nothing is noted. At most so many statements have places. All memory is taken here, in five requests, or in two where there are no places.
     pub fn new(alloc: A, statements: usize) -> Result<Self, AllocError>
     where
         A: Clone,
@@ -28,38 +41,114 @@ impl<A: Allocator> Summary<A> {
         Ok(Summary {
             statements,
             names: Vec::with_capacity(alloc.to_copy()?, statements)?,
-            tallies: make_tallies(alloc, statements)?,
+            weights: Vec::with_capacity(alloc.to_copy()?, statements)?,
+            tallies: make_tallies(alloc.to_copy()?, statements)?,
+            others: make_tallies(alloc.to_copy()?, 1)?,
+            slots: make_slots(alloc)?,
         })
     }
 
-    /// Counts one time that a statement was asked for.
+    /// Counts one time that a statement was asked for and answered.
     pub fn note(&mut self, occurrence: &Occurrence<'_>) {
-        let name = Name::new(occurrence.name, occurrence.is_whole_name);
-        let at = self.place_for(name);
-        self.tallies[at].add(occurrence);
+        self.note_request(occurrence, true, None);
     }
 
-    /// The place of what is counted under a name. Where there is room for it, a name that is new is kept.
-    fn place_for(&mut self, name: Name) -> usize {
-        match position_of(&self.names, &name) {
-            Some(at) => at,
-            None => self.place_for_new(name),
+    /// Counts one time that a statement was asked for: whether it was answered, and when it was asked for, in nanoseconds since some moment.
+    pub fn note_request(&mut self, occurrence: &Occurrence<'_>, is_answered: bool, at: Option<u64>) {
+        let name = Name::new(occurrence.name, occurrence.is_whole_name);
+        let slot = name.slot();
+        match self.place_for(name) {
+            Some(place) => {
+                self.slots[slot] = place;
+                self.add_at(place, occurrence, is_answered, at);
+            }
+            None => self.others[0].add_request(occurrence, is_answered, at),
         }
     }
 
-    /// The place of what is counted under a name that is new.
-    fn place_for_new(&mut self, name: Name) -> usize {
+    /// Counts one time that the statement at a place was asked for.
+    fn add_at(
+        &mut self,
+        place: usize,
+        occurrence: &Occurrence<'_>,
+        is_answered: bool,
+        at: Option<u64>,
+    )
+    {
+        add_weight_at(&mut self.weights, place, time_of(occurrence.took));
+        self.tallies[place].add_request(occurrence, is_answered, at);
+    }
+
+    /// The place where a statement is counted, which takes it in if it is not in the table.
+    fn place_for(&mut self, name: Name) -> Option<usize> {
+        match self.find(&name) {
+            Some(at) => Some(at),
+            None => self.take_in(name),
+        }
+    }
+
+    /// The place of a statement that is in the table.
+    fn find(&self, name: &Name) -> Option<usize> {
+        let seen = self.slots[name.slot()];
+        if seen < self.names.len() && self.names[seen].is(name) {
+            return Some(seen);
+        }
+        position_of(&self.names, name)
+    }
+
+    /// Takes a statement in, at a free place or at that of the lightest.
+    fn take_in(&mut self, name: Name) -> Option<usize> {
         let place = self.names.len();
         if place < self.statements {
-            self.names.push_reserved(name);
+            self.push(name);
+            return Some(place);
         }
-        place
+        let at = lightest(&self.weights)?;
+        self.replace(at, name);
+        Some(at)
+    }
+
+    /// Takes a statement in at a free place.
+    fn push(&mut self, name: Name) {
+        self.names.push_reserved(name);
+        self.weights.push_reserved(0);
+    }
+
+    /// Takes a statement in at a place whose counts go to the others.
+    fn replace(&mut self, at: usize, name: Name) {
+        self.others[0].merge(&self.tallies[at]);
+        self.tallies[at].clear();
+        self.names[at] = name;
+    }
+
+    /// How many statements are in the table.
+    pub fn len(&self) -> usize {
+        self.names.len()
+    }
+
+    /// What is shown of the statement at a place.
+    pub fn row(&self, place: usize) -> Option<Row<'_>> {
+        if place >= self.names.len() {
+            return None;
+        }
+        let (name, tally) = (&self.names[place], &self.tallies[place]);
+        Some(Row {
+            name: name.as_slice(),
+            is_whole_name: name.is_whole(),
+            missing: self.weights[place].saturating_sub(tally.time()),
+            figures: tally.figures(),
+        })
+    }
+
+    /// What is counted of all other statements.
+    pub fn others(&self) -> Figures {
+        self.others[0].figures()
     }
 
     /// Writes a line for each statement, the one that took most time in sum first, and a line for all others.
     pub fn put<P: Pen>(&self, writer: &mut TextWriter<P>) -> Result<(), SinkFault> {
         let known = &self.tallies[..self.names.len()];
-        put_summary(writer, &self.names, known, &self.tallies[self.statements])
+        put_summary(writer, &self.names, &self.weights, known, &self.others[0])
     }
 }
 
@@ -68,10 +157,15 @@ fn position_of(names: &[Name], name: &Name) -> Option<usize> {
     names.iter().position(|known| known.is(name))
 }
 
-fn make_tallies<A: Allocator>(alloc: A, statements: usize) -> Result<Vec<Tally, A>, AllocError> {
-    let Some(count) = statements.checked_add(1) else {
-        return Err(AllocError);
-    };
+fn make_slots<A: Allocator>(alloc: A) -> Result<Vec<usize, A>, AllocError> {
+    let mut slots = Vec::with_capacity(alloc, SLOTS)?;
+    for _ in 0..SLOTS {
+        slots.push_reserved(0);
+    }
+    Ok(slots)
+}
+
+fn make_tallies<A: Allocator>(alloc: A, count: usize) -> Result<Vec<Tally, A>, AllocError> {
     let mut tallies = Vec::with_capacity(alloc, count)?;
     for _ in 0..count {
         tallies.push_reserved(Tally::new());

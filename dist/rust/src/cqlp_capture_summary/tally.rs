@@ -8,8 +8,12 @@ use crate::cqlp_capture_summary::occurrence::Occurrence;
 pub(crate) struct Tally {
     count: u64,
     errors: u64,
+    unanswered: u64,
     rows: u64,
     bytes: u64,
+    /// When it was first and last asked for.
+    first: Option<u64>,
+    last: Option<u64>,
     /// Of how many it is known how long they took.
     timed: u64,
     /// Nanoseconds that these took in sum.
@@ -22,24 +26,33 @@ pub(crate) struct Tally {
 
 /// The numbers of a statement as a line has them.
 #[derive(Clone, Copy, Debug, PartialEq, Eq)]
-pub(crate) struct Figures {
-    pub(crate) count: u64,
-    pub(crate) errors: u64,
-    pub(crate) rows: u64,
-    pub(crate) bytes: u64,
+pub struct Figures {
+    pub count: u64,
+    /// How many were answered by an ERROR.
+    pub errors: u64,
+    /// How many were not answered.
+    pub unanswered: u64,
+    pub rows: u64,
+    pub bytes: u64,
+    /// When it was first and last asked for, in nanoseconds, where that was said.
+    pub first: Option<u64>,
+    pub last: Option<u64>,
     /// Nanoseconds in sum.
-    pub(crate) time: u64,
+    pub time: u64,
     /// Where one is known.
-    pub(crate) times: Option<Times>,
+    pub times: Option<Times>,
 }
 
 /// Times of a statement, in nanoseconds.
 #[derive(Clone, Copy, Debug, PartialEq, Eq)]
-pub(crate) struct Times {
-    pub(crate) median: u64,
-    /// The 99th percentile: the time, or at most 1/32 more, that 99 of 100 are not above.
-    pub(crate) percentile_99: u64,
-    pub(crate) greatest: u64,
+pub struct Times {
+    /// The time, or at most 1/32 more, that half of them are not above.
+    pub median: u64,
+    /// Likewise 95 of 100.
+    pub percentile_95: u64,
+    /// Likewise 99 of 100.
+    pub percentile_99: u64,
+    pub greatest: u64,
 }
 
 impl Tally {
@@ -48,8 +61,11 @@ impl Tally {
         Tally {
             count: 0,
             errors: 0,
+            unanswered: 0,
             rows: 0,
             bytes: 0,
+            first: None,
+            last: None,
             timed: 0,
             time: 0,
             greatest: 0,
@@ -77,6 +93,32 @@ impl Tally {
         }
     }
 
+    /// Counts one that was answered or not, and asked for then.
+    pub(crate) fn add_request(
+        &mut self,
+        occurrence: &Occurrence<'_>,
+        is_answered: bool,
+        at: Option<u64>,
+    )
+    {
+        self.add(occurrence);
+        self.add_answer(is_answered);
+        self.see(at);
+    }
+
+    fn add_answer(&mut self, is_answered: bool) {
+        if !is_answered {
+            self.unanswered = self.unanswered.saturating_add(1);
+        }
+    }
+
+    fn see(&mut self, at: Option<u64>) {
+        if let Some(at) = at {
+            self.first = earlier(self.first, Some(at));
+            self.last = later(self.last, Some(at));
+        }
+    }
+
     fn add_time(&mut self, took: u64) {
         let bucket = bucket_of(took);
         self.timed = self.timed.saturating_add(1);
@@ -85,13 +127,46 @@ impl Tally {
         self.buckets[bucket] = self.buckets[bucket].saturating_add(1);
     }
 
+    /// Counts what another one counted.
+    pub(crate) fn merge(&mut self, more: &Tally) {
+        self.count = self.count.saturating_add(more.count);
+        self.errors = self.errors.saturating_add(more.errors);
+        self.unanswered = self.unanswered.saturating_add(more.unanswered);
+        self.rows = self.rows.saturating_add(more.rows);
+        self.bytes = self.bytes.saturating_add(more.bytes);
+        self.first = earlier(self.first, more.first);
+        self.last = later(self.last, more.last);
+        self.timed = self.timed.saturating_add(more.timed);
+        self.time = self.time.saturating_add(more.time);
+        self.greatest = self.greatest.max(more.greatest);
+        add_buckets(&mut self.buckets, &more.buckets);
+    }
+
+    /// Counts nothing any more.
+    pub(crate) fn clear(&mut self) {
+        self.count = 0;
+        self.errors = 0;
+        self.unanswered = 0;
+        self.rows = 0;
+        self.bytes = 0;
+        self.first = None;
+        self.last = None;
+        self.timed = 0;
+        self.time = 0;
+        self.greatest = 0;
+        self.buckets = [0; BUCKETS];
+    }
+
     /// The numbers of its line.
     pub(crate) fn figures(&self) -> Figures {
         Figures {
             count: self.count,
             errors: self.errors,
+            unanswered: self.unanswered,
             rows: self.rows,
             bytes: self.bytes,
+            first: self.first,
+            last: self.last,
             time: self.time,
             times: self.times(),
         }
@@ -102,6 +177,7 @@ impl Tally {
             0 => None,
             timed => Some(Times {
                 median: self.time_at(timed - timed / 2),
+                percentile_95: self.time_at(timed - timed / 20),
                 percentile_99: self.time_at(timed - timed / 100),
                 greatest: self.greatest,
             }),
@@ -114,6 +190,37 @@ impl Tally {
             Some(bucket) => greatest_in(bucket).min(self.greatest),
             None => self.greatest,
         }
+    }
+}
+
+/// Adds counts, bucket by bucket.
+fn add_buckets(buckets: &mut [u64], more: &[u64]) {
+    for bucket in 0..buckets.len() {
+        buckets[bucket] = buckets[bucket].saturating_add(more[bucket]);
+    }
+}
+
+fn earlier(one: Option<u64>, other: Option<u64>) -> Option<u64> {
+    match (one, other) {
+        (None, _) => other,
+        (Some(_), None) => one,
+        (Some(one), Some(other)) => Some(one.min(other)),
+    }
+}
+
+fn later(one: Option<u64>, other: Option<u64>) -> Option<u64> {
+    match (one, other) {
+        (None, _) => other,
+        (Some(_), None) => one,
+        (Some(one), Some(other)) => Some(one.max(other)),
+    }
+}
+
+/// What is counted of a time where sums are.
+pub(crate) fn time_of(took: Option<u64>) -> u64 {
+    match took {
+        Some(took) => took,
+        None => 0,
     }
 }
 

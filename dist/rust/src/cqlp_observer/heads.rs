@@ -66,15 +66,6 @@ pub struct Heads {
     stage: Stage,
 }
 
-/// Where a direction stands that is in no frame.
-#[derive(Clone, Copy)]
-pub(crate) struct HeadsRest {
-    pub(crate) responses: bool,
-    pub(crate) position: u64,
-    /// Whether it is not known where the next frame begins.
-    pub(crate) is_lost: bool,
-}
-
 impl Heads {
     /// A direction of which nothing came: that of the responses, or that of the requests. Its first byte begins a frame, where `from_start`.
     #[must_use]
@@ -89,33 +80,6 @@ impl Heads {
             position: 0,
             stage,
         }
-    }
-
-    /// A direction that stands there.
-    pub(crate) fn at_rest(rest: HeadsRest) -> Heads {
-        Heads {
-            responses: rest.responses,
-            position: rest.position,
-            stage: if rest.is_lost {
-                Stage::Lost
-            } else {
-                Stage::Between
-            },
-        }
-    }
-
-    /// Where it stands, if it is in no frame.
-    pub(crate) fn rest(&self) -> Option<HeadsRest> {
-        let is_lost = match self.stage {
-            Stage::Lost => true,
-            Stage::Between => false,
-            Stage::Header { .. } | Stage::Body { .. } => return None,
-        };
-        Some(HeadsRest {
-            responses: self.responses,
-            position: self.position,
-            is_lost,
-        })
     }
 
     /// What the next bytes are that came at this time. `begins` says whether the first of them begins a segment. To be called again and again
@@ -188,6 +152,23 @@ impl Heads {
             Stage::Body { frame, left } => Some(shortened(frame, left)),
             _ => None,
         }
+    }
+
+    /// All that is left of the body came, the last of it at this time: its frame ends.
+    pub(crate) fn pass_whole(&mut self, time: Option<u64>) -> Option<Frame> {
+        let Stage::Body { frame, left } = self.stage else {
+            return None;
+        };
+        self.count(left as u64);
+        self.stage = Stage::Between;
+        Some(if left == 0 {
+            frame
+        } else {
+            Frame {
+                ended: time,
+                ..frame
+            }
+        })
     }
 
     /// Looks for a frame where a segment begins.

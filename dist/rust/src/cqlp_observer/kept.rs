@@ -1,57 +1,68 @@
 // Written by dist/erase from crates/cqlp_observer/src/kept.rt.
 //! What is kept of a message.
 
-use crate::kit_std::prelude::{Clone, Vec};
+use crate::kit_std::prelude::{Box, Vec};
 use crate::cqlp_observer_facts::Facts;
 use crate::kit_std::alloc::{AllocError, Allocator, Global};
 
 /// How many bytes of a message are kept at most.
 pub const LONGEST_FRONT: usize = 256;
 
-/// What is kept of a message, as far as none of its bytes is missing before it.
+/// How many bytes of room a message's text takes beside its first bytes, at least: what it says, and what the allocator adds.
+const TEXT_OVERHEAD: usize = 128;
+
+/// What is kept of a message, as far as none of its bytes is missing before it. Without it a message has its header alone.
 pub struct Kept<A: Allocator = Global> {
+    text: Option<Box<KeptText<A>, A>>,
+}
+
+/// The first bytes of a message, and what it says.
+pub(crate) struct KeptText<A: Allocator> {
     front: Front<A>,
     facts: Facts,
-    is_text_dropped: bool,
 }
 
 impl<A: Allocator> Kept<A> {
     /// These first bytes, and what the message says.
-    pub(crate) fn new(front: Front<A>, facts: Facts) -> Self {
-        Kept {
-            front,
-            facts,
-            is_text_dropped: false,
-        }
+    pub(crate) fn new(alloc: A, front: Front<A>, facts: Facts) -> Result<Self, AllocError> {
+        let text = Box::new(alloc, KeptText { front, facts })?;
+        Ok(Kept { text: Some(text) })
+    }
+
+    /// Nothing. Takes no memory.
+    pub(crate) fn bare() -> Self {
+        Kept { text: None }
     }
 
     /// The first bytes of the message proper, at most [`LONGEST_FRONT`], behind what the header's flags announce before it: a tracing id, warnings and
     /// a custom payload. Section 2.2 of `native_protocol_v4.spec`. Where the body is compressed, its first bytes as they are. None where they were
     /// dropped.
     pub fn front(&self) -> &[u8] {
-        self.front.as_slice()
+        match &self.text {
+            Some(text) => text.front.as_slice(),
+            None => &[],
+        }
     }
 
-    /// What the message says; nothing where the body is compressed.
-    pub fn facts(&self) -> &Facts {
-        &self.facts
+    /// What the message says; nothing where the body is compressed, or where that was dropped.
+    pub fn facts(&self) -> Facts {
+        match &self.text {
+            Some(text) => text.facts,
+            None => Facts::new(),
+        }
     }
 
-    /// Whether the first bytes were dropped, since there was no room for them while the message waited.
+    /// Whether the first bytes and what the message says were dropped, since there was no room for them.
     pub fn is_text_dropped(&self) -> bool {
-        self.is_text_dropped
+        self.text.is_none()
     }
 
-    /// The same, without the first bytes, whose memory is given back.
-    pub(crate) fn without_text(self) -> Result<Self, AllocError>
-    where
-        A: Clone,
-    {
-        Ok(Kept {
-            front: self.front.emptied()?,
-            facts: self.facts,
-            is_text_dropped: true,
-        })
+    /// How many bytes of room it takes.
+    pub(crate) fn cost(&self) -> usize {
+        match &self.text {
+            Some(text) => TEXT_OVERHEAD + text.front.len(),
+            None => 0,
+        }
     }
 }
 
@@ -68,16 +79,12 @@ impl<A: Allocator> Front<A> {
         }
     }
 
-    /// No byte, in its own memory's place.
-    pub(crate) fn emptied(&self) -> Result<Self, AllocError>
-    where
-        A: Clone,
-    {
-        Ok(Front::new(self.bytes.allocator().clone()?))
-    }
-
     pub(crate) fn as_slice(&self) -> &[u8] {
         &self.bytes
+    }
+
+    pub(crate) fn len(&self) -> usize {
+        self.bytes.len()
     }
 
     /// Keeps as many of these bytes behind the others as there is room for. Takes memory for these alone.

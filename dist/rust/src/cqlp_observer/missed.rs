@@ -8,7 +8,7 @@ use crate::cqlp_observer::opening::Opening;
 pub struct Missed {
     /// Messages that were told alone since there was no room for one more that waits.
     pub overtaken: u64,
-    /// Messages that waited without their first bytes since there was no room for these.
+    /// Messages of which the header alone was kept since there was no room for their text.
     pub texts: u64,
     /// Gaps: places where bytes of a direction did not come.
     pub gaps: u64,
@@ -46,7 +46,7 @@ impl Missed {
         self.overtaken = self.overtaken.saturating_add(1);
     }
 
-    /// Counts a message that waits without its first bytes.
+    /// Counts a message of which the header alone is kept.
     pub(crate) fn count_text(&mut self) {
         self.texts = self.texts.saturating_add(1);
     }

@@ -1,23 +1,22 @@
 // Written by dist/erase from crates/cqlp_observer/src/pairing.rt.
 //! Which requests wait for their responses, and which responses for their requests.
 
-use crate::kit_std::prelude::{Box, Clone};
+use crate::kit_std::prelude::{Clone};
 use crate::cqlp_observer::message::Message;
 use crate::cqlp_observer::paired::Paired;
 use crate::kit_std::alloc::{AllocError, Allocator, Global};
-use crate::kit_std::collections::BTreeMap;
+use crate::kit_std::collections::VecDeque;
 
 /// The messages of one connection that wait for the other of their exchange: requests for their responses, and responses that came before
 /// their requests.
 ///
 /// It takes the frames of both directions in the order in which they ended, and tells of each request which response it has: the next under
 /// its stream id, or the one before it under that id, if that still waits and the request was begun no later by the capture's times. It has no
-/// limit of its own: who calls it says of each message whether there is room for one more. Memory is taken for each message that waits, and given
-/// back with it.
+/// limit of its own: who calls it says of each message whether there is room for one more. It has memory for at most four times as many messages as
+/// wait, and none where none does.
 pub struct Pairing<T, A: Allocator = Global> {
-    alloc: A,
-    /// The messages that wait, by stream id.
-    waiting: BTreeMap<i16, Box<Message<T>, A>, A>,
+    /// The messages that wait, the one under the least stream id first.
+    waiting: VecDeque<Message<T>, A>,
 }
 
 /// What becomes of the next message.
@@ -34,12 +33,14 @@ pub(crate) enum Fate {
 }
 
 impl<T, A: Allocator + Clone> Pairing<T, A> {
-    /// No message waits. Takes no memory beside what a clone of `alloc` does.
+    /// No message waits. Takes no memory.
+    ///
+    /// # Errors
+    ///
+    /// None: callers need not know that.
     pub fn new(alloc: A) -> Result<Self, AllocError> {
-        let own = alloc.clone()?;
         Ok(Pairing {
-            alloc: own,
-            waiting: BTreeMap::new(alloc),
+            waiting: VecDeque::new(alloc),
         })
     }
 
@@ -55,9 +56,9 @@ impl<T, A: Allocator + Clone> Pairing<T, A> {
 
     /// The message that waits under a stream id.
     pub fn under(&self, id: i16) -> Option<&Message<T>> {
-        match self.waiting.get(&id) {
-            Some(message) => Some(&**message),
-            None => None,
+        match place_in(&self.waiting, id) {
+            Ok(at) => Some(&self.waiting[at]),
+            Err(_) => None,
         }
     }
 
@@ -95,8 +96,8 @@ impl<T, A: Allocator + Clone> Pairing<T, A> {
 
     /// Where no more frames come: the message under the least stream id, which waits no more. `None` once none waits.
     pub fn end(&mut self) -> Option<Paired<T>> {
-        match self.waiting.pop_first() {
-            Some((_, message)) => Some(Paired::alone(Box::into_inner(message))),
+        match self.waiting.pop_front() {
+            Some(message) => Some(Paired::alone(message)),
             None => None,
         }
     }
@@ -113,19 +114,39 @@ impl<T, A: Allocator + Clone> Pairing<T, A> {
 
     /// A message waits under its stream id.
     fn wait(&mut self, message: Message<T>) -> Result<(), AllocError> {
-        let id = message.stream();
-        let boxed = Box::new(self.alloc.clone()?, message)?;
-        self.waiting.insert(id, boxed)?;
-        Ok(())
+        match place_in(&self.waiting, message.stream()) {
+            Ok(at) => {
+                self.waiting[at] = message;
+                Ok(())
+            }
+            Err(at) => Ok(self.waiting.insert(at, message)?),
+        }
     }
 
     /// The message under a stream id waits no more.
     fn leave(&mut self, id: i16) -> Option<Message<T>> {
-        match self.waiting.remove(&id) {
-            Some(message) => Some(Box::into_inner(message)),
-            None => None,
+        match place_in(&self.waiting, id) {
+            Ok(at) => {
+                let message = self.waiting.remove(at);
+                self.shrink();
+                message
+            }
+            Err(_) => None,
         }
     }
+
+    /// Gives memory back, where no more than a quarter of it is needed.
+    fn shrink(&mut self) {
+        let len = self.waiting.len();
+        if len <= self.waiting.capacity() / 4 {
+            self.waiting.shrink_to(2 * len);
+        }
+    }
+}
+
+/// Where the message under a stream id waits, or where it would.
+fn place_in<T, A: Allocator>(waiting: &VecDeque<Message<T>, A>, id: i16) -> Result<usize, usize> {
+    waiting.binary_search_by_key(&id, |message| message.frame.header.stream)
 }
 
 /// What becomes of a message after the one that waits under its stream id, if one does, where there is room for one more that waits, or none.

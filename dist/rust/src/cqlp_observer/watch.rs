@@ -9,7 +9,7 @@ use crate::cqlp_observer::opening::Opening;
 use crate::cqlp_observer::paired::Paired;
 use crate::cqlp_observer::pairing::{Fate, Pairing, fate_of};
 use crate::cqlp_observer::room::WatchRoom;
-use crate::cqlp_observer::side::Side;
+use crate::cqlp_observer::side::{Side, SideStep};
 use crate::kit_std::alloc::{AllocError, Allocator, Global};
 
 /// What both sides of one connection say to each other, out of the bytes and gaps of its two directions, as they come.
@@ -18,13 +18,13 @@ use crate::kit_std::alloc::{AllocError, Allocator, Global};
 /// bytes that it did not use, until `is_done`. At the end of a direction `end` tells of its last frame, and at that of the connection `finish`
 /// of the messages that still wait, until it says `None`.
 ///
-/// It has no limit of its own: each call is told how much may wait ([`WatchRoom`]). Memory is taken for what waits and for the two frames that pass,
-/// and given back with them. After a call that was refused memory it is not to be used again.
+/// It has no limit of its own: each call is told how much may wait ([`WatchRoom`]). Memory is taken for what waits and for the texts of the two messages
+/// that pass, and given back with them. After a call that was refused memory it is not to be used again.
 pub struct Watch<A: Allocator = Global> {
     requests: Side<A>,
     responses: Side<A>,
     pairing: Pairing<Kept<A>, A>,
-    /// How many first bytes the messages have that wait.
+    /// How many bytes of room the texts take of the messages that wait and of those that pass.
     text: usize,
     missed: Missed,
 }
@@ -59,14 +59,20 @@ impl<A: Allocator + Clone> Watch<A> {
     /// A direction begins, that of the responses or that of the requests. Its first byte is that of a frame, where `from_start`; else the first frame
     /// is sought where a segment begins with a header.
     pub fn begin(&mut self, responses: bool, from_start: bool) {
+        let was_keeping = self.is_keeping(responses);
         if responses {
             self.responses.restart(responses, from_start);
         } else {
             self.requests.restart(responses, from_start);
         }
+        self.text = recounted(0, self.text, was_keeping, false);
     }
 
     /// What the next bytes of a direction tell, which came at this time. `begins` says whether the first of them begins a segment.
+    ///
+    /// # Errors
+    ///
+    /// Memory that is refused.
     pub fn take(
         &mut self,
         responses: bool,
@@ -77,11 +83,7 @@ impl<A: Allocator + Clone> Watch<A> {
     ) -> Result<WatchStep<A>, AllocError> {
         let opening = self.opening(responses, piece);
         self.missed.count_opening(opening);
-        let step = if responses {
-            self.responses.hear(piece, time, begins)?
-        } else {
-            self.requests.hear(piece, time, begins)?
-        };
+        let step = self.read(responses, piece, time, begins, room)?;
         Ok(WatchStep {
             used: step.used,
             is_done: step.is_done,
@@ -91,6 +93,10 @@ impl<A: Allocator + Clone> Watch<A> {
     }
 
     /// So many bytes of a direction did not come, which passed at this time, where that is known.
+    ///
+    /// # Errors
+    ///
+    /// Memory that is refused.
     pub fn gap(
         &mut self,
         responses: bool,
@@ -99,25 +105,33 @@ impl<A: Allocator + Clone> Watch<A> {
         room: WatchRoom,
     ) -> Result<Option<Paired<Kept<A>>>, AllocError> {
         self.missed.count_gap();
+        let was_keeping = self.is_keeping(responses);
         let message = if responses {
             self.responses.gap(length, time)?
         } else {
             self.requests.gap(length, time)?
         };
+        self.recount(responses, room, was_keeping);
         self.pair(message, room)
     }
 
     /// No more bytes of a direction come.
+    ///
+    /// # Errors
+    ///
+    /// Memory that is refused.
     pub fn end(
         &mut self,
         responses: bool,
         room: WatchRoom,
     ) -> Result<Option<Paired<Kept<A>>>, AllocError> {
+        let was_keeping = self.is_keeping(responses);
         let message = if responses {
             self.responses.end()?
         } else {
             self.requests.end()?
         };
+        self.recount(responses, room, was_keeping);
         self.pair(message, room)
     }
 
@@ -133,7 +147,7 @@ impl<A: Allocator + Clone> Watch<A> {
         self.pairing.len()
     }
 
-    /// How many first bytes the messages have that wait, each at most [`LONGEST_FRONT`](crate::cqlp_observer::LONGEST_FRONT).
+    /// How many bytes of room the texts take of the messages that wait and of those that pass.
     pub fn text(&self) -> usize {
         self.text
     }
@@ -151,6 +165,49 @@ impl<A: Allocator + Clone> Watch<A> {
             self.requests.opening(piece)
         }
     }
+
+    /// Whether a side has memory for the text of the message that passes.
+    fn is_keeping(&self, responses: bool) -> bool {
+        if responses {
+            self.responses.is_keeping()
+        } else {
+            self.requests.is_keeping()
+        }
+    }
+
+    /// Counts the room of a side that took some or gave it back.
+    fn recount(&mut self, responses: bool, room: WatchRoom, was_keeping: bool) {
+        self.text = recounted(
+            room.text,
+            self.text,
+            was_keeping,
+            self.is_keeping(responses),
+        );
+    }
+
+    /// What the next bytes of a direction say.
+    fn read(
+        &mut self,
+        responses: bool,
+        piece: &[u8],
+        time: Option<u64>,
+        begins: bool,
+        room: WatchRoom,
+    ) -> Result<SideStep<A>, AllocError> {
+        let has_room = room.text.saturating_sub(self.text) >= PRESENT_ROOM;
+        let was_keeping = self.is_keeping(responses);
+        let step = if responses {
+            self.responses.read(piece, time, begins, has_room)?
+        } else {
+            self.requests.read(piece, time, begins, has_room)?
+        };
+        self.recount(responses, room, was_keeping);
+        if step.is_bare {
+            self.missed.count_text();
+        }
+        Ok(step)
+    }
+
     /// Pairs a message that has ended, if one has.
     fn pair(
         &mut self,
@@ -204,7 +261,7 @@ impl<A: Allocator + Clone> Watch<A> {
         beside: usize,
         room: WatchRoom,
     ) -> Result<Message<Kept<A>>, AllocError> {
-        let count = message.kept.front().len();
+        let count = message.kept.cost();
         if count <= room.text.saturating_sub(beside) {
             self.text = beside + count;
             Ok(message)
@@ -213,25 +270,43 @@ impl<A: Allocator + Clone> Watch<A> {
             self.missed.count_text();
             Ok(Message {
                 frame: message.frame,
-                kept: message.kept.without_text()?,
+                kept: Kept::bare(),
             })
         }
     }
 }
 
-/// How many first bytes a message has that waits, if one does.
+/// How much room the text of a message takes that passes in several pieces.
+const PRESENT_ROOM: usize = 512;
+
+/// How much room the texts of a connection take, which took so much, where a side kept a message's and keeps one.
+fn recounted(room: usize, text: usize, was_keeping: bool, is_keeping: bool) -> usize {
+    if was_keeping {
+        if is_keeping {
+            text
+        } else {
+            text.saturating_sub(PRESENT_ROOM)
+        }
+    } else if is_keeping && room.saturating_sub(text) >= PRESENT_ROOM {
+        text + PRESENT_ROOM
+    } else {
+        text
+    }
+}
+
+/// How much room the text of a message takes that waits, if one does.
 fn text_in<A: Allocator>(message: Option<&Message<Kept<A>>>) -> usize {
     match message {
-        Some(message) => message.kept.front().len(),
+        Some(message) => message.kept.cost(),
         None => 0,
     }
 }
 
-/// How many first bytes a message has that is told alone.
+/// How much room the text of a message took that is told alone.
 fn told_text<A: Allocator>(told: &Option<Paired<Kept<A>>>) -> usize {
     match told {
-        Some(Paired::Unanswered { request }) => request.kept.front().len(),
-        Some(Paired::Unasked { response }) => response.kept.front().len(),
+        Some(Paired::Unanswered { request }) => request.kept.cost(),
+        Some(Paired::Unasked { response }) => response.kept.cost(),
         Some(Paired::Exchange { .. } | Paired::Event { .. }) | None => 0,
     }
 }

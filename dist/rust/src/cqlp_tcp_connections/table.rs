@@ -18,7 +18,7 @@ use crate::kit_std::alloc::{AllocError, Allocator, Global};
 /// `Held`, `held` lends the bytes, and `pass_held` comes before the next call. Where a connection has to leave first, `leave` reports what
 /// it still has, until it says `Left`. At the end of the file `finish` does so for all that are there, until it says `Empty`.
 ///
-/// Memory is taken as connections and early bytes come, and given back. A connection that holds nothing takes about 450 bytes.
+/// Memory is taken as connections and early bytes come, and given back. A connection that holds nothing takes less than 300 bytes.
 pub struct Connections<A: Allocator = Global> {
     ports: Vec<u16, A>,
     pool: Pool<A>,

@@ -26,6 +26,15 @@ impl<T, A: Allocator> VecDeque<T, A> {
         self.items.try_reserve(more).map_err(|_| AllocError)
     }
 
+    /// Gives memory back that fewer items need, where the smaller block is granted.
+    pub fn shrink_to(&mut self, least: usize) {
+        let mut fewer = Deque::new();
+        if self.items.len().max(least) < self.items.capacity() && fewer.try_reserve_exact(self.items.len().max(least)).is_ok() {
+            fewer.extend(self.items.drain(..));
+            self.items = fewer;
+        }
+    }
+
     pub fn reserve_exact(&mut self, more: usize) -> Result<(), AllocError> {
         self.items.try_reserve_exact(more).map_err(|_| AllocError)
     }

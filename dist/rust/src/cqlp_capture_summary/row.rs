@@ -1,0 +1,16 @@
+// Written by dist/erase from crates/cqlp_capture_summary/src/row.rt.
+//! What is shown of a statement.
+
+use crate::cqlp_capture_summary::tally::Figures;
+
+/// What is shown of a statement in a summary.
+#[derive(Clone, Copy, Debug)]
+pub struct Row<'a> {
+    /// The first 256 bytes of what it is called.
+    pub name: &'a [u8],
+    /// Whether these are all of it.
+    pub is_whole_name: bool,
+    /// The most nanoseconds that it may have taken before `figures` began to count: when it was not in the table.
+    pub missing: u64,
+    pub figures: Figures,
+}
