@@ -445,6 +445,7 @@ pub fn run_command() -> i32 {
     cqlp::main(HostRuntime).status()
 }
 
+pub use conversions::OtherValue;
 pub use cqlp_decode::{
     Capacity, Decoder, Event, FaultAfter, Fed, Finish, GiveError, GiveReason, Held, NewError, Outcome, Sink, SinkFault, Step, run,
 };
@@ -457,7 +458,6 @@ pub use cqlp_note::{
 pub use cqlp_skip::{NotSkippable, Skipped, SkippingDecoder};
 #[cfg(feature = "std")]
 pub use cqlp_sockets::{Cause, OfSocket};
-pub use conversions::OtherValue;
 pub use cqlp_type::TypeTable;
 pub use cqlp_type_tables::{TableError, table_of, table_of_specs};
 pub use kit_std::alloc::Global;
