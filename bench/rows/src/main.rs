@@ -1,0 +1,213 @@
+//! Times `cqlp::rows` and `Decoder::feed` beside readers by hand, all in one run: `rows ROUNDS PAGE..`, where the pages are files of bench/pages.py
+//! whose names begin with `rows`, `collections` or `columns`. It prints a line of a table for each: the least time by hand and of ours, in
+//! milliseconds of the processor, and their ratio, which is over 1 where ours is faster. bench/ratios.py calls it.
+#![forbid(unsafe_code)]
+
+mod hand;
+mod wide;
+
+use cqlp::rows::{FromCell, LentCell, Mismatch, page_rows};
+use cqlp::{Decoder, Event, Fed, Global, Limits, Sink, SinkFault, Step};
+use std::collections::BTreeMap;
+use std::error::Error;
+use std::hint::black_box;
+use wide::Wide;
+
+type Run<'a> = Box<dyn Fn() -> u64 + 'a>;
+
+cqlp::row! {
+    struct Owned { column0: i32, column1: i64, column2: String, column3: bool }
+}
+
+cqlp::row! {
+    struct Lent<'a> { column0: i32, column1: i64, column2: &'a str, column3: bool }
+}
+
+fn sum_of(id: i32, total: i64, name: &str, paid: bool) -> u64 {
+    (id as u64).wrapping_add(total as u64).wrapping_add(name.len() as u64 + u64::from(name.as_bytes()[15])).wrapping_add(paid.into())
+}
+
+/// The sum of the ints of a list or of the values of a map, and of the lengths of its keys.
+struct Sum(u64);
+
+impl<'a> FromCell<'a> for Sum {
+    fn from_cell(cell: LentCell<'a, '_>) -> Result<Self, Mismatch> {
+        let LentCell::Items(items) = cell else { return Err(Mismatch::Null { wanted: "items" }) };
+        let mut sum = 0_u64;
+        for item in items {
+            sum = sum.wrapping_add(match item {
+                LentCell::Scalar(cqlp::Scalar::Varchar(text)) => text.len() as u64,
+                item => i32::from_cell(item)? as u64,
+            });
+        }
+        Ok(Sum(sum))
+    }
+}
+
+/// Adds what all events lend, so that none is left out.
+struct Counted(u64);
+
+impl Sink for Counted {
+    #[inline(always)]
+    fn take(&mut self, _at: u64, event: &Event<'_>) -> Result<(), SinkFault> {
+        match *event {
+            Event::Leaf { scalar: cqlp::Scalar::Int(number), .. } => self.0 = self.0.wrapping_add(number as u64),
+            Event::Leaf { scalar: cqlp::Scalar::Bigint(number), .. } => self.0 = self.0.wrapping_add(number as u64),
+            Event::Leaf { scalar: cqlp::Scalar::Varchar(text), .. } => self.0 = self.0.wrapping_add(text.len() as u64),
+            Event::Leaf { .. } => self.0 = self.0.wrapping_add(1),
+            _ => {}
+        }
+        Ok(())
+    }
+}
+
+fn decoder() -> Decoder {
+    Decoder::new(Global, Limits::DEFAULT).expect("memory for a decoder")
+}
+
+/// By the loop that `feed` stands for.
+fn by_steps(page: &[u8], piece: usize) -> u64 {
+    let (mut decoder, mut sink) = (decoder(), Counted(0));
+    for piece in page.chunks(piece) {
+        let mut used = 0;
+        loop {
+            used += decoder.hand_whole(&piece[used..], &mut sink).expect("a sink that takes all");
+            match decoder.next(&piece[used..]) {
+                Step::Event { at, used: taken, event } => {
+                    sink.take(at, &event).expect("a sink that takes all");
+                    used += taken;
+                }
+                Step::More { .. } => break,
+                Step::Refused(refusal) => panic!("{refusal}"),
+            }
+        }
+    }
+    sink.0
+}
+
+fn by_feed(page: &[u8], piece: usize) -> u64 {
+    let (mut decoder, mut sink) = (decoder(), Counted(0));
+    for piece in page.chunks(piece) {
+        assert_eq!(decoder.feed(piece, &mut sink), Fed::More);
+    }
+    sink.0
+}
+
+/// What is timed of a page: its name, by hand and by ours.
+fn tasks<'a>(name: &str, page: &'a [u8]) -> Vec<(&'static str, Run<'a>, Run<'a>)> {
+    let mut tasks: Vec<(_, Run, Run)> = match name {
+        "rows" => vec![
+            ("owned structs", Box::new(|| owned_by_hand(page)), Box::new(|| owned(page))),
+            ("lent rows, summed", Box::new(|| lent_by_hand(page)), Box::new(|| lent(page))),
+        ],
+        "collections" => vec![
+            ("owned lists and maps", Box::new(|| collections_by_hand(page)), Box::new(|| collections(page))),
+            ("lent lists and maps, summed", Box::new(|| sums_by_hand(page)), Box::new(|| sums(page))),
+        ],
+        _ => vec![("structs of 200 fields", Box::new(|| columns_by_hand(page)), Box::new(|| columns(page)))],
+    };
+    tasks.push(("`feed` beside `hand_whole` and `next`, whole", Box::new(|| by_steps(page, usize::MAX)), Box::new(|| by_feed(page, usize::MAX))));
+    tasks.push(("`feed` beside `hand_whole` and `next`, 64 KiB", Box::new(|| by_steps(page, 1 << 16)), Box::new(|| by_feed(page, 1 << 16))));
+    tasks
+}
+
+fn owned_by_hand(page: &[u8]) -> u64 {
+    let mut rows = Vec::new();
+    hand::rows(page, |row| rows.push((row.id, row.total, row.name.to_string(), row.paid))).expect("a page");
+    black_box(&rows);
+    rows.last().map_or(0, |(id, total, name, paid)| sum_of(*id, *total, name, *paid))
+}
+
+fn owned(page: &[u8]) -> u64 {
+    let rows = page_rows(page).expect("a page").collect::<Result<Vec<Owned>, _>>().expect("rows");
+    black_box(&rows);
+    rows.last().map_or(0, |row| sum_of(row.column0, row.column1, &row.column2, row.column3))
+}
+
+fn lent_by_hand(page: &[u8]) -> u64 {
+    let mut sum = 0_u64;
+    hand::rows(page, |row| sum = sum.wrapping_add(sum_of(row.id, row.total, row.name, row.paid))).expect("a page");
+    sum
+}
+
+fn lent(page: &[u8]) -> u64 {
+    let mut sum = 0_u64;
+    for row in page_rows(page).expect("a page") {
+        let Lent { column0, column1, column2, column3 } = row.expect("a row");
+        sum = sum.wrapping_add(sum_of(column0, column1, column2, column3));
+    }
+    sum
+}
+
+fn collections_by_hand(page: &[u8]) -> u64 {
+    let mut rows = Vec::new();
+    hand::collections(page, |list, map| rows.push(hand::owned((list, map)).expect("a row"))).expect("a page");
+    black_box(&rows);
+    rows.len() as u64
+}
+
+fn collections(page: &[u8]) -> u64 {
+    let rows = page_rows(page).expect("a page").collect::<Result<Vec<(Vec<i32>, BTreeMap<String, i32>)>, _>>().expect("rows");
+    black_box(&rows);
+    rows.len() as u64
+}
+
+fn sums_by_hand(page: &[u8]) -> u64 {
+    let mut sum = 0_u64;
+    hand::collections(page, |list, map| {
+        hand::list(list, |item| sum = sum.wrapping_add(item as u64)).expect("a list");
+        hand::map(map, |key, value| sum = sum.wrapping_add(key.len() as u64).wrapping_add(value as u64)).expect("a map");
+    })
+    .expect("a page");
+    sum
+}
+
+fn sums(page: &[u8]) -> u64 {
+    let rows = page_rows::<(Sum, Sum)>(page).expect("a page").map(|row| row.expect("a row"));
+    rows.fold(0, |sum, (list, map)| sum.wrapping_add(list.0).wrapping_add(map.0))
+}
+
+fn columns_by_hand(page: &[u8]) -> u64 {
+    let mut sum = 0_u64;
+    hand::columns(page, |row| sum = sum.wrapping_add(black_box(row)[0] as u64).wrapping_add(row[199] as u64)).expect("a page");
+    sum
+}
+
+fn columns(page: &[u8]) -> u64 {
+    let mut sum = 0_u64;
+    for row in page_rows::<Wide>(page).expect("a page") {
+        let (first, last) = black_box(row.expect("a row")).ends();
+        sum = sum.wrapping_add(first as u64).wrapping_add(last as u64);
+    }
+    sum
+}
+
+/// The milliseconds of the processor that this thread has had.
+fn spent() -> f64 {
+    let said = std::fs::read_to_string("/proc/thread-self/schedstat").unwrap_or_default();
+    said.split(' ').next().and_then(|word| word.parse::<f64>().ok()).unwrap_or_default() / 1e6
+}
+
+fn main() -> Result<(), Box<dyn Error>> {
+    let words: Vec<String> = std::env::args().skip(1).collect();
+    let (rounds, paths) = words.split_first().ok_or("rows ROUNDS PAGE..")?;
+    for path in paths {
+        let page = std::fs::read(path)?;
+        let name = path.rsplit('/').next().unwrap_or(path);
+        let tasks = tasks(name.split('.').next().unwrap_or(name), &page);
+        let mut least = vec![(f64::MAX, f64::MAX); tasks.len()];
+        for _ in 0..rounds.parse()? {
+            for ((_, hand, ours), times) in tasks.iter().zip(&mut least) {
+                let start = spent();
+                let by_hand = hand();
+                let middle = spent();
+                assert_eq!(ours(), by_hand);
+                *times = (times.0.min(middle - start), times.1.min(spent() - middle));
+            }
+        }
+        for ((what, ..), (hand, ours)) in tasks.iter().zip(least) {
+            println!("| {name}, {what} | {hand:.1} ms | {ours:.1} ms | {:.2} |", hand / ours.max(1e-3));
+        }
+    }
+    Ok(())
+}
