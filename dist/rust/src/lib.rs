@@ -456,6 +456,7 @@ fn reads_live_capture() -> bool {
     words.next().is_some_and(|word| word == "capture") && words.last().is_some_and(|word| word == "-") && !std::io::stdin().is_terminal()
 }
 
+pub use conversions::OtherValue;
 pub use cqlp_decode::{
     Capacity, Decoder, Event, FaultAfter, Fed, Finish, GiveError, GiveReason, Held, NewError, Outcome, Sink, SinkFault, Step, run,
 };
@@ -468,7 +469,6 @@ pub use cqlp_note::{
 pub use cqlp_skip::{NotSkippable, Skipped, SkippingDecoder};
 #[cfg(feature = "std")]
 pub use cqlp_sockets::{Cause, OfSocket};
-pub use conversions::OtherValue;
 pub use cqlp_type::TypeTable;
 pub use cqlp_type_tables::{TableError, table_of, table_of_specs};
 pub use kit_std::alloc::Global;

@@ -10,7 +10,9 @@ mod serve_rows;
 use cqlp::frame::{Frame, Message, Metadata, QueryParams, Spec, Value, encode};
 use cqlp::rows::{BindFault, RowError, RowSink, page_rows};
 use cqlp::session::{BeginError, RequestKind, Stray};
-use cqlp::wire::{AnyHeader, Arrival, ClientSide, FrameReader, Heard, Inbox, KeepError, Outbox, PageTrack, ServerSide, TextAlterer, WireError};
+use cqlp::wire::{
+    AnyHeader, Arrival, ClientSide, FrameReader, Heard, Inbox, KeepError, Outbox, PageTrack, ServerSide, TextAlterer, WireError,
+};
 use cqlp::{Consistency, Decoder, ErrorCode, Event, Global, Header, Kind, Limits, OfStd, Reason, Step, Target, bind};
 use std::error::Error;
 use std::io::{self, ErrorKind, Read, Write};
@@ -63,7 +65,8 @@ fn headers_of_every_version() {
 /// Frames are gathered, and what is not wanted passes, in pieces of every size; from version 5 on all passes.
 #[test]
 fn an_inbox_gathers_and_passes() {
-    let frames = [Frame::plain(1, Message::query("SELECT", one())), Frame::plain(2, Message::Options), Frame::plain(3, Message::query("x", one()))];
+    let frames =
+        [Frame::plain(1, Message::query("SELECT", one())), Frame::plain(2, Message::Options), Frame::plain(3, Message::query("x", one()))];
     let mut came = bytes_of(&frames);
     let second_version = [2, 0, 7, 5, 0, 0, 0, 2, 0xaa, 0xbb];
     let fifth_version = [5, 0, 0, 9, 5, 0, 0, 0, 0, 1, 2, 3, 4, 5, 6, 7, 8, 9, 10];

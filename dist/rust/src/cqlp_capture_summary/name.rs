@@ -1,7 +1,7 @@
 // Written by dist/erase from crates/cqlp_capture_summary/src/name.rt.
 //! Names of statements.
 
-use std::hash::{DefaultHasher};
+use std::hash::{DefaultHasher, Hasher};
 
 /// The first bytes of a statement's name.
 pub(crate) struct Name {
