@@ -2,7 +2,7 @@
 use crate::kit_std::alloc::{AllocError, AllocFailed, Allocator, Global};
 use crate::kit_std::boxed::Box;
 use std::collections::HashMap;
-use std::hash::Hash;
+use std::hash::{BuildHasher, BuildHasherDefault, Hash, Hasher, RandomState};
 use std::marker::PhantomData;
 use std::num::NonZeroUsize;
 
@@ -10,21 +10,43 @@ use std::num::NonZeroUsize;
 pub struct DefaultHasher;
 
 /// No entry.
-const NONE: usize = usize::MAX;
+const NONE: u32 = u32::MAX;
 
 struct Entry<K, V> {
     pair: Option<Box<(K, V)>>,
-    before: usize,
-    after: usize,
+    before: u32,
+    after: u32,
+    /// The next of those whose keys have one hash.
+    same: u32,
+}
+
+/// The hash of a number that is a hash already.
+#[derive(Default)]
+pub struct Hashed(u64);
+
+impl Hasher for Hashed {
+    fn finish(&self) -> u64 {
+        self.0
+    }
+
+    fn write_u64(&mut self, hash: u64) {
+        self.0 = hash;
+    }
+
+    fn write(&mut self, _: &[u8]) {
+        unreachable!("the keys are hashes")
+    }
 }
 
 pub struct LruCache<K, V, S, A> {
-    places: HashMap<K, usize>,
+    state: RandomState,
+    /// By the hash of a key the first of its entries.
+    places: HashMap<u64, u32, BuildHasherDefault<Hashed>>,
     entries: Vec<Entry<K, V>>,
     /// The places of entries that were taken out.
-    free: Vec<usize>,
-    first: usize,
-    last: usize,
+    free: Vec<u32>,
+    first: u32,
+    last: u32,
     alloc: A,
     hasher: PhantomData<S>,
 }
@@ -32,8 +54,8 @@ pub struct LruCache<K, V, S, A> {
 impl<K: Copy + Eq + Hash, V, S, A: Allocator> LruCache<K, V, S, A> {
     /// A cache that takes its memory as entries come.
     pub fn sparse(alloc: A, _: NonZeroUsize) -> Result<Self, AllocError> {
-        let (places, entries, free) = (HashMap::new(), Vec::new(), Vec::new());
-        Ok(LruCache { places, entries, free, first: NONE, last: NONE, alloc, hasher: PhantomData })
+        let (places, entries, free) = (HashMap::default(), Vec::new(), Vec::new());
+        Ok(LruCache { state: RandomState::new(), places, entries, free, first: NONE, last: NONE, alloc, hasher: PhantomData })
     }
 
     pub fn allocator(&self) -> &A {
@@ -41,11 +63,11 @@ impl<K: Copy + Eq + Hash, V, S, A: Allocator> LruCache<K, V, S, A> {
     }
 
     pub fn len(&self) -> usize {
-        self.places.len()
+        self.entries.len() - self.free.len()
     }
 
-    fn pair(&self, at: usize) -> Option<(&K, &V)> {
-        self.entries.get(at)?.pair.as_deref().map(|(key, value)| (key, value))
+    fn pair(&self, at: u32) -> Option<(&K, &V)> {
+        self.entries.get(at as usize)?.pair.as_deref().map(|(key, value)| (key, value))
     }
 
     /// The entry that was used last.
@@ -59,16 +81,23 @@ impl<K: Copy + Eq + Hash, V, S, A: Allocator> LruCache<K, V, S, A> {
     }
 
     /// Where the entry of this key is. That of the entry that was used last is found without a hash.
-    fn place(&self, key: &K) -> Option<usize> {
-        match self.pair(self.first) {
-            Some((first, _)) if first == key => Some(self.first),
-            _ => self.places.get(key).copied(),
+    fn place(&self, key: &K) -> Option<u32> {
+        if self.pair(self.first).is_some_and(|(first, _)| first == key) {
+            return Some(self.first);
         }
+        let mut at = *self.places.get(&self.state.hash_one(key))?;
+        while let Some((other, _)) = self.pair(at) {
+            if other == key {
+                return Some(at);
+            }
+            at = self.entries[at as usize].same;
+        }
+        None
     }
 
     pub fn peek_mut(&mut self, key: &K) -> Option<&mut V> {
         let at = self.place(key)?;
-        self.entries[at].pair.as_deref_mut().map(|(_, value)| value)
+        self.entries[at as usize].pair.as_deref_mut().map(|(_, value)| value)
     }
 
     /// Brings an entry to the front, and says whether it is there.
@@ -90,14 +119,14 @@ impl<K: Copy + Eq + Hash, V, S, A: Allocator> LruCache<K, V, S, A> {
             return Err(AllocFailed((key, value)));
         }
         let pair = Some(Box::new(Global, (key, value))?);
-        let at = self.free.pop().unwrap_or(self.entries.len());
-        let entry = Entry { pair, before: NONE, after: NONE };
-        if at < self.entries.len() {
-            self.entries[at] = entry;
+        let at = self.free.pop().unwrap_or(self.entries.len() as u32);
+        let same = self.places.insert(self.state.hash_one(key), at).unwrap_or(NONE);
+        let entry = Entry { pair, before: NONE, after: NONE, same };
+        if (at as usize) < self.entries.len() {
+            self.entries[at as usize] = entry;
         } else {
             self.entries.push(entry);
         }
-        self.places.insert(key, at);
         self.link(at);
         Ok(None)
     }
@@ -105,31 +134,78 @@ impl<K: Copy + Eq + Hash, V, S, A: Allocator> LruCache<K, V, S, A> {
     /// Takes the entry away that was used last.
     pub fn pop_mru(&mut self) -> Option<(K, V)> {
         let at = self.first;
-        let pair = Box::into_inner(self.entries.get_mut(at)?.pair.take()?);
+        let pair = Box::into_inner(self.entries.get_mut(at as usize)?.pair.take()?);
         self.unlink(at);
-        self.places.remove(&pair.0);
+        self.forget(self.state.hash_one(&pair.0), at);
         self.free.push(at);
         Some(pair)
     }
 
-    fn unlink(&mut self, at: usize) {
-        let (before, after) = (self.entries[at].before, self.entries[at].after);
-        match before {
-            NONE => self.first = after,
-            _ => self.entries[before].after = after,
-        }
-        match after {
-            NONE => self.last = before,
-            _ => self.entries[after].before = before,
+    /// Takes a place away from those of its hash.
+    fn forget(&mut self, hash: u64, at: u32) {
+        let next = self.entries[at as usize].same;
+        match self.places.get(&hash).copied() {
+            Some(first) if first != at => {
+                let mut before = first;
+                while self.entries[before as usize].same != at {
+                    before = self.entries[before as usize].same;
+                }
+                self.entries[before as usize].same = next;
+            }
+            _ if next == NONE => _ = self.places.remove(&hash),
+            _ => _ = self.places.insert(hash, next),
         }
     }
 
-    fn link(&mut self, at: usize) {
-        (self.entries[at].before, self.entries[at].after) = (NONE, self.first);
+    fn unlink(&mut self, at: u32) {
+        let (before, after) = (self.entries[at as usize].before, self.entries[at as usize].after);
+        match before {
+            NONE => self.first = after,
+            _ => self.entries[before as usize].after = after,
+        }
+        match after {
+            NONE => self.last = before,
+            _ => self.entries[after as usize].before = before,
+        }
+    }
+
+    fn link(&mut self, at: u32) {
+        (self.entries[at as usize].before, self.entries[at as usize].after) = (NONE, self.first);
         match self.first {
             NONE => self.last = at,
-            first => self.entries[first].before = at,
+            first => self.entries[first as usize].before = at,
         }
         self.first = at;
+    }
+}
+
+#[cfg(test)]
+mod tests {
+    use super::*;
+
+    /// A key whose hash is that of all others.
+    #[derive(Clone, Copy, PartialEq, Eq, Debug)]
+    struct Same(u32);
+
+    impl Hash for Same {
+        fn hash<H: Hasher>(&self, _: &mut H) {}
+    }
+
+    #[test]
+    fn keys_of_one_hash_are_told_apart() {
+        for order in [[0, 1, 2], [0, 2, 1], [1, 0, 2], [1, 2, 0], [2, 0, 1], [2, 1, 0]] {
+            let mut cache = LruCache::<_, _, DefaultHasher, _>::sparse(Global, NonZeroUsize::MIN).unwrap();
+            for key in [0, 1, 2] {
+                assert!(cache.put(Same(key), key).is_ok());
+            }
+            for (gone, key) in order.into_iter().enumerate() {
+                assert!(cache.promote(&Same(key)));
+                assert_eq!(cache.pop_mru(), Some((Same(key), key)));
+                assert_eq!(cache.len(), 2 - gone);
+                for other in [0, 1, 2] {
+                    assert_eq!(cache.peek_mut(&Same(other)).copied(), order[gone + 1..].contains(&other).then_some(other));
+                }
+            }
+        }
     }
 }
