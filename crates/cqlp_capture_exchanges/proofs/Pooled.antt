@@ -133,10 +133,11 @@ all_within zero responses time begins room b s k = stays_same room s s refl k
 all_within (suc n) responses time begins room b s k =
     let x = heard responses time begins b room s.watch in
     let p : Stays room s (stepped x s) = heard_within responses time begins b room s.watch k in
-    let more = all_within n responses time (begins && x.used == 0) room (drop x.used b) (stepped x s) p.counted in
+    let last = (all_heard n responses time (begins && x.used == 0) room (drop x.used b) (stepped x s)).after in
+    let more : Stays room (stepped x s) last = all_within n responses time (begins && x.used == 0) room (drop x.used b) (stepped x s) p.counted in
     elim (cases_Bool x.is_done) [
       | inl done ↦ rw done p
-      | inr on ↦ rw on (stays_then room s (stepped x s) _ p more)
+      | inr on ↦ rw on (stays_then room s (stepped x s) last p more)
     ]
 
 step_within : (step : StreamStep) (responses : Bool) (present : Option ℕ) (room : WatchRoom) (b : List ℕ) (s : Slot) → IsCounted s.watch → Stays room s (step_heard step responses present room b s).after
@@ -191,7 +192,7 @@ becomes_pooled n s t w some p k =
       limits = k.limits;
       ordered = subst (λ (ks : List ℕ). IsStrictlySortedBy nat_cmp ks) (sym (keys-set_value test w.slots t.after)) k.ordered;
       counted = each_set test t.after w.slots p.counted k.counted;
-      messages = omega (arith, k.messages, long, out_long, few, k.limits.open);
+      messages = omega (arith, k.messages, long, out_long, few, k.limits.messages);
       text = omega (arith, k.text, much, out_much, little, k.limits.text);
       few = few;
       little = little;
@@ -206,7 +207,7 @@ gone_pooled n s t w some k =
       limits = k.limits;
       ordered = sorted_without nat_cmp test w.slots k.ordered;
       counted = each_without test w.slots k.counted;
-      messages = omega (arith, k.messages, long, k.few, k.limits.open);
+      messages = omega (arith, k.messages, long, k.few, k.limits.messages);
       text = omega (arith, k.text, much, k.little, k.limits.text);
       few = omega (arith, k.few, long);
       little = omega (arith, k.little, much);

@@ -22,7 +22,7 @@ text_on slots = sum_by (λ s. s.watch.text) (values_of slots)
 
 -- The limits are numbers of 64 bits.
 pub record AreNumbers (limits : ExchangeLimits) : Type 0 where
-  pub open : limits.open < 2 ^ 64
+  pub messages : limits.open < 2 ^ 64
   pub text : limits.text < 2 ^ 64
 
 -- What the pools hold is what the connections do, and no more than the limits.

@@ -77,7 +77,8 @@ pub struct Heads {
 impl Heads {
     ghost use Rattle.cqlp_observer.specs.Heads.{head_within};
     ghost use Rattle.cqlp_observer.specs.Openings.{opening_in};
-    ghost use Rattle.cqlp_observer.specs.Directions.{after_end, after_gap, anew, begun, closing, counted, filled, heard, hears, passed, passed_whole, sought, stepping};
+    ghost use Rattle.cqlp_observer.specs.Directions.{after_end, after_gap, anew, begun, closing, counted, filled, heard};
+    ghost use Rattle.cqlp_observer.specs.Directions.{hears, passed, passed_whole, sought, stepping};
 
     /// A direction of which nothing came: that of the responses, or that of the requests. Its first byte begins a frame, where `from_start`.
     #[must_use]
