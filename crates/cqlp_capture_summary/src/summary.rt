@@ -197,6 +197,7 @@ impl<A: Allocator> Summary<A> {
             is_whole_name: name.is_whole(),
             missing: self.weights[place].saturating_sub(tally.time()),
             figures: tally.figures(),
+            buckets: tally.buckets(),
         })
     }
 

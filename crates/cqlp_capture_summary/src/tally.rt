@@ -109,6 +109,12 @@ impl Tally {
         self.time
     }
 
+    pub(crate) fn buckets(&self) -> &[u64]
+        ensures { result.now ≡ self.now.buckets }
+    {
+        &self.buckets
+    }
+
     pub(crate) fn count(&self) -> u64
         ensures { result ≡ self.now.count }
     {
