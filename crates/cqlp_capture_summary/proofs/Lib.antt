@@ -5,6 +5,7 @@ mod Entries
 mod Heaviest
 mod Lightest
 mod Lists
+mod Literals
 mod Merges
 mod Names
 mod Orders

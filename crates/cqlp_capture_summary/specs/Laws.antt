@@ -1,12 +1,15 @@
 -- Laws of summaries.
-use Rattle.std.specs.Prelude.{◌≡◌, ℕ, ◌-◌, ◌*◌, ◌^◌, ◌<◌, ◌≤◌, nat_le, nat_lt, List, [], ◌∷◌, ◌++◌, Option, Some, None, length}
+use Rattle.std.specs.Prelude.{◌≡◌, ℕ, ◌-◌, ◌*◌, ◌^◌, ◌<◌, ◌≤◌, ◌==◌, false, nat_le, nat_lt, List, [], ◌∷◌, ◌++◌, Option, Some, None, length}
 use Rattle.std.specs.List.{filter, All}
 use Rattle.cqlp_capture_summary.specs.Buckets.{bucket_of, greatest_in}
 use Rattle.cqlp_capture_summary.specs.Counts.{Request, Tally}
+use Rattle.cqlp_capture_summary.specs.Fingerprints.{read_from}
 use Rattle.cqlp_capture_summary.specs.Heaviest.{tallied_all}
 use Rattle.cqlp_capture_summary.specs.Merging.{merged}
+use Rattle.cqlp_capture_summary.specs.Names.{Name}
 use Rattle.cqlp_capture_summary.specs.Order.{rank_of, tally_at}
 use Rattle.cqlp_capture_summary.specs.Summaries.{Summary, new_summary, noted_request}
+use Rattle.cqlp_capture_summary.specs.declared.mode.Mode.TheVariants as mode
 use Rattle.cqlp_capture_summary.specs.Tallies.{none_counted, time_at}
 
 -- ---- what one call answers is what any call answers
@@ -66,3 +69,14 @@ FirstComesFirst =
 -- each percentile.
 abbrev pub MergeCountsBoth : Type 0
 MergeCountsBoth = (xs ys : List Request) → merged (tallied_all ys none_counted) (tallied_all xs none_counted) ≡ tallied_all (xs ++ ys) none_counted
+
+-- ---- fingerprints
+
+abbrev pub HasNone : (byte : ℕ) → List ℕ → Type 0
+HasNone byte bytes = All (λ b. (b == byte) ≡ false) bytes
+
+-- What is in a text between quotes makes no difference to what is written, of it and of all behind it.
+abbrev pub TextsAreAlike : Type 0
+TextsAreAlike =
+    (t u rest : List ℕ) (w : Name) → HasNone 39 t → HasNone 39 u
+    → read_from mode.Between (39 ∷ (t ++ 39 ∷ rest)) w ≡ read_from mode.Between (39 ∷ (u ++ 39 ∷ rest)) w

@@ -1,5 +1,5 @@
 -- What is counted of two lists of entries, from what is counted of each.
-use Rattle.std.specs.Prelude.{ℕ, List, [], ◌∷◌, max}
+use Rattle.std.specs.Prelude.{◌≡◌, ℕ, ◌<◌, ◌≤◌, List, [], ◌∷◌, max, slice_index_or}
 use Rattle.cqlp_capture_summary.specs.Counts.{Tally, tally}
 use Rattle.cqlp_capture_summary.specs.Tallies.{counted, earlier, later}
 
@@ -8,6 +8,10 @@ abbrev pub added : (more : List ℕ) → List ℕ → List ℕ
 added more [] = []
 added [] (n ∷ ns) = n ∷ ns
 added (m ∷ ms) (n ∷ ns) = counted n m ∷ added ms ns
+
+-- nothing is counted but in the buckets from this one on and below that one
+abbrev pub IsNoneBut : (from end : ℕ) → List ℕ → Type 0
+IsNoneBut from end buckets = ((k : ℕ) → k < from → slice_index_or buckets k 0 ≡ 0) × ((k : ℕ) → end ≤ k → slice_index_or buckets k 0 ≡ 0)
 
 abbrev pub merged : (more : Tally) → Tally → Tally
 merged m t =

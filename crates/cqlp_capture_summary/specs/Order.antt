@@ -1,5 +1,5 @@
 -- The order of statements: first the one that took most time in sum, and of two that took as much the one that was asked for first.
-use Rattle.std.specs.Prelude.{ℕ, zero, suc, Bool, ◌+◌, nat_le, nat_lt, List, [], ◌∷◌, drop, length, slice_index_or, take}
+use Rattle.std.specs.Prelude.{◌≡◌, ◌<◌, ℕ, zero, suc, Bool, ◌+◌, nat_le, nat_lt, List, [], ◌∷◌, drop, length, slice_index_or, take}
 use Rattle.std.specs.List.{filter}
 use Rattle.cqlp_capture_summary.specs.Counts.{Tally}
 use Rattle.cqlp_capture_summary.specs.Tallies.{none_counted}
@@ -19,6 +19,10 @@ rank_among time place ts = length (filter (is_as_dear time) (take place ts)) + l
 
 abbrev pub rank_of : (place : ℕ) → List Tally → ℕ
 rank_of place ts = rank_among (tally_at ts place).time place ts
+
+-- the ranks of the statements at the first places
+abbrev pub AreRanks : List ℕ → List Tally → Type 0
+AreRanks ranks ts = (place : ℕ) → place < length ranks → place < length ts → slice_index_or ranks place 0 ≡ rank_of place ts
 
 -- so many numbers from this one on
 abbrev pub upto : (from count : ℕ) → List ℕ

@@ -9,3 +9,4 @@ pub record IsRowAt (s : Summary) (place : ℕ) (row : Row) : Type 0 where
   pub name_is : name row.name.now row.is_whole_name ≡ slice_index_or s.names place (name [] true)
   pub missing : row.missing ≡ missing_at place s
   pub figures : row.figures ≡ figures_of (slice_index_or s.tallies place none_counted)
+  pub buckets : row.buckets.now ≡ (slice_index_or s.tallies place none_counted).buckets

@@ -16,7 +16,7 @@ pub(crate) fn bucket_of(time: u64) -> usize
 }
 
 /// The greatest time in a bucket, in nanoseconds.
-pub(crate) fn greatest_in(bucket: usize) -> u64
+pub fn greatest_in(bucket: usize) -> u64
     requires { bucket < 1920 }
     ensures { result ≡ greatest_in bucket }
 {

@@ -1,6 +1,6 @@
 //! What statements have in common that differ in their literals alone.
 
-ghost use Rattle.std.specs.Prelude.{◌≡◌};
+ghost use Rattle.std.specs.Prelude.{◌≡◌, ◌≤◌, length};
 ghost use Rattle.cqlp_capture_summary.specs.Fingerprints.{behind_dollar, behind_star, class_of, fingerprint_of, in_block, in_dollars, in_line};
 ghost use Rattle.cqlp_capture_summary.specs.Fingerprints.{in_number, in_text, mode_after, mode_at, mode_at_comment, read_from};
 ghost use Rattle.cqlp_capture_summary.specs.Fingerprints.{text_after, text_at};
@@ -37,7 +37,8 @@ impl Fingerprint {
     }
 
     pub fn as_slice(&self) -> &[u8]
-        ensures { result.now ≡ self.now.bytes }
+        ensures bytes { result.now ≡ self.now.bytes }
+        ensures few { length result.now ≤ 256 }
     {
         self.written.as_slice()
     }

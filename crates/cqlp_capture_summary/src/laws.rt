@@ -2,7 +2,7 @@
 
 ghost use Rattle.cqlp_capture_summary.specs.Heaviest.{CountsAllWhereThereIsRoom, KeepsEachOnce, KeepsTheHeaviest, ShowsExactlySince};
 ghost use Rattle.cqlp_capture_summary.specs.Laws.{DearerComesFirst, EachHasItsRank, FirstComesFirst};
-ghost use Rattle.cqlp_capture_summary.specs.Laws.{LiesInItsBucket, MergeCountsBoth, OneAnswerOfNew, OneAnswerOfNote, TellsTimeAtRank};
+ghost use Rattle.cqlp_capture_summary.specs.Laws.{LiesInItsBucket, MergeCountsBoth, OneAnswerOfNew, OneAnswerOfNote, TellsTimeAtRank, TextsAreAlike};
 
 /// Where memory is granted `Summary::new` has one answer, and so has `note`.
 pub fn one_answer()
@@ -45,4 +45,9 @@ pub fn counts_all_where_there_is_room()
 /// What is counted of two captures together, from what is counted of each, is what is counted of the one behind the other.
 pub fn merge_counts_both()
     ensures { MergeCountsBoth }
+{}
+
+/// Statements that differ in a text between quotes have the same fingerprint.
+pub fn texts_are_alike()
+    ensures { TextsAreAlike }
 {}

@@ -18,6 +18,7 @@ mod tally;
 mod weights;
 mod written;
 
+pub use buckets::greatest_in;
 pub use fingerprint::Fingerprint;
 pub use occurrence::Occurrence;
 pub use row::Row;

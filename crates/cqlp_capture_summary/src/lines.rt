@@ -5,10 +5,11 @@ ghost use Rattle.cqlp_text.specs.Written.{Writes};
 ghost use Rattle.cqlp_capture_summary.specs.Lines.{counts_text, figures_line, known_and_others, line_at, line_if, lines, lines_of_rank, missing_text};
 ghost use Rattle.cqlp_capture_summary.specs.Lines.{more, name_text, others_line, some_missing_text, text_front, time_with, times_text};
 ghost use Rattle.cqlp_capture_summary.specs.Names.{name};
+ghost use Rattle.cqlp_capture_summary.specs.Order.{AreRanks};
 
 use crate::columns::{put_number_column, put_share, put_text_column, put_time_column, share_of};
 use crate::name::Name;
-use crate::order::rank_of;
+use crate::order::{rank_at, ranks_of};
 use crate::shown::put_shown_text;
 use crate::tally::{Figures, Tally, Times};
 use cqlp_grammar::SinkFault;
@@ -59,8 +60,9 @@ fn put_lines<P: Pen>(
     requires weights { length weights.now ≡ length tallies.now }
     ensures { Writes writer.old (lines total names.now weights.now tallies.now) result writer.new }
 {
+    let ranks = ranks_of(tallies);
     for rank in 0..tallies.len() {
-        put_rank(writer, total, names, weights, tallies, rank)?;
+        put_rank(writer, total, names, weights, tallies, &ranks, rank)?;
     }
     Ok(())
 }
@@ -72,14 +74,16 @@ fn put_rank<P: Pen>(
     names: &[Name],
     weights: &[u64],
     tallies: &[Tally],
+    ranks: &[usize],
     rank: usize,
 ) -> Result<(), SinkFault>
     requires lengths { length names.now ≡ length tallies.now }
     requires weights { length weights.now ≡ length tallies.now }
+    requires ranks { AreRanks ranks.now tallies.now }
     ensures { Writes writer.old (lines_of_rank total names.now weights.now tallies.now rank) result writer.new }
 {
     for place in 0..tallies.len() {
-        put_if(writer, total, names, weights, tallies, rank, place)?;
+        put_if(writer, total, names, weights, tallies, ranks, rank, place)?;
     }
     Ok(())
 }
@@ -91,15 +95,17 @@ fn put_if<P: Pen>(
     names: &[Name],
     weights: &[u64],
     tallies: &[Tally],
+    ranks: &[usize],
     rank: usize,
     place: usize,
 ) -> Result<(), SinkFault>
     requires lengths { length names.now ≡ length tallies.now }
     requires weights { length weights.now ≡ length tallies.now }
+    requires ranks { AreRanks ranks.now tallies.now }
     requires within { place < length tallies.now }
     ensures { Writes writer.old (line_if total names.now weights.now tallies.now rank place) result writer.new }
 {
-    if rank_of(tallies, place) == rank {
+    if rank_at(ranks, tallies, place) == rank {
         put_at(writer, total, names, weights, tallies, place)
     } else {
         writer.put(b"")

@@ -87,6 +87,6 @@ fn hash_of(bytes: &[u8]) -> u64
     ensures { result ≡ hash_of bytes.now }
 {
     let mut hasher = DefaultHasher::new();
-    hasher.write(bytes);
-    hasher.finish()
+    Hasher::write(&mut hasher, bytes);
+    Hasher::finish(&hasher)
 }

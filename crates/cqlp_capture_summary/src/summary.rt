@@ -19,8 +19,8 @@ use std::alloc::{AllocError, Allocator, Global};
 use std::marker::Model;
 
 /// How often the statements of a capture were asked for, and how long they took: the heaviest statements in a table of bounded size, and the others together.
-/// A statement that took more than one in N of the whole time is in a table of N places. All memory is taken in `new`: for each place 15,744 bytes, and
-/// 23,648 besides; 4 MB for 256 places.
+/// A statement that took more than one in N of the whole time is in a table of N places. All memory is taken in `new`: for each place 15,760 bytes, and
+/// 23,664 besides; 4 MB for 256 places.
 #[derive(Drop)]
 pub struct Summary<A: Allocator = Global> {
     statements: usize,
@@ -197,6 +197,7 @@ impl<A: Allocator> Summary<A> {
             is_whole_name: name.is_whole(),
             missing: self.weights[place].saturating_sub(tally.time()),
             figures: tally.figures(),
+            buckets: tally.buckets(),
         })
     }
 

@@ -1,7 +1,7 @@
 //! What is counted of a statement.
 
-ghost use Rattle.std.specs.Prelude.{◌≡◌, length, option_map};
-ghost use Rattle.cqlp_capture_summary.specs.Merging.{added};
+ghost use Rattle.std.specs.Prelude.{◌≡◌, ◌≤◌, length, option_map, replicate};
+ghost use Rattle.cqlp_capture_summary.specs.Merging.{IsNoneBut, added};
 ghost use Rattle.cqlp_capture_summary.specs.Tallies.{bucket_at, earlier, error_count, later, time_of};
 
 use crate::buckets::{BUCKETS, bucket_of, greatest_in};
@@ -27,17 +27,21 @@ pub(crate) struct Tally {
     greatest: u64,
     /// How many of the times are in each bucket.
     buckets: [u64; BUCKETS],
+    /// All of them are in the buckets from this one on and below that one.
+    from: usize,
+    end: usize,
 }
 
 impl Model for Tally {
-    ghost use Rattle.std.specs.Prelude.{◌≡◌, length};
+    ghost use Rattle.std.specs.Prelude.{◌≡◌, ◌≤◌, length};
     ghost use Rattle.cqlp_capture_summary.specs.Counts.{Tally, tally};
+    ghost use Rattle.cqlp_capture_summary.specs.Merging.{IsNoneBut};
 
     ghost Value = { Tally };
 
     ghost view = { λ t. tally t.count t.errors t.unanswered t.rows t.bytes t.first t.last t.timed t.time t.greatest t.buckets };
 
-    ghost invariant = { λ t. length t.buckets ≡ 1920 };
+    ghost invariant = { λ t. (length t.buckets ≡ 1920) × (t.end ≤ 1920) × IsNoneBut t.from t.end t.buckets };
 }
 
 /// The numbers of a statement as a line has them.
@@ -74,7 +78,8 @@ pub struct Times {
 impl Tally {
     ghost use Rattle.cqlp_capture_summary.specs.Counts.{entry_of, request_of};
     ghost use Rattle.cqlp_capture_summary.specs.Merging.{merged};
-    ghost use Rattle.cqlp_capture_summary.specs.Tallies.{figures_of, none_counted, tallied, tallied_request, time_at, times_of, with_answer, with_seen_if, with_time};
+    ghost use Rattle.cqlp_capture_summary.specs.Tallies.{figures_of, none_counted, tallied, tallied_request, time_at, times_of};
+    ghost use Rattle.cqlp_capture_summary.specs.Tallies.{with_answer, with_seen_if, with_time};
 
     /// Nothing is counted.
     pub(crate) fn new() -> Self
@@ -92,6 +97,8 @@ impl Tally {
             time: 0,
             greatest: 0,
             buckets: [0; BUCKETS],
+            from: BUCKETS,
+            end: 0,
         }
     }
 
@@ -100,6 +107,12 @@ impl Tally {
         ensures { result ≡ self.now.time }
     {
         self.time
+    }
+
+    pub(crate) fn buckets(&self) -> &[u64]
+        ensures { result.now ≡ self.now.buckets }
+    {
+        &self.buckets
     }
 
     pub(crate) fn count(&self) -> u64
@@ -160,6 +173,8 @@ impl Tally {
         self.time = self.time.saturating_add(took);
         self.greatest = self.greatest.max(took);
         self.buckets[bucket] = self.buckets[bucket].saturating_add(1);
+        self.from = self.from.min(bucket);
+        self.end = self.end.max(bucket + 1);
     }
 
     /// Counts what another one counted.
@@ -176,7 +191,9 @@ impl Tally {
         self.timed = self.timed.saturating_add(more.timed);
         self.time = self.time.saturating_add(more.time);
         self.greatest = self.greatest.max(more.greatest);
-        add_buckets(&mut self.buckets, &more.buckets);
+        add_buckets(&mut self.buckets, &more.buckets, more.from, more.end);
+        self.from = self.from.min(more.from);
+        self.end = self.end.max(more.end);
     }
 
     /// Counts nothing any more.
@@ -193,7 +210,9 @@ impl Tally {
         self.timed = 0;
         self.time = 0;
         self.greatest = 0;
-        self.buckets = [0; BUCKETS];
+        clear_buckets(&mut self.buckets, self.from, self.end);
+        self.from = BUCKETS;
+        self.end = 0;
     }
 
     /// The numbers of its line.
@@ -239,12 +258,25 @@ impl Tally {
 }
 
 /// Adds counts, bucket by bucket.
-fn add_buckets(buckets: &mut [u64], more: &[u64])
-    requires { length buckets.old ≡ length more.now }
+fn add_buckets(buckets: &mut [u64], more: &[u64], from: usize, end: usize)
+    requires long { length buckets.old ≡ length more.now }
+    requires within { end ≤ length more.now }
+    requires none { IsNoneBut from end more.now }
     ensures { buckets.new ≡ added more.now buckets.old }
 {
-    for bucket in 0..buckets.len() {
+    for bucket in from..end {
         buckets[bucket] = buckets[bucket].saturating_add(more[bucket]);
+    }
+}
+
+/// Sets counts to 0, bucket by bucket.
+fn clear_buckets(buckets: &mut [u64], from: usize, end: usize)
+    requires within { end ≤ length buckets.old }
+    requires none { IsNoneBut from end buckets.old }
+    ensures { buckets.new ≡ replicate (length buckets.old) 0 }
+{
+    for bucket in from..end {
+        buckets[bucket] = 0;
     }
 }
 

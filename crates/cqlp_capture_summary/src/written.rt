@@ -1,6 +1,6 @@
 //! What is written of a fingerprint so far.
 
-ghost use Rattle.std.specs.Prelude.{◌≡◌, ◌+◌, ◌-◌, ◌≤◌, ◌<◌};
+ghost use Rattle.std.specs.Prelude.{◌≡◌, ◌+◌, ◌-◌, ◌≤◌, ◌<◌, length};
 
 use crate::class::is_opening;
 use std::marker::Model;
@@ -46,7 +46,8 @@ impl Written {
     }
 
     pub(crate) fn as_slice(&self) -> &[u8]
-        ensures { result.now ≡ self.now.bytes }
+        ensures bytes { result.now ≡ self.now.bytes }
+        ensures few { length result.now ≤ 256 }
     {
         &self.bytes[..self.len]
     }

@@ -1,21 +1,18 @@
-use Rattle.std.proofs.Common.{◌≡◌, ◌∙◌, ◌<◌, length, sym, ap, arith, slice_index_or, slice_set}
-use Rattle.cqlp_capture_summary.specs.Tallies.{counted}
-use Rattle.cqlp_capture_summary.proofs.Added.{added_front, added_next, added_whole}
+use Rattle.std.proofs.Common.{arith}
+use Rattle.cqlp_capture_summary.proofs.Added.{added_all, added_next, added_none}
 use Rattle.cqlp_capture_summary.proofs.tally.add_buckets.Goals as goal
+
+pub loop-bucket-init : goal.loop-bucket-init
+loop-bucket-init c = added_none c.args.from c.args.more.now c.args.buckets.now (λ k within. let f = c.type_inv.buckets k in omega (arith, f))
 
 pub loop-bucket-preserved : goal.loop-bucket-preserved
 loop-bucket-preserved c =
-    let i = c.loop-bucket.bucket in
-    let m = c.args.more.now in
-    let old = c.args.buckets.now in
-    let value : c.saturating_add.result ≡ counted (slice_index_or (added_front i m old) i 0) (slice_index_or m i 0) =
-    c.saturating_add.ensures ∙ ap (λ b. counted (slice_index_or b i 0) (slice_index_or m i 0)) c.loop-bucket.invariant in
-    ap (λ b. slice_set b i c.saturating_add.result) c.loop-bucket.invariant ∙ ap (slice_set (added_front i m old) i) value
-    ∙ added_next i m old (omega arith) c.requires
+    let long = c.requires.long in
+    let most = c.requires.within in
+    added_next c.args.from c.loop-bucket.bucket c.saturating_add.result c.args.more.now c.args.buckets.now c.loop-bucket.buckets (omega arith) (omega (arith, long, most))
+    c.saturating_add.ensures c.loop-bucket.invariant
 
 pub returns : goal.returns
 returns c =
-    let m = c.args.more.now in
-    let old = c.args.buckets.now in
-    let all : c.loop-bucket.bucket ≡ length old = omega arith in
-    c.loop-bucket.invariant ∙ ap (λ k. added_front k m old) all ∙ added_whole m old c.requires
+    added_all c.args.from c.args.end c.loop-bucket.bucket c.args.more.now c.args.buckets.now c.loop-bucket.buckets c.requires.long c.requires.none (omega arith)
+    c.loop-bucket.invariant
