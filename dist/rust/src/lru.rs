@@ -38,6 +38,23 @@ impl Hasher for Hashed {
     }
 }
 
+/// What a key hashes of itself, in one piece.
+struct Pieces {
+    bytes: [u8; 128],
+    len: usize,
+}
+
+impl Hasher for Pieces {
+    fn finish(&self) -> u64 {
+        self.len as u64
+    }
+
+    fn write(&mut self, piece: &[u8]) {
+        self.bytes[self.len..][..piece.len()].copy_from_slice(piece);
+        self.len += piece.len();
+    }
+}
+
 pub struct LruCache<K, V, S, A> {
     state: RandomState,
     /// By the hash of a key the first of its entries.
@@ -80,12 +97,18 @@ impl<K: Copy + Eq + Hash, V, S, A: Allocator> LruCache<K, V, S, A> {
         self.pair(self.last)
     }
 
+    fn hash(&self, key: &K) -> u64 {
+        let mut pieces = Pieces { bytes: [0; 128], len: 0 };
+        key.hash(&mut pieces);
+        self.state.hash_one(&pieces.bytes[..pieces.len])
+    }
+
     /// Where the entry of this key is. That of the entry that was used last is found without a hash.
     fn place(&self, key: &K) -> Option<u32> {
         if self.pair(self.first).is_some_and(|(first, _)| first == key) {
             return Some(self.first);
         }
-        let mut at = *self.places.get(&self.state.hash_one(key))?;
+        let mut at = *self.places.get(&self.hash(key))?;
         while let Some((other, _)) = self.pair(at) {
             if other == key {
                 return Some(at);
@@ -120,7 +143,7 @@ impl<K: Copy + Eq + Hash, V, S, A: Allocator> LruCache<K, V, S, A> {
         }
         let pair = Some(Box::new(Global, (key, value))?);
         let at = self.free.pop().unwrap_or(self.entries.len() as u32);
-        let same = self.places.insert(self.state.hash_one(key), at).unwrap_or(NONE);
+        let same = self.places.insert(self.hash(&key), at).unwrap_or(NONE);
         let entry = Entry { pair, before: NONE, after: NONE, same };
         if (at as usize) < self.entries.len() {
             self.entries[at as usize] = entry;
@@ -136,7 +159,7 @@ impl<K: Copy + Eq + Hash, V, S, A: Allocator> LruCache<K, V, S, A> {
         let at = self.first;
         let pair = Box::into_inner(self.entries.get_mut(at as usize)?.pair.take()?);
         self.unlink(at);
-        self.forget(self.state.hash_one(&pair.0), at);
+        self.forget(self.hash(&pair.0), at);
         self.free.push(at);
         Some(pair)
     }

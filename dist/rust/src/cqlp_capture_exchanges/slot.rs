@@ -6,7 +6,7 @@ use crate::cqlp_capture_exchanges::report::{ConnectionEnd, is_unread};
 use crate::cqlp_capture_exchanges::teller::Teller;
 use crate::cqlp_capture_streams::StreamsFault;
 use crate::cqlp_note::Target;
-use crate::cqlp_observer::{Kept, Missed, Opening, Paired, Watch, WatchRoom, WatchStep};
+use crate::cqlp_observer::{Kept, Missed, Opening, Paired, Unread, Watch, WatchRoom, WatchStep};
 use crate::cqlp_tcp_connections::{Told, Way};
 use crate::cqlp_tcp_reassembly::StreamStep;
 use crate::kit_std::alloc::{AllocError, Allocator, Global};
@@ -162,11 +162,9 @@ fn hear_bytes<O: Target, A: Allocator + Clone>(
         begins,
         bytes,
     } = piece;
-    let mut steps = 2 * bytes.len() as u128 + 2;
-    let mut rest = bytes;
-    let mut is_first = begins;
-    while steps > 0 {
-        let Ok(step) = watch.take(responses, rest, time, is_first, room) else {
+    let mut unread = Unread::new(bytes, begins);
+    while unread.steps > 0 {
+        let Ok(step) = watch.take(responses, unread.bytes, time, unread.begins, room) else {
             return Err(StreamsFault::NoMemory);
         };
         let WatchStep {
@@ -180,9 +178,7 @@ fn hear_bytes<O: Target, A: Allocator + Clone>(
         if is_done {
             return Ok(());
         }
-        is_first = still_first(is_first, used);
-        rest = &rest[used..];
-        steps -= 1;
+        unread = unread.after(used);
     }
     Ok(())
 }
@@ -205,11 +201,6 @@ fn report_step<O: Target, A: Allocator>(
 /// Whether it was reported that a connection is not read, after a direction that begins so, or goes on.
 fn is_reported_after(was_reported: bool, opening: Opening) -> bool {
     was_reported || is_unread(opening)
-}
-
-/// Whether what follows the bytes that were used still begins a segment.
-fn still_first(is_first: bool, used: usize) -> bool {
-    is_first && used == 0
 }
 
 /// So many bytes of a direction are missing, which passed at this time, where that is known.

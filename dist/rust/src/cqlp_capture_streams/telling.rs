@@ -10,7 +10,7 @@ use crate::cqlp_tcp_reassembly::StreamStep;
 use crate::cqlp_tcp_segment::Segment;
 use crate::kit_std::alloc::{AllocError, Allocator};
 
-/// Tells a listener something.
+/// Gives a listener an event.
 fn hear<L: Listener>(saying: &Saying<'_>, listener: &mut L) -> Result<(), StreamsFault> {
     listener.hear(saying)
 }

@@ -3,7 +3,7 @@
 
 use crate::cqlp_capture_summary::columns::{put_number_column, put_share, put_text_column, put_time_column, share_of};
 use crate::cqlp_capture_summary::name::Name;
-use crate::cqlp_capture_summary::order::rank_of;
+use crate::cqlp_capture_summary::order::{rank_at, ranks_of};
 use crate::cqlp_capture_summary::shown::put_shown_text;
 use crate::cqlp_capture_summary::tally::{Figures, Tally, Times};
 use crate::cqlp_grammar::SinkFault;
@@ -44,8 +44,9 @@ fn put_lines<P: Pen>(
     weights: &[u64],
     tallies: &[Tally],
 ) -> Result<(), SinkFault> {
+    let ranks = ranks_of(tallies);
     for rank in 0..tallies.len() {
-        put_rank(writer, total, names, weights, tallies, rank)?;
+        put_rank(writer, total, names, weights, tallies, &ranks, rank)?;
     }
     Ok(())
 }
@@ -57,10 +58,11 @@ fn put_rank<P: Pen>(
     names: &[Name],
     weights: &[u64],
     tallies: &[Tally],
+    ranks: &[usize],
     rank: usize,
 ) -> Result<(), SinkFault> {
     for place in 0..tallies.len() {
-        put_if(writer, total, names, weights, tallies, rank, place)?;
+        put_if(writer, total, names, weights, tallies, ranks, rank, place)?;
     }
     Ok(())
 }
@@ -72,10 +74,11 @@ fn put_if<P: Pen>(
     names: &[Name],
     weights: &[u64],
     tallies: &[Tally],
+    ranks: &[usize],
     rank: usize,
     place: usize,
 ) -> Result<(), SinkFault> {
-    if rank_of(tallies, place) == rank {
+    if rank_at(ranks, tallies, place) == rank {
         put_at(writer, total, names, weights, tallies, place)
     } else {
         writer.put(b"")

@@ -17,6 +17,7 @@ mod tally;
 mod weights;
 mod written;
 
+pub(crate) use buckets::{greatest_in};
 pub use fingerprint::Fingerprint;
 pub use occurrence::Occurrence;
 pub use row::Row;

@@ -58,6 +58,6 @@ fn is_kept_whole(name: &[u8], is_whole: bool) -> bool {
 /// A hash of bytes.
 fn hash_of(bytes: &[u8]) -> u64 {
     let mut hasher = DefaultHasher::new();
-    hasher.write(bytes);
-    hasher.finish()
+    Hasher::write(&mut hasher, bytes);
+    Hasher::finish(&hasher)
 }

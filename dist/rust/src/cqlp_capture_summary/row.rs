@@ -13,4 +13,6 @@ pub struct Row<'a> {
     /// The most nanoseconds that it may have taken before `figures` began to count: when it was not in the table.
     pub missing: u64,
     pub figures: Figures,
+    /// How many of its times are in each of the 1,920 buckets, whose greatest times are `greatest_in`.
+    pub buckets: &'a [u64],
 }

@@ -13,8 +13,8 @@ use crate::cqlp_text::{Pen, TextWriter};
 use crate::kit_std::alloc::{AllocError, Allocator, Global};
 
 /// How often the statements of a capture were asked for, and how long they took: the heaviest statements in a table of bounded size, and the others together.
-/// A statement that took more than one in N of the whole time is in a table of N places. All memory is taken in `new`: for each place 15,744 bytes, and
-/// 23,648 besides; 4 MB for 256 places.
+/// A statement that took more than one in N of the whole time is in a table of N places. All memory is taken in `new`: for each place 15,760 bytes, and
+/// 23,664 besides; 4 MB for 256 places.
 pub struct Summary<A: Allocator = Global> {
     statements: usize,
     /// The statements at the places that are taken.
@@ -137,6 +137,7 @@ impl<A: Allocator> Summary<A> {
             is_whole_name: name.is_whole(),
             missing: self.weights[place].saturating_sub(tally.time()),
             figures: tally.figures(),
+            buckets: tally.buckets(),
         })
     }
 

@@ -22,6 +22,9 @@ pub(crate) struct Tally {
     greatest: u64,
     /// How many of the times are in each bucket.
     buckets: [u64; BUCKETS],
+    /// All of them are in the buckets from this one on and below that one.
+    from: usize,
+    end: usize,
 }
 
 /// The numbers of a statement as a line has them.
@@ -70,12 +73,18 @@ impl Tally {
             time: 0,
             greatest: 0,
             buckets: [0; BUCKETS],
+            from: BUCKETS,
+            end: 0,
         }
     }
 
     /// Nanoseconds in sum.
     pub(crate) fn time(&self) -> u64 {
         self.time
+    }
+
+    pub(crate) fn buckets(&self) -> &[u64] {
+        &self.buckets
     }
 
     pub(crate) fn count(&self) -> u64 {
@@ -125,6 +134,8 @@ impl Tally {
         self.time = self.time.saturating_add(took);
         self.greatest = self.greatest.max(took);
         self.buckets[bucket] = self.buckets[bucket].saturating_add(1);
+        self.from = self.from.min(bucket);
+        self.end = self.end.max(bucket + 1);
     }
 
     /// Counts what another one counted.
@@ -139,7 +150,9 @@ impl Tally {
         self.timed = self.timed.saturating_add(more.timed);
         self.time = self.time.saturating_add(more.time);
         self.greatest = self.greatest.max(more.greatest);
-        add_buckets(&mut self.buckets, &more.buckets);
+        add_buckets(&mut self.buckets, &more.buckets, more.from, more.end);
+        self.from = self.from.min(more.from);
+        self.end = self.end.max(more.end);
     }
 
     /// Counts nothing any more.
@@ -154,7 +167,9 @@ impl Tally {
         self.timed = 0;
         self.time = 0;
         self.greatest = 0;
-        self.buckets = [0; BUCKETS];
+        clear_buckets(&mut self.buckets, self.from, self.end);
+        self.from = BUCKETS;
+        self.end = 0;
     }
 
     /// The numbers of its line.
@@ -194,9 +209,16 @@ impl Tally {
 }
 
 /// Adds counts, bucket by bucket.
-fn add_buckets(buckets: &mut [u64], more: &[u64]) {
-    for bucket in 0..buckets.len() {
+fn add_buckets(buckets: &mut [u64], more: &[u64], from: usize, end: usize) {
+    for bucket in from..end {
         buckets[bucket] = buckets[bucket].saturating_add(more[bucket]);
+    }
+}
+
+/// Sets counts to 0, bucket by bucket.
+fn clear_buckets(buckets: &mut [u64], from: usize, end: usize) {
+    for bucket in from..end {
+        buckets[bucket] = 0;
     }
 }
 

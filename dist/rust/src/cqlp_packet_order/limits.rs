@@ -55,6 +55,7 @@ impl OrderCounts {
             self.reordered = self.reordered.saturating_add(1);
         }
     }
+
     fn count_late(&mut self, is_off: bool) {
         if is_off {
             self.out_of_order = self.out_of_order.saturating_add(1);
