@@ -1,5 +1,5 @@
 -- The numbers that are promised of captures.
-use Rattle.std.specs.Prelude.{◌≡◌, ◌≤◌, true, ℕ, List, Option, Result, Err, ◌⊎◌}
+use Rattle.std.specs.Prelude.{◌≡◌, true, ℕ, List, Option, Result, Err, ◌⊎◌}
 use Rattle.cqlp_capture.specs.declared.event.CaptureEnd.{CaptureEnd}
 use Rattle.cqlp_capture_streams.specs.declared.capturing.CaptureRead.{CaptureRead}
 use Rattle.cqlp_capture_streams.specs.declared.fault.StreamsFault.{StreamsFault}
@@ -8,7 +8,7 @@ use Rattle.cqlp_capture_streams.specs.declared.limits.StreamsLimits.{StreamsLimi
 use Rattle.cqlp_capture_streams.specs.Captures.{ReadsMade, SplitsTo}
 use Rattle.cqlp_capture_streams.specs.Packets.{SplitState}
 use Rattle.cqlp_capture_streams.specs.Recordings.{Recording, StopsAt, with_saying}
-use Rattle.cqlp_capture_streams.specs.Streams.{ReadsCapture, default_limits, no_connections, read_of, with_files}
+use Rattle.cqlp_capture_streams.specs.Streams.{ReadsCapture, default_limits, no_connections, read_of}
 use Rattle.cqlp_capture_events.specs.declared.limits.TheConstants as events
 use Rattle.cqlp_capture_rows.specs.declared.limits.TheConstants as rows
 
@@ -22,10 +22,6 @@ TurnsOfCaptures =
     → ((e : Result CaptureEnd StreamsFault) × (u : SplitState)
     × SplitsTo with_saying StopsAt default_limits (no_connections limits ports) 4294967296 m before xs e left u v × (r ≡ read_of e u))
     ⊎ (r ≡ Err fault.NoMemory)
-
--- Where its streams are split there are at most 256 connections at one time, as each has two open files.
-abbrev pub ConnectionsOfStreams : Type 0
-ConnectionsOfStreams = (l : StreamsLimits) → (with_files l).connections.connections ≤ 256
 
 -- Where the lines of its frames are written, so many frames are read at one time, each within these limits.
 abbrev pub NumbersOfEvents : Type 0
