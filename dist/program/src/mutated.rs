@@ -74,7 +74,7 @@ impl StreamFiles for Sums {
     fn make(&mut self, number: u64) -> Result<(), FileFault> {
         self.call(number)?;
         assert_eq!(self.open.insert(number, [(0, 0); 2]), None);
-        assert!(self.open.len() <= 256);
+        assert!(self.open.len() <= 65_536);
         Ok(())
     }
 
