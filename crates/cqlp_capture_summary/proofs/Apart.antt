@@ -1,12 +1,12 @@
 -- No name is in a table twice.
-use Rattle.std.proofs.Common.{◌≡◌, ◌∙◌, ◌+◌, ◌<◌, ℕ, true, List, [], ◌∷◌, ◌++◌, length, Option, Some, None, inl, inr, sym, ap, arith, length-append, slice_index_or, slice_set}
+use Rattle.std.proofs.Common.{◌≡◌, ◌∙◌, ◌+◌, ◌<◌, ℕ, true, List, [], ◌∷◌, ◌++◌, length, Some, None, inl, inr, sym, ap, arith, length-append, slice_index_or, slice_set}
 use Rattle.std.proofs.Math.ListN.{get_or-append}
 use Rattle.std.proofs.Math.Seq.{get_or-append_seam}
 use Rattle.std.proofs.lemmas.Bool.{cases_eq}
 use Rattle.std.proofs.lemmas.List.{get_or-set_same, get_or-set_other, length-set}
 use Rattle.std.specs.List.{position}
 use Rattle.cqlp_capture_summary.specs.Names.{AreApart, Name, is_same, name}
-use Rattle.cqlp_capture_summary.proofs.Entries.{Absent, Found, same_equal, search_name}
+use Rattle.cqlp_capture_summary.proofs.Entries.{same_equal, search_name}
 
 pub seen_at : (x : Name) (ns : List Name) (i : ℕ) → AreApart ns → i < length ns → is_same x (slice_index_or ns i (name [] true)) ≡ true → position (is_same x) ns ≡ Some i
 seen_at x ns i apart inside same = elim (search_name x ns) [

@@ -1,16 +1,14 @@
 -- The table of a summary, over all that was noted_request.
-use Rattle.std.proofs.Common.{◌≡◌, ◌∙◌, ◌+◌, ◌-◌, ◌*◌, ◌^◌, ◌<◌, ◌≤◌, ℕ, zero, suc, Bool, true, false, List, [], ◌∷◌, ◌++◌, length, replicate, Option, Some, None, ◌⊎◌, inl, inr, refl, sym, ap, subst, arith, append_assoc, append-nil, length-append, slice_index_or, slice_set, nat_lt, if◌then◌else◌}
-use Rattle.std.proofs.Math.Nat.{mul-le-mul_left, mul-le-mul_right}
+use Rattle.std.proofs.Common.{◌≡◌, ◌∙◌, ◌+◌, ◌*◌, ◌^◌, ◌<◌, ◌≤◌, ℕ, zero, suc, true, false, List, [], ◌∷◌, ◌++◌, length, Some, inl, inr, refl, sym, ap, subst, arith, append_assoc, append-nil, length-append, slice_index_or, slice_set, nat_lt}
 use Rattle.std.proofs.Math.ListN.{get_or-append}
 use Rattle.std.proofs.Math.Seq.{get_or-append_seam}
 use Rattle.std.proofs.lemmas.Bool.{cases_eq, cases_lt, lt-ltb, le-ltb}
 use Rattle.std.proofs.lemmas.List.{get_or-set_same, get_or-set_other, length-set, length-replicate, get_or-replicate}
 use Rattle.std.proofs.lemmas.List.Elements.{filter-append}
-use Rattle.std.specs.List.{position}
 use Rattle.cqlp_capture_summary.specs.Counts.{Request, Tally}
 use Rattle.cqlp_capture_summary.specs.Heaviest.{IsExactSince, IsKept, KeepsEachOnce, KeepsTheHeaviest, ShowsExactlySince, all_noted, requests_of, is_of, name_at, tallied_all, tally_of, time_under, whole_time}
-use Rattle.cqlp_capture_summary.specs.Names.{Name, is_same, name}
-use Rattle.cqlp_capture_summary.specs.Summaries.{Summary, request_name, lightest, missing_at, summary, new_place, new_summary, noted_request, place_of, place_or, taken_in, with_request, with_request_at, with_in_place_of, with_name, with_name_if, with_new}
+use Rattle.cqlp_capture_summary.specs.Names.{Name, name}
+use Rattle.cqlp_capture_summary.specs.Summaries.{Summary, request_name, missing_at, summary, new_place, new_summary, noted_request, place_of, place_or, with_request, with_request_at, with_in_place_of, with_name, with_name_if, with_new}
 use Rattle.cqlp_capture_summary.specs.Tallies.{counted, none_counted, tallied_request, time_of}
 use Rattle.cqlp_capture_summary.proofs.Entries.{Absent, Found, no_entry, own_entry, search_name, tallied_append, tallied_time, under_append, under_other, under_own, under_part, whole_append}
 use Rattle.cqlp_capture_summary.proofs.Lightest.{IsLeast, lightest_is, one_of_sum, sum, sum_append, sum_of_least, sum_set}

@@ -1,7 +1,6 @@
 -- What a literal is makes no difference to a fingerprint.
-use Rattle.std.proofs.Common.{◌≡◌, ◌∙◌, ℕ, Bool, true, false, List, [], ◌∷◌, ◌++◌, refl, sym, ap, ◌==◌}
+use Rattle.std.proofs.Common.{◌≡◌, ◌∙◌, ℕ, false, List, [], ◌∷◌, ◌++◌, refl, sym, ◌==◌}
 use Rattle.std.proofs.lemmas.List.Elements.{All-head, All-tail}
-use Rattle.std.specs.List.{All}
 use Rattle.cqlp_capture_summary.specs.Fingerprints.{read_from, with_literal}
 use Rattle.cqlp_capture_summary.specs.Laws.{HasNone, TextsAreAlike}
 use Rattle.cqlp_capture_summary.specs.Names.{Name}

@@ -1,5 +1,5 @@
 -- What is counted of two lists of entries together.
-use Rattle.std.proofs.Common.{◌≡◌, ◌∙◌, ◌+◌, ◌^◌, ℕ, zero, suc, Bool, true, false, List, [], ◌∷◌, ◌++◌, length, replicate, max, min, Option, Some, None, refl, sym, ap, arith, slice_index_or, slice_set}
+use Rattle.std.proofs.Common.{◌≡◌, ◌∙◌, ℕ, zero, suc, Bool, true, false, List, [], ◌∷◌, length, replicate, max, Option, Some, None, refl, sym, ap, arith, slice_index_or}
 use Rattle.std.proofs.lemmas.List.{length-set}
 use Rattle.cqlp_capture_summary.specs.Buckets.{bucket_of}
 use Rattle.cqlp_capture_summary.specs.Counts.{Entry, Request, Tally, tally}

@@ -1,5 +1,5 @@
 -- A table with room for all statements.
-use Rattle.std.proofs.Common.{◌≡◌, ◌∙◌, ◌+◌, ◌<◌, ◌≤◌, ℕ, true, List, [], ◌∷◌, ◌++◌, length, Option, Some, None, inl, inr, refl, sym, ap, subst, arith, append_assoc, append-nil, length-append, slice_index_or, slice_set, nat_lt}
+use Rattle.std.proofs.Common.{◌≡◌, ◌∙◌, ◌+◌, ◌<◌, ◌≤◌, ℕ, true, List, [], ◌∷◌, ◌++◌, length, Option, Some, None, inl, inr, refl, sym, ap, subst, arith, append_assoc, append-nil, length-append, nat_lt}
 use Rattle.std.proofs.Math.ListN.{get_or-append}
 use Rattle.std.proofs.Math.Seq.{get_or-append_seam}
 use Rattle.std.proofs.lemmas.Bool.{cases_eq, lt-ltb}
@@ -7,7 +7,7 @@ use Rattle.std.proofs.lemmas.List.{get_or-set_same, get_or-set_other, length-set
 use Rattle.std.proofs.lemmas.List.Elements.{filter-append}
 use Rattle.std.specs.List.{position}
 use Rattle.cqlp_capture_summary.specs.Counts.{Request, Tally}
-use Rattle.cqlp_capture_summary.specs.Heaviest.{CountsAll, CountsAllWhereThereIsRoom, all_noted, requests_of, is_of, name_at, names_of, names_with, tallied_all, tally_of}
+use Rattle.cqlp_capture_summary.specs.Heaviest.{CountsAllWhereThereIsRoom, all_noted, requests_of, is_of, name_at, names_of, names_with, tallied_all, tally_of}
 use Rattle.cqlp_capture_summary.specs.Names.{Name, is_same, name}
 use Rattle.cqlp_capture_summary.specs.Summaries.{Summary, request_name, new_place, new_summary, noted_request, place_of, place_or, with_request, with_request_at, with_name, with_name_if, with_new}
 use Rattle.cqlp_capture_summary.specs.Tallies.{none_counted, tallied_request}

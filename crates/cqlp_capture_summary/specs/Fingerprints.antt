@@ -4,7 +4,7 @@
 -- Written as `?`: texts ('..' with '' for a quote, and $$..$$), numbers with sign, point and exponent, durations, blobs (0x..) and uuids. Literals with
 -- commas between them are written as `?+`, and a pair of literals with a colon (in a map) as one. White space and comments are one space. All else is
 -- written as it is: words in their case, names in double quotes, `?` and `:name`, and the constants true, false, null, NaN and Infinity.
-use Rattle.std.specs.Prelude.{ℕ, ◌+◌, ◌-◌, ◌==◌, Bool, true, false, ◌&&◌, ◌||◌, nat_le, nat_lt, List, [], ◌∷◌, ◌++◌, length, slice_index_or, take, if◌then◌else◌}
+use Rattle.std.specs.Prelude.{ℕ, ◌+◌, ◌-◌, ◌==◌, Bool, false, ◌&&◌, ◌||◌, nat_le, nat_lt, List, [], ◌∷◌, ◌++◌, length, slice_index_or, take, if◌then◌else◌}
 use Rattle.std.specs.Int.{is_in_range}
 use Rattle.cqlp_capture_summary.specs.declared.class.Class.{Class}
 use Rattle.cqlp_capture_summary.specs.declared.class.Class.TheVariants as class

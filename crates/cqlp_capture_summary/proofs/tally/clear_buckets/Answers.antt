@@ -1,4 +1,4 @@
-use Rattle.std.proofs.Common.{◌≤◌, arith}
+use Rattle.std.proofs.Common.{arith}
 use Rattle.cqlp_capture_summary.proofs.Added.{cleared_all, cleared_next, cleared_none}
 use Rattle.cqlp_capture_summary.proofs.tally.clear_buckets.Goals as goal
 

@@ -1,7 +1,7 @@
-use Rattle.std.proofs.Common.{◌≡◌, ◌∙◌, ◌<◌, true, List, [], ◌∷◌, ◌++◌, length, None, sym, ap, subst, arith, rules, slice_index_or, slice_set}
+use Rattle.std.proofs.Common.{◌≡◌, ◌∙◌, ◌<◌, true, [], length, sym, ap, arith, rules, slice_index_or}
 use Rattle.std.proofs.lemmas.Grind.{common_steps}
 use Rattle.std.specs.List.{position}
-use Rattle.cqlp_capture_summary.specs.Names.{AreApart, is_same, name}
+use Rattle.cqlp_capture_summary.specs.Names.{is_same, name}
 use Rattle.cqlp_capture_summary.proofs.Apart.{seen_at}
 use Rattle.cqlp_capture_summary.proofs.summary.Summary.find.Goals as goal
 

@@ -1,7 +1,6 @@
-use Rattle.std.proofs.Common.{◌≡◌, ◌∙◌, ◌<◌, true, List, [], ◌∷◌, ◌++◌, length, None, sym, ap, subst, arith, rules, slice_index_or, slice_set}
-use Rattle.std.proofs.lemmas.Grind.{common_steps}
+use Rattle.std.proofs.Common.{◌≡◌, ◌∙◌, ◌<◌, length, None, ap, rules}
 use Rattle.std.specs.List.{position}
-use Rattle.cqlp_capture_summary.specs.Names.{AreApart, is_same, name}
+use Rattle.cqlp_capture_summary.specs.Names.{is_same}
 use Rattle.cqlp_capture_summary.proofs.Apart.{apart_set}
 use Rattle.cqlp_capture_summary.proofs.summary.Summary.replace.Goals as goal
 

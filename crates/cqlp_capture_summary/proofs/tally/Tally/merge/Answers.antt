@@ -1,4 +1,4 @@
-use Rattle.std.proofs.Common.{◌≡◌, ◌∙◌, List, ℕ, ap, arith, length, subst, sym}
+use Rattle.std.proofs.Common.{◌∙◌, ap, arith, length, subst, sym}
 use Rattle.cqlp_capture_summary.specs.Merging.{IsNoneBut}
 use Rattle.cqlp_capture_summary.proofs.Added.{added_long, none_from_added}
 use Rattle.cqlp_capture_summary.proofs.tally.Tally.merge.Goals as goal
