@@ -1,16 +1,17 @@
 -- Texts in parts.
-use Rattle.std.proofs.Common.{◌≡◌, ◌∙◌, ◌+◌, ◌<◌, ℕ, List, [], ◌∷◌, ◌++◌, length, take, drop, get_or, add-one, Result, IsErr, refl, sym, ap, arith}
+use Rattle.std.proofs.Common.{true, zero, suc, ◌≡◌, ◌∙◌, ◌+◌, ◌<◌, ℕ, List, [], ◌∷◌, ◌++◌, length, take, drop, get_or, add-one, Result, IsErr, refl, sym, ap, arith}
 use Rattle.std.proofs.Math.Seq.{drop-cons}
+use Rattle.std.proofs.lemmas.Bool.{and_parts}
 use Rattle.std.proofs.lemmas.Grind.{common_steps}
-use Rattle.std.proofs.lemmas.Str.{chars-nil, chars_past_char, utf8_valid_len-IsUtf8}
+use Rattle.std.proofs.lemmas.Str.{chars-nil, chars-IsAscii, chars_past_char, encode_ascii, utf8_valid_len-IsUtf8}
 use Rattle.std.specs.Char.{encode_utf8}
-use Rattle.std.specs.List.{flat_map}
-use Rattle.std.specs.Str.{IsUtf8}
+use Rattle.std.specs.List.{flat_map, list_all}
+use Rattle.std.specs.Str.{IsAscii, IsUtf8}
 use Rattle.std.specs.Str.Lossy.{utf8_valid_len}
 use Rattle.cqlp_grammar.specs.declared.sink.SinkFault.{SinkFault}
 use Rattle.cqlp_text.specs.Written.{Written, BreaksOff, Receives, Writes}
 use Rattle.cqlp_text.proofs.Writing.{Progress, progress_goes_on, progress_last, progress_stops}
-use Rattle.cqlp_capture_summary.specs.Shown.{escape, shown, shown_text}
+use Rattle.cqlp_capture_summary.specs.Shown.{escape, is_hidden, is_plain, shown, shown_text}
 
 -- one part after the other, which is another way of writing what is due
 
@@ -41,3 +42,25 @@ shown_at text rest c is parts = ap (flat_map shown) (chars_past_char text rest c
 pub shown_none : (text : List ℕ) → length text ≡ 0 → shown_text text ≡ []
 shown_none [] none = ap (flat_map shown) chars-nil
 shown_none (b ∷ bs) none = absurd (omega arith)
+
+-- ---- a text of plain bytes stands for itself
+
+plain_below : (b : ℕ) → is_plain b ≡ true → b < 128
+plain_below b h = grind (arith, common_steps, h)
+
+plain_shown : (b : ℕ) → is_plain b ≡ true → shown b ≡ b ∷ []
+plain_shown b h = grind (arith, common_steps, h, encode_ascii b (plain_below b h))
+
+plain_is_ascii : (text : List ℕ) → list_all is_plain text ≡ true → IsAscii text
+plain_is_ascii [] h i = omega arith
+plain_is_ascii (b ∷ bs) h zero = plain_below b (and_parts (is_plain b) (list_all is_plain bs) h).0
+plain_is_ascii (b ∷ bs) h (suc i) = plain_is_ascii bs (and_parts (is_plain b) (list_all is_plain bs) h).1 i
+
+plain_each : (text : List ℕ) → list_all is_plain text ≡ true → flat_map shown text ≡ text
+plain_each [] h = refl
+plain_each (b ∷ bs) h =
+    let parts = and_parts (is_plain b) (list_all is_plain bs) h in
+    rw (plain_shown b parts.0, plain_each bs parts.1) refl
+
+pub plain_shown_text : (text : List ℕ) → list_all is_plain text ≡ true → shown_text text ≡ text
+plain_shown_text text h = ap (flat_map shown) (chars-IsAscii text (plain_is_ascii text h)) ∙ plain_each text h

@@ -24,5 +24,9 @@ shown c =
     else if c == 92 then codes "\\\\"
     else encode_utf8 c
 
+-- A byte that is a character, and is not escaped.
+abbrev pub is_plain : (byte : ℕ) → Bool
+is_plain b = is_in_range 0x20 0x21 b || is_in_range 0x23 0x5B b || is_in_range 0x5D 0x7E b
+
 abbrev pub shown_text : List ℕ → List ℕ
 shown_text text = flat_map shown (chars text)

@@ -2,9 +2,9 @@
 
 ghost use Rattle.std.specs.Prelude.{◌≡◌};
 ghost use Rattle.std.specs.Int.{is_in_range};
-ghost use Rattle.std.specs.List.{flat_map};
+ghost use Rattle.std.specs.List.{flat_map, list_all};
 ghost use Rattle.cqlp_text.specs.Written.{Writes};
-ghost use Rattle.cqlp_capture_summary.specs.Shown.{escape, is_hidden, shown, shown_text};
+ghost use Rattle.cqlp_capture_summary.specs.Shown.{escape, is_hidden, is_plain, shown, shown_text};
 
 use cqlp_grammar::SinkFault;
 use cqlp_text::{Pen, TextWriter};
@@ -13,10 +13,27 @@ use cqlp_text::{Pen, TextWriter};
 pub fn put_shown_text<P: Pen>(writer: &mut TextWriter<P>, text: &str) -> Result<(), SinkFault>
     ensures { Writes writer.old (shown_text text.now) result writer.new }
 {
+    if are_plain(text.as_bytes()) {
+        return writer.put(text.as_bytes());
+    }
     for c in text.chars() {
         put_shown(writer, c)?;
     }
     Ok(())
+}
+
+/// Whether each byte stands for itself.
+fn are_plain(bytes: &[u8]) -> bool
+    ensures { result ≡ list_all is_plain bytes.now }
+{
+    bytes.iter().all(|byte| is_plain(*byte))
+}
+
+/// Whether a byte is a character that is not escaped.
+fn is_plain(byte: u8) -> bool
+    ensures { result ≡ is_plain byte }
+{
+    (0x20..=0x21).contains(&byte) || (0x23..=0x5B).contains(&byte) || (0x5D..=0x7E).contains(&byte)
 }
 
 /// Takes a character as it stands between quotes.

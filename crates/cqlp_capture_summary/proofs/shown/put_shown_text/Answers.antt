@@ -1,10 +1,11 @@
-use Rattle.std.proofs.Common.{◌≡◌, rules, sym, subst}
+use Rattle.std.proofs.Common.{◌≡◌, ◌∙◌, rules, sym, subst}
 use Rattle.std.specs.Str.{IsUtf8}
 use Rattle.std.specs.Str.Iter.{chars_rest}
 use Rattle.std.proofs.lemmas.Str.{IsUtf8-past_char}
 use Rattle.cqlp_text.proofs.Writing.{Progress, progress_ends, progress_goes_on, progress_starts, progress_stops}
 use Rattle.cqlp_capture_summary.specs.Shown.{shown_text}
-use Rattle.cqlp_capture_summary.proofs.Texts.{shown_at, shown_none}
+use Rattle.cqlp_text.specs.Written.{Writes}
+use Rattle.cqlp_capture_summary.proofs.Texts.{plain_shown_text, shown_at, shown_none}
 use Rattle.cqlp_capture_summary.proofs.shown.put_shown_text.Goals as goal
 
 pub loop-c-init : goal.loop-c-init
@@ -25,3 +26,9 @@ loop-c-preserved g c =
 
 pub returns : goal.returns
 returns g c = progress_ends c.loop-c.invariant.1 (shown_none _ c.in-None.ensures.steps.0.0)
+
+pub returns-then-are_plain : goal.returns-then-are_plain
+returns-then-are_plain g c =
+    let bytes : c.as_bytes-then-are_plain.result.now ≡ c.args.text.now = search rules in
+    let is : shown_text c.args.text.now ≡ c.args.text.now = plain_shown_text c.args.text.now (search rules) in
+    subst (λ z. Writes c.args.writer.now z c.put.result c.put.new.self) (bytes ∙ sym is) c.put.ensures
