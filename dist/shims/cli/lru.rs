@@ -53,6 +53,16 @@ impl Hasher for Pieces {
         self.bytes[self.len..][..piece.len()].copy_from_slice(piece);
         self.len += piece.len();
     }
+
+    /// Which of its kinds an address is.
+    fn write_isize(&mut self, n: isize) {
+        self.write_u8(n as u8);
+    }
+
+    /// How long its octets are.
+    fn write_usize(&mut self, n: usize) {
+        self.write_u8(n as u8);
+    }
 }
 
 pub struct LruCache<K, V, S, A> {

@@ -6,10 +6,23 @@ use crate::cqlp_text::{Pen, TextWriter};
 
 /// Takes a text as it stands between quotes: a quote, a backslash and each character that a terminal may obey is escaped.
 pub fn put_shown_text<P: Pen>(writer: &mut TextWriter<P>, text: &str) -> Result<(), SinkFault> {
+    if are_plain(text.as_bytes()) {
+        return writer.put(text.as_bytes());
+    }
     for c in text.chars() {
         put_shown(writer, c)?;
     }
     Ok(())
+}
+
+/// Whether each byte stands for itself.
+fn are_plain(bytes: &[u8]) -> bool {
+    bytes.iter().all(|byte| is_plain(*byte))
+}
+
+/// Whether a byte is a character that is not escaped.
+fn is_plain(byte: u8) -> bool {
+    (0x20..=0x21).contains(&byte) || (0x23..=0x5B).contains(&byte) || (0x5D..=0x7E).contains(&byte)
 }
 
 /// Takes a character as it stands between quotes.
