@@ -13,6 +13,7 @@ mod room;
 mod side;
 mod speaker;
 mod subject;
+mod unread;
 mod watch;
 
 pub use crate::cqlp_observer_facts::Facts;
@@ -25,4 +26,5 @@ pub use paired::Paired;
 pub use pairing::Pairing;
 pub use room::WatchRoom;
 pub use subject::subject_of;
+pub use unread::Unread;
 pub use watch::{Watch, WatchStep};

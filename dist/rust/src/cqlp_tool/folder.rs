@@ -205,12 +205,11 @@ impl<'a, R: Files> Folder<'a, R> {
 
     /// Puts bytes behind those that wait for a file. Where all that wait have much memory, all are written.
     fn append_to_file(&mut self, file: StreamFile, bytes: &[u8]) -> Result<(), FileFault> {
-        let waiting = match file.way {
-            Way::Requests => &mut self.requests,
-            Way::Responses => &mut self.responses,
+        let more = match file.way {
+            Way::Requests => put(&self.site, &mut self.requests, file, bytes),
+            Way::Responses => put(&self.site, &mut self.responses, file, bytes),
         };
-        let more = put(&self.site, waiting, file, bytes)?;
-        self.held = self.held.saturating_add(more);
+        self.held = self.held.saturating_add(more?);
         if self.held > MOST {
             self.held = 0;
             write_all(&self.site, &mut self.requests, Way::Requests)?;
