@@ -6,3 +6,4 @@ pub mod Missing
 pub mod Talks
 pub mod Texts
 pub mod WrittenOnce
+pub mod Pooled

@@ -85,10 +85,7 @@ hearing_ends n start now whole rest v h e =
 pub hearing_known : (n : ℕ) (start now : Account) (whole rest : Talk) → Hearing n start whole rest now → IsSome start.output.given → IsSome now.output.given
 hearing_known n start now whole rest h k = subst (λ (z : Account). IsSome z.output.given) (sym h.told) (still_known n h.done start k)
 
--- ---- what is not used, and where no step is left
-
-pub rest_of : (b : List ℕ) (n : ℕ) → take (length b - n) (drop n b) ≡ drop n b
-rest_of b n = grind (arith, common_steps)
+-- ---- where no step is left
 
 pub heard_none : (left : ℕ) (responses : Bool) (time : Option ℕ) (begins : Bool) (room : WatchRoom) (b : List ℕ) (s : Slot) → left ≤ 0 → all_heard left responses time begins room b s ≡ talk [] s
 heard_none zero responses time begins room b s none = refl

@@ -18,3 +18,4 @@ pub mod Losses
 pub mod Listening
 pub mod Capturing
 pub mod Laws
+pub mod Pooled

@@ -2,6 +2,7 @@
 
 ghost use Rattle.cqlp_capture_exchanges.specs.Capturing.{FaultsHaveCauses, OneAnswerOfWriteExchanges};
 ghost use Rattle.cqlp_capture_exchanges.specs.Laws.{OneAnswerOfHear, OneAnswerOfNew, OneAnswerOfStatement};
+ghost use Rattle.cqlp_capture_exchanges.specs.Pooled.{KeepsPools};
 
 /// Where memory is granted `Exchanges::new` has one answer, and so has `hear` where the output does not fail; and `statement_of` says one text or one id. The
 /// clauses of all other calls are equations.
@@ -20,4 +21,10 @@ pub fn one_answer_of_write_exchanges()
 /// reads.
 pub fn faults_have_causes()
     ensures { FaultsHaveCauses }
+{}
+
+/// What is held of the limits on open messages and on their texts is what all connections hold, and no more than these limits. So what a connection may
+/// have is just what the others leave.
+pub fn pools()
+    ensures { KeepsPools }
 {}

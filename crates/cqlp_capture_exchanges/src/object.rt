@@ -288,7 +288,7 @@ fn put_request<P: Pen, A: Allocator>(
     put_request_frame(writer, &request.frame)?;
     put_count(writer, count)?;
     put_statement(writer, request.kept.is_text_dropped(), &statement)?;
-    put_query(writer, request.kept.facts())
+    put_query(writer, &request.kept.facts())
 }
 
 /// Takes how many statements a BATCH has.
@@ -401,7 +401,7 @@ fn put_response<P: Pen, A: Allocator>(
     put_response_frame(writer, &response.frame)?;
     put_reply(writer, reply)?;
     put_message(writer, response.kept.is_text_dropped(), &message)?;
-    put_result(writer, response.kept.facts())
+    put_result(writer, &response.kept.facts())
 }
 
 /// Takes the message of an ERROR.

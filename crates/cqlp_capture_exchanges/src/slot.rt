@@ -1,6 +1,6 @@
 //! One connection that is watched.
 
-ghost use Rattle.std.specs.Prelude.{◌≡◌, ◌&&◌, ◌||◌, ◌==◌, ◌++◌, IfOk, IsSome, None, OnOk, false};
+ghost use Rattle.std.specs.Prelude.{◌≡◌, ◌||◌, ◌++◌, IfOk, IsSome, None, OnOk, false};
 ghost use Rattle.cqlp_capture_exchanges.specs.Accounts.{ToldAll};
 ghost use Rattle.cqlp_capture_exchanges.specs.Reports.{is_unread, messages, unread};
 ghost use Rattle.cqlp_capture_exchanges.specs.Talks.{bytes_heard, ended, is_responses, remaining, slot, told_heard};
@@ -10,7 +10,7 @@ use crate::report::{ConnectionEnd, is_unread};
 use crate::teller::Teller;
 use cqlp_capture_streams::StreamsFault;
 use cqlp_note::Target;
-use cqlp_observer::{Kept, Missed, Opening, Paired, Watch, WatchRoom, WatchStep};
+use cqlp_observer::{Kept, Missed, Opening, Paired, Unread, Watch, WatchRoom, WatchStep};
 use cqlp_tcp_connections::{Told, Way};
 use cqlp_tcp_reassembly::StreamStep;
 use std::alloc::{AllocError, Allocator, Global};
@@ -207,11 +207,9 @@ fn hear_bytes<O: Target, A: Allocator + Clone>(
         begins,
         bytes,
     } = piece;
-    let mut steps = 2 * bytes.len() as u128 + 2;
-    let mut rest = bytes;
-    let mut is_first = begins;
-    while steps > 0 {
-        let Ok(step) = watch.take(responses, rest, time, is_first, room) else {
+    let mut unread = Unread::new(bytes, begins);
+    while unread.steps > 0 {
+        let Ok(step) = watch.take(responses, unread.bytes, time, unread.begins, room) else {
             return Err(StreamsFault::NoMemory);
         };
         let WatchStep {
@@ -225,9 +223,7 @@ fn hear_bytes<O: Target, A: Allocator + Clone>(
         if is_done {
             return Ok(());
         }
-        is_first = still_first(is_first, used);
-        rest = &rest[used..];
-        steps -= 1;
+        unread = unread.after(used);
     }
     Ok(())
 }
@@ -254,13 +250,6 @@ fn is_reported_after(was_reported: bool, opening: Opening) -> bool
     ensures { result ≡ (was_reported || is_unread opening) }
 {
     was_reported || is_unread(opening)
-}
-
-/// Whether what follows the bytes that were used still begins a segment.
-fn still_first(is_first: bool, used: usize) -> bool
-    ensures { result ≡ (is_first && used == 0) }
-{
-    is_first && used == 0
 }
 
 /// So many bytes of a direction are missing, which passed at this time, where that is known.

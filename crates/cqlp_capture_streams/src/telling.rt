@@ -16,7 +16,7 @@ use cqlp_tcp_reassembly::StreamStep;
 use cqlp_tcp_segment::Segment;
 use std::alloc::{AllocError, Allocator};
 
-/// Tells a listener something.
+/// Gives a listener an event.
 fn hear<L: Listener>(saying: &Saying<'_>, listener: &mut L) -> Result<(), StreamsFault>
     ensures { L.tells listener.old → GetsOne L.Listener listener.old (saying_of saying.now) result listener.new }
 {

@@ -1,5 +1,6 @@
 pub mod Entries
-pub mod Boxes
+pub mod Places
+pub mod Takes
 pub mod Taken
 pub mod Exchanged
 pub mod Stood

@@ -130,6 +130,15 @@ gap_in g n time s = closing None (if nat_lt 0 n then at_stage stage.Lost s else 
 abbrev pub after_gap : ℕ → (time : Option ℕ) → Heads → Closes
 after_gap n time s = gap_in s.stage n time (counted n s)
 
+-- All that is left of a body came, the last of it at this time.
+abbrev pub whole_in : Stage → (time : Option ℕ) → Heads → Closes
+whole_in (stage.Body f left) time s =
+    closing (Some (if left == 0 then f else record f { ended = time })) (at_stage stage.Between (counted left s))
+whole_in g time s = closing None s
+
+abbrev pub passed_whole : (time : Option ℕ) → Heads → Closes
+passed_whole time s = whole_in s.stage time s
+
 abbrev pub end_in : Stage → Option Frame
 end_in (stage.Body f left) = Some (shortened f left)
 end_in g = None

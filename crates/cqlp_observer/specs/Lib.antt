@@ -1,5 +1,6 @@
 pub mod Messages
 pub mod Keeping
+pub mod KeptTexts
 pub mod Heads
 pub mod Directions
 pub mod Whole
@@ -8,10 +9,8 @@ pub mod Steps
 pub mod Subjects
 pub mod Waiting
 pub mod Pairings
-pub mod Resting
+pub mod Passing
 pub mod Speakers
-pub mod Presents
-pub mod Sides
 pub mod Misses
 pub mod Openings
 pub mod Watches

@@ -11,7 +11,7 @@ none_missed = record { overtaken = 0; texts = 0; gaps = 0; other_versions = 0; t
 abbrev pub with_overtaken : Missed → Missed
 with_overtaken m = record m { overtaken = counted_up 1 m.overtaken }
 
--- one message more that waits without its first bytes
+-- one message more of which the header alone is kept
 abbrev pub with_text : Missed → Missed
 with_text m = record m { texts = counted_up 1 m.texts }
 

@@ -1,5 +1,6 @@
 -- The messages that wait, and what is told of each message.
-use Rattle.std.specs.Prelude.{Bool, true, false, ℤ, Box, List, [], ◌∷◌, ◌++◌, map, Option, Some, None, if◌then◌else◌}
+use Rattle.std.specs.Prelude.{◌≡◌, ℕ, ◌<◌, ◌≤◌, Bool, true, false, ℤ, List, [], ◌∷◌, ◌++◌, length, map, slice_index_or, Option, Some, None, if◌then◌else◌}
+use Rattle.std.specs.declared.cmp.Ordering.TheVariants.{Less, Greater}
 use Rattle.std.specs.Ordering.{int_cmp}
 use Rattle.std.specs.BTreeMap.{insert_entry, is_at}
 use Rattle.std.specs.Map.{lookup, remove_entry}
@@ -15,8 +16,18 @@ use Rattle.cqlp_observer.specs.Messages.{id_of, is_event, is_request, meets}
 abbrev pub Waiting : Type 0 → Type 0
 Waiting T = List (ℤ × Message T)
 
-abbrev pub unboxed : {T A : Type 0} → List (ℤ × Box (Message T) A) → Waiting T
-unboxed es = map (λ e. (e.0, e.1.value)) es
+abbrev pub by_id : {T : Type 0} → List (Message T) → Waiting T
+by_id ms = map (λ m. (id_of m, m)) ms
+
+-- the place of the message under an id, and where it would be
+pub record IsPlace {T : Type 0} (id : ℤ) (ms : List (Message T)) (at : ℕ) : Type 0 where
+  pub within : at < length ms
+  pub is : (d : Message T) → id_of (slice_index_or ms at d) ≡ id
+
+pub record IsGap {T : Type 0} (id : ℤ) (ms : List (Message T)) (at : ℕ) : Type 0 where
+  pub within : at ≤ length ms
+  pub less : (k : ℕ) (d : Message T) → k < at → int_cmp (id_of (slice_index_or ms k d)) id ≡ Less
+  pub greater : (k : ℕ) (d : Message T) → at ≤ k → k < length ms → int_cmp (id_of (slice_index_or ms k d)) id ≡ Greater
 
 abbrev pub none_wait : {T : Type 0} → Waiting T
 none_wait = []

@@ -1,5 +1,5 @@
 -- Both sides of one connection, and the messages that wait.
-use Rattle.std.specs.Prelude.{ℕ, ◌+◌, ◌-◌, Bool, true, false, List, length, nat_le, nat_lt, Option, Some, None, if◌then◌else◌}
+use Rattle.std.specs.Prelude.{ℕ, ◌+◌, ◌-◌, ◌&&◌, Bool, true, false, List, length, nat_le, nat_lt, Option, Some, None, if◌then◌else◌}
 use Rattle.cqlp_observer.specs.declared.message.Message.{Message}
 use Rattle.cqlp_observer.specs.declared.paired.Paired.{Paired}
 use Rattle.cqlp_observer.specs.declared.paired.Paired.TheVariants.{Exchange, Unanswered, Unasked, Event}
@@ -9,7 +9,8 @@ use Rattle.cqlp_observer.specs.declared.missed.Missed.{Missed}
 use Rattle.cqlp_observer.specs.declared.opening.Opening.{Opening}
 use Rattle.cqlp_observer.specs.declared.room.WatchRoom.{WatchRoom}
 use Rattle.cqlp_observer.specs.declared.watch.WatchStep.{WatchStep}
-use Rattle.cqlp_observer.specs.Keeping.{Kept, without_text}
+use Rattle.cqlp_observer.specs.declared.side.SideStep.{SideStep}
+use Rattle.cqlp_observer.specs.Keeping.{Kept, bare_kept, cost_of}
 use Rattle.cqlp_observer.specs.Messages.{id_of}
 use Rattle.cqlp_observer.specs.Misses.{none_missed, with_gap, with_opening, with_overtaken, with_text}
 use Rattle.cqlp_observer.specs.Openings.{opening_in}
@@ -18,7 +19,7 @@ use Rattle.cqlp_observer.specs.Pairings as pairing
 use Rattle.cqlp_observer.specs.Speakers as side
 use Rattle.cqlp_observer.specs.Speakers.{Endings, Hears, Speaker, silent}
 
--- Its two sides, the messages that wait, how many first bytes these have, and what was missed.
+-- Its two sides, the messages that wait, how much room the texts take of these and of those that pass, and what was missed.
 pub record Watched : Type 0 where
   pub requests : Speaker
   pub responses : Speaker
@@ -52,16 +53,39 @@ with_missed m w = watched w.requests w.responses w.waiting w.text m
 abbrev pub with_count : (text : ℕ) → Watched → Watched
 with_count text w = watched w.requests w.responses w.waiting text w.missed
 
-abbrev pub begun : (responses from_start : Bool) → Watched → Watched
-begun responses from_start w = with_side responses (silent responses from_start) w
+-- ---- texts of messages that pass: each side has room for one
 
--- ---- first bytes of messages that wait
+abbrev pub is_keeping_on : (responses : Bool) → Watched → Bool
+is_keeping_on responses w = side.is_keeping (side_of responses w)
+
+abbrev pub has_text_room : WatchRoom → Watched → Bool
+has_text_room room w = nat_le 512 (room.text - w.text)
+
+-- how much room the texts take, where a side kept one before or not, and keeps one after or not
+abbrev pub recounted : (room text : ℕ) → (before after : Bool) → ℕ
+recounted room text before after =
+    if before then (if after then text else text - 512)
+    else if after && nat_le 512 (room - text) then text + 512
+    else text
+
+abbrev pub with_recount : (responses : Bool) → WatchRoom → (before : Bool) → Watched → Watched
+with_recount responses room before w = with_count (recounted room.text w.text before (is_keeping_on responses w)) w
+
+-- with one side changed
+abbrev pub changed : (responses : Bool) → Speaker → WatchRoom → Watched → Watched
+changed responses s room w = with_recount responses room (is_keeping_on responses w) (with_side responses s w)
+
+abbrev pub begun : (responses from_start : Bool) → Watched → Watched
+begun responses from_start w =
+    with_count (recounted 0 w.text (is_keeping_on responses w) false) (with_side responses (silent responses from_start) w)
+
+-- ---- texts of messages that wait
 
 abbrev pub text_in : Option (Message Kept) → ℕ
 text_in None = 0
-text_in (Some m) = length m.kept.front
+text_in (Some m) = cost_of m.kept
 
--- how many wait but for those under a message's id
+-- how much room is taken but for the one under a message's id
 abbrev pub text_beside : Message Kept → Watched → ℕ
 text_beside m w = w.text - text_in (under (id_of m) w.waiting)
 
@@ -74,12 +98,12 @@ abbrev pub fitting : Message Kept → Watched → Fits
 fitting m w = record { message = m; after = w }
 
 abbrev pub bare : Message Kept → Message Kept
-bare m = record { frame = m.frame; kept = without_text m.kept }
+bare m = record { frame = m.frame; kept = bare_kept }
 
--- with its first bytes, if there is room for them beside so many others, or without them
+-- with its text, if there is room for it beside so much else, or without it
 abbrev pub fitted : Message Kept → (beside : ℕ) → WatchRoom → Watched → Fits
 fitted m beside room w =
-    if nat_le (length m.kept.front) (room.text - beside) then fitting m (with_count (beside + length m.kept.front) w)
+    if nat_le (cost_of m.kept) (room.text - beside) then fitting m (with_count (beside + cost_of m.kept) w)
     else fitting (bare m) (with_count beside (with_missed (with_text w.missed) w))
 
 -- ---- a message that has ended is paired: what is told, and the connection after it
@@ -115,7 +139,7 @@ paired_if None room w = telling None w
 paired_if (Some m) room w = taken_by (has_room room w) (settled m (has_room room w) room w)
 
 abbrev pub ended_by : (responses : Bool) → Endings → WatchRoom → Watched → Tells
-ended_by responses e room w = paired_if e.message room (with_side responses e.after w)
+ended_by responses e room w = paired_if e.message room (changed responses e.after room w)
 
 abbrev pub after_gap : (responses : Bool) → ℕ → (time : Option ℕ) → WatchRoom → Watched → Tells
 after_gap responses n time room w =
@@ -145,21 +169,46 @@ opening_of responses b w = opening_in b (side_of responses w).heads
 abbrev pub opened : Opening → Watched → Watched
 opened opening w = with_missed (with_opening opening w.missed) w
 
-abbrev pub heard_by : (responses : Bool) → Hears → Opening → WatchRoom → Watched → Steps
-heard_by responses h opening room w =
-    told_by h.used h.is_done opening (paired_if h.message room (with_side responses h.after (opened opening w)))
+-- what the bytes say, before a message that ends with them is paired
+pub record Reads : Type 0 where
+  pub used : ℕ
+  pub is_done : Bool
+  pub message : Option (Message Kept)
+  pub is_bare : Bool
+  pub after : Watched
+
+abbrev pub reads : ℕ → (is_done : Bool) → Option (Message Kept) → (is_bare : Bool) → Watched → Reads
+reads used is_done m is_bare w = record { used = used; is_done = is_done; message = m; is_bare = is_bare; after = w }
+
+abbrev pub reading : {A : Type 0} → SideStep A → Watched → Reads
+reading step w = reads step.used step.is_done step.message step.is_bare w
+
+-- A message of which there is no room to keep more than the header is counted.
+abbrev pub with_bare : (is_bare : Bool) → Watched → Watched
+with_bare is_bare w = if is_bare then with_missed (with_text w.missed) w else w
+
+abbrev pub read_by : (responses : Bool) → Hears → WatchRoom → Watched → Reads
+read_by responses h room w = reads h.used h.is_done h.message h.is_bare (with_bare h.is_bare (changed responses h.after room w))
+
+abbrev pub read : (responses : Bool) → (time : Option ℕ) → (begins : Bool) → List ℕ → WatchRoom → Watched → Reads
+read responses time begins b room w =
+    read_by responses (side.heard time begins b (has_text_room room w) (side_of responses w)) room w
+
+abbrev pub heard_by : Opening → Reads → WatchRoom → Steps
+heard_by opening r room = told_by r.used r.is_done opening (paired_if r.message room r.after)
 
 abbrev pub heard : (responses : Bool) → (time : Option ℕ) → (begins : Bool) → List ℕ → WatchRoom → Watched → Steps
 heard responses time begins b room w =
-    heard_by responses (side.heard time begins b (side_of responses w)) (opening_of responses b w) room w
+    let opening = opening_of responses b w in
+    heard_by opening (read responses time begins b room (opened opening w)) room
 
 -- ---- the end of the connection: the message under the least id
 
--- first bytes of a message that is told alone
+-- the text of a message that is told alone
 abbrev pub alone_text : Paired Kept → ℕ
 alone_text (Exchange request response) = 0
-alone_text (Unanswered request) = length request.kept.front
-alone_text (Unasked response) = length response.kept.front
+alone_text (Unanswered request) = cost_of request.kept
+alone_text (Unasked response) = cost_of response.kept
 alone_text (Event event) = 0
 
 abbrev pub told_text : Option (Paired Kept) → ℕ

@@ -1,6 +1,6 @@
 //! The frames of one direction, by their headers.
 
-ghost use Rattle.std.specs.Prelude.{◌≡◌, ◌≤◌, if◌then◌else◌, length, take, None, is_some, IfSome};
+ghost use Rattle.std.specs.Prelude.{◌≡◌, ◌≤◌, if◌then◌else◌, length, take, None};
 ghost use Rattle.cqlp_observer.specs.Directions.{holed, passed_in, shortened};
 
 use crate::header_front::HeaderFront;
@@ -74,20 +74,11 @@ pub struct Heads {
     stage: Stage,
 }
 
-/// Where a direction stands that is in no frame.
-#[derive(Clone, Copy)]
-pub(crate) struct HeadsRest {
-    pub(crate) responses: bool,
-    pub(crate) position: u64,
-    /// Whether it is not known where the next frame begins.
-    pub(crate) is_lost: bool,
-}
-
 impl Heads {
     ghost use Rattle.cqlp_observer.specs.Heads.{head_within};
     ghost use Rattle.cqlp_observer.specs.Openings.{opening_in};
-    ghost use Rattle.cqlp_observer.specs.Resting.{heads_resting, is_at_rest};
-    ghost use Rattle.cqlp_observer.specs.Directions.{after_end, after_gap, anew, begun, closing, counted, filled, heard, hears, passed, sought, stepping};
+    ghost use Rattle.cqlp_observer.specs.Directions.{after_end, after_gap, anew, begun, closing, counted, filled, heard};
+    ghost use Rattle.cqlp_observer.specs.Directions.{hears, passed, passed_whole, sought, stepping};
 
     /// A direction of which nothing came: that of the responses, or that of the requests. Its first byte begins a frame, where `from_start`.
     #[must_use]
@@ -104,38 +95,6 @@ impl Heads {
             position: 0,
             stage,
         }
-    }
-
-    /// A direction that stands there.
-    pub(crate) fn at_rest(rest: HeadsRest) -> Heads
-        ensures { result ≡ heads_resting rest }
-    {
-        Heads {
-            responses: rest.responses,
-            position: rest.position,
-            stage: if rest.is_lost {
-                Stage::Lost
-            } else {
-                Stage::Between
-            },
-        }
-    }
-
-    /// Where it stands, if it is in no frame.
-    pub(crate) fn rest(&self) -> Option<HeadsRest>
-        ensures known { is_some result ≡ is_at_rest self.now.stage }
-        ensures same { IfSome result (λ rest. self.now ≡ heads_resting rest) }
-    {
-        let is_lost = match self.stage {
-            Stage::Lost => true,
-            Stage::Between => false,
-            Stage::Header { .. } | Stage::Body { .. } => return None,
-        };
-        Some(HeadsRest {
-            responses: self.responses,
-            position: self.position,
-            is_lost,
-        })
     }
 
     /// What the next bytes are that came at this time. `begins` says whether the first of them begins a segment. To be called again and again
@@ -217,6 +176,25 @@ impl Heads {
             Stage::Body { frame, left } => Some(shortened(frame, left)),
             _ => None,
         }
+    }
+
+    /// All that is left of the body came, the last of it at this time: its frame ends.
+    pub(crate) fn pass_whole(&mut self, time: Option<u64>) -> Option<Frame>
+        ensures { closing result self.new ≡ passed_whole time self.old }
+    {
+        let Stage::Body { frame, left } = self.stage else {
+            return None;
+        };
+        self.count(left as u64);
+        self.stage = Stage::Between;
+        Some(if left == 0 {
+            frame
+        } else {
+            Frame {
+                ended: time,
+                ..frame
+            }
+        })
     }
 
     /// Looks for a frame where a segment begins.

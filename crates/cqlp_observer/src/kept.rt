@@ -1,6 +1,6 @@
 //! What is kept of a message.
 
-ghost use Rattle.std.specs.Prelude.{◌≡◌, ◌-◌, ◌++◌, [], IfOk, length, take};
+ghost use Rattle.std.specs.Prelude.{◌≡◌, ◌≤◌, ◌-◌, ◌++◌, [], IfOk, length, take};
 
 use cqlp_observer_facts::Facts;
 use std::alloc::{AllocError, Allocator, Global};
@@ -9,35 +9,48 @@ use std::marker::Model;
 /// How many bytes of a message are kept at most.
 pub const LONGEST_FRONT: usize = 256;
 
-/// What is kept of a message, as far as none of its bytes is missing before it.
+/// How many bytes of room a message's text takes beside its first bytes, at least: what it says, and what the allocator adds.
+const TEXT_OVERHEAD: usize = 128;
+
+/// What is kept of a message, as far as none of its bytes is missing before it. Without it a message has its header alone.
 #[derive(Drop)]
 pub struct Kept<A: Allocator = Global> {
+    text: Option<Box<KeptText<A>, A>>,
+}
+
+/// The first bytes of a message, and what it says.
+#[derive(Drop)]
+pub(crate) struct KeptText<A: Allocator> {
     front: Front<A>,
     facts: Facts,
-    is_text_dropped: bool,
 }
 
 impl<A: Allocator> Model for Kept<A> {
-    ghost use Rattle.cqlp_observer.specs.Keeping.{Kept, kept};
+    ghost use Rattle.cqlp_observer.specs.Keeping.{Kept};
+    ghost use Rattle.cqlp_observer.specs.KeptTexts.{kept_of};
 
     ghost Value = { Kept };
 
-    ghost view = { λ k. kept k.front k.facts k.is_text_dropped };
+    ghost view = { λ k. kept_of k.text };
 }
 
 impl<A: Allocator> Kept<A> {
     ghost use Rattle.std.specs.Prelude.{false};
-    ghost use Rattle.cqlp_observer.specs.Keeping.{kept, without_text};
+    ghost use Rattle.cqlp_observer.specs.Keeping.{bare_kept, cost_of, kept};
 
     /// These first bytes, and what the message says.
-    pub(crate) fn new(front: Front<A>, facts: Facts) -> Self
-        ensures { result ≡ kept front facts false }
+    pub(crate) fn new(alloc: A, front: Front<A>, facts: Facts) -> Result<Self, AllocError>
+        ensures { IfOk result (λ k. k ≡ kept front facts false) }
     {
-        Kept {
-            front,
-            facts,
-            is_text_dropped: false,
-        }
+        let text = Box::new(alloc, KeptText { front, facts })?;
+        Ok(Kept { text: Some(text) })
+    }
+
+    /// Nothing. Takes no memory.
+    pub(crate) fn bare() -> Self
+        ensures { result ≡ bare_kept }
+    {
+        Kept { text: None }
     }
 
     /// The first bytes of the message proper, at most [`LONGEST_FRONT`], behind what the header's flags announce before it: a tracing id, warnings and
@@ -46,34 +59,37 @@ impl<A: Allocator> Kept<A> {
     pub fn front(&self) -> &[u8]
         ensures { result.now ≡ self.now.front }
     {
-        self.front.as_slice()
+        match &self.text {
+            Some(text) => text.front.as_slice(),
+            None => &[],
+        }
     }
 
-    /// What the message says; nothing where the body is compressed.
-    pub fn facts(&self) -> &Facts
-        ensures { result.now ≡ self.now.facts }
+    /// What the message says; nothing where the body is compressed, or where that was dropped.
+    pub fn facts(&self) -> Facts
+        ensures { result ≡ self.now.facts }
     {
-        &self.facts
+        match &self.text {
+            Some(text) => text.facts,
+            None => Facts::new(),
+        }
     }
 
-    /// Whether the first bytes were dropped, since there was no room for them while the message waited.
+    /// Whether the first bytes and what the message says were dropped, since there was no room for them.
     pub fn is_text_dropped(&self) -> bool
         ensures { result ≡ self.now.is_text_dropped }
     {
-        self.is_text_dropped
+        self.text.is_none()
     }
 
-    /// The same, without the first bytes, whose memory is given back.
-    pub(crate) fn without_text(self) -> Result<Self, AllocError>
-    where
-        A: Clone,
-        ensures { IfOk result (λ k. k ≡ without_text self) }
+    /// How many bytes of room it takes.
+    pub(crate) fn cost(&self) -> usize
+        ensures { result ≡ cost_of self.now }
     {
-        Ok(Kept {
-            front: self.front.emptied()?,
-            facts: self.facts,
-            is_text_dropped: true,
-        })
+        match &self.text {
+            Some(text) => TEXT_OVERHEAD + text.front.len(),
+            None => 0,
+        }
     }
 }
 
@@ -103,19 +119,17 @@ impl<A: Allocator> Front<A> {
         }
     }
 
-    /// No byte, in its own memory's place.
-    pub(crate) fn emptied(&self) -> Result<Self, AllocError>
-    where
-        A: Clone,
-        ensures { IfOk result (λ front. front ≡ []) }
-    {
-        Ok(Front::new(self.bytes.allocator().clone()?))
-    }
-
     pub(crate) fn as_slice(&self) -> &[u8]
         ensures { result.now ≡ self.now }
     {
         &self.bytes
+    }
+
+    pub(crate) fn len(&self) -> usize
+        ensures is { result ≡ length self.now }
+        ensures few { result ≤ 256 }
+    {
+        self.bytes.len()
     }
 
     /// Keeps as many of these bytes behind the others as there is room for. Takes memory for these alone.

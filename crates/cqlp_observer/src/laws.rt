@@ -31,8 +31,8 @@ pub fn each_message<T>()
     ensures { TellsEachMessage T }
 {}
 
-/// After each call of a [`Watch`](crate::Watch) no more messages wait, and no more first bytes of them, than there is room for, or did before.
-/// [`Watch::text`](crate::Watch::text) is how many first bytes those have that wait.
+/// After each call of a [`Watch`](crate::Watch) no more messages wait, and their texts and those of the messages that pass take no more room, than there
+/// is, or than before. [`Watch::text`](crate::Watch::text) is the room that these texts take.
 pub fn room()
     ensures { KeepsWithinRoom }
 {}

@@ -12,7 +12,6 @@ mod paired;
 mod pairing;
 mod room;
 mod side;
-mod speaker;
 mod subject;
 mod unread;
 mod watch;

@@ -9,7 +9,7 @@ use crate::opening::Opening;
 pub struct Missed {
     /// Messages that were told alone since there was no room for one more that waits.
     pub overtaken: u64,
-    /// Messages that waited without their first bytes since there was no room for these.
+    /// Messages of which the header alone was kept since there was no room for their text.
     pub texts: u64,
     /// Gaps: places where bytes of a direction did not come.
     pub gaps: u64,
@@ -53,7 +53,7 @@ impl Missed {
         self.overtaken = self.overtaken.saturating_add(1);
     }
 
-    /// Counts a message that waits without its first bytes.
+    /// Counts a message of which the header alone is kept.
     pub(crate) fn count_text(&mut self)
         ensures { self.new ≡ with_text self.old }
     {

@@ -1,16 +1,16 @@
 //! Which requests wait for their responses, and which responses for their requests.
 
-ghost use Rattle.std.specs.Prelude.{◌≡◌, ◌==◌, IfOk, length};
+ghost use Rattle.std.specs.Prelude.{◌≡◌, ◌==◌, IfErr, IfOk, length};
 ghost use Rattle.std.specs.Option.{option_copied};
 ghost use Rattle.std.specs.Map.{keys_of};
 ghost use Rattle.std.specs.List.Sorted.{IsStrictlySortedBy};
 ghost use Rattle.std.specs.Ordering.{int_cmp};
-ghost use Rattle.cqlp_observer.specs.Pairings.{fate_after, fate_alone, fate_of, is_overtaken};
+ghost use Rattle.cqlp_observer.specs.Pairings.{IsGap, IsPlace, by_id, fate_after, fate_alone, fate_of, is_overtaken};
 
 use crate::message::Message;
 use crate::paired::Paired;
 use std::alloc::{AllocError, Allocator, Global};
-use std::collections::BTreeMap;
+use std::collections::VecDeque;
 use std::marker::Model;
 
 /// The messages of one connection that wait for the other of their exchange: requests for their responses, and responses that came before
@@ -18,13 +18,12 @@ use std::marker::Model;
 ///
 /// It takes the frames of both directions in the order in which they ended, and tells of each request which response it has: the next under
 /// its stream id, or the one before it under that id, if that still waits and the request was begun no later by the capture's times. It has no
-/// limit of its own: who calls it says of each message whether there is room for one more. Memory is taken for each message that waits, and given
-/// back with it.
+/// limit of its own: who calls it says of each message whether there is room for one more. It has memory for at most four times as many messages as
+/// wait, and none where none does.
 #[derive(Drop)]
 pub struct Pairing<T, A: Allocator = Global> {
-    alloc: A,
-    /// The messages that wait, by stream id.
-    waiting: BTreeMap<i16, Box<Message<T>, A>, A>,
+    /// The messages that wait, the one under the least stream id first.
+    waiting: VecDeque<Message<T>, A>,
 }
 
 /// What becomes of the next message.
@@ -41,11 +40,16 @@ pub(crate) enum Fate {
 }
 
 impl<T, A: Allocator> Model for Pairing<T, A> {
-    ghost use Rattle.cqlp_observer.specs.Pairings.{Waiting, unboxed};
+    ghost use Rattle.std.specs.Map.{keys_of};
+    ghost use Rattle.std.specs.List.Sorted.{IsStrictlySortedBy};
+    ghost use Rattle.std.specs.Ordering.{int_cmp};
+    ghost use Rattle.cqlp_observer.specs.Pairings.{Waiting, by_id};
 
     ghost Value = { Waiting T };
 
-    ghost view = { λ p. unboxed p.waiting.entries };
+    ghost view = { λ p. by_id p.waiting.items };
+
+    ghost invariant = { λ p. IsStrictlySortedBy int_cmp (keys_of (by_id p.waiting.items)) };
 }
 
 impl<T: Drop, A: Allocator + Clone> Pairing<T, A> {
@@ -53,14 +57,16 @@ impl<T: Drop, A: Allocator + Clone> Pairing<T, A> {
     ghost use Rattle.cqlp_observer.specs.Messages.{id_of};
     ghost use Rattle.cqlp_observer.specs.Pairings.{ended, met, none_wait, overtakes, paired, taken, under, with_message, without};
 
-    /// No message waits. Takes no memory beside what a clone of `alloc` does.
+    /// No message waits. Takes no memory.
+    ///
+    /// # Errors
+    ///
+    /// None: callers need not know that.
     pub fn new(alloc: A) -> Result<Self, AllocError>
         ensures { IfOk result (λ p. p ≡ none_wait) }
     {
-        let own = alloc.clone()?;
         Ok(Pairing {
-            alloc: own,
-            waiting: BTreeMap::new(alloc),
+            waiting: VecDeque::new(alloc),
         })
     }
 
@@ -83,9 +89,9 @@ impl<T: Drop, A: Allocator + Clone> Pairing<T, A> {
     pub fn under(&self, id: i16) -> Option<&Message<T>>
         ensures { option_copied result ≡ under id self.now }
     {
-        match self.waiting.get(&id) {
-            Some(message) => Some(&**message),
-            None => None,
+        match place_in(&self.waiting, id) {
+            Ok(at) => Some(&self.waiting[at]),
+            Err(_) => None,
         }
     }
 
@@ -129,8 +135,8 @@ impl<T: Drop, A: Allocator + Clone> Pairing<T, A> {
     pub fn end(&mut self) -> Option<Paired<T>>
         ensures { paired result self.new ≡ ended self.old }
     {
-        match self.waiting.pop_first() {
-            Some((_, message)) => Some(Paired::alone(Box::into_inner(message))),
+        match self.waiting.pop_front() {
+            Some(message) => Some(Paired::alone(message)),
             None => None,
         }
     }
@@ -151,10 +157,13 @@ impl<T: Drop, A: Allocator + Clone> Pairing<T, A> {
     fn wait(&mut self, message: Message<T>) -> Result<(), AllocError>
         ensures { IfOk result (λ _. self.new ≡ with_message message self.old) }
     {
-        let id = message.stream();
-        let boxed = Box::new(self.alloc.clone()?, message)?;
-        self.waiting.insert(id, boxed)?;
-        Ok(())
+        match place_in(&self.waiting, message.stream()) {
+            Ok(at) => {
+                self.waiting[at] = message;
+                Ok(())
+            }
+            Err(at) => Ok(self.waiting.insert(at, message)?),
+        }
     }
 
     /// The message under a stream id waits no more.
@@ -162,11 +171,34 @@ impl<T: Drop, A: Allocator + Clone> Pairing<T, A> {
         ensures which { result ≡ under id self.old }
         ensures others { self.new ≡ without id self.old }
     {
-        match self.waiting.remove(&id) {
-            Some(message) => Some(Box::into_inner(message)),
-            None => None,
+        match place_in(&self.waiting, id) {
+            Ok(at) => {
+                let message = self.waiting.remove(at);
+                self.shrink();
+                message
+            }
+            Err(_) => None,
         }
     }
+
+    /// Gives memory back, where no more than a quarter of it is needed.
+    fn shrink(&mut self)
+        ensures { self.new ≡ self.old }
+    {
+        let len = self.waiting.len();
+        if len <= self.waiting.capacity() / 4 {
+            self.waiting.shrink_to(2 * len);
+        }
+    }
+}
+
+/// Where the message under a stream id waits, or where it would.
+fn place_in<T, A: Allocator>(waiting: &VecDeque<Message<T>, A>, id: i16) -> Result<usize, usize>
+    requires { IsStrictlySortedBy int_cmp (keys_of (by_id waiting.now.items)) }
+    ensures found { IfOk result (IsPlace id waiting.now.items) }
+    ensures none { IfErr result (IsGap id waiting.now.items) }
+{
+    waiting.binary_search_by_key(&id, |message| message.frame.header.stream)
 }
 
 /// What becomes of a message after the one that waits under its stream id, if one does, where there is room for one more that waits, or none.

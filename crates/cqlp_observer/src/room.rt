@@ -5,7 +5,8 @@
 pub struct WatchRoom {
     /// How many messages: where as many wait, one under a further stream id is told alone.
     pub messages: usize,
-    /// How many first bytes: where the ones of a message are too many beside those that wait, it waits without them.
+    /// How many bytes of texts: where that of a message is too much beside the others, the message goes on with its header alone. The text of a
+    /// message that waits takes 128 bytes and its first bytes, that of one that passes in several pieces 512.
     pub text: usize,
 }
 

@@ -1,94 +1,176 @@
-//! One side of a connection, which takes memory within a frame alone.
+//! One side of a connection.
 
-ghost use Rattle.std.specs.Prelude.{◌≡◌, ◌≤◌, IfOk, length};
+ghost use Rattle.std.specs.Prelude.{◌≡◌, ◌≤◌, IfOk, None, Some, false, true, drop, length};
+ghost use Rattle.cqlp_observer.specs.Directions.{passed_whole};
 
-use crate::kept::Kept;
-use crate::message::Message;
+use crate::heads::{Heads, Heard};
+use crate::kept::{Front, Kept};
+use crate::message::{Frame, Message};
 use crate::opening::Opening;
-use crate::speaker::{Rest, Speaker, SpeakerStep};
+use cqlp_note::Header;
+use cqlp_observer_facts::FactsReader;
 use std::alloc::{AllocError, Allocator};
 use std::marker::Model;
 use std::mem;
 
-/// What one side said. In no frame it has no memory.
+/// What one side sent. It takes memory while a message's body passes of which not all bytes came in one piece.
 #[derive(Drop)]
 pub(crate) struct Side<A: Allocator> {
     alloc: A,
-    /// The side, within a frame.
-    speaker: Option<Box<Speaker<A>, A>>,
-    /// Where it stands, in no frame.
-    rest: Rest,
+    heads: Heads,
+    /// What is kept of the message that passes; none between two messages, and where there was no room.
+    present: Option<Box<Present<A>, A>>,
+}
+
+/// A message whose body passes, as far as none of its bytes is missing.
+#[derive(Drop)]
+pub(crate) struct Present<A: Allocator> {
+    /// Its first bytes.
+    front: Front<A>,
+    /// What it says.
+    reader: FactsReader,
+    /// Whether none of its bytes is missing so far.
+    is_sound: bool,
+}
+
+/// What the first so many bytes of a piece say.
+#[derive(Drop)]
+pub(crate) struct SideStep<A: Allocator> {
+    pub(crate) used: usize,
+    /// Whether nothing more is said by the piece.
+    pub(crate) is_done: bool,
+    pub(crate) message: Option<Message<Kept<A>>>,
+    /// Whether a message begins of which there is no room to keep more than the header.
+    pub(crate) is_bare: bool,
+}
+
+impl<A: Allocator> Model for Present<A> {
+    ghost use Rattle.cqlp_observer.specs.Passing.{Passing, passing};
+
+    ghost Value = { Passing };
+
+    ghost view = { λ p. passing p.front p.reader p.is_sound };
+}
+
+impl<A: Allocator + Clone> Present<A> {
+    ghost use Rattle.cqlp_observer.specs.Passing.{begun_with, broken, kept_in, read_on};
+
+    /// A message with this header, of whose body nothing came.
+    fn new(alloc: A, header: &Header) -> Self
+        ensures { result ≡ begun_with header.now }
+    {
+        Present {
+            front: Front::new(alloc),
+            reader: FactsReader::new(header),
+            is_sound: true,
+        }
+    }
+
+    /// Its next bytes.
+    fn keep(&mut self, bytes: &[u8]) -> Result<(), AllocError>
+        ensures { IfOk result (λ _. self.new ≡ read_on bytes.now self.old) }
+    {
+        if !self.is_sound {
+            return Ok(());
+        }
+        let before = self.reader.read(bytes);
+        self.front.add(&bytes[before..])
+    }
+
+    /// Some of its bytes are missing.
+    fn break_off(&mut self)
+        ensures { self.new ≡ broken self.old }
+    {
+        self.is_sound = false;
+    }
+
+    /// What is kept of it.
+    fn into_kept(self, alloc: A) -> Result<Kept<A>, AllocError>
+        ensures { IfOk result (λ k. k ≡ kept_in self) }
+    {
+        let Present {
+            front,
+            reader,
+            is_sound: _,
+        } = self;
+        Kept::new(alloc, front, reader.facts())
+    }
 }
 
 impl<A: Allocator> Model for Side<A> {
-    ghost use Rattle.cqlp_observer.specs.Speakers.{Speaker};
-    ghost use Rattle.cqlp_observer.specs.Sides.{side_of};
+    ghost use Rattle.cqlp_observer.specs.Speakers.{Speaker, speaker};
+    ghost use Rattle.cqlp_observer.specs.Passing.{passing_of};
 
     ghost Value = { Speaker };
 
-    ghost view = { λ s. side_of s.speaker s.rest };
+    ghost view = { λ s. speaker s.heads (passing_of s.present) };
 }
 
 impl<A: Allocator + Clone> Side<A> {
-    ghost use Rattle.std.specs.Prelude.{Some};
     ghost use Rattle.cqlp_observer.specs.Openings.{opening_in};
-    ghost use Rattle.cqlp_observer.specs.Speakers.{after_end, after_gap, ending, heard, hearing, silent};
+    ghost use Rattle.cqlp_observer.specs.Passing.{begun_with, broken_if, kept_in, read_on, read_on_if};
+    ghost use Rattle.cqlp_observer.specs.Speakers.{after_end, after_gap, begins, closed, ending, ends_at_once, heard, hearing, is_keeping, silent, speaker};
 
-    /// A side that said nothing yet: that of the responses, or that of the requests. Its first byte begins a frame, where `from_start`.
+    /// A side that sent nothing yet: that of the responses, or that of the requests. Its first byte begins a frame, where `from_start`.
     pub(crate) fn new(alloc: A, responses: bool, from_start: bool) -> Self
         ensures { result ≡ silent responses from_start }
     {
         Side {
             alloc,
-            speaker: None,
-            rest: Rest::new(responses, from_start),
+            heads: Heads::new(responses, from_start),
+            present: None,
         }
     }
 
-    /// The side says nothing more of what it did, and begins anew.
+    /// The side begins anew.
     pub(crate) fn restart(&mut self, responses: bool, from_start: bool)
         ensures { self.new ≡ silent responses from_start }
     {
-        self.speaker = None;
-        self.rest = Rest::new(responses, from_start);
+        self.heads = Heads::new(responses, from_start);
+        self.present = None;
     }
 
-    /// What the next bytes say that came at this time.
-    pub(crate) fn hear(
-        &mut self,
-        piece: &[u8],
-        time: Option<u64>,
-        begins: bool,
-    ) -> Result<SpeakerStep<A>, AllocError>
-        ensures told { IfOk result (λ step. hearing step self.new ≡ heard time begins piece.now self.old) }
-        ensures within { IfOk result (λ step. step.used ≤ length piece.now) }
+    /// Whether it has memory for the message that passes.
+    pub(crate) fn is_keeping(&self) -> bool
+        ensures { result ≡ is_keeping self.now }
     {
-        match mem::replace(&mut self.speaker, None) {
-            Some(mut speaker) => {
-                let step = speaker.hear(piece, time, begins)?;
-                self.put(speaker);
-                Ok(step)
-            }
-            None => {
-                let mut speaker = Speaker::new(self.alloc.clone()?, self.rest);
-                let step = speaker.hear(piece, time, begins)?;
-                self.set(speaker)?;
-                Ok(step)
-            }
-        }
+        self.present.is_some()
     }
 
     /// What these bytes are that come next, if none came before.
     pub(crate) fn opening(&self, piece: &[u8]) -> Opening
         ensures { result ≡ opening_in piece.now self.now.heads }
     {
-        match &self.speaker {
-            Some(speaker) => speaker.opening(piece),
-            None => self.rest.opening(piece),
+        self.heads.opening(piece)
+    }
+
+    /// What the next bytes say that came at this time. Of a frame that begins and does not end in the piece more than the header is kept, where
+    /// `has_room`.
+    pub(crate) fn read(
+        &mut self,
+        piece: &[u8],
+        time: Option<u64>,
+        begins: bool,
+        has_room: bool,
+    ) -> Result<SideStep<A>, AllocError>
+        ensures step { IfOk result (λ step. hearing step self.new ≡ heard time begins piece.now has_room self.old) }
+        ensures within { IfOk result (λ step. step.used ≤ length piece.now) }
+    {
+        let step = self.heads.take(piece, time, begins);
+        let used = step.used;
+        match step.heard {
+            Heard::Begins(header) => self.begin(&header, used, time, piece, has_room),
+            Heard::Body => {
+                self.keep(&piece[..used])?;
+                Ok(SideStep::nothing(used))
+            }
+            Heard::Ends(frame) => Ok(SideStep::of(used, Some(self.finish(frame)?))),
+            Heard::Stray => Ok(SideStep::nothing(used)),
+            Heard::More => Ok(SideStep::done(used)),
         }
     }
 
-    /// So many bytes did not come, which passed at this time, where that is known. The frame that ends there is told.
+    /// So many bytes did not come, which passed at this time, where that is known: the frame that ends there.
     pub(crate) fn gap(
         &mut self,
         length: u64,
@@ -96,56 +178,156 @@ impl<A: Allocator + Clone> Side<A> {
     ) -> Result<Option<Message<Kept<A>>>, AllocError>
         ensures { IfOk result (λ message. ending message self.new ≡ after_gap length time self.old) }
     {
-        let mut speaker = self.taken()?;
-        let message = speaker.gap(length, time)?;
-        self.set(speaker)?;
-        Ok(message)
+        self.break_off();
+        match self.heads.gap(length, time) {
+            Some(frame) => Ok(Some(self.finish(frame)?)),
+            None => Ok(None),
+        }
     }
 
-    /// No more bytes come. The frame of which some did is told.
+    /// No more bytes come: the frame of which some did.
     pub(crate) fn end(&mut self) -> Result<Option<Message<Kept<A>>>, AllocError>
         ensures { IfOk result (λ message. ending message self.new ≡ after_end self.old) }
     {
-        let mut speaker = self.taken()?;
-        let message = speaker.end()?;
-        self.set(speaker)?;
-        Ok(message)
-    }
-
-    /// The side, whose memory is given back.
-    fn taken(&mut self) -> Result<Speaker<A>, AllocError>
-        ensures { IfOk result (λ speaker. speaker ≡ self.old) }
-    {
-        match mem::replace(&mut self.speaker, None) {
-            Some(speaker) => Ok(Box::into_inner(speaker)),
-            None => Ok(Speaker::new(self.alloc.clone()?, self.rest)),
+        match self.heads.end() {
+            Some(frame) => Ok(Some(self.finish(frame)?)),
+            None => Ok(None),
         }
     }
 
-    /// The side is this one from now on.
-    fn set(&mut self, speaker: Speaker<A>) -> Result<(), AllocError>
-        ensures { IfOk result (λ _. self.new ≡ speaker) }
+    /// A frame begins, whose header ended after so many bytes of the piece.
+    fn begin(
+        &mut self,
+        header: &Header,
+        used: usize,
+        time: Option<u64>,
+        piece: &[u8],
+        has_room: bool,
+    ) -> Result<SideStep<A>, AllocError>
+        requires { used ≤ length piece.now }
+        ensures step { IfOk result (λ step. hearing step self.new ≡ begins header.now used time self.old.heads (drop used piece.now) has_room) }
+        ensures within { IfOk result (λ step. step.used ≤ length piece.now) }
     {
-        match speaker.rest() {
-            Some(rest) => {
-                self.rest = rest;
-                self.speaker = None;
-            }
-            None => self.speaker = Some(Box::new(self.alloc.clone()?, speaker)?),
+        let length = header.length as usize;
+        if length <= piece.len() - used {
+            let end = used + length;
+            return self.take_whole(header, end, time, &piece[used..end]);
         }
-        Ok(())
+        if !has_room {
+            self.present = None;
+            return Ok(SideStep::bare(used));
+        }
+        let present = Present::new(self.alloc.clone()?, header);
+        self.present = Some(Box::new(self.alloc.clone()?, present)?);
+        Ok(SideStep::nothing(used))
     }
 
-    /// The side is this one from now on, which has its memory.
-    fn put(&mut self, speaker: Box<Speaker<A>, A>)
-        ensures { self.new ≡ speaker.value }
+    /// All of a body that has begun is there, which ends after so many bytes of the piece: its frame ends.
+    fn take_whole(
+        &mut self,
+        header: &Header,
+        end: usize,
+        time: Option<u64>,
+        body: &[u8],
+    ) -> Result<SideStep<A>, AllocError>
+        ensures step { IfOk result (λ step. hearing step self.new ≡ ends_at_once (passed_whole time self.old.heads) header.now body.now end) }
+        ensures within { IfOk result (λ step. step.used ≡ end) }
     {
-        match speaker.rest() {
-            Some(rest) => {
-                self.rest = rest;
-                self.speaker = None;
-            }
-            None => self.speaker = Some(speaker),
+        self.present = None;
+        let kept = self.kept_of_whole(header, body)?;
+        let message = match self.heads.pass_whole(time) {
+            Some(frame) => Some(Message { frame, kept }),
+            None => None,
+        };
+        Ok(SideStep::of(end, message))
+    }
+
+    /// What is kept of a message with this header and body.
+    fn kept_of_whole(&self, header: &Header, body: &[u8]) -> Result<Kept<A>, AllocError>
+        ensures { IfOk result (λ k. k ≡ kept_in (read_on body.now (begun_with header.now))) }
+    {
+        let mut present = Present::new(self.alloc.clone()?, header);
+        present.keep(body)?;
+        present.into_kept(self.alloc.clone()?)
+    }
+
+    /// Keeps bytes of a body.
+    fn keep(&mut self, bytes: &[u8]) -> Result<(), AllocError>
+        ensures { IfOk result (λ _. self.new ≡ speaker self.old.heads (read_on_if bytes.now self.old.present)) }
+    {
+        match &mut self.present {
+            Some(present) => present.keep(bytes),
+            None => Ok(()),
+        }
+    }
+
+    /// Some bytes are missing of the message that passes, if one does.
+    fn break_off(&mut self)
+        ensures { self.new ≡ speaker self.old.heads (broken_if self.old.present) }
+    {
+        if let Some(present) = &mut self.present {
+            present.break_off();
+        }
+    }
+
+    /// A frame ends, with what was kept of it.
+    fn finish(&mut self, frame: Frame) -> Result<Message<Kept<A>>, AllocError>
+        ensures { IfOk result (λ m. ending (Some m) self.new ≡ closed (Some frame) self.old.heads self.old.present) }
+    {
+        let kept = match mem::replace(&mut self.present, None) {
+            Some(present) => Box::into_inner(present).into_kept(self.alloc.clone()?)?,
+            None => Kept::bare(),
+        };
+        Ok(Message { frame, kept })
+    }
+}
+
+impl<A: Allocator> SideStep<A> {
+    /// No message in so many bytes.
+    fn nothing(used: usize) -> Self
+        ensures { result ≡ record { used = used; is_done = false; message = None; is_bare = false } }
+    {
+        SideStep {
+            used,
+            is_done: false,
+            message: None,
+            is_bare: false,
+        }
+    }
+
+    /// Nothing more is said by the piece.
+    fn done(used: usize) -> Self
+        ensures { result ≡ record { used = used; is_done = true; message = None; is_bare = false } }
+    {
+        SideStep {
+            used,
+            is_done: true,
+            message: None,
+            is_bare: false,
+        }
+    }
+
+    /// A message begins after so many bytes of which there is no room to keep more than the header.
+    fn bare(used: usize) -> Self
+        ensures { result ≡ record { used = used; is_done = false; message = None; is_bare = true } }
+    {
+        SideStep {
+            used,
+            is_done: false,
+            message: None,
+            is_bare: true,
+        }
+    }
+
+    /// A message that ended after so many bytes, if one did.
+    fn of(used: usize, message: Option<Message<Kept<A>>>) -> Self
+        ensures { result ≡ record { used = used; is_done = false; message = message; is_bare = false } }
+    {
+        SideStep {
+            used,
+            is_done: false,
+            message,
+            is_bare: false,
         }
     }
 }

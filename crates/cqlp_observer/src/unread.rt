@@ -33,9 +33,9 @@ impl<'a> Unread<'a> {
     #[must_use]
     pub fn after(self, used: usize) -> Self
         requires { used ≤ length self.bytes.now }
-        ensures bytes { result.bytes.now ≡ drop used self.bytes.now }
-        ensures begins { result.begins ≡ (self.begins && used == 0) }
-        ensures steps { result.steps ≡ self.steps - 1 }
+        ensures bytes { result.bytes.now ≡ drop used self.entry.bytes.now }
+        ensures begins { result.begins ≡ (self.entry.begins && used == 0) }
+        ensures steps { result.steps ≡ self.entry.steps - 1 }
     {
         Unread {
             bytes: &self.bytes[used..],

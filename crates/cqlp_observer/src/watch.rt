@@ -2,7 +2,7 @@
 
 ghost use Rattle.std.specs.Prelude.{◌≡◌, ◌≤◌, IfOk, length};
 ghost use Rattle.std.specs.Option.{option_copied};
-ghost use Rattle.cqlp_observer.specs.Watches.{text_in, told_text};
+ghost use Rattle.cqlp_observer.specs.Watches.{recounted, text_in, told_text};
 
 use crate::kept::Kept;
 use crate::message::Message;
@@ -11,7 +11,7 @@ use crate::opening::Opening;
 use crate::paired::Paired;
 use crate::pairing::{Fate, Pairing, fate_of};
 use crate::room::WatchRoom;
-use crate::side::Side;
+use crate::side::{Side, SideStep};
 use std::alloc::{AllocError, Allocator, Global};
 use std::marker::Model;
 
@@ -21,14 +21,14 @@ use std::marker::Model;
 /// bytes that it did not use, until `is_done`. At the end of a direction `end` tells of its last frame, and at that of the connection `finish`
 /// of the messages that still wait, until it says `None`.
 ///
-/// It has no limit of its own: each call is told how much may wait ([`WatchRoom`]). Memory is taken for what waits and for the two frames that pass,
-/// and given back with them. After a call that was refused memory it is not to be used again.
+/// It has no limit of its own: each call is told how much may wait ([`WatchRoom`]). Memory is taken for what waits and for the texts of the two messages
+/// that pass, and given back with them. After a call that was refused memory it is not to be used again.
 #[derive(Drop)]
 pub struct Watch<A: Allocator = Global> {
     requests: Side<A>,
     responses: Side<A>,
     pairing: Pairing<Kept<A>, A>,
-    /// How many first bytes the messages have that wait.
+    /// How many bytes of room the texts take of the messages that wait and of those that pass.
     text: usize,
     missed: Missed,
 }
@@ -55,7 +55,8 @@ impl<A: Allocator> Model for Watch<A> {
 
 impl<A: Allocator + Clone> Watch<A> {
     ghost use Rattle.std.specs.Prelude.{Some};
-    ghost use Rattle.cqlp_observer.specs.Watches.{after_end, after_gap, begun, finished, fitted, fitting, heard, new_watched, opening_of, paired_if, settled, stepping, telling};
+    ghost use Rattle.cqlp_observer.specs.Watches.{after_end, after_gap, begun, finished, fitted, fitting, heard};
+    ghost use Rattle.cqlp_observer.specs.Watches.{is_keeping_on, new_watched, opening_of, paired_if, read, reading, settled, stepping, telling, with_recount};
 
     /// A connection of which nothing was seen. Takes no memory beside what clones of `alloc` do.
     ///
@@ -79,14 +80,20 @@ impl<A: Allocator + Clone> Watch<A> {
     pub fn begin(&mut self, responses: bool, from_start: bool)
         ensures { self.new ≡ begun responses from_start self.old }
     {
+        let was_keeping = self.is_keeping(responses);
         if responses {
             self.responses.restart(responses, from_start);
         } else {
             self.requests.restart(responses, from_start);
         }
+        self.text = recounted(0, self.text, was_keeping, false);
     }
 
     /// What the next bytes of a direction tell, which came at this time. `begins` says whether the first of them begins a segment.
+    ///
+    /// # Errors
+    ///
+    /// Memory that is refused.
     pub fn take(
         &mut self,
         responses: bool,
@@ -100,11 +107,7 @@ impl<A: Allocator + Clone> Watch<A> {
     {
         let opening = self.opening(responses, piece);
         self.missed.count_opening(opening);
-        let step = if responses {
-            self.responses.hear(piece, time, begins)?
-        } else {
-            self.requests.hear(piece, time, begins)?
-        };
+        let step = self.read(responses, piece, time, begins, room)?;
         Ok(WatchStep {
             used: step.used,
             is_done: step.is_done,
@@ -114,6 +117,10 @@ impl<A: Allocator + Clone> Watch<A> {
     }
 
     /// So many bytes of a direction did not come, which passed at this time, where that is known.
+    ///
+    /// # Errors
+    ///
+    /// Memory that is refused.
     pub fn gap(
         &mut self,
         responses: bool,
@@ -124,15 +131,21 @@ impl<A: Allocator + Clone> Watch<A> {
         ensures { IfOk result (λ told. telling told self.new ≡ after_gap responses length time room self.old) }
     {
         self.missed.count_gap();
+        let was_keeping = self.is_keeping(responses);
         let message = if responses {
             self.responses.gap(length, time)?
         } else {
             self.requests.gap(length, time)?
         };
+        self.recount(responses, room, was_keeping);
         self.pair(message, room)
     }
 
     /// No more bytes of a direction come.
+    ///
+    /// # Errors
+    ///
+    /// Memory that is refused.
     pub fn end(
         &mut self,
         responses: bool,
@@ -140,11 +153,13 @@ impl<A: Allocator + Clone> Watch<A> {
     ) -> Result<Option<Paired<Kept<A>>>, AllocError>
         ensures { IfOk result (λ told. telling told self.new ≡ after_end responses room self.old) }
     {
+        let was_keeping = self.is_keeping(responses);
         let message = if responses {
             self.responses.end()?
         } else {
             self.requests.end()?
         };
+        self.recount(responses, room, was_keeping);
         self.pair(message, room)
     }
 
@@ -164,7 +179,7 @@ impl<A: Allocator + Clone> Watch<A> {
         self.pairing.len()
     }
 
-    /// How many first bytes the messages have that wait, each at most [`LONGEST_FRONT`](crate::LONGEST_FRONT).
+    /// How many bytes of room the texts take of the messages that wait and of those that pass.
     pub fn text(&self) -> usize
         ensures { result ≡ self.now.text }
     {
@@ -188,6 +203,56 @@ impl<A: Allocator + Clone> Watch<A> {
             self.requests.opening(piece)
         }
     }
+
+    /// Whether a side has memory for the text of the message that passes.
+    fn is_keeping(&self, responses: bool) -> bool
+        ensures { result ≡ is_keeping_on responses self.now }
+    {
+        if responses {
+            self.responses.is_keeping()
+        } else {
+            self.requests.is_keeping()
+        }
+    }
+
+    /// Counts the room of a side that took some or gave it back.
+    fn recount(&mut self, responses: bool, room: WatchRoom, was_keeping: bool)
+        ensures { self.new ≡ with_recount responses room was_keeping self.old }
+    {
+        self.text = recounted(
+            room.text,
+            self.text,
+            was_keeping,
+            self.is_keeping(responses),
+        );
+    }
+
+    /// What the next bytes of a direction say.
+    fn read(
+        &mut self,
+        responses: bool,
+        piece: &[u8],
+        time: Option<u64>,
+        begins: bool,
+        room: WatchRoom,
+    ) -> Result<SideStep<A>, AllocError>
+        ensures step { IfOk result (λ step. reading step self.new ≡ read responses time begins piece.now room self.old) }
+        ensures within { IfOk result (λ step. step.used ≤ length piece.now) }
+    {
+        let has_room = room.text.saturating_sub(self.text) >= PRESENT_ROOM;
+        let was_keeping = self.is_keeping(responses);
+        let step = if responses {
+            self.responses.read(piece, time, begins, has_room)?
+        } else {
+            self.requests.read(piece, time, begins, has_room)?
+        };
+        self.recount(responses, room, was_keeping);
+        if step.is_bare {
+            self.missed.count_text();
+        }
+        Ok(step)
+    }
+
     /// Pairs a message that has ended, if one has.
     fn pair(
         &mut self,
@@ -249,7 +314,7 @@ impl<A: Allocator + Clone> Watch<A> {
     ) -> Result<Message<Kept<A>>, AllocError>
         ensures { IfOk result (λ m. fitting m self.new ≡ fitted message beside room self.old) }
     {
-        let count = message.kept.front().len();
+        let count = message.kept.cost();
         if count <= room.text.saturating_sub(beside) {
             self.text = beside + count;
             Ok(message)
@@ -258,29 +323,49 @@ impl<A: Allocator + Clone> Watch<A> {
             self.missed.count_text();
             Ok(Message {
                 frame: message.frame,
-                kept: message.kept.without_text()?,
+                kept: Kept::bare(),
             })
         }
     }
 }
 
-/// How many first bytes a message has that waits, if one does.
+/// How much room the text of a message takes that passes in several pieces.
+const PRESENT_ROOM: usize = 512;
+
+/// How much room the texts of a connection take, which took so much, where a side kept a message's and keeps one.
+fn recounted(room: usize, text: usize, was_keeping: bool, is_keeping: bool) -> usize
+    ensures { result ≡ recounted room text was_keeping is_keeping }
+{
+    if was_keeping {
+        if is_keeping {
+            text
+        } else {
+            text.saturating_sub(PRESENT_ROOM)
+        }
+    } else if is_keeping && room.saturating_sub(text) >= PRESENT_ROOM {
+        text + PRESENT_ROOM
+    } else {
+        text
+    }
+}
+
+/// How much room the text of a message takes that waits, if one does.
 fn text_in<A: Allocator>(message: Option<&Message<Kept<A>>>) -> usize
     ensures { result ≡ text_in (option_copied message.entry) }
 {
     match message {
-        Some(message) => message.kept.front().len(),
+        Some(message) => message.kept.cost(),
         None => 0,
     }
 }
 
-/// How many first bytes a message has that is told alone.
+/// How much room the text of a message took that is told alone.
 fn told_text<A: Allocator>(told: &Option<Paired<Kept<A>>>) -> usize
     ensures { result ≡ told_text told.now }
 {
     match told {
-        Some(Paired::Unanswered { request }) => request.kept.front().len(),
-        Some(Paired::Unasked { response }) => response.kept.front().len(),
+        Some(Paired::Unanswered { request }) => request.kept.cost(),
+        Some(Paired::Unasked { response }) => response.kept.cost(),
         Some(Paired::Exchange { .. } | Paired::Event { .. }) | None => 0,
     }
 }

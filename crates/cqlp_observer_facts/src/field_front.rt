@@ -1,6 +1,6 @@
 //! The first bytes of a field, out of pieces.
 
-ghost use Rattle.std.specs.Prelude.{◌≡◌, ◌≤◌, ◌++◌, [], ◌∷◌, suc, length, take};
+ghost use Rattle.std.specs.Prelude.{◌≡◌, ◌≤◌, ◌==◌, ◌++◌, [], ◌∷◌, suc, length, take};
 
 use std::marker::Model;
 
@@ -37,6 +37,12 @@ impl FieldFront {
         ensures { result ≡ take len bytes }
     {
         FieldFront { bytes, len }
+    }
+
+    pub(crate) fn is_empty(&self) -> bool
+        ensures { result ≡ (length self.now == 0) }
+    {
+        self.len == 0
     }
 
     /// These bytes and one more, and how many they are then.

@@ -1,6 +1,7 @@
 //! The bytes of a body, as they pass.
 
-ghost use Rattle.std.specs.Prelude.{◌≡◌, ◌≤◌, if◌then◌else◌, length, take};
+ghost use Rattle.std.specs.Prelude.{◌≡◌, ◌≤◌, false, if◌then◌else◌, length, take};
+ghost use Rattle.cqlp_observer_facts.specs.Due.{is_idle};
 
 use crate::announced::first_due;
 use crate::due::Due;
@@ -135,6 +136,24 @@ impl FactsReader {
         }
         if self.due.is_idle() {
             return rest.len();
+        }
+        self.take_field(rest)
+    }
+
+    /// Takes bytes of the field that is due: all of it, if it has not begun and lies whole in these bytes; else one byte.
+    fn take_field(&mut self, rest: &[u8]) -> usize
+        requires some { 1 ≤ length rest.now }
+        requires none_passing { self.old.passing ≡ 0 }
+        requires busy { is_idle self.old.due ≡ false }
+        ensures some { 1 ≤ result }
+        ensures within { result ≤ length rest.now }
+        ensures after { self.new ≡ read (take result rest.now) self.old }
+        ensures before { before (take result rest.now) self.old ≡ (if is_before self.old then result else 0) }
+    {
+        let width = self.due.width();
+        if self.front.is_empty() && width <= rest.len() {
+            self.pass_field(&rest[..width]);
+            return width;
         }
         self.take(rest[0]);
         1

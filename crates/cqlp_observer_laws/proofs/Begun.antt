@@ -2,6 +2,7 @@
 use Rattle.std.proofs.Common.{◌≡◌, ℕ, zero, suc, ◌+◌, ◌-◌, ◌<◌, ◌≤◌, ◌^◌, Bool, true, false, ◌&&◌, ◌||◌, eqb, ltb, cond, List, [], ◌∷◌, ◌++◌, length, take, drop, Option, Some, None, refl, sym, ap, ◌∙◌, inl, inr, arith}
 use Rattle.std.proofs.lemmas.Bool.{cases_lt}
 use Rattle.std.proofs.lemmas.List.{drop-append-le, drop_all}
+use Rattle.cqlp_note.specs.declared.header.Header.{Header}
 use Rattle.cqlp_note.specs.declared.opcode.Opcode.{Opcode}
 use Rattle.cqlp_note.specs.Field.{is_negative}
 use Rattle.cqlp_note.specs.Heading.{has}
@@ -26,7 +27,8 @@ use Rattle.cqlp_observer_facts.specs.Reading.{after_byte, before, begun, filled,
 use Rattle.cqlp_observer_facts.specs.Rows.{after_option, columns_due, due_of, fields_within, is_plain, names_due, paged_columns_due, rows_following, types_due}
 use Rattle.cqlp_observer_facts.specs.Types.{columns_of, innermost, with_fields, with_types}
 use Rattle.cqlp_observer_facts.proofs.Pieces.{before_pieces, read_pieces}
-use Rattle.cqlp_observer_laws.specs.Fronts.{FrontComesLast, FrontsAreKept}
+use Rattle.cqlp_observer.specs.Passing.{passing, read_on}
+use Rattle.cqlp_observer_laws.specs.Fronts.{FrontComesLast, FrontsAreKept, front_of, kept_of}
 
 -- ---- fields of the message proper, but its first one
 
@@ -234,9 +236,13 @@ joined n m b c few none = elim (cases_lt n (length b)) [
       ∙ ap (λ (k : ℕ). take 256 (drop (k + m) (b ++ c))) (sym all)
 ]
 
+kept_on : (h : Header) (b c : List ℕ) → read_on c (kept_of h b) ≡ kept_of h (b ++ c)
+kept_on h b c =
+    let front : front_of h b ++ take (256 - length (front_of h b)) (drop (before c (read b (begun h))) c) ≡ front_of h (b ++ c) =
+    joined (before b (begun h)) (before c (read b (begun h))) b c (few_before b (begun h)) (comes_last b c (begun h))
+    ∙ ap (λ (n : ℕ). take 256 (drop n (b ++ c))) (sym (before_pieces b c (begun h))) in
+    let says : read c (read b (begun h)) ≡ read (b ++ c) (begun h) = sym (read_pieces b c (begun h)) in
+    λ i. passing (front i) (says i) true
+
 pub are_kept : FrontsAreKept
-are_kept h heads b c = (
-  joined (before b (begun h)) (before c (read b (begun h))) b c (few_before b (begun h)) (comes_last b c (begun h))
-      ∙ ap (λ (n : ℕ). take 256 (drop n (b ++ c))) (sym (before_pieces b c (begun h))),
-  sym (read_pieces b c (begun h)),
-)
+are_kept h = (refl, λ b. kept_on h [] b, λ b c. kept_on h b c)

@@ -1,10 +1,9 @@
 -- Where the message proper begins in a body, and what an observer keeps of it.
-use Rattle.std.specs.Prelude.{◌≡◌, ℕ, ◌<◌, true, List, ◌++◌, length, take, drop}
+use Rattle.std.specs.Prelude.{◌≡◌, ℕ, ◌<◌, true, List, [], ◌++◌, length, take, drop}
 use Rattle.cqlp_note.specs.declared.header.Header.{Header}
 use Rattle.cqlp_observer_facts.specs.declared.reader.FactsReader.{FactsReader}
 use Rattle.cqlp_observer_facts.specs.Reading.{before, begun, read}
-use Rattle.cqlp_observer.specs.declared.heads.Heads.{Heads}
-use Rattle.cqlp_observer.specs.Speakers.{front_more, read_more, speaker}
+use Rattle.cqlp_observer.specs.Passing.{Passing, begun_with, passing, read_on}
 
 -- Once a byte does not lie before the message proper, none does that follows: those before it are the first ones.
 abbrev pub FrontComesLast : Type 0
@@ -14,9 +13,14 @@ FrontComesLast = (xs ys : List ℕ) (s : FactsReader) → before xs s < length x
 abbrev pub front_of : Header → List ℕ → List ℕ
 front_of h b = take 256 (drop (before b (begun h)) b)
 
--- In whatever pieces a body comes, that is what is kept of it, and its facts are those of its bytes.
+-- that is kept of it, and its facts are those of these bytes
+abbrev pub kept_of : Header → List ℕ → Passing
+kept_of h b = passing (front_of h b) (read b (begun h)) true
+
+-- So it is in whatever pieces a body comes, one or many.
 abbrev pub FrontsAreKept : Type 0
 FrontsAreKept =
-    (h : Header) (heads : Heads) (b c : List ℕ)
-    → let s = speaker heads (front_of h b) (read b (begun h)) true in
-    (front_more s c ≡ front_of h (b ++ c)) × (read_more s c ≡ read (b ++ c) (begun h))
+    (h : Header)
+    → (begun_with h ≡ kept_of h [])
+    × ((b : List ℕ) → read_on b (begun_with h) ≡ kept_of h b)
+    × ((b c : List ℕ) → read_on c (kept_of h b) ≡ kept_of h (b ++ c))

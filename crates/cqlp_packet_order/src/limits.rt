@@ -60,6 +60,7 @@ impl OrderCounts {
             self.reordered = self.reordered.saturating_add(1);
         }
     }
+
     fn count_late(&mut self, is_off: bool)
         ensures { self.new ≡ with_late is_off self.old }
     {

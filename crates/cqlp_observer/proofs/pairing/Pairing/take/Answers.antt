@@ -2,7 +2,7 @@ use Rattle.std.proofs.Common.{ap, sym, ◌∙◌, ◌≡◌, false, refl, rules,
 use Rattle.std.proofs.lemmas.Int.{to_z-of_z}
 use Rattle.cqlp_observer.specs.Messages.{is_event}
 use Rattle.cqlp_observer.specs.Pairings.{Waiting, met, with_message}
-use Rattle.cqlp_observer.proofs.Boxes.{taken_none, taken_some}
+use Rattle.cqlp_observer.proofs.Takes.{taken_none, taken_some}
 use Rattle.cqlp_observer.proofs.pairing.Pairing.take.Goals as goal
 
 pub returns-in_ok-meet-in-Some : goal.returns-in_ok-meet-in-Some

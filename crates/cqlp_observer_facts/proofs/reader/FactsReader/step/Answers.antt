@@ -3,7 +3,7 @@ use Rattle.std.proofs.lemmas.List.{length-take-le}
 use Rattle.std.proofs.Math.Seq.{take-length}
 use Rattle.cqlp_observer_facts.specs.declared.reader.FactsReader.{FactsReader}
 use Rattle.cqlp_observer_facts.specs.Reading.{before, is_before, passed, read}
-use Rattle.cqlp_observer_facts.proofs.Pieces.{before_content, before_idle, read_idle, read_one, read_passing}
+use Rattle.cqlp_observer_facts.proofs.Pieces.{before_content, before_idle, read_idle, read_passing}
 use Rattle.cqlp_observer_facts.proofs.reader.FactsReader.step.Goals as goal
 
 pub returns-then-self-gt0-clause-after : goal.returns-then-self-gt0-clause-after
@@ -29,7 +29,3 @@ returns-then-is_idle-clause-before c =
     let b = c.args.rest.now in
     let all : take (length b) b ≡ b = take-length b in
     ap (λ (r : List ℕ). before r c.args.self.now) all ∙ before_idle b c.args.self.now (omega arith) (sym c.is_idle.ensures ∙ c.if-is_idle.true)
-
-pub returns-clause-after : goal.returns-clause-after
-returns-clause-after c =
-    c.take.ensures ∙ sym (read_one c.args.rest.now c.args.self.now (omega arith) (omega arith) (sym c.is_idle.ensures ∙ c.if-is_idle.false))
