@@ -39,7 +39,6 @@ pub(crate) struct EitherLength {
 
 impl BlockKind {
     /// The kind of the blocks of this type. Section 10.1.
-    #[inline]
     pub fn of_type(number: u32) -> BlockKind {
         match number {
             0x0A0D_0D0A => BlockKind::Section,
@@ -52,7 +51,6 @@ impl BlockKind {
     }
 
     /// How many bytes a block of this kind has at least, so that it can be read.
-    #[inline]
     pub fn least_length(self) -> u32 {
         match self {
             BlockKind::Section => 28,
@@ -64,7 +62,6 @@ impl BlockKind {
     }
 
     /// How many bytes a block of this kind has at least, so that the blocks after it can be read.
-    #[inline]
     pub fn lawful_length(self) -> u32 {
         match self {
             BlockKind::Interface => 20,
@@ -103,13 +100,11 @@ impl Block {
     }
 
     /// The offset of its second length.
-    #[inline]
     pub(crate) fn end(self) -> u64 {
         self.start + self.length as u64 - 4
     }
 
     /// What is read at this offset in the block of an interface: an option, if there is room for one.
-    #[inline]
     pub(crate) fn at_option(self, offset: u64) -> Stage {
         let end = self.end();
         if offset + 4 <= end {
@@ -122,7 +117,6 @@ impl Block {
     }
 
     /// What is read at this offset, where the bytes up to another one are passed over.
-    #[inline]
     pub(crate) fn passing(self, offset: u64, until: u64) -> Stage {
         if offset == until {
             self.at_option(until)
@@ -133,7 +127,6 @@ impl Block {
 }
 
 /// Whether a block that has at least so many bytes may have this length.
-#[inline]
 pub(crate) fn may_have_length(least: u32, length: u32) -> bool {
     length % 4 == 0 && least <= length
 }

@@ -58,7 +58,6 @@ impl ByteOrder {
     }
 
     /// The number in two bytes, from this index on.
-    #[inline]
     pub(crate) fn read_u16(self, bytes: &[u8], index: usize) -> u16 {
         let bytes = [bytes[index], bytes[index + 1]];
         match self {
@@ -68,7 +67,6 @@ impl ByteOrder {
     }
 
     /// The number in four bytes, from this index on.
-    #[inline]
     pub(crate) fn read_u32(self, bytes: &[u8], index: usize) -> u32 {
         let bytes = [
             bytes[index],
@@ -83,7 +81,6 @@ impl ByteOrder {
     }
 
     /// The number in eight bytes, from this index on.
-    #[inline]
     pub(crate) fn read_u64(self, bytes: &[u8], index: usize) -> u64 {
         let bytes = [
             bytes[index],

@@ -61,7 +61,6 @@ pub(crate) fn tell_file_head(form: FileForm, bytes: &[u8]) -> Result<Told, Captu
 }
 
 /// What the header of a record says that begins at this offset. Section 5 of draft-ietf-opsawg-pcap.
-#[inline]
 pub(crate) fn tell_record_head(
     limit: u32,
     offset: u64,
@@ -124,13 +123,11 @@ pub(crate) fn tell_rest(
 }
 
 /// So many seconds and fractions of one, in nanoseconds.
-#[inline]
 fn time_of(form: FileForm, seconds: u32, fraction: u32) -> u64 {
     seconds as u64 * 1_000_000_000 + fraction as u64 * unit_of(form.fraction) as u64
 }
 
 /// How many nanoseconds a fraction counts.
-#[inline]
 fn unit_of(fraction: Fraction) -> u32 {
     match fraction {
         Fraction::Microseconds => 1_000,

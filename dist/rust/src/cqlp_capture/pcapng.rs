@@ -10,7 +10,6 @@ use crate::cqlp_capture::refusal::{CaptureReason, CaptureRefusal};
 use crate::cqlp_capture::telling::{read_next, refuse, skip};
 
 /// That these bytes, up to this offset, are all of a packet.
-#[inline]
 pub(crate) fn tell_data(end: u64, offset: u64, stage: Stage) -> Result<Told, CaptureRefusal> {
     Ok(Told {
         at: offset,
@@ -73,7 +72,6 @@ fn tell_section(block: Block) -> Result<Told, CaptureRefusal> {
 }
 
 /// What the type and the length of a block say that begins at this offset. Section 3.1.
-#[inline]
 pub(crate) fn tell_block_head(
     offset: u64,
     order: ByteOrder,
@@ -102,7 +100,6 @@ pub(crate) fn tell_block_head(
 }
 
 /// What is read in a block of this kind.
-#[inline]
 fn tell_block(kind: BlockKind, block: Block) -> Result<Told, CaptureRefusal> {
     let offset = block.start + 8;
     let stage = match kind {
@@ -255,7 +252,6 @@ pub(crate) fn tell_time_offset(
 }
 
 /// What the numbers of a packet say, whose interface has this number. Section 4.3 and appendix A.
-#[inline]
 pub(crate) fn tell_enhanced_body(
     limit: u32,
     known: &[KnownInterface],
@@ -286,7 +282,6 @@ pub(crate) fn tell_enhanced_body(
 }
 
 /// That a packet begins, whose bytes are at this offset, if they lie in the block and the limit allows as many.
-#[inline]
 fn tell_within(
     limit: u32,
     offset: u64,
@@ -303,13 +298,11 @@ fn tell_within(
 }
 
 /// How many bytes a block has from this offset on to its second length.
-#[inline]
 fn room_after(block: Block, offset: u64) -> u64 {
     block.end() - offset
 }
 
 /// A time of so many units, each of so many nanoseconds, after this many seconds, in nanoseconds, if that is less than 2^64.
-#[inline]
 fn captured_time(unit: u32, seconds: u64, units: u64) -> Option<u64> {
     let since = units.checked_mul(unit as u64)?;
     let begin = seconds.checked_mul(1_000_000_000)?;
@@ -317,7 +310,6 @@ fn captured_time(unit: u32, seconds: u64, units: u64) -> Option<u64> {
 }
 
 /// That a packet begins, whose bytes are at this offset.
-#[inline]
 fn tell_packet(offset: u64, block: Block, packet: PacketHead) -> Result<Told, CaptureRefusal> {
     Ok(Told {
         at: block.start,
@@ -368,7 +360,6 @@ fn captured_size(interface: KnownInterface, original: u32, room: u64) -> u32 {
 }
 
 /// What the second length of a block says, and that an interface is known once its block was read. Section 3.1.
-#[inline]
 pub(crate) fn tell_block_end(
     limit: u32,
     known: &[KnownInterface],

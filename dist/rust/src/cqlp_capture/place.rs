@@ -71,7 +71,6 @@ pub(crate) struct Place {
 
 impl Stage {
     /// How many bytes are read next. Of those that are passed over it is one, and any number of them may be taken at once.
-    #[inline]
     pub fn wanted(self) -> usize {
         match self {
             Stage::Magic
@@ -92,7 +91,6 @@ impl Stage {
 
 impl Place {
     /// What the bytes say that are read next, under these limits, where these are the interfaces so far.
-    #[inline]
     pub(crate) fn tell(
         self,
         limits: &CaptureLimits,

@@ -8,7 +8,6 @@ use crate::cqlp_capture::place::{Place, Stage};
 use crate::cqlp_capture::refusal::{CaptureReason, CaptureRefusal};
 
 /// No event, and this is read next, from this offset on.
-#[inline]
 pub(crate) fn read_next(offset: u64, stage: Stage) -> Result<Told, CaptureRefusal> {
     Ok(Told {
         at: offset,
@@ -32,7 +31,6 @@ pub(crate) fn skip(offset: u64, block: Block, why: SkipReason) -> Result<Told, C
 }
 
 /// The refusal at this offset.
-#[inline]
 pub(crate) fn refuse(at: u64, why: CaptureReason) -> Result<Told, CaptureRefusal> {
     Err(CaptureRefusal { at, why })
 }

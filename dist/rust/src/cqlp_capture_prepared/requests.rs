@@ -4,7 +4,7 @@
 use crate::cqlp_capture_prepared::execute::Execute;
 use crate::cqlp_capture_prepared::prepared_types::PreparedTypes;
 use crate::cqlp_note::{Header, Opcode};
-use crate::cqlp_observer::{Heads, Heard, HeardStep, Unread};
+use crate::cqlp_observer::{Heads, Heard, HeardStep};
 use crate::cqlp_tcp_reassembly::StreamStep;
 use crate::kit_std::alloc::Allocator;
 
@@ -58,19 +58,23 @@ impl Requests {
 
     /// Takes bytes, the first of which begins a segment or not.
     fn hear_bytes<A: Allocator>(&mut self, begins: bool, bytes: &[u8], known: &mut PreparedTypes<A>) {
-        let mut unread = Unread::new(bytes, begins);
-        while unread.steps > 0 {
-            let HeardStep { used, heard } = self.heads.take(unread.bytes, None, unread.begins);
-            self.take_heard(heard, &unread.bytes[..used], known);
+        let mut steps = 2 * bytes.len() as u128 + 2;
+        let mut rest = bytes;
+        let mut is_first = begins;
+        while steps > 0 {
+            let HeardStep { used, heard } = self.heads.take(rest, None, is_first);
+            self.tell(heard, &rest[..used], known);
             if is_done(heard) {
                 return;
             }
-            unread = unread.after(used);
+            is_first = still_first(is_first, used);
+            rest = &rest[used..];
+            steps -= 1;
         }
     }
 
     /// Takes what bytes are.
-    fn take_heard<A: Allocator>(&mut self, heard: Heard, bytes: &[u8], known: &mut PreparedTypes<A>) {
+    fn tell<A: Allocator>(&mut self, heard: Heard, bytes: &[u8], known: &mut PreparedTypes<A>) {
         match heard {
             Heard::Begins(header) => {
                 known.forget(header.stream);
@@ -115,4 +119,9 @@ fn is_done(heard: Heard) -> bool {
         Heard::More => true,
         Heard::Begins(_) | Heard::Body | Heard::Ends(_) | Heard::Stray => false,
     }
+}
+
+/// Whether what follows the bytes that were used still begins a segment.
+fn still_first(is_first: bool, used: usize) -> bool {
+    is_first && used == 0
 }

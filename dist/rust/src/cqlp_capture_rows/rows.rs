@@ -19,8 +19,7 @@ const ROOM: usize = 65_536;
 /// A page without metadata has the types that PREPARE said of the statement whose EXECUTE it answers.
 ///
 /// Memory is taken in `new`; after it for the decoder of a frame, some 1.1 MiB, which is given back behind the frame; and for the types of a statement
-/// that is prepared, and of a page that answers an EXECUTE: one request each, of `LIMITS.entries` nodes. At most [`STATEMENTS`] statements are known,
-/// and the types of one page.
+/// that is prepared, and of a page that answers an EXECUTE: one request each, of `LIMITS.entries` nodes. At most [`STATEMENTS`] statements are known, and the types of one page.
 pub struct Rows<O: Target, A: Allocator = Global> {
     /// The number of the connection.
     asked: u64,

@@ -10,9 +10,23 @@ use crate::cqlp_capture_streams::running::split;
 use crate::cqlp_capture_streams::splitter::Splitter;
 use crate::cqlp_capture::{CaptureEnd, CaptureLimits, CaptureReader};
 use crate::cqlp_note::Source;
-use crate::cqlp_packet_order::{OrderCounts, PacketOrder};
-use crate::cqlp_tcp_connections::{ConnectionCounts, Connections};
+use crate::cqlp_packet_order::{OrderCounts, OrderLimits, PacketOrder};
+use crate::cqlp_tcp_connections::{ConnectionCounts, ConnectionLimits, Connections};
 use crate::kit_std::alloc::{Allocator, Global};
+
+/// 256 connections, and the other limits where none are given.
+pub const LIMITS: StreamsLimits = StreamsLimits {
+    connections: ConnectionLimits {
+        connections: 256,
+        early: 25_165_824,
+        early_each: 1_048_576,
+    },
+    order: OrderLimits {
+        packets: 1_000,
+        nanoseconds: 1_000_000_000,
+        bytes: 8_388_608,
+    },
+};
 
 /// How many reads are made at most.
 const TURNS: u64 = 4_294_967_296;
@@ -32,13 +46,11 @@ pub struct CaptureRead {
 }
 
 impl CaptureRead {
-    /// Whether some of it was not read, or packets came later than the window, or bytes that came early were given up, or connections had
-    /// to make room for others, or all segments went to other ports.
+    /// Whether some of it was not read, or packets came late, or bytes that came early were given up, or all segments went to other ports.
     pub fn has_losses(&self) -> bool {
         self.packets.skipped.has_some()
             || self.order.late > 0
             || self.connections.given_up > 0
-            || self.connections.crowded > 0
             || (self.connections.connections == 0 && self.connections.foreign > 0)
     }
 }

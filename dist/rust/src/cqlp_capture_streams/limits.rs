@@ -12,10 +12,24 @@ pub struct StreamsLimits {
     pub order: OrderLimits,
 }
 
+/// How many connections there are at most where each has two open files.
+const FILES: u32 = 256;
+
 impl StreamsLimits {
     /// The limits where none are given.
     pub const DEFAULT: StreamsLimits = StreamsLimits {
         connections: ConnectionLimits::DEFAULT,
         order: OrderLimits::DEFAULT,
     };
+
+    /// These, with at most 256 connections, since each has two open files.
+    pub(crate) fn with_files(self) -> StreamsLimits {
+        StreamsLimits {
+            connections: ConnectionLimits {
+                connections: self.connections.connections.min(FILES),
+                ..self.connections
+            },
+            order: self.order,
+        }
+    }
 }

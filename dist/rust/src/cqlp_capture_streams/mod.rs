@@ -20,7 +20,7 @@ mod summary;
 mod telling;
 mod writing;
 
-pub use capturing::{CaptureRead};
+pub use capturing::{CaptureRead, LIMITS};
 pub(crate) use capturing::{read_capture};
 pub use ending::conclude_capture;
 pub use fault::StreamsFault;

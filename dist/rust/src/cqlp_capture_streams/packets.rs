@@ -76,7 +76,6 @@ impl PacketCounts {
     };
 
     /// Counts a packet with a segment, of a connection and cut or not.
-    #[inline]
     pub(crate) fn count_segment(&mut self, is_snapped: bool) {
         self.packets = self.packets.saturating_add(1);
         self.segments = self.segments.saturating_add(1);

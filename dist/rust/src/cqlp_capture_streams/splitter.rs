@@ -7,7 +7,7 @@ use crate::cqlp_capture_streams::listener::Listener;
 use crate::cqlp_capture_streams::packets::PacketCounts;
 use crate::cqlp_capture_streams::telling::{finish_all, take_timed};
 use crate::cqlp_capture::{CaptureEvent, PacketHead};
-use crate::cqlp_packet_order::{KeptPacket, OrderCounts, Packet, PacketOrder};
+use crate::cqlp_packet_order::{OrderCounts, Packet, PacketOrder};
 use crate::cqlp_tcp_connections::{ConnectionCounts, Connections};
 use crate::cqlp_tcp_segment::{LinkType, NoSegment, Segment, read_segment};
 use crate::kit_std::alloc::{AllocError, Allocator, Global};
@@ -119,7 +119,7 @@ impl<A: Allocator + Clone> Splitter<A> {
     /// Has the packets leave that are to.
     fn hand_on_due<L: Listener>(&mut self, listener: &mut L) -> Result<(), StreamsFault> {
         while let Some(kept) = self.order.pop_due() {
-            self.take_kept(kept, listener)?;
+            self.take_packet(&kept.as_packet(), listener)?;
         }
         Ok(())
     }
@@ -127,20 +127,9 @@ impl<A: Allocator + Clone> Splitter<A> {
     /// Has all packets leave.
     fn hand_on_all<L: Listener>(&mut self, listener: &mut L) -> Result<(), StreamsFault> {
         while let Some(kept) = self.order.pop() {
-            self.take_kept(kept, listener)?;
+            self.take_packet(&kept.as_packet(), listener)?;
         }
         Ok(())
-    }
-
-    /// Takes a packet that has left the window, and gives its memory back.
-    fn take_kept<L: Listener>(
-        &mut self,
-        kept: KeptPacket<A>,
-        listener: &mut L,
-    ) -> Result<(), StreamsFault> {
-        let answer = self.take_packet(&kept.as_packet(), listener);
-        self.order.give_back(kept);
-        answer
     }
 
     /// Takes a packet whose turn has come.
@@ -164,7 +153,6 @@ impl<A: Allocator + Clone> Splitter<A> {
 }
 
 /// The segment in a packet.
-#[inline]
 fn segment_in<'a>(packet: &Packet<'a>) -> Result<Segment<'a>, NoSegment> {
     let link = LinkType::from_number(packet.link)?;
     read_segment(link, packet.bytes, packet.original)

@@ -24,8 +24,7 @@ pub(crate) fn put_order<P: Pen>(
     counts: &OrderCounts,
 ) -> Result<(), SinkFault> {
     put_count(writer, "Reordered", counts.reordered)?;
-    put_count(writer, "Late", counts.late)?;
-    put_count(writer, "OutOfOrder", counts.out_of_order)
+    put_count(writer, "Late", counts.late)
 }
 
 /// Takes what connections did not take.

@@ -12,6 +12,7 @@ use crate::kit_std::alloc::Global;
 
 /// Splits a capture into the streams of its connections with nodes that listen on these ports. Writes a line for each gap and for each
 /// connection to `out`, and what the capture was, or the fault line, to `err`. Answers the exit status, the files and the two outputs.
+/// Each connection that is there has two open files, so there are no more than 256 at one time, whatever the limit is.
 ///
 /// After a fault nothing more is asked of what failed.
 pub(crate) fn write_streams<R: Source, F: StreamFiles, O: Target, E: Target>(
@@ -24,7 +25,7 @@ pub(crate) fn write_streams<R: Source, F: StreamFiles, O: Target, E: Target>(
     err: E,
 ) -> (u8, F, O, E) {
     let mut recorder = Recorder::new(alloc, files, out);
-    let answer = read_capture(alloc, limits, ports, input, &mut recorder);
+    let answer = read_capture(alloc, limits.with_files(), ports, input, &mut recorder);
     let (files, out, sums) = recorder.into_parts();
     let (status, err) = conclude_capture(&answer, ports, &sums, err);
     (status, files, out, err)

@@ -13,7 +13,6 @@ mod room;
 mod side;
 mod speaker;
 mod subject;
-mod unread;
 mod watch;
 
 pub use crate::cqlp_observer_facts::Facts;
@@ -26,5 +25,4 @@ pub use paired::Paired;
 pub use pairing::Pairing;
 pub use room::WatchRoom;
 pub use subject::subject_of;
-pub use unread::Unread;
 pub use watch::{Watch, WatchStep};

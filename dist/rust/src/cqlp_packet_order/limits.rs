@@ -19,8 +19,6 @@ pub struct OrderCounts {
     pub reordered: u64,
     /// Packets with an earlier time than one that had left. Each leaves next.
     pub late: u64,
-    /// The same where the window is off, so that packets are taken in the order of the file.
-    pub out_of_order: u64,
 }
 
 impl OrderLimits {
@@ -43,23 +41,14 @@ impl OrderCounts {
     pub(crate) const NONE: OrderCounts = OrderCounts {
         reordered: 0,
         late: 0,
-        out_of_order: 0,
     };
 
-    /// Counts a packet that comes: late or not, behind all that wait or not, and to a window that is off or not.
-    #[inline]
-    pub(crate) fn count(&mut self, is_late: bool, is_last: bool, is_off: bool) {
+    /// Counts a packet that comes: late or not, and behind all that wait or not.
+    pub(crate) fn count(&mut self, is_late: bool, is_last: bool) {
         if is_late {
-            self.count_late(is_off);
+            self.late = self.late.saturating_add(1);
         } else if !is_last {
             self.reordered = self.reordered.saturating_add(1);
-        }
-    }
-    fn count_late(&mut self, is_off: bool) {
-        if is_off {
-            self.out_of_order = self.out_of_order.saturating_add(1);
-        } else {
-            self.late = self.late.saturating_add(1);
         }
     }
 }

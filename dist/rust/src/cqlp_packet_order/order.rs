@@ -1,7 +1,7 @@
 // Written by dist/erase from crates/cqlp_packet_order/src/order.rt.
 //! A window in which packets wait for those that were captured before them.
 
-use crate::kit_host::prelude::{AllocGlobal, Clone, ToCopy, Vec};
+use crate::kit_host::prelude::{AllocGlobal, Clone, ToCopy};
 use crate::cqlp_packet_order::limits::{OrderCounts, OrderLimits};
 use crate::cqlp_packet_order::packet::{KeptPacket, Packet};
 use crate::kit_std::alloc::{AllocError, Allocator, Global};
@@ -13,14 +13,11 @@ use crate::kit_std::collections::VecDeque;
 /// are to leave, one after the other, until it says `None`. At the end of the file `pop` gives all that wait. Packets of one time stay
 /// in the order in which they came. A packet without a time waits for none and lets none wait: all that came before it leave, and then it.
 ///
-/// A late packet, of an earlier time than one that has left, leaves next. Memory is taken for packets that wait. `give_back` keeps that of a packet
-/// which has left for those that come, as long as no more than may wait have some, and each at most its share of the bytes that may wait.
+/// A late packet, of an earlier time than one that has left, leaves next. Memory is taken for packets that wait, and given back with them.
 pub struct PacketOrder<A: Allocator = Global> {
     alloc: A,
     limits: OrderLimits,
     waiting: VecDeque<KeptPacket<A>, A>,
-    /// Memory of packets that have left.
-    spare: Vec<Vec<u8, A>, A>,
     /// How many bytes the packets that wait have.
     held: usize,
     /// The latest time of the packets that have left; 0 where there is none.
@@ -35,12 +32,10 @@ impl<A: Allocator> PacketOrder<A> {
         A: Clone,
     {
         let waiting = VecDeque::new(alloc.to_copy()?);
-        let spare = Vec::new(alloc.to_copy()?);
         Ok(PacketOrder {
             alloc,
             limits,
             waiting,
-            spare,
             held: 0,
             passed: 0,
             counts: OrderCounts::NONE,
@@ -58,11 +53,7 @@ impl<A: Allocator> PacketOrder<A> {
         if self.waiting.len() != 0 || !self.is_due_alone(packet) {
             return false;
         }
-        self.counts.count(
-            is_late(self.passed, packet.time),
-            true,
-            self.limits.packets == 0,
-        );
+        self.counts.count(is_late(self.passed, packet.time), true);
         self.passed = passed_with(packet.time, self.passed);
         true
     }
@@ -90,27 +81,15 @@ impl<A: Allocator> PacketOrder<A> {
             return Err(AllocError);
         };
         let at = self.place(packet.time);
-        let kept = KeptPacket::copy_of(packet, take_room(&mut self.spare, &self.alloc)?)?;
+        let kept = KeptPacket::copy_of(self.alloc.to_copy()?, packet)?;
         let is_last = at == self.waiting.len();
         let Ok(()) = self.waiting.insert(at, kept) else {
             return Err(AllocError);
         };
         self.held = held;
-        self.counts.count(
-            is_late(self.passed, packet.time),
-            is_last,
-            self.limits.packets == 0,
-        );
+        self.counts
+            .count(is_late(self.passed, packet.time), is_last);
         Ok(())
-    }
-
-    /// Keeps the memory of a packet that has left for those that come, if it is small, and few have some.
-    pub fn give_back(&mut self, packet: KeptPacket<A>) {
-        let most = self.limits.packets as usize;
-        let rooms = self.waiting.len().saturating_add(self.spare.len());
-        if most > 0 && rooms <= most && packet.bytes.capacity() <= self.limits.bytes / most {
-            let _ = self.spare.push(packet.bytes);
-        }
     }
 
     /// How many of the packets that wait stay before one of this time.
@@ -155,17 +134,6 @@ impl<A: Allocator> PacketOrder<A> {
     }
 }
 
-/// Memory for a packet, that of one that has left if there is some.
-fn take_room<A: Allocator + Clone>(
-    spare: &mut Vec<Vec<u8, A>, A>,
-    alloc: &A,
-) -> Result<Vec<u8, A>, AllocError> {
-    match spare.pop() {
-        Some(room) => Ok(room),
-        None => Ok(Vec::new(alloc.to_copy()?)),
-    }
-}
-
 /// Packets that wait: how many, with how many bytes, and the times of the first and the last.
 #[derive(Clone, Copy, Debug)]
 struct Waiting {
@@ -176,7 +144,6 @@ struct Waiting {
 }
 
 /// Whether the first of them has to leave.
-#[inline]
 fn must_leave(limits: &OrderLimits, passed: u64, waiting: Waiting) -> bool {
     waiting.count > limits.packets as usize
         || waiting.bytes > limits.bytes
@@ -184,7 +151,6 @@ fn must_leave(limits: &OrderLimits, passed: u64, waiting: Waiting) -> bool {
 }
 
 /// Whether the first time is later. One that is not known is not.
-#[inline]
 fn is_later(one: Option<u64>, other: Option<u64>) -> bool {
     match (one, other) {
         (Some(one), Some(other)) => one > other,
@@ -192,13 +158,11 @@ fn is_later(one: Option<u64>, other: Option<u64>) -> bool {
     }
 }
 
-#[inline]
 fn is_late(passed: u64, time: Option<u64>) -> bool {
     is_later(Some(passed), time)
 }
 
 /// Whether packets of these times were captured too far apart, or the first is late, or one has no time.
-#[inline]
 fn is_past(nanoseconds: u64, passed: u64, first: Option<u64>, last: Option<u64>) -> bool {
     match (first, last) {
         (Some(first), Some(last)) => first < passed || last.saturating_sub(first) > nanoseconds,
@@ -206,7 +170,6 @@ fn is_past(nanoseconds: u64, passed: u64, first: Option<u64>, last: Option<u64>)
     }
 }
 
-#[inline]
 fn passed_with(time: Option<u64>, passed: u64) -> u64 {
     match time {
         Some(time) => passed.max(time),

@@ -1,7 +1,7 @@
 // Written by dist/erase from crates/cqlp_packet_order/src/packet.rt.
 //! A captured packet, lent or kept.
 
-use crate::kit_host::prelude::{Vec};
+use crate::kit_host::prelude::{AllocGlobal, Vec};
 use crate::kit_std::alloc::{AllocError, Allocator, Global};
 
 /// A captured packet.
@@ -26,16 +26,13 @@ pub struct KeptPacket<A: Allocator = Global> {
 }
 
 impl<A: Allocator> KeptPacket<A> {
-    /// A copy of a packet, in this memory or more.
-    pub(crate) fn copy_of(packet: &Packet<'_>, room: Vec<u8, A>) -> Result<Self, AllocError> {
-        let mut bytes = room;
-        bytes.clear();
-        bytes.extend_from_slice(packet.bytes)?;
+    /// A copy of a packet.
+    pub(crate) fn copy_of(alloc: A, packet: &Packet<'_>) -> Result<Self, AllocError> {
         Ok(KeptPacket {
             link: packet.link,
             time: packet.time,
             original: packet.original,
-            bytes,
+            bytes: Vec::from_slice(alloc, packet.bytes)?,
         })
     }
 

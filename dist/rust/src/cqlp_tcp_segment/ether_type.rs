@@ -20,7 +20,6 @@ pub(crate) struct IpPacket<'a> {
 }
 
 /// The packet of IP after an EtherType: behind tags, and behind labels of MPLS or the header of a session of PPPoE.
-#[inline]
 pub(crate) fn after_ether_type(ether_type: u16, bytes: &[u8]) -> Result<IpPacket<'_>, NoSegment> {
     let (ether_type, bytes) = untagged(ether_type, bytes)?;
     match ether_type {
@@ -39,7 +38,6 @@ pub(crate) fn after_ether_type(ether_type: u16, bytes: &[u8]) -> Result<IpPacket
 }
 
 /// The EtherType after all tags, and the bytes after it.
-#[inline]
 fn untagged(ether_type: u16, bytes: &[u8]) -> Result<(u16, &[u8]), NoSegment> {
     let mut ether_type = ether_type;
     let mut bytes = bytes;
@@ -54,7 +52,6 @@ fn untagged(ether_type: u16, bytes: &[u8]) -> Result<(u16, &[u8]), NoSegment> {
 }
 
 /// Whether an EtherType is that of a tag of a virtual network.
-#[inline]
 fn is_tag(ether_type: u16) -> bool {
     matches!(ether_type, 0x8100 | 0x88A8 | 0x9100)
 }

@@ -2,13 +2,11 @@
 //! Numbers in headers: the highest byte comes first.
 
 /// The number in two bytes, from this index on.
-#[inline]
 pub(crate) fn number_16(bytes: &[u8], index: usize) -> u16 {
     u16::from_be_bytes([bytes[index], bytes[index + 1]])
 }
 
 /// The number in four bytes, from this index on.
-#[inline]
 pub(crate) fn number_32(bytes: &[u8], index: usize) -> u32 {
     u32::from_be_bytes([
         bytes[index],

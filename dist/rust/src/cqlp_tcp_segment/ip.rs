@@ -37,7 +37,6 @@ pub(crate) struct Upper<'a> {
 }
 
 /// What a packet of IP carries that had this many bytes beyond those that were captured.
-#[inline]
 pub(crate) fn carried_by(ip: IpPacket<'_>, beyond: usize) -> Result<Carried<'_>, NoSegment> {
     match ip.version {
         IpVersion::V4 => carried_by_4(ip.bytes, beyond),
@@ -46,7 +45,6 @@ pub(crate) fn carried_by(ip: IpPacket<'_>, beyond: usize) -> Result<Carried<'_>,
 }
 
 /// A length in a header of IP, or the length of all that there was where it is 0.
-#[inline]
 fn length_or_all(said: u16, bytes: &[u8], beyond: usize) -> usize {
     match said {
         0 => bytes.len() + beyond,
@@ -55,7 +53,6 @@ fn length_or_all(said: u16, bytes: &[u8], beyond: usize) -> usize {
 }
 
 /// What a packet of IPv4 carries. RFC 791, section 3.1.
-#[inline]
 fn carried_by_4(bytes: &[u8], beyond: usize) -> Result<Carried<'_>, NoSegment> {
     if bytes.len() < 20 {
         return Err(NoSegment::CutInIp);

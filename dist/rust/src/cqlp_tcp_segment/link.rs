@@ -32,7 +32,6 @@ impl LinkType {
     /// # Errors
     ///
     /// `UnknownLink`, for any other number.
-    #[inline]
     pub fn from_number(number: u16) -> Result<LinkType, NoSegment> {
         match number {
             0 => Ok(LinkType::Null),
@@ -49,7 +48,6 @@ impl LinkType {
 }
 
 /// The packet of IP in a captured packet.
-#[inline]
 pub(crate) fn ip_packet(link: LinkType, packet: &[u8]) -> Result<IpPacket<'_>, NoSegment> {
     match link {
         LinkType::Null => after_family(packet, true),
@@ -98,7 +96,6 @@ fn version_of_family(family: u32) -> Option<IpVersion> {
 }
 
 /// What follows a header of this many bytes, which has an EtherType at this index.
-#[inline]
 pub(crate) fn after_type(
     packet: &[u8],
     index: usize,

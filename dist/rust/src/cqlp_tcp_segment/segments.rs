@@ -44,7 +44,6 @@ pub struct Segment<'a> {
 /// # Errors
 ///
 /// The first reason, from the outer header to the inner, why there is no segment.
-#[inline]
 pub fn read_segment(link: LinkType, packet: &[u8], original: u32) -> Result<Segment<'_>, NoSegment> {
     let beyond = (original as usize).saturating_sub(packet.len());
     let ip = ip_packet(link, packet)?;
@@ -59,14 +58,12 @@ pub fn read_segment(link: LinkType, packet: &[u8], original: u32) -> Result<Segm
 }
 
 /// The bytes after a header of this length that were captured of those that IP carries.
-#[inline]
 fn payload_of<'a>(carried: &Carried<'a>, header: usize) -> &'a [u8] {
     let captured = carried.bytes.len().min(carried.size);
     &carried.bytes[header..captured]
 }
 
 /// What the headers say, of which all of TCP's was captured.
-#[inline]
 fn head_of(carried: &Carried<'_>) -> SegmentHead {
     let bytes = carried.bytes;
     SegmentHead {

@@ -19,7 +19,6 @@ pub struct Flags {
 
 impl Flags {
     /// The flags in the byte of control bits.
-    #[inline]
     pub(crate) fn of_byte(bits: u8) -> Flags {
         Flags {
             syn: bits & 0x02 != 0,
@@ -31,7 +30,6 @@ impl Flags {
 }
 
 /// How many bytes the header of TCP has, all of which were captured. RFC 9293, section 3.1.
-#[inline]
 pub(crate) fn header_length(carried: &Carried<'_>) -> Result<usize, NoSegment> {
     if carried.size < 20 {
         return Err(NoSegment::BadTcpLength);

@@ -20,7 +20,6 @@ const ETHERNET_FRAME: u16 = 0x6558;
 const VXLAN_PORT: u16 = 4789;
 
 /// What the innermost packet of IP carries, which is TCP, of a packet that had this many bytes beyond those that were captured.
-#[inline]
 pub(crate) fn innermost(ip: IpPacket<'_>, beyond: usize) -> Result<Carried<'_>, NoSegment> {
     let mut ip = ip;
     let mut left = MOST_PACKETS;

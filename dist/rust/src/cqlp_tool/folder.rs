@@ -5,33 +5,32 @@ use crate::kit_host::prelude::{AllocGlobal, String, Vec, format};
 use crate::cqlp_capture_streams::{FileFault, StreamFile, StreamFiles};
 use crate::cqlp_tcp_connections::Way;
 use crate::kit_std::alloc::{AllocError, Global};
-use crate::kit_std::collections::BTreeMap;
-use crate::kit_host::fs::{self, File, OpenOptions};
+use crate::kit_host::fs::{self, File};
 use std::io::{self, ErrorKind, Write};
 use crate::kit_host::rt::Files;
 
 /// How many bytes wait for a file before they are written.
-const ROOM: usize = 65_536;
+const ROOM: usize = 8_192;
 
-/// How much memory bytes that wait have before all are written.
-const MOST: usize = 16_777_216;
+/// A file that is written, and the last bytes for it, which wait until there are more.
+struct OpenFile<X> {
+    file: X,
+    waiting: Vec<u8>,
+}
 
-/// Where files are made and written, each of which is open only for that long.
-struct Site<'a, R: Files> {
+/// The open files of a connection.
+struct OpenFiles<X> {
+    number: u64,
+    requests: OpenFile<X>,
+    responses: OpenFile<X>,
+}
+
+/// A folder that has a file for each direction of each connection. While a file is written its name ends in `.part`.
+pub(crate) struct Folder<'a, R: Files> {
     rt: &'a R,
     alloc: Global,
     path: &'a str,
-}
-
-/// A folder that has a file for each direction of each connection. Until both are whole their names end in `.part`. The last bytes of a file wait until
-/// there are more, so that no file stays open.
-pub(crate) struct Folder<'a, R: Files> {
-    site: Site<'a, R>,
-    /// Bytes that wait, by the numbers of their connections.
-    requests: BTreeMap<u64, Vec<u8>>,
-    responses: BTreeMap<u64, Vec<u8>>,
-    /// How much memory they have.
-    held: usize,
+    opened: Vec<OpenFiles<R::File>>,
 }
 
 /// Whether there is a folder with this path.
@@ -42,7 +41,36 @@ pub(crate) fn is_folder<R: Files>(rt: &R, path: &str) -> bool {
     }
 }
 
-impl<R: Files> Site<'_, R> {
+impl<X: Write> OpenFile<X> {
+    /// Writes the bytes that wait, and these too if they are many.
+    fn put(&mut self, bytes: &[u8]) -> io::Result<()> {
+        if ROOM.saturating_sub(self.waiting.len()) < bytes.len() {
+            self.write_waiting()?;
+        }
+        if bytes.len() >= ROOM {
+            return self.file.write_all(bytes);
+        }
+        self.waiting.extend_from_slice(bytes)?;
+        Ok(())
+    }
+
+    fn write_waiting(&mut self) -> io::Result<()> {
+        self.file.write_all(&self.waiting)?;
+        self.waiting.clear();
+        Ok(())
+    }
+}
+
+impl<'a, R: Files> Folder<'a, R> {
+    pub(crate) fn new(rt: &'a R, alloc: Global, path: &'a str) -> Self {
+        Folder {
+            rt,
+            alloc,
+            path,
+            opened: Vec::new(alloc),
+        }
+    }
+
     /// The path of a file that is whole.
     fn path_of(&self, file: StreamFile) -> Result<String, AllocError> {
         let path = self.path;
@@ -54,40 +82,26 @@ impl<R: Files> Site<'_, R> {
         format!(in self.alloc; "{path}/{number}.{way}.bin")
     }
 
-    /// The path of a file that is not whole yet.
-    fn part_of(&self, file: StreamFile) -> Result<String, AllocError> {
-        let path = self.path_of(file)?;
-        format!(in self.alloc; "{path}.part")
-    }
-
-    /// Makes a file, which is empty.
-    fn make_file(&self, file: StreamFile) -> Result<(), FileFault> {
+    /// Makes a file that is written.
+    fn make_file(&self, file: StreamFile) -> Result<OpenFile<R::File>, FileFault> {
         let Ok(path) = self.path_of(file) else {
             return Err(FileFault::NoMemory);
         };
-        let Ok(part) = self.part_of(file) else {
+        let Ok(part) = format!(in self.alloc; "{path}.part") else {
+            return Err(FileFault::NoMemory);
+        };
+        let Ok(waiting) = Vec::with_capacity(self.alloc, ROOM) else {
             return Err(FileFault::NoMemory);
         };
         if !is_free(self.rt, &path) {
             return Err(FileFault::CannotMake(file));
         }
         match File::create_new(self.rt, &part) {
-            Ok(_) => Ok(()),
+            Ok(made) => Ok(OpenFile {
+                file: made,
+                waiting,
+            }),
             Err(_) => Err(FileFault::CannotMake(file)),
-        }
-    }
-
-    /// Appends bytes to a file that was made.
-    fn write(&self, file: StreamFile, bytes: &[u8]) -> Result<(), FileFault> {
-        if bytes.is_empty() {
-            return Ok(());
-        }
-        let Ok(part) = self.part_of(file) else {
-            return Err(FileFault::NoMemory);
-        };
-        match append_to(self.rt, &part, bytes) {
-            Ok(()) => Ok(()),
-            Err(_) => Err(FileFault::CannotWrite(file)),
         }
     }
 
@@ -96,7 +110,7 @@ impl<R: Files> Site<'_, R> {
         let Ok(path) = self.path_of(file) else {
             return Err(FileFault::NoMemory);
         };
-        let Ok(part) = self.part_of(file) else {
+        let Ok(part) = format!(in self.alloc; "{path}.part") else {
             return Err(FileFault::NoMemory);
         };
         if !is_free(self.rt, &path) {
@@ -107,124 +121,48 @@ impl<R: Files> Site<'_, R> {
             Err(_) => Err(FileFault::CannotKeep(file)),
         }
     }
-}
 
-/// Opens a file, and writes bytes at its end.
-fn append_to<R: Files>(rt: &R, path: &str, bytes: &[u8]) -> io::Result<()> {
-    let mut file = OpenOptions::new().append(true).open(rt, path)?;
-    file.write_all(bytes)
-}
-
-/// Puts bytes behind those that wait for a file, and writes them once they are many. Says how much memory more they have.
-fn put<R: Files>(
-    site: &Site<'_, R>,
-    waiting: &mut BTreeMap<u64, Vec<u8>>,
-    file: StreamFile,
-    bytes: &[u8],
-) -> Result<usize, FileFault> {
-    let Some(before) = waiting.get_mut(&file.number) else {
-        return begin(site, waiting, file, bytes);
-    };
-    let room = before.capacity();
-    let Ok(()) = before.extend_from_slice(bytes) else {
-        return Err(FileFault::NoMemory);
-    };
-    if before.len() >= ROOM {
-        site.write(file, before)?;
-        before.clear();
-    }
-    Ok(before.capacity().saturating_sub(room))
-}
-
-/// Has the first bytes wait for a file, unless they are many. Says how much memory they have.
-fn begin<R: Files>(
-    site: &Site<'_, R>,
-    waiting: &mut BTreeMap<u64, Vec<u8>>,
-    file: StreamFile,
-    bytes: &[u8],
-) -> Result<usize, FileFault> {
-    if bytes.len() >= ROOM {
-        site.write(file, bytes)?;
-        return Ok(0);
-    }
-    let Ok(first) = Vec::from_slice(site.alloc, bytes) else {
-        return Err(FileFault::NoMemory);
-    };
-    let room = first.capacity();
-    match waiting.insert(file.number, first) {
-        Ok(_) => Ok(room),
-        Err(_) => Err(FileFault::NoMemory),
-    }
-}
-
-/// Writes all bytes that wait for requests or for responses.
-fn write_all<R: Files>(
-    site: &Site<'_, R>,
-    waiting: &mut BTreeMap<u64, Vec<u8>>,
-    way: Way,
-) -> Result<(), FileFault> {
-    for _ in 0..waiting.len() {
-        let Some((number, bytes)) = waiting.pop_first() else {
-            return Ok(());
-        };
-        site.write(StreamFile { number, way }, &bytes)?;
-    }
-    Ok(())
-}
-
-/// Writes the bytes that wait for a file. Says how much memory they had.
-fn write_last<R: Files>(
-    site: &Site<'_, R>,
-    waiting: &mut BTreeMap<u64, Vec<u8>>,
-    file: StreamFile,
-) -> Result<usize, FileFault> {
-    match waiting.remove(&file.number) {
-        Some(bytes) => {
-            site.write(file, &bytes)?;
-            Ok(bytes.capacity())
+    /// The place of a connection's files among those that are open.
+    fn place_of(&self, number: u64) -> Option<usize> {
+        for (place, files) in self.opened.iter().enumerate() {
+            if files.number == number {
+                return Some(place);
+            }
         }
-        None => Ok(0),
-    }
-}
-
-impl<'a, R: Files> Folder<'a, R> {
-    pub(crate) fn new(rt: &'a R, alloc: Global, path: &'a str) -> Self {
-        Folder {
-            site: Site { rt, alloc, path },
-            requests: BTreeMap::new(alloc),
-            responses: BTreeMap::new(alloc),
-            held: 0,
-        }
+        None
     }
 
     /// Makes both files of a connection.
-    fn make_files(&self, number: u64) -> Result<(), FileFault> {
-        self.site.make_file(requests_of(number))?;
-        self.site.make_file(responses_of(number))
+    fn open_files(&self, number: u64) -> Result<OpenFiles<R::File>, FileFault> {
+        let requests = self.make_file(requests_of(number))?;
+        let responses = self.make_file(responses_of(number))?;
+        Ok(OpenFiles {
+            number,
+            requests,
+            responses,
+        })
     }
 
-    /// Puts bytes behind those that wait for a file. Where all that wait have much memory, all are written.
-    fn append_to_file(&mut self, file: StreamFile, bytes: &[u8]) -> Result<(), FileFault> {
-        let more = match file.way {
-            Way::Requests => put(&self.site, &mut self.requests, file, bytes),
-            Way::Responses => put(&self.site, &mut self.responses, file, bytes),
+    /// Writes what waits for the files of a connection, and closes them.
+    fn close_files(&mut self, number: u64) -> Result<(), FileFault> {
+        let Some(place) = self.place_of(number) else {
+            return Ok(());
         };
-        self.held = self.held.saturating_add(more?);
-        if self.held > MOST {
-            self.held = 0;
-            write_all(&self.site, &mut self.requests, Way::Requests)?;
-            write_all(&self.site, &mut self.responses, Way::Responses)?;
+        let mut files = self.opened.swap_remove(place);
+        if files.requests.write_waiting().is_err() {
+            return Err(FileFault::CannotWrite(requests_of(number)));
+        }
+        if files.responses.write_waiting().is_err() {
+            return Err(FileFault::CannotWrite(responses_of(number)));
         }
         Ok(())
     }
 
-    /// Writes what waits for both files of a connection, and gives them their names.
+    /// Closes both files of a connection, and gives them their names.
     fn keep_files(&mut self, number: u64) -> Result<(), FileFault> {
-        let requests = write_last(&self.site, &mut self.requests, requests_of(number))?;
-        let responses = write_last(&self.site, &mut self.responses, responses_of(number))?;
-        self.held = self.held.saturating_sub(requests).saturating_sub(responses);
-        self.site.keep_file(requests_of(number))?;
-        self.site.keep_file(responses_of(number))
+        self.close_files(number)?;
+        self.keep_file(requests_of(number))?;
+        self.keep_file(responses_of(number))
     }
 }
 
@@ -252,16 +190,27 @@ fn is_free<R: Files>(rt: &R, path: &str) -> bool {
 
 impl<R: Files> StreamFiles for Folder<'_, R> {
     fn make(&mut self, number: u64) -> Result<(), FileFault> {
-        match self.make_files(number) {
+        let files = self.open_files(number)?;
+        match self.opened.push(files) {
             Ok(()) => Ok(()),
-            Err(fault) => Err(fault),
+            Err(_) => Err(FileFault::NoMemory),
         }
     }
 
     fn append(&mut self, file: StreamFile, bytes: &[u8]) -> Result<(), FileFault> {
-        match self.append_to_file(file, bytes) {
+        let Some(place) = self.place_of(file.number) else {
+            return Err(FileFault::CannotWrite(file));
+        };
+        let Some(files) = self.opened.get_mut(place) else {
+            return Err(FileFault::CannotWrite(file));
+        };
+        let target = match file.way {
+            Way::Requests => &mut files.requests,
+            Way::Responses => &mut files.responses,
+        };
+        match target.put(bytes) {
             Ok(()) => Ok(()),
-            Err(fault) => Err(fault),
+            Err(_) => Err(FileFault::CannotWrite(file)),
         }
     }
 

@@ -15,24 +15,6 @@ impl File {
     }
 }
 
-/// How a file is opened.
-pub struct OpenOptions(std::fs::OpenOptions);
-
-impl OpenOptions {
-    pub fn new() -> Self {
-        OpenOptions(std::fs::OpenOptions::new())
-    }
-
-    pub fn append(&mut self, append: bool) -> &mut Self {
-        self.0.append(append);
-        self
-    }
-
-    pub fn open<R: Files>(&self, rt: &R, path: &str) -> io::Result<R::File> {
-        rt.open_file(&self.0, path)
-    }
-}
-
 pub fn metadata<R>(_: &R, path: &str) -> io::Result<Metadata> {
     std::fs::metadata(path)
 }
@@ -65,10 +47,6 @@ impl Files for HostRuntime {
 
     fn create_new(&self, path: &str) -> io::Result<File> {
         std::fs::File::create_new(path).map(File)
-    }
-
-    fn open_file(&self, how: &std::fs::OpenOptions, path: &str) -> io::Result<File> {
-        how.open(path).map(File)
     }
 }
 

@@ -32,8 +32,6 @@ pub trait Files {
     fn open(&self, path: &str) -> io::Result<Self::File>;
 
     fn create_new(&self, path: &str) -> io::Result<Self::File>;
-
-    fn open_file(&self, how: &std::fs::OpenOptions, path: &str) -> io::Result<Self::File>;
 }
 
 impl AllocGlobal for HostRuntime {
