@@ -498,11 +498,22 @@ static int next_column(cells *self) {
   return 1;
 }
 
-/* Puts the row, which is whole, into the list, and begins the next. */
+/* Whether a value can hold no other. */
+static int is_plain(PyObject *value) {
+  PyTypeObject *type = Py_TYPE(value);
+  return type == &PyLong_Type || type == &PyUnicode_Type || value == Py_None || type == &PyBool_Type || type == &PyFloat_Type || type == &PyBytes_Type;
+}
+
+/* Puts the row, which is whole, into the list, and begins the next. The collector of cycles need not know of one with plain values, as it would find too. */
 static int put_row(cells *self, PyObject *rows) {
   PyObject *row = PyTuple_New(self->length);
+  int plain = self->length > 0; /* the tuple without values is shared */
   if (row == NULL) return 0;
-  for (Py_ssize_t at = 0; at < self->length; at++) PyTuple_SetItem(row, at, self->row[at]);
+  for (Py_ssize_t at = 0; at < self->length; at++) {
+    plain = plain && is_plain(self->row[at]);
+    PyTuple_SetItem(row, at, self->row[at]);
+  }
+  if (plain) PyObject_GC_UnTrack(row);
   self->length = 0;
   int done = PyList_Append(rows, row);
   Py_DECREF(row);

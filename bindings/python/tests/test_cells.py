@@ -52,6 +52,13 @@ class Cells(unittest.TestCase):
             self.assertEqual(told(pages), told(wanted))
             self.assertEqual(end, wanted_end)
 
+    def test_rows_of_plain_values_are_not_tracked(self) -> None:
+        """The collector of cycles need not look at them; a row with a list is looked at."""
+        wide = page([INT, VARCHAR], [[cell(b"\0\0\1\0"), cell(b"abc")], [NULL, NOTHING]])
+        if _pages._compiled:
+            self.assertEqual([gc.is_tracked(row) for row in cqlp.rows(wide)], [False, False])
+        self.assertEqual([gc.is_tracked(row) for row in cqlp.rows(page([INT, b"\0\x20" + INT], [[NULL, list_of(NULL)]]))], [True])
+
     def test_streams(self) -> None:
         for stream in streams():
             with self.subTest(stream.name):
