@@ -102,6 +102,9 @@ func (c *cells) push() *Event {
 func (c *cells) keep() {
 	for i := c.kept; i < len(c.events); i++ {
 		e := &c.events[i]
+		if len(e.Content) == 0 {
+			continue
+		}
 		at := len(c.memory)
 		c.memory = append(c.memory, e.Content...)
 		e.Content = c.memory[at:len(c.memory):len(c.memory)]
