@@ -1,9 +1,10 @@
 #!/usr/bin/env python3
 """Times the Python package over a page of bench/pages.py, for bench/bindings.sh: bindings.py FILE
 
-Beside it stands a plain loop in Python that walks the cells of the page by their lengths and decides nothing of them. Times are those
-of the processor.
+Beside it stands a plain loop in Python that walks the cells of the page by their lengths and decides nothing of them, and the reader in C of the
+released driver, where it is there. Times are those of the processor, the least of nine runs.
 """
+import gc
 import struct
 import sys
 import time
@@ -31,30 +32,65 @@ def options(type):
     return 2 + sum(map(options, type.inner))
 
 
+def least(read, data):
+    """What it reads, and the least seconds of the processor of nine runs."""
+    seconds = []
+    for _ in range(9):
+        gc.collect()
+        began = time.process_time()
+        found = read(data)
+        seconds.append(time.process_time() - began)
+        if not isinstance(found, int):
+            found = len(found)
+    return found, min(seconds)
+
+
 def timed(what, read, data):
-    began = time.process_time()
-    rows = read(data)
-    seconds = time.process_time() - began
-    print("  python, %s: %.0f ms, %.0f rows/s, %.1f MB/s" % (what, seconds * 1e3, rows / seconds, len(data) / 1e6 / seconds))
+    rows, seconds = least(read, data)
+    print("  python, %s: %.1f ms, %.0f rows/s, %.1f MB/s" % (what, seconds * 1e3, rows / seconds, len(data) / 1e6 / seconds), flush=True)
+    return seconds
+
+
+def driver(data):
+    """The rows that the released driver for Python reads of a page, by its reader in C where it was compiled."""
+    from cassandra.protocol import ProtocolHandler
+
+    return ProtocolHandler.decode_message(4, {}, 0, 0, 8, data[9:], None, None).parsed_rows
+
+
+def beside(times, data):
+    """Times the driver's reader, and says how many times as fast the others are. All hold what they read, but `rows` and `arrays` as they are iterated."""
+    try:
+        import cassandra
+        from cassandra import row_parser
+    except ImportError:
+        print("  python, the driver's compiled reader: it is not on this machine")
+        return
+    seconds = timed("the reader in C of cassandra-driver %s" % cassandra.__version__, driver, data)
+    print("  python, times as fast as the driver: " + ", ".join("%s %.2f" % (what, seconds / one) for what, one in times.items()))
+
+
+READERS = {
+    "rows": lambda data: sum(1 for _ in cqlp.rows(data)),
+    "list(rows)": lambda data: list(cqlp.rows(data)),
+    "frames": lambda data: next(cqlp.frames(data)).message.rows,
+    "columns": lambda data: sum(page.count for page in cqlp.columns(data)),
+    "arrays": lambda data: sum(batch.count for batch in cqlp.arrays(data)),
+    "list(arrays)": lambda data: sum(batch.count for batch in list(cqlp.arrays(data))),
+}
 
 
 def main():
     with open(sys.argv[1], "rb") as file:
         data = file.read()
     timed("a plain loop over the cells", plain, data)
-    timed("rows", lambda data: sum(1 for _ in cqlp.rows(data)), data)
-    timed("columns", lambda data: sum(page.count for page in cqlp.columns(data)), data)
-    try:
-        timed("arrays", lambda data: sum(batch.count for batch in cqlp.arrays(data)), data)
-    except cqlp.BadCall as error:
-        print("  python, arrays: %s" % error)
-    timed("frames", lambda data: sum(len(frame.message.rows) for frame in cqlp.frames(data)), data)
+    times = {what: timed(what, read, data) for what, read in READERS.items()}
+    beside(times, data)
     began = time.process_time()
     events = sum(1 for _ in cqlp.events(data))
     print("  python, events: %.0f events/s" % (events / (time.process_time() - began)))
-    began = time.process_time()
-    verdict = cqlp.check(data)
-    print("  python, check: %.0f MB/s, %s" % (len(data) / 1e6 / (time.process_time() - began), verdict))
+    size, seconds = least(lambda data: cqlp.check(data).bytes, data)
+    print("  python, check: %.1f ms, %.0f MB/s" % (seconds * 1e3, size / 1e6 / seconds))
 
 
 main()

@@ -1,6 +1,8 @@
 #!/usr/bin/env bash
 # Times the library from C, an event a call and in batches, and the wrappers for Rust and Python on pages that pages.py makes, beside
-# `cqlp check` of the same file and a plain loop in Python over the same cells; and the wrapper for Go, where it is there, on its own pages of pages.py.
+# `cqlp check` of the same file, a plain loop in Python over the same cells and the compiled reader of the released driver for Python, where it is
+# there; and the wrapper for Go, where it is there, on its own pages of pages.py, and beside gocql. As `bindings.sh --wrappers` it times those for Python
+# and Go alone, over the library that bindings/build made last.
 set -eu
 
 here=$(dirname -- "$(readlink -f -- "${BASH_SOURCE[0]}")")
@@ -8,17 +10,13 @@ bindings=$here/../bindings
 room=$(mktemp -d)
 trap 'rm -rf "$room"' EXIT
 
-"$bindings/build"
-"$here/../prove"
 export CARGO_TARGET_DIR=$bindings/out/rust PYTHONPATH=$bindings/python
-cc -O2 -I"$here/../include" -o "$room/speed" "$bindings/c/speed.c" "$bindings/out/libcqlp.a"
-cargo build -q --offline --release --manifest-path "$bindings/rust/Cargo.toml" --example count
+wrappers=$([ "${1:-}" = --wrappers ] && echo alone || true)
+python=python3
+! /usr/bin/python3 -c 'import cassandra' 2>/dev/null || python=/usr/bin/python3
 
-for page in 'rows 200000' 'collections 40000' 'columns 1000' 'blobs 32'; do
-    # shellcheck disable=SC2086
-    python3 "$here/pages.py" $page >"$room/page"
-    size=$(stat -c %s "$room/page")
-    echo "$page: $size bytes"
+# Times the library, from C and from Rust.
+beneath() {
     for _ in 1 2 3; do
         start=$(date +%s%N)
         "$here/../cqlp" check "$room/page" >/dev/null
@@ -27,8 +25,24 @@ for page in 'rows 200000' 'collections 40000' 'columns 1000' 'blobs 32'; do
         "$CARGO_TARGET_DIR/release/examples/count" "$room/page"
     done
     python3 "$here/batches.py" "$here/../crates/cqlp/out/cqlp" "$room/speed" "$room/page"
-    python3 "$here/bindings.py" "$room/page"
+}
+
+if [ -z "$wrappers" ]; then
+    "$bindings/build"
+    "$here/../prove"
+    cc -O2 -I"$here/../include" -o "$room/speed" "$bindings/c/speed.c" "$bindings/out/libcqlp.a"
+    cargo build -q --offline --release --manifest-path "$bindings/rust/Cargo.toml" --example count
+fi
+
+for page in 'rows 200000' 'collections 40000' 'columns 1000' 'blobs 32'; do
+    # shellcheck disable=SC2086
+    python3 "$here/pages.py" $page >"$room/page"
+    size=$(stat -c %s "$room/page")
+    echo "$page: $size bytes"
+    [ -n "$wrappers" ] || beneath
+    "$python" -W ignore "$here/bindings.py" "$room/page"
 done
 if command -v go >/dev/null; then
     (cd "$bindings/go" && go test -run none -bench . . | grep '^Benchmark')
+    "$here/gocql.sh" 9
 fi

@@ -61,15 +61,23 @@ func (c *cells) next() bool {
 // be before them.
 func (c *cells) gather(d *Decoder, open bool) bool {
 	for d.next < d.count && (open || len(c.starts) < c.width) {
-		if tag := Tag(d.box.events[d.next].tag); tag < TagLeaf || tag > TagPart {
+		native, place := &d.box.events[d.next], d.box.places[d.next]
+		tag := Tag(native.tag)
+		if tag < TagLeaf || tag > TagPart {
 			break
 		}
 		if !open {
 			c.starts = append(c.starts, len(c.events))
 		}
 		e := c.push()
-		d.put(e)
-		open = e.Level > 0 || e.Tag == TagEnter || e.Tag == TagPart && e.Mark != MarkLast
+		if place == inDecoder {
+			d.put(e)
+		} else { // as put does: most are such
+			d.next++
+			end := place + native.length
+			fillEvent(e, native, d.piece[place:end:end])
+		}
+		open = e.Level > 0 || tag == TagEnter || tag == TagPart && e.Mark != MarkLast
 	}
 	return open
 }
@@ -102,6 +110,9 @@ func (c *cells) push() *Event {
 func (c *cells) keep() {
 	for i := c.kept; i < len(c.events); i++ {
 		e := &c.events[i]
+		if len(e.Content) == 0 {
+			continue
+		}
 		at := len(c.memory)
 		c.memory = append(c.memory, e.Content...)
 		e.Content = c.memory[at:len(c.memory):len(c.memory)]

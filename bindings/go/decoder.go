@@ -184,6 +184,9 @@ const (
 	space = 1 << 16
 )
 
+// inDecoder is the place of a content that lies in the decoder.
+const inDecoder = C.CQLP_IN_DECODER
+
 // A Decoder reads the frames of one stream. It is not to be used by several goroutines at a time, but for Close, which any may call. A
 // goroutine may move from one thread to another between two calls, and the library's handle with it: that is proved.
 type Decoder struct {
@@ -362,7 +365,7 @@ func (d *Decoder) put(event *Event) {
 	native, place := &d.box.events[d.next], d.box.places[d.next]
 	d.next++
 	length := C.size_t(native.length)
-	if place == C.CQLP_IN_DECODER {
+	if place == inDecoder {
 		d.copied = append(d.copied[:0], unsafe.Slice((*byte)(unsafe.Pointer(native.content)), int(length))...)
 		fillEvent(event, native, d.copied)
 		return
@@ -444,18 +447,25 @@ func Check(limits Limits, stream []byte) (Verdict, error) {
 
 func fillEvent(event *Event, native *C.cqlp_event, content []byte) {
 	event.At = uint64(native.at)
-	event.Tag = Tag(native.tag)
-	event.Field = Field(native.field)
-	event.Kind = Kind(native.kind)
-	event.Mark = Mark(native.mark)
-	event.Opcode = Opcode(native.opcode)
-	event.Flags = uint8(native.flags)
-	event.Octets = uint8(native.octets)
+	// in as few moves as there can be: what follows one another in the one does so in the other
+	*(*[7]byte)(unsafe.Pointer(&event.Tag)) = *(*[7]byte)(unsafe.Pointer(&native.tag))
 	event.Bytes = *(*[16]byte)(unsafe.Pointer(&native.bytes))
 	event.Number = int64(native.number)
-	event.Row = uint32(native.row)
-	event.Column = uint32(native.column)
-	event.Level = uint32(native.level)
-	event.Extra = int32(native.extra)
+	*(*[4]uint32)(unsafe.Pointer(&event.Row)) = *(*[4]uint32)(unsafe.Pointer(&native.row))
 	event.Content = content
 }
+
+// The members that fillEvent moves together lie in the same order in both structs, else these arrays do not compile.
+var (
+	ofGo Event
+	ofC  C.cqlp_event
+	_    = [1]int{unsafe.Offsetof(ofGo.Field) + unsafe.Offsetof(ofC.tag) - (unsafe.Offsetof(ofGo.Tag) + unsafe.Offsetof(ofC.field)): 0}
+	_    = [1]int{unsafe.Offsetof(ofGo.Kind) + unsafe.Offsetof(ofC.tag) - (unsafe.Offsetof(ofGo.Tag) + unsafe.Offsetof(ofC.kind)): 0}
+	_    = [1]int{unsafe.Offsetof(ofGo.Opcode) + unsafe.Offsetof(ofC.tag) - (unsafe.Offsetof(ofGo.Tag) + unsafe.Offsetof(ofC.opcode)): 0}
+	_    = [1]int{unsafe.Offsetof(ofGo.Flags) + unsafe.Offsetof(ofC.tag) - (unsafe.Offsetof(ofGo.Tag) + unsafe.Offsetof(ofC.flags)): 0}
+	_    = [1]int{unsafe.Offsetof(ofGo.Mark) + unsafe.Offsetof(ofC.tag) - (unsafe.Offsetof(ofGo.Tag) + unsafe.Offsetof(ofC.mark)): 0}
+	_    = [1]int{unsafe.Offsetof(ofGo.Octets) + unsafe.Offsetof(ofC.tag) - (unsafe.Offsetof(ofGo.Tag) + unsafe.Offsetof(ofC.octets)): 0}
+	_    = [1]int{unsafe.Offsetof(ofGo.Column) + unsafe.Offsetof(ofC.row) - (unsafe.Offsetof(ofGo.Row) + unsafe.Offsetof(ofC.column)): 0}
+	_    = [1]int{unsafe.Offsetof(ofGo.Level) + unsafe.Offsetof(ofC.row) - (unsafe.Offsetof(ofGo.Row) + unsafe.Offsetof(ofC.level)): 0}
+	_    = [1]int{unsafe.Offsetof(ofGo.Extra) + unsafe.Offsetof(ofC.row) - (unsafe.Offsetof(ofGo.Row) + unsafe.Offsetof(ofC.extra)): 0}
+)

@@ -77,7 +77,8 @@ func TestEachFaultIsAndAs(t *testing.T) {
 	nulls := written(t, &Rows{Metadata: Metadata{Columns: []Column{{"k", "t", "n", Type{Kind: KindInt}}}}, Rows: [][]any{{nil}}})
 	big := written(t, &Rows{Metadata: Metadata{Columns: []Column{{"k", "t", "n", Type{Kind: KindBigint}}}}, Rows: [][]any{{1 << 40}}})
 	empty := append(nulls[:len(nulls)-4:len(nulls)-4], 0, 0, 0, 0)
-	lists := written(t, &Rows{Metadata: Metadata{Columns: []Column{{"k", "t", "l", Type{Kind: KindList, Inner: []Type{{Kind: KindInt}}}}}}, Rows: [][]any{{[]int{1}}}})
+	listOfInts := Type{Kind: KindList, Inner: []Type{{Kind: KindInt}}}
+	lists := written(t, &Rows{Metadata: Metadata{Columns: []Column{{"k", "t", "l", listOfInts}}}, Rows: [][]any{{[]int{1}}}})
 	long := written(t, &Rows{Metadata: Metadata{Columns: []Column{{"k", "t", "s", Type{Kind: KindVarchar}}}}, Rows: [][]any{{strings.Repeat("x", 500)}}})
 	var number int32
 	var text string

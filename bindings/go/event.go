@@ -20,9 +20,9 @@ type Event struct {
 	Tag    Tag
 	Field  Field
 	Kind   Kind
-	Mark   Mark
 	Opcode Opcode
 	Flags  uint8
+	Mark   Mark
 	// Octets is how many of Bytes are the event's: 4, 8 or 16.
 	Octets uint8
 	// Bytes is a uuid, an address or a binary number, in the order of the stream, and zeros after it.

@@ -498,11 +498,22 @@ static int next_column(cells *self) {
   return 1;
 }
 
-/* Puts the row, which is whole, into the list, and begins the next. */
+/* Whether a value can hold no other. */
+static int is_plain(PyObject *value) {
+  PyTypeObject *type = Py_TYPE(value);
+  return type == &PyLong_Type || type == &PyUnicode_Type || value == Py_None || type == &PyBool_Type || type == &PyFloat_Type || type == &PyBytes_Type;
+}
+
+/* Puts the row, which is whole, into the list, and begins the next. The collector of cycles need not know of one with plain values, as it would find too. */
 static int put_row(cells *self, PyObject *rows) {
   PyObject *row = PyTuple_New(self->length);
+  int plain = self->length > 0; /* the tuple without values is shared */
   if (row == NULL) return 0;
-  for (Py_ssize_t at = 0; at < self->length; at++) PyTuple_SetItem(row, at, self->row[at]);
+  for (Py_ssize_t at = 0; at < self->length; at++) {
+    plain = plain && is_plain(self->row[at]);
+    PyTuple_SetItem(row, at, self->row[at]);
+  }
+  if (plain) PyObject_GC_UnTrack(row);
   self->length = 0;
   int done = PyList_Append(rows, row);
   Py_DECREF(row);
@@ -671,13 +682,117 @@ static PyType_Spec cells_spec = {
     .slots = cells_slots,
 };
 
-static int cells_exec(PyObject *module) {
-  PyObject *type = PyType_FromSpec(&cells_spec);
-  if (type == NULL) return -1;
-  if (PyModule_AddObject(module, "Cells", type) < 0) {
-    Py_DECREF(type);
+/* ---- rows one by one */
+
+/* The rows of the lists that an iterator gives, which gives other things too. */
+typedef struct rows {
+  PyObject_HEAD
+  PyObject *found; /* the iterator */
+  PyObject *now;   /* the list under way, or NULL */
+  Py_ssize_t at;   /* which of its rows is the next */
+} rows;
+
+static int rows_init(PyObject *object, PyObject *arguments, PyObject *names) {
+  rows *self = (rows *)object;
+  PyObject *found;
+  if (names != NULL || self->found != NULL) {
+    PyErr_SetString(PyExc_TypeError, "begun already, or by names");
     return -1;
   }
+  if (!PyArg_ParseTuple(arguments, "O", &found)) return -1;
+  self->found = PyObject_GetIter(found);
+  return self->found == NULL ? -1 : 0;
+}
+
+/* While the iterator is asked another thread may be here, which it refuses: the list under way is exhausted then, and stays. */
+static PyObject *rows_next(PyObject *object) {
+  rows *self = (rows *)object;
+  while (self->now == NULL || self->at >= PyList_Size(self->now)) {
+    PyObject *found = self->found;
+    if (found == NULL) return NULL;
+    Py_INCREF(found);
+    PyObject *next = PyIter_Next(found);
+    Py_DECREF(found);
+    if (next == NULL) return NULL;
+    PyObject *before = next;
+    if (PyList_Check(next)) {
+      before = self->now;
+      self->now = next;
+      self->at = 0;
+    }
+    Py_XDECREF(before);
+  }
+  PyObject *row = PyList_GetItem(self->now, self->at++);
+  Py_XINCREF(row);
+  return row;
+}
+
+static PyObject *rows_close(PyObject *object, PyObject *none) {
+  rows *self = (rows *)object;
+  (void)none;
+  Py_CLEAR(self->now);
+  if (self->found == NULL) Py_RETURN_NONE;
+  return PyObject_CallMethod(self->found, "close", NULL);
+}
+
+static int rows_traverse(PyObject *object, visitproc visit, void *arg) {
+  Py_VISIT(Py_TYPE(object));
+  Py_VISIT(((rows *)object)->found);
+  Py_VISIT(((rows *)object)->now);
+  return 0;
+}
+
+static int rows_clear(PyObject *object) {
+  Py_CLEAR(((rows *)object)->found);
+  Py_CLEAR(((rows *)object)->now);
+  return 0;
+}
+
+static void rows_dealloc(PyObject *object) {
+  PyTypeObject *type = Py_TYPE(object);
+  PyObject_GC_UnTrack(object);
+  rows_clear(object);
+  freefunc release = (freefunc)PyType_GetSlot(type, Py_tp_free);
+  release(object);
+  Py_DECREF(type);
+}
+
+static PyMethodDef rows_methods[] = {
+    {"close", rows_close, METH_NOARGS, "Lets go of the source."},
+    {NULL, NULL, 0, NULL},
+};
+
+PyDoc_STRVAR(rows_doc, "Rows(found): the items of each list that an iterator gives, one by one.");
+
+static PyType_Slot rows_slots[] = {
+    {Py_tp_doc, (void *)rows_doc},
+    {Py_tp_init, (void *)rows_init},
+    {Py_tp_dealloc, (void *)rows_dealloc},
+    {Py_tp_traverse, (void *)rows_traverse},
+    {Py_tp_clear, (void *)rows_clear},
+    {Py_tp_iter, (void *)PyObject_SelfIter},
+    {Py_tp_iternext, (void *)rows_next},
+    {Py_tp_methods, rows_methods},
+    {0, NULL},
+};
+
+static PyType_Spec rows_spec = {
+    .name = "cqlp._cells.Rows",
+    .basicsize = sizeof(rows),
+    .flags = Py_TPFLAGS_DEFAULT | Py_TPFLAGS_HAVE_GC,
+    .slots = rows_slots,
+};
+
+static int add_type(PyObject *module, const char *name, PyType_Spec *spec) {
+  PyObject *type = PyType_FromSpec(spec);
+  if (type == NULL) return -1;
+  if (PyModule_AddObject(module, name, type) == 0) return 0;
+  Py_DECREF(type);
+  return -1;
+}
+
+static int cells_exec(PyObject *module) {
+  if (add_type(module, "Cells", &cells_spec) < 0 || add_type(module, "Rows", &rows_spec) < 0) return -1;
   return PyModule_AddIntConstant(module, "EVENT_SIZE", sizeof(cqlp_event));
 }
 

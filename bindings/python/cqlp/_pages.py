@@ -355,8 +355,10 @@ def rows(
     lenient: bool = False,
 ) -> Iterator[Row]:
     """The rows of all pages of a stream, as tuples. `types` are those of pages without metadata, and `skip` is told of each frame that is
-    passed over, as in `Pages`, and so is `lenient`."""
-    return _rows_of(Pages(source, limits, piece=piece, progress=progress, types=types, skip=skip, lenient=lenient)._found)
+    passed over, as in `Pages`, and so is `lenient`. `close()` of what it gives lets go of the source."""
+    found = Pages(source, limits, piece=piece, progress=progress, types=types, skip=skip, lenient=lenient)._found
+    made: Iterator[Row] = _rows_of(found) if _compiled is None else _compiled.Rows(found)
+    return made
 
 
 def _rows_of(found: "Iterator[Union[Page, List[Row]]]") -> Iterator[Row]:

@@ -165,7 +165,7 @@ def events(
     the next frame. `lenient` is that of `Decoder`.
 
     A file that does not block raises BlockingIOError where nothing came yet; a Decoder is for those. A buffer that can be resized cannot be as
-    long as it is read. What this gives is a generator, as is what `rows`, `frames`, `columns` and `arrays` give: for one thread at a time.
+    long as it is read. What this gives is a generator; it, and what `rows`, `frames`, `columns` and `arrays` give, is for one thread at a time.
     Another that enters meanwhile gets the ValueError of Python's generators, and takes nothing from the first.
     """
     found = batches(source, limits, piece, progress, skip=skip, lenient=lenient)

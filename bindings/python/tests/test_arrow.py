@@ -304,7 +304,8 @@ class Arrow(unittest.TestCase):
         one, two, three = ["1.50"], ["2", "3.5", "4E+1", "0E+9", "0.000"], ["1.505"]
         self.assertEqual([str(row[1]) for row in read(cqlp.arrays(pages(one, two)))[0]], ["1.50", "2.00", "3.50", "40.00", "0.00", "0.00"])
         rows, error = read(cqlp.arrays(pages(one, three)))
-        self.assertEqual([len(rows), error], [1, b"the column 'price' has the number 1.505, which is no decimal128(38, 2): pass decimals=\"text\" for texts in its place"])
+        said = "the column 'price' has the number 1.505, which is no decimal128(38, 2): pass decimals=\"text\" for texts in its place"
+        self.assertEqual((len(rows), error), (1, said.encode()))
         self.assertEqual([row[1] for row in read(cqlp.arrays(pages(one, three), decimals="text"))[0]], ["1.50", "1.505"])
         self.assertEqual([row[1] for row in read(cqlp.arrays(pages(one + three, one)))[0]], ["1.50", "1.505", "1.50"])
         rows, error = read(cqlp.arrays(pages(one, ["1" * 5000])))

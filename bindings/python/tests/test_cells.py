@@ -4,6 +4,7 @@ import gc
 import struct
 import tracemalloc
 import unittest
+import weakref
 from typing import Any, Tuple
 from unittest import mock
 
@@ -12,6 +13,8 @@ from cqlp import _pages
 
 from .streams import BINDINGS, streams
 from .test_pages import INT, NOTHING, NULL, SCALARS, VARCHAR, cell, list_of, made, page, text
+
+PAGE = (BINDINGS / "pages.bin").read_bytes()
 
 
 def read(data: bytes, limits: cqlp.Limits, piece: int, compiled: Any) -> Tuple[list, Any]:
@@ -51,6 +54,44 @@ class Cells(unittest.TestCase):
             wanted, wanted_end = read(data, limits, piece, None)
             self.assertEqual(told(pages), told(wanted))
             self.assertEqual(end, wanted_end)
+
+    def test_rows_one_by_one(self) -> None:
+        """They are let go of by `close`, and with what they are in, also where that is a cycle."""
+        for compiled in (_pages._compiled, None):
+            with mock.patch.object(_pages, "_compiled", compiled):
+                rows = cqlp.rows(PAGE)
+                self.assertEqual((iter(rows) is rows, len(next(rows))), (True, 4))
+                rows.close()
+                rows.close()
+                self.assertEqual(list(rows), [])
+
+                class Held:
+                    def __call__(self, *_: Any) -> None:
+                        pass
+
+                held = Held()
+                gone = weakref.ref(held)
+                held.rows = cqlp.rows(PAGE, progress=held)
+                next(held.rows)
+                del held
+                gc.collect()
+                self.assertIsNone(gone())
+        if _pages._compiled:
+            made = _pages._compiled.Rows
+            for wrong in ((), (1,), ([], [])):
+                self.assertRaises(TypeError, made, *wrong)
+            self.assertRaises(TypeError, made, found=[])
+            self.assertEqual((list(made([5, [1, 2], [], "x", [3]])), list(made.__new__(made))), ([1, 2, 3], []))
+            begun = made(iter(()))
+            self.assertRaises(TypeError, begun.__init__, [])
+            self.assertRaises(AttributeError, begun.close)
+
+    def test_rows_of_plain_values_are_not_tracked(self) -> None:
+        """The collector of cycles need not look at them; a row with a list is looked at."""
+        wide = page([INT, VARCHAR], [[cell(b"\0\0\1\0"), cell(b"abc")], [NULL, NOTHING]])
+        if _pages._compiled:
+            self.assertEqual([gc.is_tracked(row) for row in cqlp.rows(wide)], [False, False])
+        self.assertEqual([gc.is_tracked(row) for row in cqlp.rows(page([INT, b"\0\x20" + INT], [[NULL, list_of(NULL)]]))], [True])
 
     def test_streams(self) -> None:
         for stream in streams():
