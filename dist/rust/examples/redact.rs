@@ -6,6 +6,7 @@
 //! `cargo run --release --example redact PORT NODE_PORT COLUMN`
 #![forbid(unsafe_code)]
 
+use cqlp::wire::PageTrack;
 use cqlp::{Decoder, Event, Field, Global, Kind, Limits, Step, query_flag};
 use std::io::{Read, Write};
 use std::net::{Ipv4Addr, Shutdown, TcpListener, TcpStream};
@@ -13,88 +14,50 @@ use std::thread;
 
 pub(crate) type Result<T> = std::result::Result<T, Box<dyn std::error::Error + Send + Sync>>;
 
-/// What is done with the bytes of an event.
-#[derive(Clone, Copy)]
-enum Deed {
-    Pass,
-    /// All but the first four bytes of a cell, which are its length, become stars.
-    Hide,
-    /// The one byte of the flags loses the one that leaves metadata out.
-    AskMetadata,
-}
-
-/// Which columns of the present page are hidden, and which cell comes next.
-#[derive(Default)]
-struct Page {
-    column: String,
-    /// Whether the column that was named last is the one to hide, until its type is there.
-    named: Option<bool>,
-    hidden: Vec<bool>,
-    next: usize,
-    is_in_rows: bool,
-}
-
-impl Page {
-    /// Notes an event. Says what is done with its bytes.
-    fn note(&mut self, event: &Event<'_>) -> Result<Deed> {
-        match *event {
-            Event::Byte { field: Field::QueryFlags, .. } => return Ok(Deed::AskMetadata),
-            Event::Int { field: Field::MetaFlags, .. } => self.hidden.clear(),
-            Event::Text { field: Field::ColumnName, text } => self.named = Some(text == self.column),
-            Event::TypeNode(kind) => {
-                let hides = |is_it| is_it && matches!(kind, Kind::Ascii | Kind::Varchar | Kind::Blob);
-                self.hidden.extend(self.named.take().map(hides));
-            }
-            Event::Count { field: Field::Rows, count } if count > 0 && self.hidden.is_empty() => {
-                return Err("a page without metadata".into());
-            }
-            Event::Count { field: Field::Rows, .. } => (self.next, self.is_in_rows) = (0, true),
-            Event::End { .. } => self.is_in_rows = false,
-            Event::Leaf { level: 0, .. } | Event::Null { level: 0, .. } | Event::Empty { level: 0, .. } | Event::Leave { level: 0, .. } => {
-                let deed = self.deed();
-                self.next = (self.next + 1) % self.hidden.len();
-                return Ok(deed);
-            }
-            _ => {}
-        }
-        Ok(Deed::Pass)
-    }
-
-    /// What is done with bytes of the next cell.
-    fn deed(&self) -> Deed {
-        let hides = self.is_in_rows && self.hidden.get(self.next) == Some(&true);
-        if hides { Deed::Hide } else { Deed::Pass }
-    }
-}
-
 /// One direction of a connection, whose bytes are altered as they pass.
 pub(crate) struct Redactor {
     decoder: Decoder,
-    page: Page,
-    /// How many bytes have passed of what is not whole.
+    track: PageTrack,
+    column: String,
+    /// How many bytes have passed of a field or a cell that is not whole.
     passed: usize,
 }
 
 impl Redactor {
     pub(crate) fn new(column: &str) -> Result<Redactor> {
-        let page = Page { column: column.to_string(), ..Page::default() };
-        Ok(Redactor { decoder: Decoder::new(Global, Limits::DEFAULT)?, page, passed: 0 })
+        let decoder = Decoder::new(Global, Limits::DEFAULT)?;
+        Ok(Redactor { decoder, track: PageTrack::default(), column: column.to_string(), passed: 0 })
+    }
+
+    /// Whether the bytes that come next are of a cell to hide.
+    fn hides(&self) -> bool {
+        let is_text = |kind| matches!(kind, Kind::Ascii | Kind::Varchar | Kind::Blob);
+        self.track.column().is_some_and(|column| column.name == self.column && is_text(column.kind))
     }
 
     /// Alters the next bytes.
     pub(crate) fn alter(&mut self, mut piece: &mut [u8]) -> Result<()> {
         loop {
-            let (used, deed, is_whole) = match self.decoder.next(piece) {
-                Step::Event { used, event, .. } => (used, self.page.note(&event)?, true),
-                // What came of a cell that is not whole is known by its column.
-                Step::More { used } => (used, self.page.deed(), false),
+            let (hides, mut asks) = (self.hides(), false);
+            let (used, is_whole) = match self.decoder.next(piece) {
+                Step::Event { used, event, .. } => {
+                    self.track.take(&event)?;
+                    asks = matches!(event, Event::Byte { field: Field::QueryFlags, .. });
+                    (used, true)
+                }
+                Step::More { used } => (used, false),
                 Step::Refused(refusal) => return Err(refusal.into()),
             };
+            if self.track.is_bare() {
+                return Err("a page without metadata".into());
+            }
             let (bytes, rest) = piece.split_at_mut(used);
-            match deed {
-                Deed::Pass => {}
-                Deed::Hide => bytes[4_usize.saturating_sub(self.passed).min(used)..].fill(b'*'),
-                Deed::AskMetadata => bytes[0] &= !query_flag::SKIP_METADATA,
+            if hides {
+                // All but the first four bytes of a cell, which are its length.
+                bytes[4_usize.saturating_sub(self.passed).min(used)..].fill(b'*');
+            }
+            if asks {
+                bytes[0] &= !query_flag::SKIP_METADATA;
             }
             if !is_whole {
                 self.passed += used;
@@ -123,6 +86,7 @@ fn main() -> Result<()> {
     let words: Vec<String> = std::env::args().skip(1).collect();
     let [port, node, column] = &words[..] else { return Err("redact PORT NODE_PORT COLUMN".into()) };
     let (listener, node): (_, u16) = (TcpListener::bind((Ipv4Addr::LOCALHOST, port.parse()?))?, node.parse()?);
+    println!("listening on {}", listener.local_addr()?);
     loop {
         let (client, _) = listener.accept()?;
         let node = TcpStream::connect((Ipv4Addr::LOCALHOST, node))?;

@@ -1,8 +1,15 @@
 //! From std's types to the package's and back. Written by hand, and not proved.
+use alloc::string::String as StdString;
+use alloc::vec::Vec as StdVec;
+use core::error::Error;
+use core::fmt;
 use core::net::{IpAddr, SocketAddr};
 
 use crate::cqlp_note::Address;
 use crate::cqlp_tcp_segment::{Address as CapturedAddress, Endpoint};
+use crate::cqlp_value::{Atom, Value};
+use crate::kit_std::string::String;
+use crate::kit_std::vec::Vec;
 
 macro_rules! of_addresses {
     ($($address:ident)*) => {
@@ -40,4 +47,134 @@ impl From<Endpoint> for SocketAddr {
     fn from(end: Endpoint) -> Self {
         SocketAddr::new(end.address.into(), end.port)
     }
+}
+
+/// Memory is asked for as std does, which ends the program where it is refused.
+impl From<&str> for String {
+    fn from(text: &str) -> String {
+        StdString::from(text).into()
+    }
+}
+
+/// It takes no memory.
+impl From<String> for StdString {
+    fn from(text: String) -> StdString {
+        text.into_std()
+    }
+}
+
+/// It takes no memory.
+impl<T> From<Vec<T>> for StdVec<T> {
+    fn from(items: Vec<T>) -> StdVec<T> {
+        items.into_std()
+    }
+}
+
+/// Memory is asked for as std does.
+impl<T> FromIterator<T> for Vec<T> {
+    fn from_iter<I: IntoIterator<Item = T>>(items: I) -> Vec<T> {
+        items.into_iter().collect::<StdVec<T>>().into()
+    }
+}
+
+// With the feature `cli`, `kit_host` has it.
+#[cfg(not(feature = "cli"))]
+impl<T> IntoIterator for Vec<T> {
+    type Item = T;
+    type IntoIter = alloc::vec::IntoIter<T>;
+
+    fn into_iter(self) -> Self::IntoIter {
+        self.into_std().into_iter()
+    }
+}
+
+impl PartialEq<str> for String {
+    fn eq(&self, text: &str) -> bool {
+        self.as_str() == text
+    }
+}
+
+impl PartialEq<&str> for String {
+    fn eq(&self, text: &&str) -> bool {
+        self.as_str() == *text
+    }
+}
+
+impl AsRef<str> for String {
+    fn as_ref(&self) -> &str {
+        self.as_str()
+    }
+}
+
+impl<T> AsRef<[T]> for Vec<T> {
+    fn as_ref(&self) -> &[T] {
+        self.as_slice()
+    }
+}
+
+/// A varchar, and [`Value::Empty`] where the text is empty. Memory is asked for as std does.
+impl From<&str> for Value {
+    fn from(text: &str) -> Value {
+        String::from(text).into()
+    }
+}
+
+/// A varchar, and [`Value::Empty`] where the text is empty. It takes no memory.
+impl From<StdString> for Value {
+    fn from(text: StdString) -> Value {
+        String::from(text).into()
+    }
+}
+
+/// A blob, and [`Value::Empty`] where there are no bytes. It takes no memory.
+impl From<StdVec<u8>> for Value {
+    fn from(bytes: StdVec<u8>) -> Value {
+        Vec::from(bytes).into()
+    }
+}
+
+/// A value that is none of a Rust type, and comes back.
+#[derive(Clone, Debug, PartialEq, Eq)]
+pub struct OtherValue {
+    /// The Rust type.
+    pub wanted: &'static str,
+    /// The value.
+    pub value: Value,
+}
+
+impl fmt::Display for OtherValue {
+    fn fmt(&self, f: &mut fmt::Formatter<'_>) -> fmt::Result {
+        write!(f, "{} is wanted, and {:?} is given", self.wanted, self.value)
+    }
+}
+
+impl Error for OtherValue {}
+
+/// From values to these types, each of which reads what the pattern says.
+macro_rules! from_values {
+    ($($type:ty: $($pattern:pat => $made:expr),+;)+) => {$(
+        impl TryFrom<Value> for $type {
+            type Error = OtherValue;
+
+            fn try_from(value: Value) -> Result<$type, OtherValue> {
+                match value {
+                    $($pattern => Ok($made),)+
+                    value => Err(OtherValue { wanted: stringify!($type), value }),
+                }
+            }
+        }
+    )+};
+}
+
+from_values! {
+    i8: Value::Leaf(Atom::Tinyint(number)) => number;
+    i16: Value::Leaf(Atom::Smallint(number)) => number;
+    i32: Value::Leaf(Atom::Int(number)) => number;
+    i64: Value::Leaf(Atom::Bigint(number)) => number;
+    f32: Value::Leaf(Atom::Float(bytes)) => f32::from_be_bytes(bytes);
+    f64: Value::Leaf(Atom::Double(bytes)) => f64::from_be_bytes(bytes);
+    bool: Value::Leaf(Atom::Boolean(truth)) => truth;
+    IpAddr: Value::Leaf(Atom::Inet(address)) => address.into();
+    StdString: Value::Leaf(Atom::Varchar(text) | Atom::Ascii(text)) => text.into_std(), Value::Empty => StdString::new();
+    StdVec<u8>: Value::Leaf(Atom::Blob(bytes) | Atom::Custom(bytes) | Atom::Raw(bytes)) => bytes.into_std(), Value::Empty => StdVec::new();
 }

@@ -50,7 +50,11 @@ impl<A: Allocator> fmt::Display for GiveError<A> {
     }
 }
 
-impl<A: Allocator> Error for GiveError<A> {}
+impl<A: Allocator> Error for GiveError<A> {
+    fn source(&self) -> Option<&(dyn Error + 'static)> {
+        Some(&self.why)
+    }
+}
 
 /// Why the call was refused.
 impl<E: fmt::Display, T> fmt::Display for Refused<E, T> {
@@ -59,4 +63,8 @@ impl<E: fmt::Display, T> fmt::Display for Refused<E, T> {
     }
 }
 
-impl<E: fmt::Debug + fmt::Display, T: fmt::Debug> Error for Refused<E, T> {}
+impl<E: Error + 'static, T: fmt::Debug> Error for Refused<E, T> {
+    fn source(&self) -> Option<&(dyn Error + 'static)> {
+        Some(&self.why)
+    }
+}

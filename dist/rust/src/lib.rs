@@ -2,9 +2,113 @@
 //!
 //! A [`Decoder`] reads frames from pieces of any size as [`Event`]s, and holds no more than its [`Limits`] say,
 //! whatever lengths and counts a peer sends. [`frame`] has values of frames, what builds them of events and what writes them,
-//! [`cells`] the same of the cells of pages, [`session`] the cores of a client and of a server, which pair replies with requests, [`text`]
+//! [`cells`] the same of the cells of pages, [`rows`] rows as Rust types, [`wire`] what lies between a socket and a message,
+//! [`session`] the cores of a client and of a server, which pair replies with requests, [`text`]
 //! the text of events and of pages, [`watch`] an observer of both sides of a connection, as a proxy has it, and [`capture`] readers of packet
 //! captures. A [`SkippingDecoder`] reads on after a frame that is refused.
+//!
+//! # Read a page into structs
+//!
+//! [`row!`] makes a struct that is read from the columns of its fields' names, which may lend from the page. [`rows`] has more: tuples,
+//! pages in pieces or without metadata, and values to bind.
+//!
+//! ```
+//! use cqlp::rows::page_rows;
+//!
+//! cqlp::row! {
+//!     #[derive(Debug, PartialEq)]
+//!     struct User<'a> { id: i32, name: &'a str, years: Option<i32> = "age" }
+//! }
+//! # let frame = b"\x84\0\0\x07\x08\0\0\0[\0\0\0\x02\0\0\0\x01\0\0\0\x03\0\x04shop\0\x04user\0\x02id\0\x09\0\x04name\0\x0d\0\x03age\0\x09\
+//! #     \0\0\0\x02\0\0\0\x04\0\0\0\x01\0\0\0\x03Ada\0\0\0\x04\0\0\0$\0\0\0\x04\0\0\0\x02\0\0\0\x03Bob\xff\xff\xff\xff";
+//!
+//! // The frame of a RESULT, its header first.
+//! for user in page_rows::<User>(frame)? {
+//!     let User { id, name, years } = user?;
+//!     println!("{id}: {name}, {years:?}");
+//! }
+//! # let users = page_rows(frame)?.collect::<Result<Vec<User>, _>>()?;
+//! # assert_eq!(users[0], User { id: 1, name: "Ada", years: Some(36) });
+//! # assert_eq!(users[1], User { id: 2, name: "Bob", years: None });
+//! # Ok::<(), cqlp::rows::RowError>(())
+//! ```
+//!
+//! # Answer a driver
+//!
+//! A server with one table, which any driver can read. [`wire`] has more: pages whose rows go out as they are made, clients with many requests
+//! open, and what an asynchronous runtime needs. A body that is compressed is refused, and
+//! [there](wire#compressed-bodies) is how to switch compression off.
+//!
+#![cfg_attr(feature = "std", doc = "```")]
+#![cfg_attr(not(feature = "std"), doc = "```ignore")]
+//! use cqlp::frame::{Frame, Message, Spec, Value};
+//! use cqlp::wire::ServerSide;
+//! use cqlp::{ErrorCode, Kind};
+//! use std::net::TcpListener;
+//!
+//! fn answer(request: Message) -> Message {
+//!     match request {
+//!         Message::Options => Message::supported(&[("CQL_VERSION", &["3.4.5"]), ("COMPRESSION", &[])]),
+//!         Message::Startup(_) | Message::Register(_) => Message::Ready,
+//!         Message::Query { text, .. } if text.contains("shop.price") => {
+//!             Message::rows("shop", "price", vec![Spec::new("cents", Kind::Int)], vec![Value::from(250)])
+//!         }
+//!         _ => Message::error(ErrorCode::Invalid, "there is only shop.price"),
+//!     }
+//! }
+//!
+//! # let Ok(_) = TcpListener::bind("127.0.0.1:0") else { return Ok(()) };
+//! let listener = TcpListener::bind("127.0.0.1:0")?; // drivers connect to 9042
+//! # let port = listener.local_addr()?.port();
+//! # let asking = std::thread::spawn(move || -> Result<i32, Box<dyn std::error::Error + Send + Sync>> {
+//! #     let mut stream = std::net::TcpStream::connect(("127.0.0.1", port))?;
+//! #     let mut client = cqlp::wire::ClientSide::new(1)?;
+//! #     let params = cqlp::frame::QueryParams::new(cqlp::Consistency::One);
+//! #     for message in [Message::Options, Message::startup(), Message::query("SELECT cents FROM shop.price", params)] {
+//! #         client.ask(message, ())?;
+//! #         client.wait(&mut stream)?;
+//! #     }
+//! #     let (cents,) = cqlp::rows::page_rows(client.frame())?.next().ok_or("no row")??;
+//! #     Ok(cents)
+//! # });
+//! let (mut stream, _) = listener.accept()?; // a thread or a task for each
+//! ServerSide::new(1 << 20)?.serve::<_, Box<dyn std::error::Error>>(&mut stream, |server, _, request| {
+//!     Ok(server.answer(&Frame::plain(request.stream, answer(request.message)))?)
+//! })?;
+//! # assert_eq!(asking.join().unwrap().unwrap(), 250);
+//! # Ok::<(), Box<dyn std::error::Error>>(())
+//! ```
+//!
+//! # Pass on and alter
+//!
+//! One direction of a proxy, which renames a keyspace in queries. What is no query passes on as it came, whatever its version and size:
+//!
+#![cfg_attr(feature = "std", doc = "```")]
+#![cfg_attr(not(feature = "std"), doc = "```ignore")]
+//! use cqlp::wire::{Arrival, Inbox, TextAlterer};
+//! use cqlp::{Field, Opcode};
+//! use std::io::{Read, Write};
+//!
+//! fn relay(mut from: impl Read, mut to: impl Write) -> Result<(), Box<dyn std::error::Error>> {
+//!     let (mut inbox, mut alterer) = (Inbox::new(1 << 20), TextAlterer::new(2 << 20)?);
+//!     let asks = |opcode| matches!(opcode, Opcode::Query | Opcode::Prepare | Opcode::Batch);
+//!     while inbox.receive(&mut from)? > 0 {
+//!         while let Some((arrival, bytes)) = inbox.next(|header| header.to_header().is_ok_and(|header| asks(header.opcode))) {
+//!             let altered = match arrival {
+//!                 Arrival::Frame(_) => alterer.alter(bytes, |field, text| (field == Field::Query).then(|| text.replace("shop.", "store.")))?,
+//!                 Arrival::Passing(_) => None,
+//!             };
+//!             to.write_all(altered.as_deref().unwrap_or(bytes))?;
+//!         }
+//!     }
+//!     Ok(to.write_all(inbox.rest())?)
+//! }
+//!
+//! let (asked, mut sent) = (*b"\x04\0\0\x01\x09\0\0\0\x0a\0\0\0\x06shop.t\x05\0\0\x02\x05\0\0\0\0", Vec::new());
+//! relay(&asked[..], &mut sent)?;
+//! assert_eq!(sent, b"\x04\0\0\x01\x09\0\0\0\x0b\0\0\0\x07store.t\x05\0\0\x02\x05\0\0\0\0");
+//! # Ok::<(), Box<dyn std::error::Error>>(())
+//! ```
 //!
 //! # What is promised
 //!
@@ -207,6 +311,7 @@ struct Readme;
 
 // What dist/erase writes has the layout of its source.
 mod checked;
+mod clones;
 mod conversions;
 #[rustfmt::skip]
 mod cqlp_build;
@@ -268,10 +373,12 @@ mod errors;
 mod hex;
 mod itoa;
 mod jiff_core;
+mod messages;
 mod names;
 mod params;
 pub mod rows;
 mod uuid;
+pub mod wire;
 
 #[cfg(feature = "cli")]
 mod clap;
@@ -338,6 +445,7 @@ pub fn run_command() -> i32 {
     cqlp::main(HostRuntime).status()
 }
 
+pub use conversions::OtherValue;
 pub use cqlp_decode::{
     Capacity, Decoder, Event, FaultAfter, Fed, Finish, GiveError, GiveReason, Held, NewError, Outcome, Sink, SinkFault, Step, run,
 };

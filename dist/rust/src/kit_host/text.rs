@@ -54,6 +54,9 @@ impl<A: Allocator + Clone> Clone for String<A> {
     }
 }
 
+/// Where a mistake is nothing but a text, that is its source.
+impl<A: Allocator> std::error::Error for String<A> {}
+
 impl<A: Allocator + PartialOrd> PartialOrd for String<A> {
     fn partial_cmp(&self, other: &Self) -> Option<std::cmp::Ordering> {
         self.text.partial_cmp(&other.text)

@@ -95,6 +95,7 @@ mod reading;
 mod sink;
 mod to_cell;
 mod whole;
+mod write;
 
 pub use crate::{bind, row};
 pub use bind::{BindFault, BoundValues, Unbound, bind_values};
@@ -107,3 +108,4 @@ pub use reading::PageHead;
 pub use sink::{CELL_LIMITS, RowSink};
 pub use to_cell::{ToCell, Unset};
 pub use whole::{PageReader, PageRows, page_rows};
+pub use write::{RowWriter, ToRow, WriteFault, row_size};
