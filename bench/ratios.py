@@ -67,6 +67,7 @@ class Programs:
         self.room = room
         self.check, self.text, self.encode = (self.rust(it) for it in ('check', 'show', 'encode'))
         self.pages = self.cargo(HERE / 'pages', HERE / 'out', 'pages')
+        self.rows = self.cargo(HERE / 'rows', HERE / 'out', 'rows')
         self.cqlp = os.environ.get('CQLP') or self.program()
         self.batches = self.c('bindings/c/speed.c', TOP / 'bindings/out/libcqlp.a')
         self.events = self.c('bench/events.c')
@@ -154,6 +155,12 @@ def encode_table(programs, rounds):
         print(f'| {page} | {" | ".join(told_times(times.values()))} | {" | ".join(ratios)} |', flush=True)
 
 
+def rows_table(programs, pages, rounds):
+    """`cqlp::rows` and `feed` beside readers by hand, which the program of bench/rows times by itself."""
+    table('rows of Rust types', 'by hand', 'the package', 'ratio')
+    subprocess.run([programs.rows, str(rounds), *(pages[name] for name in ('rows', 'collections', 'columns'))], check=True)
+
+
 def start_line(programs, rounds):
     frame = programs.room / 'options'
     frame.write_bytes(OPTIONS)
@@ -166,6 +173,7 @@ def main(rounds=15):
         print(f'{programs.cqlp}, the least of {rounds} runs in turn')
         pages = {name: programs.page(name) for name in PAGES}
         read_tables(programs, pages, int(rounds))
+        rows_table(programs, pages, int(rounds))
         text_table(programs, pages, int(rounds))
         encode_table(programs, int(rounds))
         start_line(programs, int(rounds))

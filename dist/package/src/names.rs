@@ -5,6 +5,7 @@ use core::str::FromStr;
 
 /// A number, or a name, that version 4 of the protocol does not have.
 #[derive(Clone, Copy, Debug, PartialEq, Eq, Hash)]
+#[non_exhaustive]
 pub enum UnknownName {
     /// What has no name with this number, and the number.
     Number(&'static str, u32),

@@ -348,9 +348,11 @@ fn what_is_not_sent_stays() {
     Target::write(&mut out, b"ninebytes").unwrap();
     assert_eq!(out.send(&mut slow).unwrap_err().kind(), ErrorKind::WouldBlock);
     assert_eq!((out.bytes(), &slow.0[..]), (&b"ytes"[..], &b"nineb"[..]));
+    Target::write(&mut out, b", and more").unwrap();
+    assert_eq!(out.bytes(), b"ytes, and more");
     slow.1 = 100;
     out.send(&mut slow).unwrap();
-    assert!(out.bytes().is_empty() && slow.0 == b"ninebytes");
+    assert!(out.bytes().is_empty() && slow.0 == b"ninebytes, and more");
 
     let mut target = OfStd::new(KeepError::new(Slow(Vec::new(), 3)));
     assert!(encode(&Frame::plain(1, Message::Options), &mut target).is_err());

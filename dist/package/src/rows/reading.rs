@@ -14,6 +14,7 @@ use crate::rows::from_row::{FromRow, Row};
 
 /// What a frame says beside its cells.
 #[derive(Clone, Debug, Default, PartialEq, Eq)]
+#[non_exhaustive]
 pub struct PageHead {
     /// The header of the frame, once it came.
     pub header: Option<Header>,

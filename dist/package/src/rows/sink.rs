@@ -1,5 +1,7 @@
 //! Rows of pages of any size, as they come.
 
+use core::fmt;
+
 use crate::cqlp_build_cells::CellLimits;
 use crate::cqlp_decode::Decoder;
 use crate::cqlp_grammar::{Event, Sink, SinkFault};
@@ -63,6 +65,12 @@ impl<T: for<'a> FromRow<'a>, F: FnMut(T) -> Result<(), SinkFault>> RowSink<T, F>
             Fed::Refused { refusal, .. } => Err(refusal.into()),
             Fed::Fault { .. } => Err(self.take_error().unwrap_or(RowError::Stopped)),
         }
+    }
+}
+
+impl<T: Row, F> fmt::Debug for RowSink<T, F> {
+    fn fmt(&self, f: &mut fmt::Formatter<'_>) -> fmt::Result {
+        f.debug_struct("RowSink").field("head", self.head()).finish_non_exhaustive()
     }
 }
 

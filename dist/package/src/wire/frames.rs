@@ -70,19 +70,18 @@ impl Outbox {
         to.flush()
     }
 
-    /// How many bytes were written, sent or not.
-    pub(crate) fn len(&self) -> usize {
-        self.bytes.len()
-    }
-
-    /// Takes back what was written from a length on.
+    /// Takes back what was written after so many bytes that were not sent.
     pub(crate) fn cut(&mut self, len: usize) {
-        self.bytes.truncate(len);
+        self.bytes.truncate(self.sent.saturating_add(len));
     }
 }
 
 impl Target for Outbox {
     fn write(&mut self, bytes: &[u8]) -> Result<usize, IoFault> {
+        if self.sent > self.bytes().len() {
+            self.bytes.drain(..self.sent);
+            self.sent = 0;
+        }
         self.bytes.try_reserve(bytes.len()).map_err(|_| IoFault)?;
         self.bytes.extend_from_slice(bytes);
         Ok(bytes.len())

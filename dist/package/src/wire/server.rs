@@ -197,7 +197,7 @@ impl ServerSide {
 
     /// Puts the ERROR that ends the connection into the outbox, as far as there is memory for it.
     fn end_by(&mut self, error: &Frame, why: WireError) -> WireError {
-        let len = self.outbox.len();
+        let len = self.outbox.bytes().len();
         if encode(error, &mut self.outbox).is_err() {
             self.outbox.cut(len);
         }

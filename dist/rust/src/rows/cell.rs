@@ -349,10 +349,7 @@ fn bytes_at(page: &[u8], start: u32, len: usize) -> &[u8] {
 }
 
 /// So many bytes of a page from an index on, which the decoder took for a text.
-#[inline(never)]
+#[inline]
 fn text_at(page: &[u8], start: u32, len: usize) -> &str {
-    match Scalar::from_bytes(Kind::Varchar, bytes_at(page, start, len)) {
-        Some(Ok(Scalar::Varchar(text))) => text,
-        _ => "",
-    }
+    core::str::from_utf8(bytes_at(page, start, len)).unwrap_or_default()
 }

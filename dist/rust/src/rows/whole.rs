@@ -1,6 +1,7 @@
 //! Rows of a page that is whole in memory.
 
 use alloc::vec::{self, Vec};
+use core::fmt;
 
 use crate::cqlp_build_cells::CellLimits;
 use crate::cqlp_decode::{Decoder, NewError};
@@ -97,6 +98,18 @@ impl PageReader {
     ) -> Result<PageRows<'a, &'r mut PageReader, T>, RowError> {
         let header = header.to_bytes().ok_or(RowError::NoPage)?;
         PageRows::begin(self, Some(header), body)
+    }
+}
+
+impl fmt::Debug for PageReader {
+    fn fmt(&self, f: &mut fmt::Formatter<'_>) -> fmt::Result {
+        f.debug_struct("PageReader").field("limits", &self.limits).finish_non_exhaustive()
+    }
+}
+
+impl<R, T: Row> fmt::Debug for PageRows<'_, R, T> {
+    fn fmt(&self, f: &mut fmt::Formatter<'_>) -> fmt::Result {
+        f.debug_struct("PageRows").field("head", &self.sink.reading.head).finish_non_exhaustive()
     }
 }
 

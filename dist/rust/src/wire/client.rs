@@ -143,7 +143,7 @@ impl<C> ClientSide<C> {
         }
     }
 
-    /// The bytes of the response that was heard last, its header first.
+    /// The bytes of the response that was heard last, its header first: until more is heard or received.
     #[must_use]
     pub fn frame(&self) -> &[u8] {
         self.inbox.bytes_of_last()

@@ -133,7 +133,7 @@ impl Inbox {
         Some((arrival, self.bytes_of_last()))
     }
 
-    /// The bytes of what was handed over last.
+    /// The bytes of what was handed over last: until the next call of [`advance`](Inbox::advance), [`room`](Inbox::room) or one that calls it.
     #[must_use]
     pub fn bytes_of_last(&self) -> &[u8] {
         &self.bytes[self.last.0..self.last.1]
