@@ -1,8 +1,8 @@
 // Written by dist/erase from crates/cqlp_message/src/request.rt.
 //! Parts of requests.
 
-/// A \[value\] of a request, with its bytes. Section 3 of `native_protocol_v4.spec`.
 use crate::kit_std::prelude::{String, Vec};
+/// A \[value\] of a request, with its bytes. Section 3 of `native_protocol_v4.spec`.
 #[derive(Debug, PartialEq, Eq)]
 pub enum OwnedBound {
     /// The value is null.
