@@ -45,7 +45,7 @@ impl HeaderFront {
     pub(crate) fn with(&self, input: &[u8]) -> Self
         ensures { result ≡ self.now ++ take (9 - length self.now) input.now }
     {
-        let old = self.len();
+        let old = usize::from(self.len);
         let moved = input.len().min(9 - old);
         let len = old + moved;
         let mut bytes = self.bytes;

@@ -195,18 +195,21 @@ impl<T: Drop, A: Allocator + Clone> Pairing<T, A> {
     }
 }
 
-/// The message of a record, if there is one.
-fn message_in<T>(record: Option<MessageRecord<T>>) -> Option<Message<T>>
-    ensures { result ≡ record }
+/// The message that waited so, if one did.
+fn message_in<T>(waited: Option<MessageRecord<T>>) -> Option<Message<T>>
+    ensures { result ≡ waited }
 {
-    match record {
-        Some(record) => Some(record.into_message()),
+    match waited {
+        Some(message) => Some(message.into_message()),
         None => None,
     }
 }
 
 /// Where the message under a stream id waits, or where it would.
-fn place_in<T, A: Allocator>(waiting: &VecDeque<MessageRecord<T>, A>, id: i16) -> Result<usize, usize>
+fn place_in<T, A: Allocator>(
+    waiting: &VecDeque<MessageRecord<T>, A>,
+    id: i16,
+) -> Result<usize, usize>
     requires { IsStrictlySortedBy int_cmp (keys_of (by_id waiting.now.items)) }
     ensures found { IfOk result (IsPlace id waiting.now.items) }
     ensures none { IfErr result (IsGap id waiting.now.items) }
@@ -215,7 +218,11 @@ fn place_in<T, A: Allocator>(waiting: &VecDeque<MessageRecord<T>, A>, id: i16) -
 }
 
 /// What becomes of a message after the one that waits under its stream id, if one does, where there is room for one more that waits, or none.
-pub(crate) fn fate_of<T>(first: Option<&MessageRecord<T>>, message: &Message<T>, has_room: bool) -> Fate
+pub(crate) fn fate_of<T>(
+    first: Option<&MessageRecord<T>>,
+    message: &Message<T>,
+    has_room: bool,
+) -> Fate
     ensures { result ≡ fate_of (option_copied first.entry) message.now has_room }
 {
     if message.is_event() {
