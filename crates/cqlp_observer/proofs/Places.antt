@@ -100,6 +100,7 @@ with_place {T} (x ∷ xs) zero m sorted p =
     equal_of Less e = absurd (cc e)
     equal_of Equal e = refl
     equal_of Greater e = absurd (cc e)
+
     equal_own : (i : ℤ) → int_cmp i i ≡ Equal
     equal_own i = equal_of (int_cmp i i) (own_key int_cmp_total i)
 with_place {T} (x ∷ xs) (suc at) m sorted p =

@@ -1,4 +1,5 @@
 pub mod Messages
+pub mod Records
 pub mod Keeping
 pub mod KeptTexts
 pub mod Heads

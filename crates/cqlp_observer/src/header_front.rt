@@ -10,7 +10,7 @@ use std::marker::Model;
 #[derive(Drop)]
 pub(crate) struct HeaderFront {
     bytes: [u8; 9],
-    len: usize,
+    len: u8,
 }
 
 impl Model for HeaderFront {
@@ -38,18 +38,22 @@ impl HeaderFront {
     pub(crate) fn len(&self) -> usize
         ensures { result ≡ length self.now }
     {
-        self.len
+        self.len.into()
     }
 
     /// These bytes, and as many of the input as there is room for.
     pub(crate) fn with(&self, input: &[u8]) -> Self
         ensures { result ≡ self.now ++ take (9 - length self.now) input.now }
     {
-        let moved = input.len().min(9 - self.len);
-        let len = self.len + moved;
+        let old = usize::from(self.len);
+        let moved = input.len().min(9 - old);
+        let len = old + moved;
         let mut bytes = self.bytes;
-        bytes[self.len..len].copy_from_slice(&input[..moved]);
-        HeaderFront { bytes, len }
+        bytes[old..len].copy_from_slice(&input[..moved]);
+        HeaderFront {
+            bytes,
+            len: len as u8,
+        }
     }
 
     /// The header that the bytes are, in this direction, if they are nine.

@@ -3,6 +3,7 @@
 ghost use Rattle.std.specs.Prelude.{◌≡◌, ◌≤◌, if◌then◌else◌, length, take, None};
 ghost use Rattle.cqlp_observer.specs.Directions.{holed, passed_in, shortened};
 
+use crate::frame_record::FrameRecord;
 use crate::header_front::HeaderFront;
 use crate::message::{Extent, Frame};
 use crate::opening::{Opening, opening_with};
@@ -24,7 +25,7 @@ pub(crate) enum Stage {
     },
     /// In the body of this frame, of which so many bytes are still to come.
     Body {
-        frame: Frame,
+        frame: FrameRecord,
         left: u32,
     },
 }
@@ -104,11 +105,11 @@ impl Heads {
         ensures within { result.used ≤ length piece.now }
     {
         let stage = mem::replace(&mut self.stage, Stage::Lost);
-        if let Stage::Body { frame, left: 0 } = stage {
+        if let Stage::Body { frame, left: 0 } = &stage {
             self.stage = Stage::Between;
             return HeardStep {
                 used: 0,
-                heard: Heard::Ends(frame),
+                heard: Heard::Ends(frame.frame()),
             };
         }
         if piece.is_empty() {
@@ -125,7 +126,7 @@ impl Heads {
                 self.fill(HeaderFront::new(), at, time, piece, time)
             }
             Stage::Header { front, at, begun } => self.fill(front, at, begun, piece, time),
-            Stage::Body { frame, left } => self.pass(frame, left, piece, time),
+            Stage::Body { frame, left } => self.pass(frame.frame(), left, piece, time),
         }
     }
 
@@ -145,19 +146,18 @@ impl Heads {
         ensures { closing result self.new ≡ after_gap length time self.old }
     {
         self.count(length);
-        match self.stage {
-            Stage::Body { frame, left } if length < left as u64 => {
-                let left = left - length as u32;
-                self.stage = Stage::Body {
-                    frame: holed(frame),
-                    left,
-                };
+        match &self.stage {
+            Stage::Body { frame, left } if length < *left as u64 => {
+                let left = *left - length as u32;
+                let frame = FrameRecord::new(&holed(frame.frame()));
+                self.stage = Stage::Body { frame, left };
                 None
             }
             Stage::Body { frame, left } => {
-                let is_end = length == left as u64;
+                let is_end = length == *left as u64;
+                let passed = passed_in(frame.frame(), *left, time);
                 self.stage = if is_end { Stage::Between } else { Stage::Lost };
-                Some(passed_in(frame, left, time))
+                Some(passed)
             }
             _ => {
                 if length > 0 {
@@ -173,7 +173,7 @@ impl Heads {
         ensures { closing result self.new ≡ after_end self.old }
     {
         match mem::replace(&mut self.stage, Stage::Lost) {
-            Stage::Body { frame, left } => Some(shortened(frame, left)),
+            Stage::Body { frame, left } => Some(shortened(frame.frame(), left)),
             _ => None,
         }
     }
@@ -182,9 +182,10 @@ impl Heads {
     pub(crate) fn pass_whole(&mut self, time: Option<u64>) -> Option<Frame>
         ensures { closing result self.new ≡ passed_whole time self.old }
     {
-        let Stage::Body { frame, left } = self.stage else {
+        let Stage::Body { frame, left } = &self.stage else {
             return None;
         };
+        let (frame, left) = (frame.frame(), *left);
         self.count(left as u64);
         self.stage = Stage::Between;
         Some(if left == 0 {
@@ -285,7 +286,7 @@ impl Heads {
             extent: Extent::Whole,
         };
         self.stage = Stage::Body {
-            frame,
+            frame: FrameRecord::new(&frame),
             left: header.length,
         };
         HeardStep {
@@ -301,11 +302,12 @@ impl Heads {
     {
         let used = piece.len().min(left as usize);
         self.count(used as u64);
+        let frame = Frame {
+            ended: time,
+            ..frame
+        };
         self.stage = Stage::Body {
-            frame: Frame {
-                ended: time,
-                ..frame
-            },
+            frame: FrameRecord::new(&frame),
             left: left - used as u32,
         };
         HeardStep {

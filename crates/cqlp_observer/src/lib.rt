@@ -1,6 +1,7 @@
 //! What the two sides of a connection say to each other: each request with the response that comes next under its stream id.
 #![tactic(auto)]
 
+mod frame_record;
 mod header_front;
 mod heads;
 mod kept;

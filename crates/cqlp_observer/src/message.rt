@@ -82,7 +82,7 @@ impl<T> Message<T> {
 }
 
 /// Whether one time is known to be no later than another.
-fn is_no_later(one: Option<u64>, other: Option<u64>) -> bool
+pub(crate) fn is_no_later(one: Option<u64>, other: Option<u64>) -> bool
     ensures { result ≡ is_no_later one other }
 {
     match (one, other) {

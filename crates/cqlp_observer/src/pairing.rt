@@ -7,6 +7,7 @@ ghost use Rattle.std.specs.List.Sorted.{IsStrictlySortedBy};
 ghost use Rattle.std.specs.Ordering.{int_cmp};
 ghost use Rattle.cqlp_observer.specs.Pairings.{IsGap, IsPlace, by_id, fate_after, fate_alone, fate_of, is_overtaken};
 
+use crate::frame_record::MessageRecord;
 use crate::message::Message;
 use crate::paired::Paired;
 use std::alloc::{AllocError, Allocator, Global};
@@ -23,7 +24,7 @@ use std::marker::Model;
 #[derive(Drop)]
 pub struct Pairing<T, A: Allocator = Global> {
     /// The messages that wait, the one under the least stream id first.
-    waiting: VecDeque<Message<T>, A>,
+    waiting: VecDeque<MessageRecord<T>, A>,
 }
 
 /// What becomes of the next message.
@@ -86,7 +87,7 @@ impl<T: Drop, A: Allocator + Clone> Pairing<T, A> {
     }
 
     /// The message that waits under a stream id.
-    pub fn under(&self, id: i16) -> Option<&Message<T>>
+    pub(crate) fn under(&self, id: i16) -> Option<&MessageRecord<T>>
         ensures { option_copied result ≡ under id self.now }
     {
         match place_in(&self.waiting, id) {
@@ -136,7 +137,7 @@ impl<T: Drop, A: Allocator + Clone> Pairing<T, A> {
         ensures { paired result self.new ≡ ended self.old }
     {
         match self.waiting.pop_front() {
-            Some(message) => Some(Paired::alone(message)),
+            Some(message) => Some(Paired::alone(message.into_message())),
             None => None,
         }
     }
@@ -157,12 +158,14 @@ impl<T: Drop, A: Allocator + Clone> Pairing<T, A> {
     fn wait(&mut self, message: Message<T>) -> Result<(), AllocError>
         ensures { IfOk result (λ _. self.new ≡ with_message message self.old) }
     {
-        match place_in(&self.waiting, message.stream()) {
+        let id = message.stream();
+        let record = MessageRecord::new(message);
+        match place_in(&self.waiting, id) {
             Ok(at) => {
-                self.waiting[at] = message;
+                self.waiting[at] = record;
                 Ok(())
             }
-            Err(at) => Ok(self.waiting.insert(at, message)?),
+            Err(at) => Ok(self.waiting.insert(at, record)?),
         }
     }
 
@@ -173,7 +176,7 @@ impl<T: Drop, A: Allocator + Clone> Pairing<T, A> {
     {
         match place_in(&self.waiting, id) {
             Ok(at) => {
-                let message = self.waiting.remove(at);
+                let message = message_in(self.waiting.remove(at));
                 self.shrink();
                 message
             }
@@ -192,17 +195,34 @@ impl<T: Drop, A: Allocator + Clone> Pairing<T, A> {
     }
 }
 
+/// The message that waited so, if one did.
+fn message_in<T>(waited: Option<MessageRecord<T>>) -> Option<Message<T>>
+    ensures { result ≡ waited }
+{
+    match waited {
+        Some(message) => Some(message.into_message()),
+        None => None,
+    }
+}
+
 /// Where the message under a stream id waits, or where it would.
-fn place_in<T, A: Allocator>(waiting: &VecDeque<Message<T>, A>, id: i16) -> Result<usize, usize>
+fn place_in<T, A: Allocator>(
+    waiting: &VecDeque<MessageRecord<T>, A>,
+    id: i16,
+) -> Result<usize, usize>
     requires { IsStrictlySortedBy int_cmp (keys_of (by_id waiting.now.items)) }
     ensures found { IfOk result (IsPlace id waiting.now.items) }
     ensures none { IfErr result (IsGap id waiting.now.items) }
 {
-    waiting.binary_search_by_key(&id, |message| message.frame.header.stream)
+    waiting.binary_search_by_key(&id, |message| message.stream())
 }
 
 /// What becomes of a message after the one that waits under its stream id, if one does, where there is room for one more that waits, or none.
-pub(crate) fn fate_of<T>(first: Option<&Message<T>>, message: &Message<T>, has_room: bool) -> Fate
+pub(crate) fn fate_of<T>(
+    first: Option<&MessageRecord<T>>,
+    message: &Message<T>,
+    has_room: bool,
+) -> Fate
     ensures { result ≡ fate_of (option_copied first.entry) message.now has_room }
 {
     if message.is_event() {
@@ -215,7 +235,7 @@ pub(crate) fn fate_of<T>(first: Option<&Message<T>>, message: &Message<T>, has_r
 }
 
 /// What becomes of a message after one that waits under its stream id.
-fn fate_after<T>(first: &Message<T>, second: &Message<T>) -> Fate
+fn fate_after<T>(first: &MessageRecord<T>, second: &Message<T>) -> Fate
     ensures { result ≡ fate_after first.now second.now }
 {
     if first.meets(second) {

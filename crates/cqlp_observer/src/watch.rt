@@ -4,6 +4,7 @@ ghost use Rattle.std.specs.Prelude.{◌≡◌, ◌≤◌, IfOk, length};
 ghost use Rattle.std.specs.Option.{option_copied};
 ghost use Rattle.cqlp_observer.specs.Watches.{recounted, text_in, told_text};
 
+use crate::frame_record::MessageRecord;
 use crate::kept::Kept;
 use crate::message::Message;
 use crate::missed::Missed;
@@ -350,11 +351,11 @@ fn recounted(room: usize, text: usize, was_keeping: bool, is_keeping: bool) -> u
 }
 
 /// How much room the text of a message takes that waits, if one does.
-fn text_in<A: Allocator>(message: Option<&Message<Kept<A>>>) -> usize
+fn text_in<A: Allocator>(message: Option<&MessageRecord<Kept<A>>>) -> usize
     ensures { result ≡ text_in (option_copied message.entry) }
 {
     match message {
-        Some(message) => message.kept.cost(),
+        Some(message) => message.kept().cost(),
         None => 0,
     }
 }

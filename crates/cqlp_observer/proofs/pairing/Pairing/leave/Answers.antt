@@ -17,8 +17,8 @@ invariant_of-self g c =
     let p = rw (to_z-of_z w16 c.args.id fits) at c.in-Ok.ensures.found in
     let d = some_of xs c.in-Ok.at p.within in
     let lt : c.in-Ok.at < c.self.inside.waiting.len = omega (arith, p.within) in
-    let e = c.remove-message.ensures.succeeds d lt in
-    let items = rw e at c.remove-message.ensures.items in
+    let e = c.remove.ensures.succeeds d lt in
+    let items = rw e at c.remove.ensures.items in
     subst (λ (ys : List (Message g.row.T.Denot)). IsOrdered ys) (sym items) (ordered_remove xs c.args.id c.in-Ok.at c.self.invariant p)
 
 pub returns-in-Ok-clause-which : goal.returns-in-Ok-clause-which
@@ -28,9 +28,9 @@ returns-in-Ok-clause-which g c =
     let p = rw (to_z-of_z w16 c.args.id fits) at c.in-Ok.ensures.found in
     let d = some_of xs c.in-Ok.at p.within in
     let lt : c.in-Ok.at < c.self.inside.waiting.len = omega (arith, p.within) in
-    let e = c.remove-message.ensures.succeeds d lt in
+    let e = c.remove.ensures.succeeds d lt in
     let m = slice_index_or xs c.in-Ok.at d in
-    e ∙ sym (under_place xs c.args.id c.in-Ok.at m c.self.invariant p (get_or_default xs c.in-Ok.at d m p.within))
+    c.message_in-message.ensures ∙ e ∙ sym (under_place xs c.args.id c.in-Ok.at m c.self.invariant p (get_or_default xs c.in-Ok.at d m p.within))
     ∙ ap (λ (w : Waiting g.row.T.Denot). under c.args.id w) c.self.view_is
 
 pub returns-in-Ok-clause-others : goal.returns-in-Ok-clause-others
@@ -40,8 +40,8 @@ returns-in-Ok-clause-others g c =
     let p = rw (to_z-of_z w16 c.args.id fits) at c.in-Ok.ensures.found in
     let d = some_of xs c.in-Ok.at p.within in
     let lt : c.in-Ok.at < c.self.inside.waiting.len = omega (arith, p.within) in
-    let e = c.remove-message.ensures.succeeds d lt in
-    let items = rw e at c.remove-message.ensures.items in
+    let e = c.remove.ensures.succeeds d lt in
+    let items = rw e at c.remove.ensures.items in
     c.shrink.ensures ∙ ap (λ (ys : List (Message g.row.T.Denot)). by_id ys) items ∙ without_place xs c.args.id c.in-Ok.at c.self.invariant p
     ∙ ap (λ (w : Waiting g.row.T.Denot). without c.args.id w) c.self.view_is
 
