@@ -6,7 +6,7 @@ use crate::cqlp_note::Header;
 /// At most as many bytes as a header has.
 pub(crate) struct HeaderFront {
     bytes: [u8; 9],
-    len: usize,
+    len: u8,
 }
 
 impl HeaderFront {
@@ -18,16 +18,20 @@ impl HeaderFront {
     }
 
     pub(crate) fn len(&self) -> usize {
-        self.len
+        self.len.into()
     }
 
     /// These bytes, and as many of the input as there is room for.
     pub(crate) fn with(&self, input: &[u8]) -> Self {
-        let moved = input.len().min(9 - self.len);
-        let len = self.len + moved;
+        let old = usize::from(self.len);
+        let moved = input.len().min(9 - old);
+        let len = old + moved;
         let mut bytes = self.bytes;
-        bytes[self.len..len].copy_from_slice(&input[..moved]);
-        HeaderFront { bytes, len }
+        bytes[old..len].copy_from_slice(&input[..moved]);
+        HeaderFront {
+            bytes,
+            len: len as u8,
+        }
     }
 
     /// The header that the bytes are, in this direction, if they are nine.

@@ -1,6 +1,7 @@
 // Written by dist/erase from crates/cqlp_observer/src/heads.rt.
 //! The frames of one direction, by their headers.
 
+use crate::cqlp_observer::frame_record::FrameRecord;
 use crate::cqlp_observer::header_front::HeaderFront;
 use crate::cqlp_observer::message::{Extent, Frame};
 use crate::cqlp_observer::opening::{Opening, opening_with};
@@ -21,7 +22,7 @@ pub(crate) enum Stage {
     },
     /// In the body of this frame, of which so many bytes are still to come.
     Body {
-        frame: Frame,
+        frame: FrameRecord,
         left: u32,
     },
 }
@@ -86,11 +87,11 @@ impl Heads {
     /// with the bytes that were not used, until it says `More`.
     pub fn take(&mut self, piece: &[u8], time: Option<u64>, begins: bool) -> HeardStep {
         let stage = mem::replace(&mut self.stage, Stage::Lost);
-        if let Stage::Body { frame, left: 0 } = stage {
+        if let Stage::Body { frame, left: 0 } = &stage {
             self.stage = Stage::Between;
             return HeardStep {
                 used: 0,
-                heard: Heard::Ends(frame),
+                heard: Heard::Ends(frame.frame()),
             };
         }
         if piece.is_empty() {
@@ -107,7 +108,7 @@ impl Heads {
                 self.fill(HeaderFront::new(), at, time, piece, time)
             }
             Stage::Header { front, at, begun } => self.fill(front, at, begun, piece, time),
-            Stage::Body { frame, left } => self.pass(frame, left, piece, time),
+            Stage::Body { frame, left } => self.pass(frame.frame(), left, piece, time),
         }
     }
 
@@ -123,19 +124,18 @@ impl Heads {
     /// is told, as `Holed`, unless all its bytes came before.
     pub fn gap(&mut self, length: u64, time: Option<u64>) -> Option<Frame> {
         self.count(length);
-        match self.stage {
-            Stage::Body { frame, left } if length < left as u64 => {
-                let left = left - length as u32;
-                self.stage = Stage::Body {
-                    frame: holed(frame),
-                    left,
-                };
+        match &self.stage {
+            Stage::Body { frame, left } if length < *left as u64 => {
+                let left = *left - length as u32;
+                let frame = FrameRecord::new(&holed(frame.frame()));
+                self.stage = Stage::Body { frame, left };
                 None
             }
             Stage::Body { frame, left } => {
-                let is_end = length == left as u64;
+                let is_end = length == *left as u64;
+                let passed = passed_in(frame.frame(), *left, time);
                 self.stage = if is_end { Stage::Between } else { Stage::Lost };
-                Some(passed_in(frame, left, time))
+                Some(passed)
             }
             _ => {
                 if length > 0 {
@@ -149,16 +149,17 @@ impl Heads {
     /// No more bytes come. The frame of which some did is told, as `Short`, unless all its bytes came.
     pub fn end(&mut self) -> Option<Frame> {
         match mem::replace(&mut self.stage, Stage::Lost) {
-            Stage::Body { frame, left } => Some(shortened(frame, left)),
+            Stage::Body { frame, left } => Some(shortened(frame.frame(), left)),
             _ => None,
         }
     }
 
     /// All that is left of the body came, the last of it at this time: its frame ends.
     pub(crate) fn pass_whole(&mut self, time: Option<u64>) -> Option<Frame> {
-        let Stage::Body { frame, left } = self.stage else {
+        let Stage::Body { frame, left } = &self.stage else {
             return None;
         };
+        let (frame, left) = (frame.frame(), *left);
         self.count(left as u64);
         self.stage = Stage::Between;
         Some(if left == 0 {
@@ -245,7 +246,7 @@ impl Heads {
             extent: Extent::Whole,
         };
         self.stage = Stage::Body {
-            frame,
+            frame: FrameRecord::new(&frame),
             left: header.length,
         };
         HeardStep {
@@ -258,11 +259,12 @@ impl Heads {
     fn pass(&mut self, frame: Frame, left: u32, piece: &[u8], time: Option<u64>) -> HeardStep {
         let used = piece.len().min(left as usize);
         self.count(used as u64);
+        let frame = Frame {
+            ended: time,
+            ..frame
+        };
         self.stage = Stage::Body {
-            frame: Frame {
-                ended: time,
-                ..frame
-            },
+            frame: FrameRecord::new(&frame),
             left: left - used as u32,
         };
         HeardStep {

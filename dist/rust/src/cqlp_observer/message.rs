@@ -70,7 +70,7 @@ impl<T> Message<T> {
 }
 
 /// Whether one time is known to be no later than another.
-fn is_no_later(one: Option<u64>, other: Option<u64>) -> bool {
+pub(crate) fn is_no_later(one: Option<u64>, other: Option<u64>) -> bool {
     match (one, other) {
         (Some(one), Some(other)) => one <= other,
         _ => false,

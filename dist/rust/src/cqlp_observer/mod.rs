@@ -1,6 +1,7 @@
 // Written by dist/erase from crates/cqlp_observer/src/lib.rt.
 //! What the two sides of a connection say to each other: each request with the response that comes next under its stream id.
 
+mod frame_record;
 mod header_front;
 mod heads;
 mod kept;

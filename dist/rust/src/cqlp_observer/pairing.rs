@@ -2,6 +2,7 @@
 //! Which requests wait for their responses, and which responses for their requests.
 
 use crate::kit_std::prelude::{Clone};
+use crate::cqlp_observer::frame_record::MessageRecord;
 use crate::cqlp_observer::message::Message;
 use crate::cqlp_observer::paired::Paired;
 use crate::kit_std::alloc::{AllocError, Allocator, Global};
@@ -16,7 +17,7 @@ use crate::kit_std::collections::VecDeque;
 /// wait, and none where none does.
 pub struct Pairing<T, A: Allocator = Global> {
     /// The messages that wait, the one under the least stream id first.
-    waiting: VecDeque<Message<T>, A>,
+    waiting: VecDeque<MessageRecord<T>, A>,
 }
 
 /// What becomes of the next message.
@@ -55,7 +56,7 @@ impl<T, A: Allocator + Clone> Pairing<T, A> {
     }
 
     /// The message that waits under a stream id.
-    pub fn under(&self, id: i16) -> Option<&Message<T>> {
+    pub(crate) fn under(&self, id: i16) -> Option<&MessageRecord<T>> {
         match place_in(&self.waiting, id) {
             Ok(at) => Some(&self.waiting[at]),
             Err(_) => None,
@@ -97,7 +98,7 @@ impl<T, A: Allocator + Clone> Pairing<T, A> {
     /// Where no more frames come: the message under the least stream id, which waits no more. `None` once none waits.
     pub fn end(&mut self) -> Option<Paired<T>> {
         match self.waiting.pop_front() {
-            Some(message) => Some(Paired::alone(message)),
+            Some(message) => Some(Paired::alone(message.into_message())),
             None => None,
         }
     }
@@ -114,12 +115,14 @@ impl<T, A: Allocator + Clone> Pairing<T, A> {
 
     /// A message waits under its stream id.
     fn wait(&mut self, message: Message<T>) -> Result<(), AllocError> {
-        match place_in(&self.waiting, message.stream()) {
+        let id = message.stream();
+        let record = MessageRecord::new(message);
+        match place_in(&self.waiting, id) {
             Ok(at) => {
-                self.waiting[at] = message;
+                self.waiting[at] = record;
                 Ok(())
             }
-            Err(at) => Ok(self.waiting.insert(at, message)?),
+            Err(at) => Ok(self.waiting.insert(at, record)?),
         }
     }
 
@@ -127,7 +130,7 @@ impl<T, A: Allocator + Clone> Pairing<T, A> {
     fn leave(&mut self, id: i16) -> Option<Message<T>> {
         match place_in(&self.waiting, id) {
             Ok(at) => {
-                let message = self.waiting.remove(at);
+                let message = message_in(self.waiting.remove(at));
                 self.shrink();
                 message
             }
@@ -144,13 +147,28 @@ impl<T, A: Allocator + Clone> Pairing<T, A> {
     }
 }
 
+/// The message that waited so, if one did.
+fn message_in<T>(waited: Option<MessageRecord<T>>) -> Option<Message<T>> {
+    match waited {
+        Some(message) => Some(message.into_message()),
+        None => None,
+    }
+}
+
 /// Where the message under a stream id waits, or where it would.
-fn place_in<T, A: Allocator>(waiting: &VecDeque<Message<T>, A>, id: i16) -> Result<usize, usize> {
-    waiting.binary_search_by_key(&id, |message| message.frame.header.stream)
+fn place_in<T, A: Allocator>(
+    waiting: &VecDeque<MessageRecord<T>, A>,
+    id: i16,
+) -> Result<usize, usize> {
+    waiting.binary_search_by_key(&id, |message| message.stream())
 }
 
 /// What becomes of a message after the one that waits under its stream id, if one does, where there is room for one more that waits, or none.
-pub(crate) fn fate_of<T>(first: Option<&Message<T>>, message: &Message<T>, has_room: bool) -> Fate {
+pub(crate) fn fate_of<T>(
+    first: Option<&MessageRecord<T>>,
+    message: &Message<T>,
+    has_room: bool,
+) -> Fate {
     if message.is_event() {
         return Fate::IsTold;
     }
@@ -161,7 +179,7 @@ pub(crate) fn fate_of<T>(first: Option<&Message<T>>, message: &Message<T>, has_r
 }
 
 /// What becomes of a message after one that waits under its stream id.
-fn fate_after<T>(first: &Message<T>, second: &Message<T>) -> Fate {
+fn fate_after<T>(first: &MessageRecord<T>, second: &Message<T>) -> Fate {
     if first.meets(second) {
         Fate::Meets
     } else {

@@ -2,6 +2,7 @@
 //! Both sides of one connection.
 
 use crate::kit_std::prelude::{Clone};
+use crate::cqlp_observer::frame_record::MessageRecord;
 use crate::cqlp_observer::kept::Kept;
 use crate::cqlp_observer::message::Message;
 use crate::cqlp_observer::missed::Missed;
@@ -295,9 +296,9 @@ fn recounted(room: usize, text: usize, was_keeping: bool, is_keeping: bool) -> u
 }
 
 /// How much room the text of a message takes that waits, if one does.
-fn text_in<A: Allocator>(message: Option<&Message<Kept<A>>>) -> usize {
+fn text_in<A: Allocator>(message: Option<&MessageRecord<Kept<A>>>) -> usize {
     match message {
-        Some(message) => message.kept.cost(),
+        Some(message) => message.kept().cost(),
         None => 0,
     }
 }

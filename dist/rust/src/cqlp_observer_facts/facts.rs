@@ -51,41 +51,17 @@ impl Facts {
         }
     }
 
-    /// These, and one more. One that is known stays.
-    pub(crate) fn with(self, fact: Fact) -> Facts {
+    /// One more is known. One that was known stays.
+    pub(crate) fn add(&mut self, fact: Fact) {
         match fact {
-            Fact::Consistency(level) => Facts {
-                consistency: known_or(self.consistency, level),
-                ..self
-            },
-            Fact::PageSize(size) => Facts {
-                page_size: known_or(self.page_size, size),
-                ..self
-            },
-            Fact::TraceId(id) => Facts {
-                trace_id: known_or(self.trace_id, id),
-                ..self
-            },
-            Fact::Warnings(count) => Facts {
-                warnings: known_or(self.warnings, count),
-                ..self
-            },
-            Fact::Result(kind) => Facts {
-                result: known_or(self.result, kind),
-                ..self
-            },
-            Fact::Error(code) => Facts {
-                error: known_or(self.error, code),
-                ..self
-            },
-            Fact::Rows(count) => Facts {
-                rows: known_or(self.rows, count),
-                ..self
-            },
-            Fact::Columns(count) => Facts {
-                columns: known_or(self.columns, count),
-                ..self
-            },
+            Fact::Consistency(level) => self.consistency = known_or(self.consistency, level),
+            Fact::PageSize(size) => self.page_size = known_or(self.page_size, size),
+            Fact::TraceId(id) => self.trace_id = known_or(self.trace_id, id),
+            Fact::Warnings(count) => self.warnings = known_or(self.warnings, count),
+            Fact::Result(kind) => self.result = known_or(self.result, kind),
+            Fact::Error(code) => self.error = known_or(self.error, code),
+            Fact::Rows(count) => self.rows = known_or(self.rows, count),
+            Fact::Columns(count) => self.columns = known_or(self.columns, count),
         }
     }
 }

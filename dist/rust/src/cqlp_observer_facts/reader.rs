@@ -142,7 +142,7 @@ impl FactsReader {
         self.passing = next.passing;
         self.front = FieldFront::new();
         if let Some(fact) = next.fact {
-            self.facts = self.facts.with(fact);
+            self.facts.add(fact);
         }
     }
 }

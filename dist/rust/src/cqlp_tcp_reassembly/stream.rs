@@ -111,6 +111,39 @@ impl<A: Allocator> Stream<A> {
         }
     }
 
+    /// That an acknowledgement of the other side brings nothing and changes nothing, whatever its number: neither bytes that came early
+    /// nor FIN are known. Where this says no, that may be so too.
+    #[inline]
+    pub fn ignores_acknowledgements(&self) -> bool {
+        match self.stage {
+            Stage::Over | Stage::Unseen => true,
+            Stage::Open => self.is_plain(),
+        }
+    }
+
+    /// That `take` of a segment brings nothing and changes nothing, since all of it lies behind, and neither FIN nor bytes that came
+    /// early are known. Where this says no, that may be so too.
+    #[inline]
+    pub fn is_behind(&self, segment: &StreamSegment<'_>) -> bool {
+        let control = segment.control;
+        if !self.is_open() || control.rst || control.fin || !self.is_plain() {
+            return false;
+        }
+        let place = segment.place(self.first, self.position);
+        place.to <= place.at
+    }
+
+    #[inline]
+    fn is_open(&self) -> bool {
+        matches!(self.stage, Stage::Open)
+    }
+
+    /// Whether it goes on, and neither bytes that came early nor FIN are known.
+    #[inline]
+    fn is_plain(&self) -> bool {
+        self.runs.is_empty() && self.end.get().is_none() && self.position < LONGEST
+    }
+
     /// Forgets all that it has, and gives its memory back: it is a stream of which nothing was seen.
     pub fn clear(&mut self) {
         self.runs.clear();
