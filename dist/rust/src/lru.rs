@@ -40,8 +40,16 @@ impl Hasher for Hashed {
 
 /// What a key hashes of itself, in one piece.
 struct Pieces {
-    bytes: [u8; 128],
+    bytes: [u8; 64],
     len: usize,
+}
+
+impl Pieces {
+    #[inline]
+    fn put<const N: usize>(&mut self, piece: [u8; N]) {
+        self.bytes[self.len..][..N].copy_from_slice(&piece);
+        self.len += N;
+    }
 }
 
 impl Hasher for Pieces {
@@ -49,19 +57,27 @@ impl Hasher for Pieces {
         self.len as u64
     }
 
+    #[inline]
     fn write(&mut self, piece: &[u8]) {
         self.bytes[self.len..][..piece.len()].copy_from_slice(piece);
         self.len += piece.len();
     }
 
+    #[inline]
+    fn write_u16(&mut self, n: u16) {
+        self.put(n.to_ne_bytes());
+    }
+
     /// Which of its kinds an address is.
+    #[inline]
     fn write_isize(&mut self, n: isize) {
-        self.write_u8(n as u8);
+        self.put([n as u8]);
     }
 
     /// How long its octets are.
+    #[inline]
     fn write_usize(&mut self, n: usize) {
-        self.write_u8(n as u8);
+        self.put([n as u8]);
     }
 }
 
@@ -107,10 +123,13 @@ impl<K: Copy + Eq + Hash, V, S, A: Allocator> LruCache<K, V, S, A> {
         self.pair(self.last)
     }
 
+    #[inline]
     fn hash(&self, key: &K) -> u64 {
-        let mut pieces = Pieces { bytes: [0; 128], len: 0 };
+        let mut pieces = Pieces { bytes: [0; 64], len: 0 };
         key.hash(&mut pieces);
-        self.state.hash_one(&pieces.bytes[..pieces.len])
+        let mut hasher = self.state.build_hasher();
+        hasher.write(&pieces.bytes[..pieces.len]);
+        hasher.finish()
     }
 
     /// Where the entry of this key is. That of the entry that was used last is found without a hash.
