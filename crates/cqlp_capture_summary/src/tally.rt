@@ -304,10 +304,7 @@ fn later(one: Option<u64>, other: Option<u64>) -> Option<u64>
 pub(crate) fn time_of(took: Option<u64>) -> u64
     ensures { result ≡ time_of took }
 {
-    match took {
-        Some(took) => took,
-        None => 0,
-    }
+    took.unwrap_or(0)
 }
 
 fn error_count(is_error: bool) -> u64
