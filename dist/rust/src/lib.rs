@@ -366,7 +366,6 @@ mod cqlp_type;
 mod cqlp_type_tables;
 #[rustfmt::skip]
 mod cqlp_value;
-#[allow(clippy::missing_errors_doc)]
 #[rustfmt::skip]
 mod cqlp_observer;
 mod errors;
