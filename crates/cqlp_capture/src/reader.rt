@@ -213,14 +213,35 @@ impl<A: Allocator> CaptureReader<A> {
         }
     }
 
-    /// One step, or as many as the input has bytes of those that are passed over.
+    /// One step, or as many as the input has bytes of those that are passed over. The two steps of a pcap file's packet are compiled
+    /// each for itself.
+    #[inline]
     fn take_step(&mut self, input: &[u8]) -> StepTaken
         requires { self.old.refusal ≡ None }
         ensures { TakesStep self.old input.now result self.new }
     {
-        if let Stage::Pass(block, until) = self.place.stage {
-            return self.pass(block, until, input);
+        match self.place.stage {
+            Stage::RecordHead(_) => self.take_bytes(input),
+            Stage::Data(..) => self.take_bytes(input),
+            Stage::Pass(block, until) => self.pass(block, until, input),
+            _ => self.take_rare(input),
         }
+    }
+
+    /// The same of the steps that are rare, out of line.
+    fn take_rare(&mut self, input: &[u8]) -> StepTaken
+        requires { self.old.refusal ≡ None }
+        ensures { TakesStep self.old input.now result self.new }
+    {
+        self.take_bytes(input)
+    }
+
+    /// One step.
+    #[inline(always)]
+    fn take_bytes(&mut self, input: &[u8]) -> StepTaken
+        requires { self.old.refusal ≡ None }
+        ensures { TakesStep self.old input.now result self.new }
+    {
         let Some(found) = self.gathered.gather(self.place.stage.wanted(), input) else {
             return StepTaken::More;
         };

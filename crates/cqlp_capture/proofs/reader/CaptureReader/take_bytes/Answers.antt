@@ -1,8 +1,8 @@
 use Rattle.std.proofs.Common.{sym, ap, ◌∙◌}
 use Rattle.cqlp_capture.specs.Progress.{CaptureState}
 use Rattle.cqlp_capture.proofs.Advancing.{change_fits, told_lawful, told_passes, told_hands, told_fails}
-use Rattle.cqlp_capture.proofs.reader.CaptureReader.take_step.Goals as goal
-use Rattle.cqlp_capture.proofs.reader.CaptureReader.take_step.Goals.{in-None, in-Some-what}
+use Rattle.cqlp_capture.proofs.reader.CaptureReader.take_bytes.Goals as goal
+use Rattle.cqlp_capture.proofs.reader.CaptureReader.take_bytes.Goals.{in-None, in-Some-what}
 
 pub apply-requires : goal.apply-requires
 apply-requires g c =
