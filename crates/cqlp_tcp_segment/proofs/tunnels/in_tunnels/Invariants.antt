@@ -1,6 +1,6 @@
 use Rattle.std.proofs.Common.{◌≡◌, ◌+◌, ◌<◌, ◌^◌, length}
 use Rattle.cqlp_tcp_segment.specs.Tunnels.{innermost}
-use Rattle.cqlp_tcp_segment.proofs.tunnels.innermost.Given as goal
+use Rattle.cqlp_tcp_segment.proofs.tunnels.in_tunnels.Given as goal
 
 abbrev pub invariant-loop-left : goal.invariant-loop-left
 invariant-loop-left l = record {
