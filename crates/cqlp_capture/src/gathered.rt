@@ -82,6 +82,7 @@ impl<A: Allocator> GatheredBytes<A> {
 
     /// The bytes that are wanted, of which those that are held have come, if the input has the others. They are lent from
     /// the input where none had come. Else the input is held too.
+    #[inline(always)]
     pub fn gather(&mut self, wanted: usize, input: &[u8]) -> Option<FoundBytes>
         requires fits { wanted ≤ self.old.room }
         requires fewer { length self.old.pending ≤ wanted }
@@ -108,6 +109,7 @@ impl<A: Allocator> GatheredBytes<A> {
     }
 
     /// The bytes that lie there.
+    #[inline]
     pub fn lend<'a>(&'a self, input: &'a [u8], lies: BytesPlace) -> &'a [u8]
         requires { LieThere lies input.now }
         ensures { result.now ≡ bytes_at lies input.now self.now.held }
@@ -119,6 +121,7 @@ impl<A: Allocator> GatheredBytes<A> {
     }
 
     /// Holds only bytes of those that are wanted.
+    #[inline]
     fn begin(&mut self)
         ensures { self.new ≡ begun self.old.pending self.old.room }
     {

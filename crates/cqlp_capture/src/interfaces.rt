@@ -73,6 +73,7 @@ impl<A: Allocator> InterfaceTable<A> {
     }
 
     /// The interfaces, of which the first has the number 0.
+    #[inline]
     pub fn known(&self) -> &[KnownInterface]
         ensures { result.now ≡ self.now.known }
     {
@@ -87,6 +88,7 @@ impl<A: Allocator> InterfaceTable<A> {
     }
 
     /// Makes this change.
+    #[inline]
     pub fn apply(&mut self, change: TableChange)
         requires { length (changed change self.old.known) ≤ self.old.room }
         ensures { self.new ≡ interfaces (changed change self.old.known) self.old.room }

@@ -16,7 +16,7 @@ use crate::refusal::{CaptureReason, CaptureRefusal};
 use crate::telling::{read_next, refuse, skip};
 
 /// That these bytes, up to this offset, are all of a packet.
-#[inline]
+#[inline(always)]
 pub(crate) fn tell_data(end: u64, offset: u64, stage: Stage) -> Result<Told, CaptureRefusal>
     ensures { result ≡ told_data end offset stage }
 {

@@ -99,7 +99,7 @@ impl Place {
     ghost use Rattle.cqlp_capture.specs.Places.{HasRecordBefore, began, is_between};
 
     /// What the bytes say that are read next, under these limits, where these are the interfaces so far.
-    #[inline]
+    #[inline(always)]
     pub fn tell(
         self,
         limits: &CaptureLimits,
