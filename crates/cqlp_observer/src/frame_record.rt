@@ -7,7 +7,7 @@ use crate::message::{Extent, Frame, Message, is_no_later};
 use cqlp_note::Header;
 use std::marker::Model;
 
-/// A frame, as it is kept while it passes or waits: 40 bytes in place of 56.
+/// A frame, as it is kept while it waits: 40 bytes in place of 56.
 #[derive(Drop)]
 pub(crate) struct FrameRecord {
     header: Header,
@@ -59,7 +59,7 @@ impl FrameRecord {
 }
 
 /// Whether a time is known, and its number, or 0.
-fn parts_of(time: Option<u64>) -> (bool, u64)
+pub(crate) fn parts_of(time: Option<u64>) -> (bool, u64)
     ensures { time_of result.0 result.1 ≡ time }
 {
     match time {
@@ -69,7 +69,7 @@ fn parts_of(time: Option<u64>) -> (bool, u64)
 }
 
 /// The time with this number, if it is known.
-fn time_of(is_known: bool, time: u64) -> Option<u64>
+pub(crate) fn time_of(is_known: bool, time: u64) -> Option<u64>
     ensures { result ≡ time_of is_known time }
 {
     if is_known { Some(time) } else { None }

@@ -3,12 +3,11 @@
 ghost use Rattle.std.specs.Prelude.{◌≡◌, ◌≤◌, if◌then◌else◌, length, take, None};
 ghost use Rattle.cqlp_observer.specs.Directions.{holed, passed_in, shortened};
 
-use crate::frame_record::FrameRecord;
 use crate::header_front::HeaderFront;
 use crate::message::{Extent, Frame};
 use crate::opening::{Opening, opening_with};
+use crate::stage_record::StageRecord;
 use cqlp_note::Header;
-use std::mem;
 
 /// Where a direction stands.
 #[derive(Drop)]
@@ -25,19 +24,9 @@ pub(crate) enum Stage {
     },
     /// In the body of this frame, of which so many bytes are still to come.
     Body {
-        frame: FrameRecord,
+        frame: Frame,
         left: u32,
     },
-}
-
-impl Stage {
-    ghost use Rattle.cqlp_observer.specs.Openings.{is_between};
-
-    fn is_between(&self) -> bool
-        ensures { result ≡ is_between self.now }
-    {
-        matches!(self, Stage::Between)
-    }
 }
 
 /// What bytes of a direction are.
@@ -72,7 +61,7 @@ pub struct Heads {
     responses: bool,
     /// How many bytes, and bytes of gaps, came.
     position: u64,
-    stage: Stage,
+    stage: StageRecord,
 }
 
 impl Heads {
@@ -94,7 +83,7 @@ impl Heads {
         Heads {
             responses,
             position: 0,
-            stage,
+            stage: StageRecord::new(stage),
         }
     }
 
@@ -104,16 +93,16 @@ impl Heads {
         ensures told { stepping result self.new ≡ heard time begins piece.now self.old }
         ensures within { result.used ≤ length piece.now }
     {
-        let stage = mem::replace(&mut self.stage, Stage::Lost);
-        if let Stage::Body { frame, left: 0 } = &stage {
-            self.stage = Stage::Between;
+        let stage = self.stage.take();
+        if let Stage::Body { frame, left: 0 } = stage {
+            self.stage = StageRecord::new(Stage::Between);
             return HeardStep {
                 used: 0,
-                heard: Heard::Ends(frame.frame()),
+                heard: Heard::Ends(frame),
             };
         }
         if piece.is_empty() {
-            self.stage = stage;
+            self.stage = StageRecord::new(stage);
             return HeardStep {
                 used: 0,
                 heard: Heard::More,
@@ -126,7 +115,7 @@ impl Heads {
                 self.fill(HeaderFront::new(), at, time, piece, time)
             }
             Stage::Header { front, at, begun } => self.fill(front, at, begun, piece, time),
-            Stage::Body { frame, left } => self.pass(frame.frame(), left, piece, time),
+            Stage::Body { frame, left } => self.pass(frame, left, piece, time),
         }
     }
 
@@ -146,23 +135,24 @@ impl Heads {
         ensures { closing result self.new ≡ after_gap length time self.old }
     {
         self.count(length);
-        match &self.stage {
-            Stage::Body { frame, left } if length < *left as u64 => {
-                let left = *left - length as u32;
-                let frame = FrameRecord::new(&holed(frame.frame()));
-                self.stage = Stage::Body { frame, left };
+        match self.stage.take() {
+            Stage::Body { frame, left } if length < left as u64 => {
+                let left = left - length as u32;
+                self.stage = StageRecord::new(Stage::Body {
+                    frame: holed(frame),
+                    left,
+                });
                 None
             }
             Stage::Body { frame, left } => {
-                let is_end = length == *left as u64;
-                let passed = passed_in(frame.frame(), *left, time);
-                self.stage = if is_end { Stage::Between } else { Stage::Lost };
-                Some(passed)
+                let is_end = length == left as u64;
+                let stage = if is_end { Stage::Between } else { Stage::Lost };
+                self.stage = StageRecord::new(stage);
+                Some(passed_in(frame, left, time))
             }
-            _ => {
-                if length > 0 {
-                    self.stage = Stage::Lost;
-                }
+            stage => {
+                let stage = if length > 0 { Stage::Lost } else { stage };
+                self.stage = StageRecord::new(stage);
                 None
             }
         }
@@ -172,8 +162,8 @@ impl Heads {
     pub fn end(&mut self) -> Option<Frame>
         ensures { closing result self.new ≡ after_end self.old }
     {
-        match mem::replace(&mut self.stage, Stage::Lost) {
-            Stage::Body { frame, left } => Some(shortened(frame.frame(), left)),
+        match self.stage.take() {
+            Stage::Body { frame, left } => Some(shortened(frame, left)),
             _ => None,
         }
     }
@@ -182,20 +172,24 @@ impl Heads {
     pub(crate) fn pass_whole(&mut self, time: Option<u64>) -> Option<Frame>
         ensures { closing result self.new ≡ passed_whole time self.old }
     {
-        let Stage::Body { frame, left } = &self.stage else {
-            return None;
-        };
-        let (frame, left) = (frame.frame(), *left);
-        self.count(left as u64);
-        self.stage = Stage::Between;
-        Some(if left == 0 {
-            frame
-        } else {
-            Frame {
-                ended: time,
-                ..frame
+        match self.stage.take() {
+            Stage::Body { frame, left } => {
+                self.count(left as u64);
+                self.stage = StageRecord::new(Stage::Between);
+                Some(if left == 0 {
+                    frame
+                } else {
+                    Frame {
+                        ended: time,
+                        ..frame
+                    }
+                })
             }
-        })
+            stage => {
+                self.stage = StageRecord::new(stage);
+                None
+            }
+        }
     }
 
     /// Looks for a frame where a segment begins.
@@ -226,7 +220,7 @@ impl Heads {
         ensures within { result.used ≡ used }
     {
         self.count(used as u64);
-        self.stage = Stage::Lost;
+        self.stage = StageRecord::new(Stage::Lost);
         HeardStep {
             used,
             heard: Heard::Stray,
@@ -249,11 +243,11 @@ impl Heads {
         let used = more.len() - front.len();
         if more.len() < 9 {
             self.count(used as u64);
-            self.stage = Stage::Header {
+            self.stage = StageRecord::new(Stage::Header {
                 front: more,
                 at,
                 begun,
-            };
+            });
             return HeardStep {
                 used,
                 heard: Heard::More,
@@ -285,10 +279,10 @@ impl Heads {
             ended: last,
             extent: Extent::Whole,
         };
-        self.stage = Stage::Body {
-            frame: FrameRecord::new(&frame),
+        self.stage = StageRecord::new(Stage::Body {
+            frame,
             left: header.length,
-        };
+        });
         HeardStep {
             used,
             heard: Heard::Begins(header),
@@ -302,14 +296,13 @@ impl Heads {
     {
         let used = piece.len().min(left as usize);
         self.count(used as u64);
-        let frame = Frame {
-            ended: time,
-            ..frame
-        };
-        self.stage = Stage::Body {
-            frame: FrameRecord::new(&frame),
+        self.stage = StageRecord::new(Stage::Body {
+            frame: Frame {
+                ended: time,
+                ..frame
+            },
             left: left - used as u32,
-        };
+        });
         HeardStep {
             used,
             heard: Heard::Body,

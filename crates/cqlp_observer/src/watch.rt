@@ -8,6 +8,7 @@ use crate::frame_record::MessageRecord;
 use crate::kept::Kept;
 use crate::message::Message;
 use crate::missed::Missed;
+use crate::missed_record::MissedRecord;
 use crate::opening::Opening;
 use crate::paired::Paired;
 use crate::pairing::{Fate, Pairing, fate_of};
@@ -23,7 +24,7 @@ use std::marker::Model;
 /// of the messages that still wait, until it says `None`.
 ///
 /// It has no limit of its own: each call is told how much may wait ([`WatchRoom`]). Memory is taken for what waits and for the texts of the two messages
-/// that pass, and given back with them. After a call that was refused memory it is not to be used again.
+/// that pass, and given back with them; and once more than 65,535 of one kind were missed. After a call that was refused memory it is not to be used again.
 #[derive(Drop)]
 pub struct Watch<A: Allocator = Global> {
     requests: Side<A>,
@@ -31,7 +32,7 @@ pub struct Watch<A: Allocator = Global> {
     pairing: Pairing<Kept<A>, A>,
     /// How many bytes of room the texts take of the messages that wait and of those that pass.
     text: usize,
-    missed: Missed,
+    missed: MissedRecord<A>,
 }
 
 /// What the first so many bytes of a piece tell.
@@ -70,9 +71,9 @@ impl<A: Allocator + Clone> Watch<A> {
         Ok(Watch {
             requests: Side::new(alloc.clone()?, false, false),
             responses: Side::new(alloc.clone()?, true, false),
-            pairing: Pairing::new(alloc)?,
+            pairing: Pairing::new(alloc.clone()?)?,
             text: 0,
-            missed: Missed::NONE,
+            missed: MissedRecord::new(alloc),
         })
     }
 
@@ -107,7 +108,7 @@ impl<A: Allocator + Clone> Watch<A> {
         ensures within { IfOk result (λ step. step.used ≤ length piece.now) }
     {
         let opening = self.opening(responses, piece);
-        self.missed.count_opening(opening);
+        self.missed.count_opening(opening)?;
         let step = self.read(responses, piece, time, begins, room)?;
         Ok(WatchStep {
             used: step.used,
@@ -131,7 +132,7 @@ impl<A: Allocator + Clone> Watch<A> {
     ) -> Result<Option<Paired<Kept<A>>>, AllocError>
         ensures { IfOk result (λ told. telling told self.new ≡ after_gap responses length time room self.old) }
     {
-        self.missed.count_gap();
+        self.missed.count_gap()?;
         let was_keeping = self.is_keeping(responses);
         let message = if responses {
             self.responses.gap(length, time)?
@@ -191,7 +192,7 @@ impl<A: Allocator + Clone> Watch<A> {
     pub fn missed(&self) -> Missed
         ensures { result ≡ self.now.missed }
     {
-        self.missed
+        self.missed.missed()
     }
 
     /// What these bytes of a direction are that come next, if none came before.
@@ -249,7 +250,7 @@ impl<A: Allocator + Clone> Watch<A> {
         };
         self.recount(responses, room, was_keeping);
         if step.is_bare {
-            self.missed.count_text();
+            self.missed.count_text()?;
         }
         Ok(step)
     }
@@ -300,7 +301,7 @@ impl<A: Allocator + Clone> Watch<A> {
             }
             Fate::Waits => self.fit(message, beside, room),
             Fate::IsOvertaken => {
-                self.missed.count_overtaken();
+                self.missed.count_overtaken()?;
                 Ok(message)
             }
         }
@@ -321,7 +322,7 @@ impl<A: Allocator + Clone> Watch<A> {
             Ok(message)
         } else {
             self.text = beside;
-            self.missed.count_text();
+            self.missed.count_text()?;
             Ok(Message {
                 frame: message.frame,
                 kept: Kept::bare(),

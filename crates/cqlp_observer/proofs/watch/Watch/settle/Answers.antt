@@ -25,10 +25,10 @@ returns-in-Waits g c =
     ∙ ap (λ (v : Watched). settled c.args.message c.args.has_room c.args.room v) c.self.view_is in
     subst (λ (x : Fits). IfOk c.fit.result (λ m. fitting m c.fit.new.self ≡ x)) same c.fit.ensures
 
-pub returns-in-IsOvertaken : goal.returns-in-IsOvertaken
-returns-in-IsOvertaken g c =
+pub returns-in_ok-count_overtaken-in-IsOvertaken : goal.returns-in_ok-count_overtaken-in-IsOvertaken
+returns-in_ok-count_overtaken-in-IsOvertaken g c =
     let fits : SFits w16 c.stream.result = search rules in
     let found = rw (to_z-of_z w16 c.stream.result fits, c.stream.ensures) at c.under-first.ensures in
     let w = watched c.self.inside.requests c.self.inside.responses c.self.inside.pairing c.self.inside.text c.self.inside.missed in
-    rw c.count_overtaken.ensures (settled_overtaken c.args.message c.args.has_room c.args.room w (option_copied c.under-first.result) found c.in-IsOvertaken.ensures
+    rw c.in_ok-count_overtaken-in-IsOvertaken.ensures (settled_overtaken c.args.message c.args.has_room c.args.room w (option_copied c.under-first.result) found c.in-IsOvertaken.ensures
     ∙ ap (λ (v : Watched). settled c.args.message c.args.has_room c.args.room v) c.self.view_is)
