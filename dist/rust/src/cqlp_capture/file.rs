@@ -68,7 +68,7 @@ impl ByteOrder {
     }
 
     /// The number in four bytes, from this index on.
-    #[inline]
+    #[inline(always)]
     pub(crate) fn read_u32(self, bytes: &[u8], index: usize) -> u32 {
         let bytes = [
             bytes[index],

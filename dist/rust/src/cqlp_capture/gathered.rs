@@ -59,6 +59,7 @@ impl<A: Allocator> GatheredBytes<A> {
 
     /// The bytes that are wanted, of which those that are held have come, if the input has the others. They are lent from
     /// the input where none had come. Else the input is held too.
+    #[inline(always)]
     pub(crate) fn gather(&mut self, wanted: usize, input: &[u8]) -> Option<FoundBytes> {
         self.begin();
         let missing = wanted - self.len;
@@ -81,6 +82,7 @@ impl<A: Allocator> GatheredBytes<A> {
     }
 
     /// The bytes that lie there.
+    #[inline]
     pub(crate) fn lend<'a>(&'a self, input: &'a [u8], lies: BytesPlace) -> &'a [u8] {
         match lies {
             BytesPlace::InInput { len } => &input[..len],
@@ -89,6 +91,7 @@ impl<A: Allocator> GatheredBytes<A> {
     }
 
     /// Holds only bytes of those that are wanted.
+    #[inline]
     fn begin(&mut self) {
         if self.found {
             self.clear();

@@ -52,6 +52,7 @@ impl<A: Allocator> InterfaceTable<A> {
     }
 
     /// The interfaces, of which the first has the number 0.
+    #[inline]
     pub fn known(&self) -> &[KnownInterface] {
         self.entries.as_slice()
     }
@@ -62,6 +63,7 @@ impl<A: Allocator> InterfaceTable<A> {
     }
 
     /// Makes this change.
+    #[inline]
     pub(crate) fn apply(&mut self, change: TableChange) {
         match change {
             TableChange::Keep => {}

@@ -61,7 +61,7 @@ pub(crate) fn tell_file_head(form: FileForm, bytes: &[u8]) -> Result<Told, Captu
 }
 
 /// What the header of a record says that begins at this offset. Section 5 of draft-ietf-opsawg-pcap.
-#[inline]
+#[inline(always)]
 pub(crate) fn tell_record_head(
     limit: u32,
     offset: u64,

@@ -10,7 +10,7 @@ use crate::cqlp_capture::refusal::{CaptureReason, CaptureRefusal};
 use crate::cqlp_capture::telling::{read_next, refuse, skip};
 
 /// That these bytes, up to this offset, are all of a packet.
-#[inline]
+#[inline(always)]
 pub(crate) fn tell_data(end: u64, offset: u64, stage: Stage) -> Result<Told, CaptureRefusal> {
     Ok(Told {
         at: offset,

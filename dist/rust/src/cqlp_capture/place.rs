@@ -92,7 +92,7 @@ impl Stage {
 
 impl Place {
     /// What the bytes say that are read next, under these limits, where these are the interfaces so far.
-    #[inline]
+    #[inline(always)]
     pub(crate) fn tell(
         self,
         limits: &CaptureLimits,

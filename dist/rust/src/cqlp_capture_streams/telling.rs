@@ -68,7 +68,7 @@ fn take_seen<L: Listener, A: Allocator + Clone>(
         Sight::Foreign => Ok(()),
         Sight::Taken { number, is_new, .. } => {
             begin(is_new, number, listener)?;
-            pull_all(time, connections, segment, listener)
+            tell_taken(time, connections, segment, listener)
         }
         Sight::Crowded { .. } => Ok(()),
     }
@@ -83,7 +83,20 @@ fn begin<L: Listener>(is_new: bool, number: u64, listener: &mut L) -> Result<(),
     }
 }
 
-/// Tells all that a segment tells which was taken.
+/// Tells all that a segment tells which was taken. One without payload, as an acknowledgement, mostly tells nothing.
+fn tell_taken<L: Listener, A: Allocator + Clone>(
+    time: Option<u64>,
+    connections: &mut Connections<A>,
+    segment: &Segment<'_>,
+    listener: &mut L,
+) -> Result<(), StreamsFault> {
+    if segment.payload.is_empty() && connections.is_done(segment, time) {
+        return Ok(());
+    }
+    pull_all(time, connections, segment, listener)
+}
+
+/// The same, whatever it has.
 fn pull_all<L: Listener, A: Allocator + Clone>(
     time: Option<u64>,
     connections: &mut Connections<A>,
@@ -98,6 +111,10 @@ fn pull_all<L: Listener, A: Allocator + Clone>(
             return Ok(());
         };
         tell(connections, told, segment.payload, listener)?;
+        let is_payload = matches!(told.step, StreamStep::Payload { .. });
+        if is_payload && connections.is_done(segment, time) {
+            return Ok(());
+        }
     }
     Err(StreamsFault::TooManyTurns)
 }

@@ -4,7 +4,7 @@
 use crate::cqlp_observer::message::{Extent, Frame, Message, is_no_later};
 use crate::cqlp_note::Header;
 
-/// A frame, as it is kept while it passes or waits: 40 bytes in place of 56.
+/// A frame, as it is kept while it waits: 40 bytes in place of 56.
 pub(crate) struct FrameRecord {
     header: Header,
     at: u64,
@@ -42,7 +42,7 @@ impl FrameRecord {
 }
 
 /// Whether a time is known, and its number, or 0.
-fn parts_of(time: Option<u64>) -> (bool, u64) {
+pub(crate) fn parts_of(time: Option<u64>) -> (bool, u64) {
     match time {
         Some(time) => (true, time),
         None => (false, 0),
@@ -50,7 +50,7 @@ fn parts_of(time: Option<u64>) -> (bool, u64) {
 }
 
 /// The time with this number, if it is known.
-fn time_of(is_known: bool, time: u64) -> Option<u64> {
+pub(crate) fn time_of(is_known: bool, time: u64) -> Option<u64> {
     if is_known { Some(time) } else { None }
 }
 

@@ -1,12 +1,11 @@
 // Written by dist/erase from crates/cqlp_observer/src/heads.rt.
 //! The frames of one direction, by their headers.
 
-use crate::cqlp_observer::frame_record::FrameRecord;
 use crate::cqlp_observer::header_front::HeaderFront;
 use crate::cqlp_observer::message::{Extent, Frame};
 use crate::cqlp_observer::opening::{Opening, opening_with};
+use crate::cqlp_observer::stage_record::StageRecord;
 use crate::cqlp_note::Header;
-use core::mem;
 
 /// Where a direction stands.
 pub(crate) enum Stage {
@@ -22,15 +21,9 @@ pub(crate) enum Stage {
     },
     /// In the body of this frame, of which so many bytes are still to come.
     Body {
-        frame: FrameRecord,
+        frame: Frame,
         left: u32,
     },
-}
-
-impl Stage {
-    fn is_between(&self) -> bool {
-        matches!(self, Stage::Between)
-    }
 }
 
 /// What bytes of a direction are.
@@ -64,7 +57,7 @@ pub struct Heads {
     responses: bool,
     /// How many bytes, and bytes of gaps, came.
     position: u64,
-    stage: Stage,
+    stage: StageRecord,
 }
 
 impl Heads {
@@ -79,23 +72,23 @@ impl Heads {
         Heads {
             responses,
             position: 0,
-            stage,
+            stage: StageRecord::new(stage),
         }
     }
 
     /// What the next bytes are that came at this time. `begins` says whether the first of them begins a segment. To be called again and again
     /// with the bytes that were not used, until it says `More`.
     pub fn take(&mut self, piece: &[u8], time: Option<u64>, begins: bool) -> HeardStep {
-        let stage = mem::replace(&mut self.stage, Stage::Lost);
-        if let Stage::Body { frame, left: 0 } = &stage {
-            self.stage = Stage::Between;
+        let stage = self.stage.take();
+        if let Stage::Body { frame, left: 0 } = stage {
+            self.stage = StageRecord::new(Stage::Between);
             return HeardStep {
                 used: 0,
-                heard: Heard::Ends(frame.frame()),
+                heard: Heard::Ends(frame),
             };
         }
         if piece.is_empty() {
-            self.stage = stage;
+            self.stage = StageRecord::new(stage);
             return HeardStep {
                 used: 0,
                 heard: Heard::More,
@@ -108,7 +101,7 @@ impl Heads {
                 self.fill(HeaderFront::new(), at, time, piece, time)
             }
             Stage::Header { front, at, begun } => self.fill(front, at, begun, piece, time),
-            Stage::Body { frame, left } => self.pass(frame.frame(), left, piece, time),
+            Stage::Body { frame, left } => self.pass(frame, left, piece, time),
         }
     }
 
@@ -124,23 +117,24 @@ impl Heads {
     /// is told, as `Holed`, unless all its bytes came before.
     pub fn gap(&mut self, length: u64, time: Option<u64>) -> Option<Frame> {
         self.count(length);
-        match &self.stage {
-            Stage::Body { frame, left } if length < *left as u64 => {
-                let left = *left - length as u32;
-                let frame = FrameRecord::new(&holed(frame.frame()));
-                self.stage = Stage::Body { frame, left };
+        match self.stage.take() {
+            Stage::Body { frame, left } if length < left as u64 => {
+                let left = left - length as u32;
+                self.stage = StageRecord::new(Stage::Body {
+                    frame: holed(frame),
+                    left,
+                });
                 None
             }
             Stage::Body { frame, left } => {
-                let is_end = length == *left as u64;
-                let passed = passed_in(frame.frame(), *left, time);
-                self.stage = if is_end { Stage::Between } else { Stage::Lost };
-                Some(passed)
+                let is_end = length == left as u64;
+                let stage = if is_end { Stage::Between } else { Stage::Lost };
+                self.stage = StageRecord::new(stage);
+                Some(passed_in(frame, left, time))
             }
-            _ => {
-                if length > 0 {
-                    self.stage = Stage::Lost;
-                }
+            stage => {
+                let stage = if length > 0 { Stage::Lost } else { stage };
+                self.stage = StageRecord::new(stage);
                 None
             }
         }
@@ -148,28 +142,32 @@ impl Heads {
 
     /// No more bytes come. The frame of which some did is told, as `Short`, unless all its bytes came.
     pub fn end(&mut self) -> Option<Frame> {
-        match mem::replace(&mut self.stage, Stage::Lost) {
-            Stage::Body { frame, left } => Some(shortened(frame.frame(), left)),
+        match self.stage.take() {
+            Stage::Body { frame, left } => Some(shortened(frame, left)),
             _ => None,
         }
     }
 
     /// All that is left of the body came, the last of it at this time: its frame ends.
     pub(crate) fn pass_whole(&mut self, time: Option<u64>) -> Option<Frame> {
-        let Stage::Body { frame, left } = &self.stage else {
-            return None;
-        };
-        let (frame, left) = (frame.frame(), *left);
-        self.count(left as u64);
-        self.stage = Stage::Between;
-        Some(if left == 0 {
-            frame
-        } else {
-            Frame {
-                ended: time,
-                ..frame
+        match self.stage.take() {
+            Stage::Body { frame, left } => {
+                self.count(left as u64);
+                self.stage = StageRecord::new(Stage::Between);
+                Some(if left == 0 {
+                    frame
+                } else {
+                    Frame {
+                        ended: time,
+                        ..frame
+                    }
+                })
             }
-        })
+            stage => {
+                self.stage = StageRecord::new(stage);
+                None
+            }
+        }
     }
 
     /// Looks for a frame where a segment begins.
@@ -192,7 +190,7 @@ impl Heads {
     /// So many bytes are stray.
     fn stray(&mut self, used: usize) -> HeardStep {
         self.count(used as u64);
-        self.stage = Stage::Lost;
+        self.stage = StageRecord::new(Stage::Lost);
         HeardStep {
             used,
             heard: Heard::Stray,
@@ -212,11 +210,11 @@ impl Heads {
         let used = more.len() - front.len();
         if more.len() < 9 {
             self.count(used as u64);
-            self.stage = Stage::Header {
+            self.stage = StageRecord::new(Stage::Header {
                 front: more,
                 at,
                 begun,
-            };
+            });
             return HeardStep {
                 used,
                 heard: Heard::More,
@@ -245,10 +243,10 @@ impl Heads {
             ended: last,
             extent: Extent::Whole,
         };
-        self.stage = Stage::Body {
-            frame: FrameRecord::new(&frame),
+        self.stage = StageRecord::new(Stage::Body {
+            frame,
             left: header.length,
-        };
+        });
         HeardStep {
             used,
             heard: Heard::Begins(header),
@@ -259,14 +257,13 @@ impl Heads {
     fn pass(&mut self, frame: Frame, left: u32, piece: &[u8], time: Option<u64>) -> HeardStep {
         let used = piece.len().min(left as usize);
         self.count(used as u64);
-        let frame = Frame {
-            ended: time,
-            ..frame
-        };
-        self.stage = Stage::Body {
-            frame: FrameRecord::new(&frame),
+        self.stage = StageRecord::new(Stage::Body {
+            frame: Frame {
+                ended: time,
+                ..frame
+            },
             left: left - used as u32,
-        };
+        });
         HeardStep {
             used,
             heard: Heard::Body,

@@ -6,6 +6,7 @@ use crate::cqlp_observer::frame_record::MessageRecord;
 use crate::cqlp_observer::kept::Kept;
 use crate::cqlp_observer::message::Message;
 use crate::cqlp_observer::missed::Missed;
+use crate::cqlp_observer::missed_record::MissedRecord;
 use crate::cqlp_observer::opening::Opening;
 use crate::cqlp_observer::paired::Paired;
 use crate::cqlp_observer::pairing::{Fate, Pairing, fate_of};
@@ -20,14 +21,14 @@ use crate::kit_std::alloc::{AllocError, Allocator, Global};
 /// of the messages that still wait, until it says `None`.
 ///
 /// It has no limit of its own: each call is told how much may wait ([`WatchRoom`]). Memory is taken for what waits and for the texts of the two messages
-/// that pass, and given back with them. After a call that was refused memory it is not to be used again.
+/// that pass, and given back with them; and once more than 65,535 of one kind were missed. After a call that was refused memory it is not to be used again.
 pub struct Watch<A: Allocator = Global> {
     requests: Side<A>,
     responses: Side<A>,
     pairing: Pairing<Kept<A>, A>,
     /// How many bytes of room the texts take of the messages that wait and of those that pass.
     text: usize,
-    missed: Missed,
+    missed: MissedRecord<A>,
 }
 
 /// What the first so many bytes of a piece tell.
@@ -51,9 +52,9 @@ impl<A: Allocator + Clone> Watch<A> {
         Ok(Watch {
             requests: Side::new(alloc.clone()?, false, false),
             responses: Side::new(alloc.clone()?, true, false),
-            pairing: Pairing::new(alloc)?,
+            pairing: Pairing::new(alloc.clone()?)?,
             text: 0,
-            missed: Missed::NONE,
+            missed: MissedRecord::new(alloc),
         })
     }
 
@@ -83,7 +84,7 @@ impl<A: Allocator + Clone> Watch<A> {
         room: WatchRoom,
     ) -> Result<WatchStep<A>, AllocError> {
         let opening = self.opening(responses, piece);
-        self.missed.count_opening(opening);
+        self.missed.count_opening(opening)?;
         let step = self.read(responses, piece, time, begins, room)?;
         Ok(WatchStep {
             used: step.used,
@@ -105,7 +106,7 @@ impl<A: Allocator + Clone> Watch<A> {
         time: Option<u64>,
         room: WatchRoom,
     ) -> Result<Option<Paired<Kept<A>>>, AllocError> {
-        self.missed.count_gap();
+        self.missed.count_gap()?;
         let was_keeping = self.is_keeping(responses);
         let message = if responses {
             self.responses.gap(length, time)?
@@ -155,7 +156,7 @@ impl<A: Allocator + Clone> Watch<A> {
 
     /// What was missed so far, since it was made.
     pub fn missed(&self) -> Missed {
-        self.missed
+        self.missed.missed()
     }
 
     /// What these bytes of a direction are that come next, if none came before.
@@ -204,7 +205,7 @@ impl<A: Allocator + Clone> Watch<A> {
         };
         self.recount(responses, room, was_keeping);
         if step.is_bare {
-            self.missed.count_text();
+            self.missed.count_text()?;
         }
         Ok(step)
     }
@@ -249,7 +250,7 @@ impl<A: Allocator + Clone> Watch<A> {
             }
             Fate::Waits => self.fit(message, beside, room),
             Fate::IsOvertaken => {
-                self.missed.count_overtaken();
+                self.missed.count_overtaken()?;
                 Ok(message)
             }
         }
@@ -268,7 +269,7 @@ impl<A: Allocator + Clone> Watch<A> {
             Ok(message)
         } else {
             self.text = beside;
-            self.missed.count_text();
+            self.missed.count_text()?;
             Ok(Message {
                 frame: message.frame,
                 kept: Kept::bare(),

@@ -102,6 +102,44 @@ impl<A: Allocator> Connection<A> {
         self.take(way, &own, room)
     }
 
+    /// That `pull` of a segment which goes this way reports nothing and changes nothing, since all of it is behind. Where this says no,
+    /// that may be so too.
+    #[inline]
+    pub(crate) fn is_done(&self, way: Way, segment: &Segment<'_>, time: Option<u64>) -> bool {
+        let own = StreamSegment {
+            control: control_of(&segment.head, segment.missing),
+            payload: segment.payload,
+            time,
+        };
+        self.is_behind(way, &own) && self.is_answered(way, &segment.head)
+    }
+
+    /// That the acknowledgement of a segment which goes this way reports nothing and changes nothing.
+    #[inline]
+    fn is_answered(&self, way: Way, head: &SegmentHead) -> bool {
+        if head.flags.ack {
+            self.ignores_acknowledgements(way.other())
+        } else {
+            true
+        }
+    }
+
+    #[inline]
+    fn is_behind(&self, way: Way, segment: &StreamSegment<'_>) -> bool {
+        match way {
+            Way::Requests => self.requests.is_behind(segment),
+            Way::Responses => self.responses.is_behind(segment),
+        }
+    }
+
+    #[inline]
+    fn ignores_acknowledgements(&self, way: Way) -> bool {
+        match way {
+            Way::Requests => self.requests.ignores_acknowledgements(),
+            Way::Responses => self.responses.ignores_acknowledgements(),
+        }
+    }
+
     /// The next report of a segment that goes this way.
     fn take(
         &mut self,

@@ -127,6 +127,15 @@ impl<A: Allocator> Pool<A> {
         told
     }
 
+    /// That `pull` of a segment which goes this way of the first one reports nothing and changes nothing, as `Connection` says it.
+    #[inline]
+    pub(crate) fn is_done(&self, way: Way, segment: &Segment<'_>, time: Option<u64>) -> bool {
+        match self.first() {
+            Some((_, first)) => first.is_done(way, segment, time),
+            None => false,
+        }
+    }
+
     /// The next report of the first one where no more segments of it come.
     pub(crate) fn close(&mut self) -> Option<Told> {
         let ends = self.first_ends()?;

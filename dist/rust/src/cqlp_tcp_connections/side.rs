@@ -70,6 +70,18 @@ impl<A: Allocator> Side<A> {
         SideStep { at, step }
     }
 
+    /// That an acknowledgement of the other direction brings nothing, as `Stream` says it.
+    #[inline]
+    pub(crate) fn ignores_acknowledgements(&self) -> bool {
+        self.stream.ignores_acknowledgements()
+    }
+
+    /// That `take` of a segment brings nothing, as `Stream` says it.
+    #[inline]
+    pub(crate) fn is_behind(&self, segment: &StreamSegment<'_>) -> bool {
+        self.stream.is_behind(segment)
+    }
+
     /// The next report where no more segments come.
     pub(crate) fn close(&mut self) -> SideStep {
         let at = self.totals.position();

@@ -131,6 +131,15 @@ impl<A: Allocator> Connections<A> {
         Ok(told)
     }
 
+    /// That the next `pull` of the segment that was taken says `None`, and changes nothing. Where this says no, that may be so too. It is
+    /// for after its payload, of which mostly nothing is left.
+    pub fn is_done(&self, segment: &Segment<'_>, time: Option<u64>) -> bool {
+        match self.way_of_first(&segment.head) {
+            Some(way) => self.pool.is_done(way, segment, time),
+            None => false,
+        }
+    }
+
     /// The bytes of `Held`: the next of this way of the connection that was reported of last.
     pub fn held(&self, way: Way) -> &[u8] {
         self.pool.held(way)
@@ -248,6 +257,7 @@ impl<A: Allocator> Connections<A> {
     }
 
     /// Which way a segment goes, if it is of the first connection.
+    #[inline]
     fn way_of_first(&self, head: &SegmentHead) -> Option<Way> {
         let (ends, _) = self.pool.first()?;
         ends.way_of(head)
