@@ -37,11 +37,12 @@ captures/made.py most COMMAND..: runs it, and prints its status and how many KiB
 
 captures/made.py terminal COMMAND..: runs it with a terminal as its standard error, and prints its status and what it wrote there.
 
-captures/made.py interrupted CAPTURE COMMAND..: on a terminal, writes the capture into a pipe that the command reads and that stays open, types ^C, and prints
-what is written on the terminal until the command ends."""
+captures/made.py interrupted CAPTURE COMMAND..: on a terminal, writes the capture into a pipe that the command reads and that stays open, types ^C until it ends, and prints
+what is written on the terminal."""
 import os
 import pty
 import resource
+import select
 import struct
 import subprocess
 import sys
@@ -467,11 +468,13 @@ def tell_interrupted(file, *command):
         os.execvp("bash", ["bash", "-c", '(cat "$0"; echo written >/dev/tty; exec sleep 60) | "$@"', file, *command])
     said = b""
     try:
-        while some := os.read(terminal, 4096):
-            if b"written" in some:
-                time.sleep(0.5)
+        while b"written" not in said:
+            said += os.read(terminal, 4096)
+        while True:
+            if select.select([terminal], [], [], 0.5)[0]:
+                said += os.read(terminal, 4096)
+            else:
                 os.write(terminal, b"\x03")
-            said += some
     except OSError:  # Nobody has it any more.
         pass
     os.waitpid(child, 0)
