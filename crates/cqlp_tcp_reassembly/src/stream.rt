@@ -1,6 +1,6 @@
 //! One direction of a connection.
 
-ghost use Rattle.std.specs.Prelude.{◌≡◌, ◌+◌, ◌-◌, ◌<◌, ◌≤◌, ◌^◌, length, MatchOption, IfOk, OnErr, Some, ⊤};
+ghost use Rattle.std.specs.Prelude.{◌≡◌, ◌+◌, ◌-◌, ◌<◌, ◌≤◌, ◌^◌, ℕ, [], length, MatchOption, IfOk, OnErr, None, Some, ⊤, true};
 ghost use Rattle.cqlp_tcp_reassembly.specs.Segments.{captured};
 ghost use Rattle.cqlp_tcp_reassembly.specs.Streams.{IsWithin, settling};
 
@@ -53,6 +53,8 @@ impl<A: Allocator> Model for Stream<A> {
 }
 
 impl<A: Allocator> Stream<A> {
+    ghost use Rattle.cqlp_tcp_reassembly.specs.declared.step.StreamStep.TheVariants.{Done};
+    ghost use Rattle.cqlp_tcp_reassembly.specs.declared.stream.Stage.TheVariants.{Open};
     ghost use Rattle.cqlp_tcp_reassembly.specs.Streams.{after_acknowledgement, after_close, after_refusal, after_segment, begun, early_part, ended};
     ghost use Rattle.cqlp_tcp_reassembly.specs.Streams.{held, hole, is_lost, is_over, knows_hole, lost, lost_or_done, moved, next_part, passed};
     ghost use Rattle.cqlp_tcp_reassembly.specs.Streams.{placed, received, settled, settled_by, size, stop, told, unseen, up_to_stop, with_end};
@@ -138,6 +140,47 @@ impl<A: Allocator> Stream<A> {
                 self.lose_hole(is_lost)
             }
         }
+    }
+
+    /// That an acknowledgement of the other side brings nothing and changes nothing, whatever its number: neither bytes that came early
+    /// nor FIN are known. Where this says no, that may be so too.
+    #[inline]
+    pub fn ignores_acknowledgements(&self) -> bool
+        ensures { result ≡ true → (number : ℕ) → after_acknowledgement self.now number ≡ told Done self.now }
+    {
+        match self.stage {
+            Stage::Over | Stage::Unseen => true,
+            Stage::Open => self.is_plain(),
+        }
+    }
+
+    /// That `take` of a segment brings nothing and changes nothing, since all of it lies behind, and neither FIN nor bytes that came
+    /// early are known. Where this says no, that may be so too.
+    #[inline]
+    pub fn is_behind(&self, segment: &StreamSegment<'_>) -> bool
+        ensures { result ≡ true → (room : ℕ) → after_segment self.now (captured segment.now) room ≡ told Done self.now }
+    {
+        let control = segment.control;
+        if !self.is_open() || control.rst || control.fin || !self.is_plain() {
+            return false;
+        }
+        let place = segment.place(self.first, self.position);
+        place.to <= place.at
+    }
+
+    #[inline]
+    fn is_open(&self) -> bool
+        ensures { result ≡ true → self.now.stage ≡ Open }
+    {
+        matches!(self.stage, Stage::Open)
+    }
+
+    /// Whether it goes on, and neither bytes that came early nor FIN are known.
+    #[inline]
+    fn is_plain(&self) -> bool
+        ensures { result ≡ true → (self.now.runs ≡ []) × (self.now.end ≡ None) × (self.now.position < 2 ^ 62) }
+    {
+        self.runs.is_empty() && self.end.get().is_none() && self.position < LONGEST
     }
 
     /// Forgets all that it has, and gives its memory back: it is a stream of which nothing was seen.
