@@ -2,3 +2,4 @@ pub mod Sizes
 pub mod Entries
 pub mod Apart
 pub mod Firsts
+pub mod Idle

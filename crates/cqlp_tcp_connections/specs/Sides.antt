@@ -1,5 +1,5 @@
 -- One direction of a connection: its stream, and what was told of it.
-use Rattle.std.specs.Prelude.{ℕ, length}
+use Rattle.std.specs.Prelude.{◌≡◌, ℕ, length}
 use Rattle.cqlp_tcp_reassembly.specs.declared.step.StreamStep.{StreamStep}
 use Rattle.cqlp_tcp_reassembly.specs.declared.step.StreamStep.TheVariants as step
 use Rattle.cqlp_tcp_reassembly.specs.Segments.{Segment}
@@ -70,3 +70,7 @@ closed s = noted_as (after_close s.stream) s.totals
 -- Bytes that came early are passed, and counted.
 abbrev pub passed : SideState → SideState
 passed s = side (streams.passed s.stream) (handed_on (length (held s.stream)) s.totals)
+
+-- Nothing is told, and nothing changes.
+abbrev pub IsIdle : SideState → SideTold → Type 0
+IsIdle s t = (t.what.step ≡ step.Done) × (t.after ≡ s)

@@ -1,6 +1,6 @@
 //! One connection.
 
-ghost use Rattle.std.specs.Prelude.{◌≡◌, ◌+◌, ◌<◌, ◌^◌, IfOk, OnErr, length};
+ghost use Rattle.std.specs.Prelude.{◌≡◌, ◌+◌, ◌<◌, ◌^◌, ℕ, IfOk, None, OnErr, length, true};
 ghost use Rattle.cqlp_tcp_reassembly.specs.Segments.{captured};
 ghost use Rattle.cqlp_tcp_reassembly.specs.Streams.{held};
 ghost use Rattle.cqlp_tcp_segment.specs.Segment.{seen};
@@ -32,7 +32,7 @@ impl<A: Allocator> Model for Connection<A> {
 }
 
 impl<A: Allocator> Connection<A> {
-    ghost use Rattle.cqlp_tcp_connections.specs.Known.{acknowledged, begins_anew, closed, closed_way, counted_on, known, new_flows, passed};
+    ghost use Rattle.cqlp_tcp_connections.specs.Known.{acknowledged, answered, begins_anew, closed, closed_way, counted_on, known, new_flows, passed};
     ghost use Rattle.cqlp_tcp_connections.specs.Known.{pull_refused, pulled, refused, side_of, size_of, taken, telling, totals_of};
 
     /// A connection of which nothing was reported. It takes no memory.
@@ -134,6 +134,55 @@ impl<A: Allocator> Connection<A> {
             time,
         };
         self.take(way, &own, room)
+    }
+
+    /// That `pull` of a segment which goes this way reports nothing and changes nothing, since all of it is behind. Where this says no,
+    /// that may be so too.
+    #[tactic(auto, using(crate::proofs::Idle::pulled_idle))]
+    #[inline]
+    pub(crate) fn is_done(&self, way: Way, segment: &Segment<'_>, time: Option<u64>) -> bool
+        ensures { result ≡ true → (room : ℕ) → pulled way (seen segment.now) time room self.now ≡ telling None self.now }
+    {
+        let own = StreamSegment {
+            control: control_of(&segment.head, segment.missing),
+            payload: segment.payload,
+            time,
+        };
+        self.is_behind(way, &own) && self.is_answered(way, &segment.head)
+    }
+
+    /// That the acknowledgement of a segment which goes this way reports nothing and changes nothing.
+    #[inline]
+    fn is_answered(&self, way: Way, head: &SegmentHead) -> bool
+        ensures { result ≡ true → answered way head.now self.now ≡ telling None self.now }
+    {
+        if head.flags.ack {
+            self.ignores_acknowledgements(way.other())
+        } else {
+            true
+        }
+    }
+
+    #[tactic(auto, using(crate::proofs::Idle::told_idle))]
+    #[inline]
+    fn is_behind(&self, way: Way, segment: &StreamSegment<'_>) -> bool
+        ensures { result ≡ true → (room : ℕ) → taken way (captured segment.now) room self.now ≡ telling None self.now }
+    {
+        match way {
+            Way::Requests => self.requests.is_behind(segment),
+            Way::Responses => self.responses.is_behind(segment),
+        }
+    }
+
+    #[tactic(auto, using(crate::proofs::Idle::told_idle))]
+    #[inline]
+    fn ignores_acknowledgements(&self, way: Way) -> bool
+        ensures { result ≡ true → (number : ℕ) → acknowledged way number self.now ≡ telling None self.now }
+    {
+        match way {
+            Way::Requests => self.requests.ignores_acknowledgements(),
+            Way::Responses => self.responses.ignores_acknowledgements(),
+        }
     }
 
     /// The next report of a segment that goes this way.

@@ -1,6 +1,6 @@
 //! The connections that are there, and the memory that they share.
 
-ghost use Rattle.std.specs.Prelude.{◌≡◌, ◌∷◌, ◌<◌, ◌≤◌, [], IfOk, None, OnErr, OnOk, drop, length, nat_le, option_map};
+ghost use Rattle.std.specs.Prelude.{◌≡◌, ◌∷◌, ◌<◌, ◌≤◌, [], IfOk, None, OnErr, OnOk, drop, length, nat_le, option_map, true};
 ghost use Rattle.std.specs.Map.Iter.{deref_pair};
 ghost use Rattle.cqlp_tcp_segment.specs.Segment.{seen};
 ghost use Rattle.cqlp_tcp_connections.specs.Known.{IsToldWithin};
@@ -175,6 +175,17 @@ impl<A: Allocator> Pool<A> {
         let after = first.size();
         self.early = self.early - before + after;
         told
+    }
+
+    /// That `pull` of a segment which goes this way of the first one reports nothing and changes nothing, as `Connection` says it.
+    #[inline]
+    pub(crate) fn is_done(&self, way: Way, segment: &Segment<'_>, time: Option<u64>) -> bool
+        ensures { result ≡ true → pulled_first way (seen segment.now) time self.now ≡ first_telling None self.now.known }
+    {
+        match self.first() {
+            Some((_, first)) => first.is_done(way, segment, time),
+            None => false,
+        }
     }
 
     /// The next report of the first one where no more segments of it come.

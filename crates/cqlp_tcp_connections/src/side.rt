@@ -1,6 +1,6 @@
 //! One direction of a connection, and what was reported of it.
 
-ghost use Rattle.std.specs.Prelude.{◌≡◌, ◌≤◌, IfOk, OnErr, length};
+ghost use Rattle.std.specs.Prelude.{◌≡◌, ◌≤◌, ℕ, IfOk, OnErr, length, true};
 ghost use Rattle.cqlp_tcp_reassembly.specs.Segments.{captured};
 ghost use Rattle.cqlp_tcp_reassembly.specs.Streams.{IsWithin, held};
 ghost use Rattle.cqlp_tcp_connections.specs.Totals.{one_more};
@@ -34,7 +34,7 @@ impl<A: Allocator> Model for Side<A> {
 }
 
 impl<A: Allocator> Side<A> {
-    ghost use Rattle.cqlp_tcp_connections.specs.Sides.{acknowledged, closed, new_side, passed, refused, side, side_told, size_of, taken};
+    ghost use Rattle.cqlp_tcp_connections.specs.Sides.{IsIdle, acknowledged, closed, new_side, passed, refused, side, side_told, size_of, taken};
 
     /// A direction of which nothing was reported. It takes no memory.
     pub(crate) fn new(alloc: A) -> Self
@@ -96,6 +96,22 @@ impl<A: Allocator> Side<A> {
         let step = self.stream.acknowledge(number);
         self.totals.note(step);
         SideStep { at, step }
+    }
+
+    /// That an acknowledgement of the other direction brings nothing, as `Stream` says it.
+    #[inline]
+    pub(crate) fn ignores_acknowledgements(&self) -> bool
+        ensures { result ≡ true → (number : ℕ) → IsIdle self.now (acknowledged self.now number) }
+    {
+        self.stream.ignores_acknowledgements()
+    }
+
+    /// That `take` of a segment brings nothing, as `Stream` says it.
+    #[inline]
+    pub(crate) fn is_behind(&self, segment: &StreamSegment<'_>) -> bool
+        ensures { result ≡ true → (room : ℕ) → IsIdle self.now (taken self.now (captured segment.now) room) }
+    {
+        self.stream.is_behind(segment)
     }
 
     /// The next report where no more segments come.

@@ -1,6 +1,6 @@
 //! The table of connections.
 
-ghost use Rattle.std.specs.Prelude.{◌≡◌, ◌↔◌, ◌==◌, ◌<◌, ◌≤◌, IfOk, IsErrOf, None, OnErr, false, length};
+ghost use Rattle.std.specs.Prelude.{◌≡◌, ◌↔◌, ◌==◌, ◌<◌, ◌≤◌, IfOk, IsErrOf, None, OnErr, false, length, true};
 ghost use Rattle.cqlp_tcp_segment.specs.Segment.{seen};
 ghost use Rattle.cqlp_tcp_connections.specs.Limits.{is_in_range};
 ghost use Rattle.cqlp_tcp_connections.specs.Known.{IsToldWithin};
@@ -160,6 +160,17 @@ impl<A: Allocator> Connections<A> {
             self.counts.given_up = self.counts.given_up.saturating_add(1);
         }
         Ok(told)
+    }
+
+    /// That the next `pull` of the segment that was taken says `None`, and changes nothing. Where this says no, that may be so too. It is
+    /// for after its payload, of which mostly nothing is left.
+    pub fn is_done(&self, segment: &Segment<'_>, time: Option<u64>) -> bool
+        ensures { result ≡ true → pulled (seen segment.now) time self.now ≡ pulling None self.now }
+    {
+        match self.way_of_first(&segment.head) {
+            Some(way) => self.pool.is_done(way, segment, time),
+            None => false,
+        }
     }
 
     /// The bytes of `Held`: the next of this way of the connection that was reported of last.
