@@ -124,6 +124,10 @@ fn pull_all<L: Listener, A: Allocator + Clone>(
             return Ok(());
         };
         tell(connections, told, segment.payload, listener)?;
+        let is_payload = matches!(told.step, StreamStep::Payload { .. });
+        if is_payload && connections.is_done(segment, time) {
+            return Ok(());
+        }
     }
     Err(StreamsFault::TooManyTurns)
 }

@@ -1,4 +1,4 @@
-use Rattle.std.proofs.Common.{rules, Err, Ok, Option, arith, inl, refl, length, ◌-◌, ◌^◌, ◌≡◌, [], ◌∷◌, ◌++◌, subst}
+use Rattle.std.proofs.Common.{rules, Err, Ok, Option, arith, inl, refl, length, ◌-◌, ◌^◌, ◌≡◌, [], ◌∷◌, ◌++◌, subst, sym}
 use Rattle.cqlp_tcp_segment.specs.Segment.{seen}
 use Rattle.cqlp_tcp_connections.specs.declared.told.Told.{Told}
 use Rattle.cqlp_tcp_connections.specs.Known.{IsToldWithin}
@@ -42,3 +42,18 @@ returns g c = λ tells.
     let before = c.loop-turn.invariant tells in
     let all : c.loop-turn.turn ≡ 2 ^ 64 - 1 = omega arith in
     (before.0, inl before.1, inl (refl, omega (arith, before.4), before.3))
+
+pub returns-then-is_done : goal.returns-then-is_done
+returns-then-is_done g c = λ tells.
+    let before = c.loop-turn.invariant tells in
+    let t = c.in_ok-tell.ensures before.2 in
+    let pull = subst (λ (z : Option Told). pulling z c.pull.new.self ≡ pulled (seen c.args.segment.now) c.args.time c.loop-turn.connections) c.in-Some.is c.in-Ok.ensures.told in
+    let all = gets_more g.L.Listener c.args.listener.now c.loop-turn.listener c.tell.new.listener before.0 (Of c.in-Some.told t.0) (Ok tt) before.3 t.2 in (
+      before.0 ++ Of c.in-Some.told t.0 ∷ [],
+      (
+        c.tell.new.connections,
+        path_more (Pulls (seen c.args.segment.now) c.args.time) _ c.loop-turn.connections _ before.0 (Of c.in-Some.told t.0) before.1 (c.pull.new.self, pull, t.1),
+        sym (c.is_done.ensures c.if-is_done.true),
+      ),
+      all,
+    )
