@@ -77,7 +77,7 @@ impl ByteOrder {
     }
 
     /// The number in four bytes, from this index on.
-    #[inline]
+    #[inline(always)]
     pub(crate) fn read_u32(self, bytes: &[u8], index: usize) -> u32
         requires { index + 4 ≤ length bytes.now }
         ensures { result ≡ number_32 self index bytes.now }

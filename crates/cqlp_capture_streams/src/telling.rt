@@ -88,7 +88,7 @@ fn take_seen<L: Listener, A: Allocator + Clone>(
         Sight::Foreign => Ok(()),
         Sight::Taken { number, is_new, .. } => {
             begin(is_new, number, listener)?;
-            pull_all(time, connections, segment, listener)
+            tell_taken(time, connections, segment, listener)
         }
         Sight::Crowded { .. } => Ok(()),
     }
@@ -106,7 +106,23 @@ fn begin<L: Listener>(is_new: bool, number: u64, listener: &mut L) -> Result<(),
     }
 }
 
-/// Tells all that a segment tells which was taken.
+/// Tells all that a segment tells which was taken. One without payload, as an acknowledgement, mostly tells nothing.
+fn tell_taken<L: Listener, A: Allocator + Clone>(
+    time: Option<u64>,
+    connections: &mut Connections<A>,
+    segment: &Segment<'_>,
+    listener: &mut L,
+) -> Result<(), StreamsFault>
+    ensures { Gets L.Listener (λ ss. PullsAll (is_done result) (seen segment.now) time connections.old ss connections.new)
+        listener.old result listener.new }
+{
+    if segment.payload.is_empty() && connections.is_done(segment, time) {
+        return Ok(());
+    }
+    pull_all(time, connections, segment, listener)
+}
+
+/// The same, whatever it has.
 fn pull_all<L: Listener, A: Allocator + Clone>(
     time: Option<u64>,
     connections: &mut Connections<A>,

@@ -7,5 +7,5 @@ pub returns-in_ok-begin-in-Taken : goal.returns-in_ok-begin-in-Taken
 returns-in_ok-begin-in-Taken g c = rw c.in-Taken.is (λ tells.
     let first = beginning c.in-Taken.is_new c.in-Taken.number in
     let a = c.in_ok-begin-in-Taken.ensures tells in
-    let b = c.pull_all.ensures a.0 in
+    let b = c.tell_taken.ensures a.0 in
     (first ++ b.0, (b.0, refl, b.1), gets_others g.L.Listener c.args.listener.now _ _ first b.0 _ a.1 b.2))
