@@ -107,6 +107,7 @@ impl<A: Allocator + Clone> Splitter<A> {
     ghost use Rattle.cqlp_capture_streams.specs.Packets.{Finishes, HandsAll, TellsCome, TellsEvent, TellsPacket, packet_begun};
 
     /// Takes the next event, and tells what it tells of connections.
+    #[inline]
     pub fn take<L: Listener>(
         &mut self,
         event: &CaptureEvent<'_>,
@@ -138,6 +139,7 @@ impl<A: Allocator + Clone> Splitter<A> {
     }
 
     /// Takes the bytes of the packet that began. It waits for those that were captured before it, unless it passes as it is.
+    #[inline(never)]
     fn take_bytes<L: Listener>(
         &mut self,
         bytes: &[u8],

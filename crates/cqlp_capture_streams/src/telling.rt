@@ -24,6 +24,7 @@ fn hear<L: Listener>(saying: &Saying<'_>, listener: &mut L) -> Result<(), Stream
 }
 
 /// Tells that a packet with a segment comes that was captured at this time, and then what the segment tells.
+#[inline]
 pub(crate) fn take_timed<L: Listener, A: Allocator + Clone>(
     time: Option<u64>,
     connections: &mut Connections<A>,
@@ -38,6 +39,7 @@ pub(crate) fn take_timed<L: Listener, A: Allocator + Clone>(
 }
 
 /// Has the connection of a segment take it, where need be after another one has left, and tells what that tells.
+#[inline]
 fn take_segment<L: Listener, A: Allocator + Clone>(
     time: Option<u64>,
     connections: &mut Connections<A>,
@@ -58,6 +60,7 @@ fn take_segment<L: Listener, A: Allocator + Clone>(
 }
 
 /// Has the connection of a segment take it after another one has left for it.
+#[cold]
 fn take_again<L: Listener, A: Allocator + Clone>(
     time: Option<u64>,
     connections: &mut Connections<A>,
@@ -74,6 +77,7 @@ fn take_again<L: Listener, A: Allocator + Clone>(
 }
 
 /// Tells what is told of a segment that was seen so. For one segment one connection leaves at most, which makes room for it.
+#[inline(always)]
 fn take_seen<L: Listener, A: Allocator + Clone>(
     sight: Sight,
     time: Option<u64>,

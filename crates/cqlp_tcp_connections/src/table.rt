@@ -320,7 +320,7 @@ impl<A: Allocator> Connections<A> {
     }
 
     /// Which way a segment goes, if it is of the first connection.
-    #[inline]
+    #[inline(always)]
     fn way_of_first(&self, head: &SegmentHead) -> Option<Way>
         ensures { result ≡ way_of_first head.now self.now.known }
     {

@@ -70,6 +70,7 @@ impl<A: Allocator> Splitter<A> {
 
 impl<A: Allocator + Clone> Splitter<A> {
     /// Takes the next event, and tells what it tells of connections.
+    #[inline]
     pub fn take<L: Listener>(
         &mut self,
         event: &CaptureEvent<'_>,
@@ -96,6 +97,7 @@ impl<A: Allocator + Clone> Splitter<A> {
     }
 
     /// Takes the bytes of the packet that began. It waits for those that were captured before it, unless it passes as it is.
+    #[inline(never)]
     fn take_bytes<L: Listener>(
         &mut self,
         bytes: &[u8],

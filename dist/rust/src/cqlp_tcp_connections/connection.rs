@@ -141,6 +141,7 @@ impl<A: Allocator> Connection<A> {
     }
 
     /// The next report of a segment that goes this way.
+    #[inline]
     fn take(
         &mut self,
         way: Way,

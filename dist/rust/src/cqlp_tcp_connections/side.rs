@@ -45,6 +45,7 @@ impl<A: Allocator> Side<A> {
     }
 
     /// The next report of a segment of this direction, which may hold this much in all.
+    #[inline]
     pub(crate) fn take(
         &mut self,
         segment: &StreamSegment<'_>,

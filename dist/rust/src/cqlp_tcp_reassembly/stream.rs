@@ -55,6 +55,7 @@ impl<A: Allocator> Stream<A> {
     /// # Errors
     ///
     /// Memory that is refused. Then nothing changes but that FIN is noted.
+    #[inline]
     pub fn take(
         &mut self,
         segment: &StreamSegment<'_>,
@@ -250,6 +251,7 @@ impl<A: Allocator> Stream<A> {
     }
 
     /// The next of a segment without RST.
+    #[inline]
     fn receive(
         &mut self,
         segment: &StreamSegment<'_>,
