@@ -24,23 +24,9 @@ const ETHERNET_FRAME: u16 = 0x6558;
 /// The port of UDP to which packets of VXLAN are sent.
 const VXLAN_PORT: u16 = 4789;
 
-/// What the innermost packet of IP carries, which is TCP, of a packet that had this many bytes beyond those that were captured. Mostly
-/// it is the outermost.
+/// What the innermost packet of IP carries, which is TCP, of a packet that had this many bytes beyond those that were captured.
 #[inline]
 pub(crate) fn innermost(ip: IpPacket<'_>, beyond: usize) -> Result<Carried<'_>, NoSegment>
-    requires { length ip.bytes.now + beyond < 2 ^ 64 }
-    ensures { Gives view result (innermost 5 beyond (ip.entry.version, ip.entry.bytes.now)) }
-{
-    let outermost = carried_by(ip, beyond)?;
-    if outermost.protocol == TCP {
-        return Ok(outermost);
-    }
-    in_tunnels(ip, beyond)
-}
-
-/// The same, out of line, of packets that may have tunnels in them.
-#[inline(never)]
-fn in_tunnels(ip: IpPacket<'_>, beyond: usize) -> Result<Carried<'_>, NoSegment>
     requires { length ip.bytes.now + beyond < 2 ^ 64 }
     ensures { Gives view result (innermost 5 beyond (ip.entry.version, ip.entry.bytes.now)) }
 {

@@ -257,11 +257,7 @@ impl<A: Allocator> Connections<A> {
     }
 
     /// Which way a segment goes, if it is of the first connection.
-<<<<<<< HEAD
-    #[inline]
-=======
     #[inline(always)]
->>>>>>> 840e8a3d510879263d1c2efd6d19ac0979d49b2c
     fn way_of_first(&self, head: &SegmentHead) -> Option<Way> {
         let (ends, _) = self.pool.first()?;
         ends.way_of(head)
