@@ -100,18 +100,6 @@ impl<K: Ord, V, A: Allocator> BTreeMap<K, V, A> {
     }
 
     #[must_use]
-    pub fn is_empty(&self) -> bool {
-        self.len == 0
-    }
-
-    #[must_use]
-    pub fn get(&self, key: &K) -> Option<&V> {
-        let (row, found) = self.find(key);
-        let at = found.ok()?;
-        Some(&self.rows[row][at].1)
-    }
-
-    #[must_use]
     pub fn get_mut(&mut self, key: &K) -> Option<&mut V> {
         let (row, found) = self.find(key);
         let at = found.ok()?;
