@@ -172,6 +172,6 @@ fn said_of(message: &Message<Kept>) -> String {
         frame.begun.unwrap_or(0),
         frame.ended.unwrap_or(0),
         fold(0, front),
-        words(message.kept.facts())
+        words(&message.kept.facts())
     )
 }
