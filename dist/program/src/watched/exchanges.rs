@@ -22,7 +22,7 @@ struct Watcher {
 }
 
 /// A line for each exchange in a capture, and for each message that is in none, of which at most `limit` wait on a connection. Where a request for
-/// memory is refused, the call says so that made it.
+/// memory is refused, the call says so that made it; or it was for a smaller block in place of a greater one, which stays, and nothing else changes.
 pub fn said(asked: Asked, limit: usize, packets: &[Packet]) -> String {
     let watched = |refused| {
         let room = WatchRoom { messages: limit, text: 1 << 20 };
@@ -31,10 +31,17 @@ pub fn said(asked: Asked, limit: usize, packets: &[Packet]) -> String {
         (answer.map(|()| watcher.said), watcher.requests)
     };
     let (said, requests) = watched(u64::MAX);
+    let said = said.unwrap_or_else(|_| panic!("no memory"));
+    let (mut tries, mut kept) = (0, 0);
     for number in (1..=requests).step_by(requests as usize / 50 + 1) {
-        assert!(watched(number).0.is_err(), "request {number} of {requests} was refused");
+        tries += 1;
+        if let Ok(other) = watched(number).0 {
+            assert_eq!(other, said, "request {number} of {requests} was refused");
+            kept += 1;
+        }
     }
-    said.unwrap_or_else(|_| panic!("no memory"))
+    assert!(kept * 4 <= tries, "{kept} of {tries} requests that were refused made no difference");
+    said
 }
 
 impl Watcher {
@@ -62,7 +69,7 @@ impl Watcher {
         let left = self.refused - self.requests.min(self.refused);
         let (answer, made) = refusing(left, left, || call(&mut self.watches));
         self.requests += made;
-        assert_eq!(answer.is_err(), (1..=made).contains(&left));
+        assert!(answer.is_ok() || (1..=made).contains(&left));
         answer
     }
 
