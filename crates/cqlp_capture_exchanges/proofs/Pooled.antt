@@ -161,7 +161,13 @@ text_of_slot s = s.watch.text
 new_pooled : (limits : ExchangeLimits) → AreNumbers limits → IsPooled (new_table limits)
 unfolding IsStrictlySortedBy
 new_pooled limits are = record {
-  limits = are; ordered = tt; counted = tt; messages = refl; text = refl; few = omega arith; little = omega arith;
+  limits = are;
+  ordered = tt;
+  counted = tt;
+  messages = refl;
+  text = refl;
+  few = omega arith;
+  little = omega arith;
 }
 
 begins_pooled : (n : ℕ) (w : Table) → slot_of n w ≡ None → IsPooled w → IsPooled (begins n w).table
