@@ -43,6 +43,7 @@ import os
 import pty
 import resource
 import select
+import signal
 import struct
 import subprocess
 import sys
@@ -465,6 +466,7 @@ def tell_terminal(command):
 def tell_interrupted(file, *command):
     child, terminal = pty.fork()
     if child == 0:
+        signal.signal(signal.SIGINT, signal.SIG_DFL)  # It may be ignored here, as of what a script runs behind its back.
         os.execvp("bash", ["bash", "-c", '(cat "$0"; echo written >/dev/tty; exec sleep 60) | "$@"', file, *command])
     said = b""
     try:
