@@ -56,19 +56,25 @@ impl Asked {
 /// The numbers that a limit may be.
 #[derive(Clone, Copy)]
 pub struct LimitRange {
+    /// The smallest number that the limit may be, itself allowed.
     pub least: u32,
+    /// The greatest number that the limit may be, itself allowed.
     pub greatest: u32,
 }
 
 /// The first of the limits that is out of its range.
 #[derive(Clone, Copy, Debug, PartialEq, Eq, Error)]
 pub enum BadLimits {
+    /// [`Limits::text`] is out of [`Limits::TEXT`], 32 to 16,777,216 bytes.
     #[error("the limit on a text is not from 32 to 16777216")]
     Text,
+    /// [`Limits::cell`] is out of [`Limits::CELL`], 32 to 16,777,216 bytes.
     #[error("the limit on a cell is not from 32 to 16777216")]
     Cell,
+    /// [`Limits::entries`] is out of [`Limits::ENTRIES`], 1 to 65,536 type options.
     #[error("the limit on type options is not from 1 to 65536")]
     Entries,
+    /// [`Limits::depth`] is out of [`Limits::DEPTH`], 1 to 64 levels.
     #[error("the limit on nesting is not from 1 to 64")]
     Depth,
 }
