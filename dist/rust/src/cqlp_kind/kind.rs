@@ -5,30 +5,58 @@
 /// no kind, and a type option that has it is refused as `BadType`.
 #[derive(Clone, Copy, Debug, PartialEq, Eq)]
 pub enum Kind {
+    /// Id 0x0000: the option has the name of a class, a \[string\], and its values are bytes that this class alone can explain.
     Custom,
+    /// Id 0x0001: a text whose bytes are from 0 to 127. Section 6.1.
     Ascii,
+    /// Id 0x0002: a signed number of 8 bytes. Section 6.2.
     Bigint,
+    /// Id 0x0003: any bytes. Section 6.3.
     Blob,
+    /// Id 0x0004: one byte, 0 for false and any other for true. Section 6.4.
     Boolean,
+    /// Id 0x0005: the count of a counter column, a signed number of 8 bytes as of a bigint.
     Counter,
+    /// Id 0x0006: a signed scale of 4 bytes, and a signed unscaled number of one byte or more. Section 6.6.
     Decimal,
+    /// Id 0x0007: a binary64 of IEEE 754, of 8 bytes. Section 6.7.
     Double,
+    /// Id 0x0008: a binary32 of IEEE 754, of 4 bytes. Section 6.8.
     Float,
+    /// Id 0x0009: a signed number of 4 bytes. Section 6.10.
     Int,
+    /// Id 0x000B: signed milliseconds from the start of 1970, of 8 bytes. Section 6.17.
     Timestamp,
+    /// Id 0x000C: a uuid of any version, of 16 bytes. Section 6.21.
     Uuid,
+    /// Id 0x000D: a text in UTF-8. Section 6.22.
     Varchar,
+    /// Id 0x000E: a signed number in two's complement, of one byte or more. Section 6.23.
     Varint,
+    /// Id 0x000F: a uuid of version 1, of 16 bytes. Section 6.18.
     Timeuuid,
+    /// Id 0x0010: an address of IPv4, 4 bytes, or of IPv6, 16 bytes, without a port. Section 6.9.
     Inet,
+    /// Id 0x0011: unsigned days of 4 bytes, of which 2^31 is the first of January 1970. Section 6.5.
     Date,
+    /// Id 0x0012: nanoseconds since midnight, of 8 bytes, 0 to 86,399,999,999,999. Section 6.16.
     Time,
+    /// Id 0x0013: a signed number of 2 bytes. Section 6.14.
     Smallint,
+    /// Id 0x0014: a signed number of one byte. Section 6.19.
     Tinyint,
+    /// Id 0x0020: the option has that of the elements in it; a value is their count, an \[int\], and each as \[bytes\]. Section 6.11.
     List,
+    /// Id 0x0021: the option has that of the keys and that of the values in it; a value is a count of pairs, an \[int\], and each key and value
+    /// as \[bytes\]. Section 6.12.
     Map,
+    /// Id 0x0022: the option has that of the elements in it; a value is written as a list is. Section 6.13.
     Set,
+    /// Id 0x0030: the option has a keyspace, a name, a \[short\] count, and the name and the option of each field; a value has each field as
+    /// \[bytes\], of which the last ones may be left out. Section 7.
     Udt,
+    /// Id 0x0031: the option has a \[short\] count and the option of each item; a value has each item as \[bytes\], of which the last ones may
+    /// be left out. Section 6.20.
     Tuple,
     /// The kind of a cell whose type is not known. A table has it only after a lenient reading, for a type with an unknown id.
     Raw,
