@@ -18,16 +18,22 @@ pub enum TypeTree {
     Plain(Kind),
     /// A type that is known by the name of its class.
     Custom(String),
+    /// A list, by the type of its elements.
     List(Box<TypeTree>),
+    /// A set, by the type of its elements.
     Set(Box<TypeTree>),
     /// The types of the keys and of the values.
     Map(Box<TypeTree>, Box<TypeTree>),
     /// A user-defined type, whose fields have names.
     Udt {
+        /// The keyspace in which the type is defined, a \[string\] of at most 65,535 bytes.
         keyspace: String,
+        /// The name of the type in that keyspace, a \[string\] of at most 65,535 bytes.
         name: String,
+        /// The name and the type of each field, in the order of a value's bytes: at most 65,535 fields, with names of at most 65,535 bytes.
         fields: Vec<(String, TypeTree)>,
     },
+    /// A tuple, by the types of its items in their order, at most 65,535.
     Tuple(Vec<TypeTree>),
 }
 
