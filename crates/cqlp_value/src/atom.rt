@@ -15,10 +15,15 @@ use cqlp_type::Kind;
 /// The content of a scalar: a number, whose bytes go from the highest to the lowest, or bytes that are lent.
 #[derive(Clone, Copy, Debug, PartialEq, Eq)]
 pub enum Content<'a> {
+    /// A boolean, 0 or 1, or a tinyint in two's complement.
     One(u8),
+    /// A smallint in two's complement.
     Two(u16),
+    /// An int in two's complement, or the days of a date.
     Four(u32),
+    /// A bigint, a counter, a timestamp or a time, in two's complement.
     Eight(u64),
+    /// The bytes of any other scalar but a decimal, as they are written.
     Lent(&'a [u8]),
     /// The scale of a decimal, and its unscaled number.
     Decimal([u8; 4], &'a [u8]),
