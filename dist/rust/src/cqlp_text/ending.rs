@@ -18,6 +18,7 @@ pub enum Ending {
     ReadFault,
     /// The output failed.
     WriteFault,
+    /// The command asked for memory and got none.
     NoMemory,
     /// The input was not at its end, or a message not whole, after the greatest number of reads.
     TooManyTurns,
