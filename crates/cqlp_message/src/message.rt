@@ -15,24 +15,31 @@ pub enum Message {
     Options,
     /// A query by its text. Section 4.1.4.
     Query {
+        /// The text of the query, a \[long string\].
         text: String,
+        /// The consistency, the bound values and the paging of the query.
         params: QueryParams,
     },
     /// The text of a query to be prepared. Section 4.1.5.
     Prepare(String),
     /// A query by the id of its prepared statement. Section 4.1.6.
     Execute {
+        /// The id that the server gave the statement in [`Message::Prepared`], \[short bytes\]: at most 65,535.
         id: Vec<u8>,
+        /// The consistency, the bound values and the paging of the query.
         params: QueryParams,
     },
     /// Statements that are done together. Section 4.1.7.
     Batch {
         /// 0 logged, 1 unlogged, 2 counters; other numbers are kept.
         kind: u8,
+        /// The statements in their order, at most 65,535.
         entries: Vec<BatchEntry>,
+        /// The level of consistency of all statements, a \[short\] whose numbers section 3 lists; other numbers are kept.
         consistency: u16,
         /// 10 serial consistency, 20 default timestamp; no bit of 4F is set.
         flags: u8,
+        /// The level of consistency of the serial phase, 8 SERIAL or 9 LOCAL_SERIAL, where the flag 10 is set; other numbers are kept.
         serial: Option<u16>,
         /// The default timestamp, in microseconds.
         timestamp: Option<i64>,
@@ -43,6 +50,8 @@ pub enum Message {
     AuthResponse(Option<Vec<u8>>),
     /// An error. Section 4.2.1.
     Error {
+        /// The kind of the error, by the list of section 9: 0000 for an error of the server, 2000 for a query that cannot be parsed; unknown
+        /// codes are kept.
         code: i32,
         /// A text for the user.
         message: String,

@@ -41,9 +41,13 @@ pub enum PartRef<'a> {
     Type(&'a TypeTree),
     /// The cell of a row and a column, both from 0, and the type of the column, if columns are told.
     Cell {
+        /// The row, counted from 0, less than the rows of the page.
         row: u32,
+        /// The column, counted from 0, less than the columns of the metadata.
         column: usize,
+        /// The type of the column, by which the value is written; None where the metadata has the flag 4.
         tree: Option<&'a TypeTree>,
+        /// The value of the cell, which is written as \[bytes\]. Section 6.
         value: &'a Value,
     },
 }

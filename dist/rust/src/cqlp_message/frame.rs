@@ -21,5 +21,6 @@ pub struct Frame {
     pub warnings: Option<Vec<String>>,
     /// The custom payload: keys, and values that may be null.
     pub payload: Option<Vec<(String, Option<Vec<u8>>)>>,
+    /// What the body has behind these parts. Its kind decides the header's opcode and direction.
     pub message: Message,
 }

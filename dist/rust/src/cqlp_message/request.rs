@@ -19,6 +19,7 @@ pub enum OwnedBound {
 /// and 80 announce nothing, nor does 40 without 01.
 #[derive(Debug, PartialEq, Eq)]
 pub struct QueryParams {
+    /// The level of consistency, a \[short\]: 0 ANY, 1 ONE, 4 QUORUM, and so on, as section 3 lists them; other numbers are kept.
     pub consistency: u16,
     /// 01 values, 02 skip metadata, 04 page size, 08 paging state, 10 serial consistency, 20 default timestamp,
     /// 40 names for values; other bits are kept.
@@ -29,6 +30,7 @@ pub struct QueryParams {
     pub page_size: Option<i32>,
     /// The paging state, which may be null.
     pub paging: Option<Option<Vec<u8>>>,
+    /// The level of consistency of the serial phase of a conditional update, 8 SERIAL or 9 LOCAL_SERIAL; other numbers are kept.
     pub serial: Option<u16>,
     /// The default timestamp, in microseconds.
     pub timestamp: Option<i64>,
