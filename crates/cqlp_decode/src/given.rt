@@ -47,7 +47,9 @@ pub enum GiveReason {
 /// A table that was not taken, and why.
 #[derive(Drop)]
 pub struct GiveError<A: Allocator = Global> {
+    /// The first reason against it, in the order of the variants.
     pub why: GiveReason,
+    /// The table as the caller gave it, which the decoder did not keep.
     pub table: TypeTable<A>,
 }
 

@@ -6,17 +6,17 @@ macro_rules! error {
         error!(@display $name, _error, f, f.write_str($text), None);
     };
     ($(#[doc = $doc:literal])* #[derive($($derived:ident),*)] #[error($text:literal)] pub struct $name:ident {
-        $(pub $field:ident: $of:ty,)*
+        $($(#[doc = $about:literal])* pub $field:ident: $of:ty,)*
     }) => {
-        $(#[doc = $doc])* #[derive($($derived),*)] pub struct $name { $(pub $field: $of,)* }
+        $(#[doc = $doc])* #[derive($($derived),*)] pub struct $name { $($(#[doc = $about])* pub $field: $of,)* }
         error!(@display $name, error, f, { let $name { $($field),* } = error; write!(f, $text) }, None);
     };
     ($(#[doc = $doc:literal])* #[derive($($derived:ident),*)] pub enum $name:ident { $(
         $(#[doc = $about:literal])* #[error($said:tt)]
-        $variant:ident $(( $(#[$from:ident $(($how:ident))?])? $of:ty ))? $({ $($field:ident: $kind:ty),* })?,
+        $variant:ident $(( $(#[$from:ident $(($how:ident))?])? $of:ty ))? $({ $($(#[doc = $what:literal])* $field:ident: $kind:ty),* $(,)? })?,
     )* }) => {
         $(#[doc = $doc])* #[derive($($derived),*)] pub enum $name {
-            $($(#[doc = $about])* $variant $(($of))? $({ $($field: $kind),* })?,)*
+            $($(#[doc = $about])* $variant $(($of))? $({ $($(#[doc = $what])* $field: $kind),* })?,)*
         }
         error!(@display $name, error, f, match error {
             $($name::$variant $((error!(@part of, $of)))? $({ $($field),* })? =>

@@ -24,6 +24,7 @@ pub enum NewError {
     /// A limit is out of its range.
     #[error(transparent)]
     BadLimits(BadLimits),
+    /// One of the four requests for memory was refused; what the others gave is free again.
     #[error("no memory")]
     NoMemory,
 }

@@ -14,9 +14,17 @@ pub enum Fed {
     More,
     /// The stream is refused after this many bytes of the piece, here and at every later call. The refusal's offset is one in the
     /// whole stream.
-    Refused { used: usize, refusal: Refusal },
+    Refused {
+        /// How many bytes of the piece were used, 0 at each call after the one that found the fault.
+        used: usize,
+        /// What is refused, and where in the stream.
+        refusal: Refusal,
+    },
     /// The sink failed at an event that ends after this many bytes of the piece. A later call goes on behind them.
-    Fault { used: usize },
+    Fault {
+        /// How many bytes of the piece were used, up to the end of the event at which the sink failed.
+        used: usize,
+    },
 }
 
 impl<A: Allocator> Decoder<A> {

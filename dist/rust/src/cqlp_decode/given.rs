@@ -45,7 +45,9 @@ pub enum GiveReason {
 
 /// A table that was not taken, and why.
 pub struct GiveError<A: Allocator = Global> {
+    /// The first reason against it, in the order of the variants.
     pub why: GiveReason,
+    /// The table as the caller gave it, which the decoder did not keep.
     pub table: TypeTable<A>,
 }
 

@@ -10,12 +10,16 @@ pub enum Step<'a> {
     /// An event, whose field begins at this offset of the stream; an end's offset is the frame's end. This many bytes of
     /// the input were used, **which may be none**: the end of a frame or of an open value comes from a call of its own.
     Event {
+        /// The offset of its first byte in the stream; of an end, the offset behind what ends.
         at: u64,
+        /// How many bytes of the input were used, 0 for an end that the bytes before them decided.
         used: usize,
+        /// The event, whose contents are lent from the input or from the decoder.
         event: Event<'a>,
     },
     /// All of the input was used, and more is wanted. **Only this says that no event is left in the bytes so far.**
     More {
+        /// How many bytes of the input were used: all of them.
         used: usize,
     },
     /// The stream is refused, here and at every later call; nothing was used.
@@ -27,6 +31,7 @@ error! {
 #[derive(Clone, Copy, Debug, PartialEq, Eq)]
 #[error("the sink gave up after {used} bytes")]
 pub struct FaultAfter {
+    /// How many bytes of the input were used, up to the end of the event at which the sink failed.
     pub used: usize,
 }
 }
