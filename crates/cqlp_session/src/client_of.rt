@@ -24,13 +24,18 @@ pub enum ReplyOf<T> {
     ServerEvent,
     /// The reply to this request, with the value that it began with.
     Answer {
+        /// The ticket that `begin` gave for the request.
         ticket: Ticket,
+        /// What the request asked for, which says how the reply is to be read.
         kind: RequestKind,
+        /// The value that the caller gave to `begin`.
         carried: T,
     },
     /// The reply to this request, which was cancelled, with the value that it began with.
     Dropped {
+        /// The ticket that `begin` gave for the request.
         ticket: Ticket,
+        /// The value that the caller gave to `begin`, kept until now since the reply was still to come.
         carried: T,
     },
 }

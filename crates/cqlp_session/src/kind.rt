@@ -7,13 +7,21 @@ use cqlp_note::Opcode;
 /// What a client asks for. Section 4.1 of `native_protocol_v4.spec`.
 #[derive(Clone, Copy, Debug, PartialEq, Eq)]
 pub enum RequestKind {
+    /// STARTUP, which READY or AUTHENTICATE answers. Section 4.1.1.
     Startup,
+    /// OPTIONS, which SUPPORTED answers; it may come before STARTUP. Section 4.1.3.
     Options,
+    /// QUERY, which RESULT answers. Section 4.1.4.
     Query,
+    /// PREPARE, which RESULT answers with the id of the statement. Section 4.1.5.
     Prepare,
+    /// EXECUTE of a prepared statement, which RESULT answers. Section 4.1.6.
     Execute,
+    /// BATCH of statements, which RESULT answers. Section 4.1.7.
     Batch,
+    /// REGISTER for events, which READY answers. Section 4.1.8.
     Register,
+    /// AUTH_RESPONSE, which AUTH_CHALLENGE or AUTH_SUCCESS answers. Section 4.1.2.
     AuthResponse,
 }
 

@@ -14,12 +14,16 @@ use thiserror::Error;
 /// Why a message is not accepted as a request.
 #[derive(Clone, Copy, Debug, PartialEq, Eq, Error)]
 pub enum ServerRefusal {
+    /// The header is one of a response, or its opcode is.
     #[error("a response, or an opcode that is no request's")]
     NotRequest,
+    /// The stream id is negative, or not below the number of slots.
     #[error("the stream id is negative or past the last")]
     BadId,
+    /// An earlier request under this stream id is not answered yet.
     #[error("a request is open under this stream id")]
     IdTaken,
+    /// The connection is in this phase, in which no request of the kind may begin.
     #[error("requests of this kind may not begin in the phase {0:?}")]
     Phase(Phase),
 }
@@ -27,8 +31,10 @@ pub enum ServerRefusal {
 /// Why a request may not be answered so.
 #[derive(Clone, Copy, Debug, PartialEq, Eq, Error)]
 pub enum AnswerError {
+    /// No request was accepted under this stream id, or it is answered already.
     #[error("no request is open under this stream id")]
     NotTaken,
+    /// A response of this opcode answers requests of other kinds than the one that is open.
     #[error("this opcode does not answer the request under this stream id")]
     WrongOpcode,
 }
