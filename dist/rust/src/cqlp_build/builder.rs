@@ -26,6 +26,7 @@ pub struct BuildLimits {
 /// A frame that was built.
 #[derive(Debug, PartialEq, Eq)]
 pub struct BuiltFrame {
+    /// The frame from its header to its last field, with all contents owned.
     pub frame: Frame,
     /// How many bytes there were after its last field.
     pub extra: u32,
