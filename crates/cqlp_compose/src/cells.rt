@@ -58,6 +58,7 @@ pub struct PageCells<'a> {
 pub struct WrittenCells {
     /// Where the page stands behind them.
     pub place: PagePlace,
+    /// The bytes of these cells, to be written behind those of the cells before them.
     pub bytes: Vec<u8>,
 }
 

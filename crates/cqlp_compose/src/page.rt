@@ -44,7 +44,9 @@ pub struct OpenPage {
 /// A page that is begun, and what is to be written of it before its first cell.
 #[derive(Drop)]
 pub struct BegunPage {
+    /// The page, at the place of its first cell.
     pub page: OpenPage,
+    /// The bytes before the first cell: the header, the parts that its flags announce, the metadata, and the count of the rows.
     pub head: Vec<u8>,
 }
 
