@@ -33,7 +33,9 @@ pub enum Went {
 /// the columns, and both are used then.
 #[derive(Drop)]
 pub struct PageColumns<S: Sink, A: Allocator = Global> {
+    /// The columns that the cells fill, a batch of rows at a time.
     pub columns: Columns<A>,
+    /// What takes all other events: headers, fields, types and the ends of frames.
     pub other: S,
     /// Where the last event went. After a call of [`PageColumns::read`] it is as its answer says: `Last` where the columns are full, and `Cell` where it
     /// stopped at no event.

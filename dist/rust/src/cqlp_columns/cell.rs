@@ -14,6 +14,7 @@ pub enum Cell<'a> {
     Null,
     /// A value of no bytes.
     Empty,
+    /// A value with bytes, read by the type of its column. Section 6 of `native_protocol_v4.spec`.
     Holds(Scalar<'a>),
 }
 

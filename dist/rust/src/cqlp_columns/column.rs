@@ -19,6 +19,7 @@ pub enum MakeError {
     /// Columns of a batch: there are more than it may have.
     #[error("too many columns")]
     TooManyColumns,
+    /// Memory for the arrays was refused.
     #[error("no memory")]
     NoMemory,
 }

@@ -23,7 +23,9 @@ pub enum Went {
 /// The columns of a page, and a sink for the events that they do not take. As a sink it fails at an event that is not taken, and at the cell that fills
 /// the columns, and both are used then.
 pub struct PageColumns<S: Sink, A: Allocator = Global> {
+    /// The columns that the cells fill, a batch of rows at a time.
     pub columns: Columns<A>,
+    /// What takes all other events: headers, fields, types and the ends of frames.
     pub other: S,
     /// Where the last event went. After a call of [`PageColumns::read`] it is as its answer says: `Last` where the columns are full, and `Cell` where it
     /// stopped at no event.
