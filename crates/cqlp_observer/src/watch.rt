@@ -44,6 +44,7 @@ pub struct WatchStep<A: Allocator = Global> {
     pub is_done: bool,
     /// What the direction begins with, where these are its first bytes; else `Frames`.
     pub opening: Opening,
+    /// The exchange, the message without a partner or the event that these bytes complete, if they complete one.
     pub told: Option<Paired<Kept<A>>>,
 }
 

@@ -44,7 +44,9 @@ pub enum Heard {
 /// What the first so many bytes of a piece are.
 #[derive(Clone, Copy, Debug, PartialEq, Eq)]
 pub struct HeardStep {
+    /// How many bytes of the piece these are; the others are to be given to the next call.
     pub used: usize,
+    /// What they are: of a header, of a body, or of no frame.
     pub heard: Heard,
 }
 

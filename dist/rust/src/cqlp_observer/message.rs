@@ -6,6 +6,7 @@ use crate::cqlp_note::{Header, Opcode};
 /// A frame of one direction, by its header. Section 2 of `native_protocol_v4.spec`.
 #[derive(Clone, Copy, Debug, PartialEq, Eq)]
 pub struct Frame {
+    /// The nine bytes before the body, which are enough to pair requests and responses: stream id, opcode and length.
     pub header: Header,
     /// Where its header begins: how many bytes, and bytes of gaps, of the direction came before it.
     pub at: u64,
@@ -13,6 +14,7 @@ pub struct Frame {
     pub begun: Option<u64>,
     /// When its last byte was captured, also where it lies in a gap whose time is known; else when the last one of its bytes was that was captured.
     pub ended: Option<u64>,
+    /// Whether all bytes that its header announces were captured.
     pub extent: Extent,
 }
 
@@ -30,7 +32,9 @@ pub enum Extent {
 /// A frame, and what the observer keeps of its body.
 #[derive(Clone, Copy, Debug, PartialEq, Eq)]
 pub struct Message<T> {
+    /// The frame of the message: its header, and where and when it was captured.
     pub frame: Frame,
+    /// What the observer keeps of its body, as a query or the code of an error.
     pub kept: T,
 }
 
