@@ -12,6 +12,8 @@ pub enum Address {
 /// An end of a connection.
 #[derive(Clone, Copy, Debug, PartialEq, Eq, PartialOrd, Ord, Hash)]
 pub struct Endpoint {
+    /// The address of its host, in the header of IP. RFC 791, section 3.1, and RFC 8200, section 3.
     pub address: Address,
+    /// The port at its host, in the header of TCP. RFC 9293, section 3.1.
     pub port: u16,
 }

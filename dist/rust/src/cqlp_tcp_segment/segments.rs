@@ -12,18 +12,22 @@ use crate::cqlp_tcp_segment::tunnels::innermost;
 /// What the headers say of a segment.
 #[derive(Clone, Copy, Debug, PartialEq, Eq)]
 pub struct SegmentHead {
+    /// The end that sent it.
     pub source: Endpoint,
+    /// The end that it was sent to.
     pub destination: Endpoint,
     /// The number of the first byte of the payload, or with SYN the number before it.
     pub sequence: u32,
     /// The number of the byte that the sender wants next, where ACK is set.
     pub acknowledgement: u32,
+    /// Four of the control bits: SYN, FIN, RST and ACK. RFC 9293, section 3.1.
     pub flags: Flags,
 }
 
 /// A segment of TCP in a captured packet.
 #[derive(Clone, Copy, Debug, PartialEq, Eq)]
 pub struct Segment<'a> {
+    /// What the headers of IP and TCP say; in a tunnel those of the innermost packet.
     pub head: SegmentHead,
     /// Where in the packet the payload begins, in bytes.
     pub offset: usize,
