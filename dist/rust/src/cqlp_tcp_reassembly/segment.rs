@@ -8,8 +8,11 @@ use crate::cqlp_tcp_reassembly::sequence::{Distance, distance_to};
 pub struct Control {
     /// The sequence number of the payload's first byte, or with SYN the number before it.
     pub sequence: u32,
+    /// SYN: the sequence number is the one before the first byte of the stream.
     pub syn: bool,
+    /// FIN: the stream ends behind the payload, the bytes that were cut off included.
     pub fin: bool,
+    /// RST: the connection is reset, and the stream ends.
     pub rst: bool,
     /// How many bytes behind the payload were cut off by the snap length.
     pub missing: u32,
@@ -18,6 +21,7 @@ pub struct Control {
 /// A segment as it was captured.
 #[derive(Clone, Copy, Debug)]
 pub struct StreamSegment<'a> {
+    /// What its header says.
     pub control: Control,
     /// The bytes that were captured.
     pub payload: &'a [u8],
