@@ -64,6 +64,7 @@ pub enum SkipReason {
 pub enum CaptureEvent<'a> {
     /// A section of this form begins, with no interfaces yet. A pcap file is one.
     Section(SectionForm),
+    /// An interface of the section, before all packets that name it.
     Interface(InterfaceHead),
     /// A packet begins, whose bytes are next.
     Packet(PacketHead),
@@ -99,12 +100,16 @@ pub(crate) struct Told {
 pub enum CaptureStep<'a> {
     /// An event, whose first byte is at this offset of the file. This many bytes of the input were used.
     Event {
+        /// The offset of its first byte in the file.
         at: u64,
+        /// How many bytes of the input were used, up to the end of the event.
         used: usize,
+        /// The event, whose bytes are lent from the input or from the reader.
         event: CaptureEvent<'a>,
     },
     /// All of the input was used, and more is wanted.
     More {
+        /// How many bytes of the input were used: all of them.
         used: usize,
     },
     /// The file is refused, here and at every later call; nothing was used.
@@ -115,8 +120,17 @@ pub enum CaptureStep<'a> {
 #[derive(Clone, Copy, Debug, PartialEq, Eq)]
 pub enum CaptureEnd {
     /// After its last packet or block, or after its header, at this offset.
-    Whole { bytes: u64 },
+    Whole {
+        /// How many bytes the file has.
+        bytes: u64,
+    },
     /// Within its header, a record or a block, which began at the offset `at`, after this many bytes.
-    Cut { at: u64, bytes: u64 },
+    Cut {
+        /// The offset in the file of the header, the record or the block that is not whole.
+        at: u64,
+        /// How many bytes the file has, those of the unfinished part among them.
+        bytes: u64,
+    },
+    /// It was refused before its end, for this reason.
     Refused(CaptureRefusal),
 }

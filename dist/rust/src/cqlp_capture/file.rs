@@ -13,20 +13,25 @@ pub enum ByteOrder {
 /// What a time counts beside its seconds.
 #[derive(Clone, Copy, Debug, PartialEq, Eq)]
 pub enum Fraction {
+    /// Millionths of a second: the magic number is A1B2C3D4.
     Microseconds,
+    /// Billionths of a second: the magic number is A1B23C4D.
     Nanoseconds,
 }
 
 /// How the numbers of a pcap file are written. Section 4 of draft-ietf-opsawg-pcap.
 #[derive(Clone, Copy, Debug, PartialEq, Eq)]
 pub struct FileForm {
+    /// The order of the bytes of all numbers in its headers, by the magic number.
     pub order: ByteOrder,
+    /// What the second number of a time counts, by the magic number.
     pub fraction: Fraction,
 }
 
 /// How the numbers of a section are written, and in which format. A pcap file is one section.
 #[derive(Clone, Copy, Debug, PartialEq, Eq)]
 pub enum SectionForm {
+    /// The one section of a pcap file.
     Pcap(FileForm),
     /// Each interface says for itself what its times count.
     Pcapng(ByteOrder),

@@ -33,8 +33,10 @@ error! {
 /// Why a reader was not made.
 #[derive(Clone, Copy, Debug, PartialEq, Eq)]
 pub enum NewReaderError {
+    /// A limit of the caller is out of its range: 64 to 16,777,216 bytes of a packet, or 1 to 65,536 interfaces.
     #[error("the limit on a packet is not from 64 to 16777216, or that on interfaces not from 1 to 65536")]
     BadLimits,
+    /// Memory for a packet and for the interfaces was refused.
     #[error("no memory")]
     NoMemory,
 }
