@@ -26,6 +26,7 @@ pub enum TableError {
     /// The options of the types have more than 268,435,456 bytes together, so no body of a frame has them.
     #[error("the types are longer than the body of a frame can be")]
     TooLong,
+    /// Memory for the table, or for the reading of its types, was refused.
     #[error("no memory")]
     NoMemory,
 }
