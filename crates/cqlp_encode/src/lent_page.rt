@@ -29,7 +29,10 @@ pub enum LentError {
     Changed,
     /// The target failed, or took nothing, after the frame's first bytes, this many.
     #[error("the target failed after {written} bytes of the frame")]
-    Write { written: u32 },
+    Write {
+        /// How many bytes of the frame are written, from its header on.
+        written: u32,
+    },
 }
 
 /// How many bytes these cells of a page have, row after row: what [`PageWriter::begin`] is to be told of them.

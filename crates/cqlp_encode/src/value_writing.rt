@@ -30,7 +30,10 @@ pub enum ValueError {
     TooLong,
     /// The target failed, or took nothing, after the value's first bytes, this many.
     #[error("the target failed after {written} bytes of the value")]
-    Write { written: u32 },
+    Write {
+        /// How many bytes of the value are written, from its length on.
+        written: u32,
+    },
 }
 
 /// Writes a value of this type, or of a cell without a type, as a \[bytes\] with its length, and answers how many bytes it has,

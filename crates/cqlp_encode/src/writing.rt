@@ -23,7 +23,10 @@ pub enum EncodeError {
     Unfit(Unfit),
     /// The target failed, or took nothing, after the frame's first bytes, this many.
     #[error("the target failed after {written} bytes of the frame")]
-    Write { written: u32 },
+    Write {
+        /// How many bytes of the frame are written, from its header on: what [`encode_from`] is to be given.
+        written: u32,
+    },
 }
 
 /// Writes a frame, and answers how many bytes it has: its header, what its flags announce, and its message. Section 2 of

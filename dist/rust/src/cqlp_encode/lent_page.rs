@@ -20,7 +20,10 @@ pub enum LentError {
     Changed,
     /// The target failed, or took nothing, after the frame's first bytes, this many.
     #[error("the target failed after {written} bytes of the frame")]
-    Write { written: u32 },
+    Write {
+        /// How many bytes of the frame are written, from its header on.
+        written: u32,
+    },
 }
 }
 

@@ -27,7 +27,10 @@ pub enum PageError {
     NotDone,
     /// The target failed, or took nothing, after the frame's first bytes, this many, which the targets of all calls took.
     #[error("the target failed after {written} bytes of the frame")]
-    Write { written: u32 },
+    Write {
+        /// How many bytes of the frame are written, from its header on, by this call and those before it.
+        written: u32,
+    },
 }
 }
 

@@ -19,7 +19,10 @@ pub enum ValueError {
     TooLong,
     /// The target failed, or took nothing, after the value's first bytes, this many.
     #[error("the target failed after {written} bytes of the value")]
-    Write { written: u32 },
+    Write {
+        /// How many bytes of the value are written, from its length on.
+        written: u32,
+    },
 }
 }
 

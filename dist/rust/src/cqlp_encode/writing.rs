@@ -14,7 +14,10 @@ pub enum EncodeError {
     Unfit(Unfit),
     /// The target failed, or took nothing, after the frame's first bytes, this many.
     #[error("the target failed after {written} bytes of the frame")]
-    Write { written: u32 },
+    Write {
+        /// How many bytes of the frame are written, from its header on: what [`encode_from`] is to be given.
+        written: u32,
+    },
 }
 }
 
