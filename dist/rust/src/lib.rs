@@ -288,6 +288,7 @@
 #![cfg_attr(not(feature = "cli"), no_std)]
 #![cfg_attr(not(feature = "std"), allow(rustdoc::broken_intra_doc_links))]
 #![doc(test(attr(forbid(unsafe_code))))]
+#![warn(missing_docs)]
 // Each module is a whole library of the sources, of which this package exports a part.
 #![allow(dead_code, unused_imports)]
 // Arguments that contracts alone speak of.

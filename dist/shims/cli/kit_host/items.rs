@@ -17,6 +17,7 @@ impl<T, A: Allocator> Vec<T, A> {
         }
     }
 
+    /// Takes out the item at this index, and puts the last one in its place.
     pub fn swap_remove(&mut self, at: usize) -> T {
         self.items.swap_remove(at)
     }
