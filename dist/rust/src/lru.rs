@@ -38,51 +38,57 @@ impl Hasher for Hashed {
     }
 }
 
-/// What a key hashes of itself, in one piece.
-struct Pieces {
-    bytes: [u8; 64],
-    len: usize,
+/// The keyed hash of what a key hashes of itself: each piece is folded in by a 128-bit product with the map's own random number.
+struct Folded {
+    state: u64,
+    factor: u64,
 }
 
-impl Pieces {
+impl Folded {
     #[inline]
-    fn put<const N: usize>(&mut self, piece: [u8; N]) {
-        self.bytes[self.len..][..N].copy_from_slice(&piece);
-        self.len += N;
+    fn fold(&mut self, piece: u64) {
+        let product = u128::from(self.state ^ piece) * u128::from(self.factor);
+        self.state = product as u64 ^ (product >> 64) as u64;
     }
 }
 
-impl Hasher for Pieces {
+impl Hasher for Folded {
+    #[inline]
     fn finish(&self) -> u64 {
-        self.len as u64
+        self.state
     }
 
     #[inline]
-    fn write(&mut self, piece: &[u8]) {
-        self.bytes[self.len..][..piece.len()].copy_from_slice(piece);
-        self.len += piece.len();
+    fn write(&mut self, bytes: &[u8]) {
+        for octets in bytes.chunks(4) {
+            let mut four = [0; 4];
+            four[..octets.len()].copy_from_slice(octets);
+            self.fold(u64::from(u32::from_ne_bytes(four)));
+        }
     }
 
     #[inline]
     fn write_u16(&mut self, n: u16) {
-        self.put(n.to_ne_bytes());
+        self.fold(u64::from(n));
     }
 
     /// Which of its kinds an address is.
     #[inline]
     fn write_isize(&mut self, n: isize) {
-        self.put([n as u8]);
+        self.fold(n as u64);
     }
 
     /// How long its octets are.
     #[inline]
     fn write_usize(&mut self, n: usize) {
-        self.put([n as u8]);
+        self.fold(n as u64);
     }
 }
 
 pub struct LruCache<K, V, S, A> {
-    state: RandomState,
+    /// Where a hash begins, and what its pieces are multiplied by: random numbers, the second of them odd.
+    state: u64,
+    factor: u64,
     /// By the hash of a key the first of its entries.
     places: HashMap<u64, u32, BuildHasherDefault<Hashed>>,
     entries: Vec<Entry<K, V>>,
@@ -98,7 +104,9 @@ impl<K: Copy + Eq + Hash, V, S, A: Allocator> LruCache<K, V, S, A> {
     /// A cache that takes its memory as entries come.
     pub fn sparse(alloc: A, _: NonZeroUsize) -> Result<Self, AllocError> {
         let (places, entries, free) = (HashMap::default(), Vec::new(), Vec::new());
-        Ok(LruCache { state: RandomState::new(), places, entries, free, first: NONE, last: NONE, alloc, hasher: PhantomData })
+        let random = RandomState::new();
+        let (state, factor) = (random.hash_one(0), random.hash_one(1) | 1);
+        Ok(LruCache { state, factor, places, entries, free, first: NONE, last: NONE, alloc, hasher: PhantomData })
     }
 
     pub fn allocator(&self) -> &A {
@@ -125,10 +133,8 @@ impl<K: Copy + Eq + Hash, V, S, A: Allocator> LruCache<K, V, S, A> {
 
     #[inline]
     fn hash(&self, key: &K) -> u64 {
-        let mut pieces = Pieces { bytes: [0; 64], len: 0 };
-        key.hash(&mut pieces);
-        let mut hasher = self.state.build_hasher();
-        hasher.write(&pieces.bytes[..pieces.len]);
+        let mut hasher = Folded { state: self.state, factor: self.factor };
+        key.hash(&mut hasher);
         hasher.finish()
     }
 
