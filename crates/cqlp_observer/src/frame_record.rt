@@ -29,6 +29,7 @@ impl Model for FrameRecord {
 }
 
 impl FrameRecord {
+    #[inline(always)]
     pub(crate) fn new(frame: &Frame) -> Self
         ensures { result ≡ frame.now }
     {
@@ -45,6 +46,7 @@ impl FrameRecord {
         }
     }
 
+    #[inline(always)]
     pub(crate) fn frame(&self) -> Frame
         ensures { result ≡ self.now }
     {
@@ -59,6 +61,7 @@ impl FrameRecord {
 }
 
 /// Whether a time is known, and its number, or 0.
+#[inline(always)]
 pub(crate) fn parts_of(time: Option<u64>) -> (bool, u64)
     ensures { time_of result.0 result.1 ≡ time }
 {
@@ -69,6 +72,7 @@ pub(crate) fn parts_of(time: Option<u64>) -> (bool, u64)
 }
 
 /// The time with this number, if it is known.
+#[inline(always)]
 pub(crate) fn time_of(is_known: bool, time: u64) -> Option<u64>
     ensures { result ≡ time_of is_known time }
 {
@@ -94,6 +98,7 @@ impl<T> Model for MessageRecord<T> {
 impl<T> MessageRecord<T> {
     ghost use Rattle.cqlp_observer.specs.Messages.{id_of, meets};
 
+    #[inline(always)]
     pub(crate) fn new(message: Message<T>) -> Self
         ensures { result ≡ message }
     {
@@ -103,6 +108,7 @@ impl<T> MessageRecord<T> {
         }
     }
 
+    #[inline(always)]
     pub(crate) fn into_message(self) -> Message<T>
         ensures { result ≡ self }
     {
@@ -112,6 +118,7 @@ impl<T> MessageRecord<T> {
         }
     }
 
+    #[inline(always)]
     pub(crate) fn kept(&self) -> &T
         ensures { result.now ≡ self.now.kept }
     {
@@ -119,6 +126,7 @@ impl<T> MessageRecord<T> {
     }
 
     /// The stream id.
+    #[inline(always)]
     pub(crate) fn stream(&self) -> i16
         ensures { result ≡ id_of self.now }
     {

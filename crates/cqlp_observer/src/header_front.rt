@@ -26,6 +26,7 @@ impl Model for HeaderFront {
 impl HeaderFront {
     ghost use Rattle.cqlp_observer.specs.Heads.{head_within};
 
+    #[inline(always)]
     pub(crate) fn new() -> Self
         ensures { result ≡ [] }
     {
@@ -35,6 +36,7 @@ impl HeaderFront {
         }
     }
 
+    #[inline(always)]
     pub(crate) fn len(&self) -> usize
         ensures { result ≡ length self.now }
     {
@@ -42,6 +44,7 @@ impl HeaderFront {
     }
 
     /// These bytes, and as many of the input as there is room for.
+    #[inline(always)]
     pub(crate) fn with(&self, input: &[u8]) -> Self
         ensures { result ≡ self.now ++ take (9 - length self.now) input.now }
     {
@@ -57,6 +60,7 @@ impl HeaderFront {
     }
 
     /// The header that the bytes are, in this direction, if they are nine.
+    #[inline(always)]
     pub(crate) fn head(&self, responses: bool) -> Option<Header>
         ensures { result ≡ head_within responses self.now }
     {
@@ -68,6 +72,7 @@ impl HeaderFront {
 }
 
 /// The header that nine bytes are in this direction. Its frame may be compressed.
+#[inline(always)]
 fn read_head(bytes: &[u8; 9], responses: bool) -> Option<Header>
     ensures { result ≡ head_of responses bytes.now }
 {

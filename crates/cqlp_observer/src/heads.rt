@@ -91,6 +91,7 @@ impl Heads {
 
     /// What the next bytes are that came at this time. `begins` says whether the first of them begins a segment. To be called again and again
     /// with the bytes that were not used, until it says `More`.
+    #[inline(always)]
     pub fn take(&mut self, piece: &[u8], time: Option<u64>, begins: bool) -> HeardStep
         ensures told { stepping result self.new ≡ heard time begins piece.now self.old }
         ensures within { result.used ≤ length piece.now }
@@ -122,6 +123,7 @@ impl Heads {
     }
 
     /// What these bytes are that come next, if none came before.
+    #[inline(always)]
     pub(crate) fn opening(&self, piece: &[u8]) -> Opening
         ensures { result ≡ opening_in piece.now self.now }
     {
@@ -171,6 +173,7 @@ impl Heads {
     }
 
     /// All that is left of the body came, the last of it at this time: its frame ends.
+    #[inline(always)]
     pub(crate) fn pass_whole(&mut self, time: Option<u64>) -> Option<Frame>
         ensures { closing result self.new ≡ passed_whole time self.old }
     {
@@ -195,6 +198,7 @@ impl Heads {
     }
 
     /// Looks for a frame where a segment begins.
+    #[inline(never)]
     fn seek(&mut self, piece: &[u8], time: Option<u64>, begins: bool) -> HeardStep
         ensures told { stepping result self.new ≡ sought time begins piece.now self.old }
         ensures within { result.used ≤ length piece.now }
@@ -206,6 +210,7 @@ impl Heads {
     }
 
     /// The header that a segment begins with.
+    #[inline(always)]
     fn head_at_begin(&self, piece: &[u8], begins: bool) -> Option<Header>
         ensures { result ≡ (if begins then head_within self.now.responses (take 9 piece.now) else None) }
     {
@@ -217,6 +222,7 @@ impl Heads {
     }
 
     /// So many bytes are stray.
+    #[inline(never)]
     fn stray(&mut self, used: usize) -> HeardStep
         ensures told { stepping result self.new ≡ hears used Heard.Stray Stage.Lost self.old }
         ensures within { result.used ≡ used }
@@ -230,6 +236,7 @@ impl Heads {
     }
 
     /// Takes bytes of a header.
+    #[inline(always)]
     fn fill(
         &mut self,
         front: HeaderFront,
@@ -262,6 +269,7 @@ impl Heads {
     }
 
     /// A frame begins, whose header ends after so many bytes.
+    #[inline(always)]
     fn begin(
         &mut self,
         used: usize,
@@ -292,6 +300,7 @@ impl Heads {
     }
 
     /// Takes bytes of a body.
+    #[inline(always)]
     fn pass(&mut self, frame: Frame, left: u32, piece: &[u8], time: Option<u64>) -> HeardStep
         ensures told { stepping result self.new ≡ passed frame left time piece.now self.old }
         ensures within { result.used ≤ length piece.now }
@@ -311,6 +320,7 @@ impl Heads {
         }
     }
 
+    #[inline(always)]
     fn count(&mut self, more: u64)
         ensures { self.new ≡ counted more self.old }
     {

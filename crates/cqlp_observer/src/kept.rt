@@ -39,6 +39,7 @@ impl<A: Allocator> Kept<A> {
     ghost use Rattle.cqlp_observer.specs.Keeping.{bare_kept, cost_of, kept};
 
     /// These first bytes, and what the message says.
+    #[inline(always)]
     pub(crate) fn new(alloc: A, front: Front<A>, facts: Facts) -> Result<Self, AllocError>
         ensures { IfOk result (λ k. k ≡ kept front facts false) }
     {
@@ -47,6 +48,7 @@ impl<A: Allocator> Kept<A> {
     }
 
     /// Nothing. Takes no memory.
+    #[inline(always)]
     pub(crate) fn bare() -> Self
         ensures { result ≡ bare_kept }
     {
@@ -56,6 +58,7 @@ impl<A: Allocator> Kept<A> {
     /// The first bytes of the message proper, at most [`LONGEST_FRONT`], behind what the header's flags announce before it: a tracing id, warnings and
     /// a custom payload. Section 2.2 of `native_protocol_v4.spec`. Where the body is compressed, its first bytes as they are. None where they were
     /// dropped.
+    #[inline(always)]
     pub fn front(&self) -> &[u8]
         ensures { result.now ≡ self.now.front }
     {
@@ -66,6 +69,7 @@ impl<A: Allocator> Kept<A> {
     }
 
     /// What the message says; nothing where the body is compressed, or where that was dropped.
+    #[inline(always)]
     pub fn facts(&self) -> Facts
         ensures { result ≡ self.now.facts }
     {
@@ -83,6 +87,7 @@ impl<A: Allocator> Kept<A> {
     }
 
     /// How many bytes of room it takes.
+    #[inline(always)]
     pub(crate) fn cost(&self) -> usize
         ensures { result ≡ cost_of self.now }
     {
@@ -111,6 +116,7 @@ impl<A: Allocator> Model for Front<A> {
 
 impl<A: Allocator> Front<A> {
     /// No byte, and no memory.
+    #[inline(always)]
     pub(crate) fn new(alloc: A) -> Self
         ensures { result ≡ [] }
     {
@@ -119,12 +125,14 @@ impl<A: Allocator> Front<A> {
         }
     }
 
+    #[inline(always)]
     pub(crate) fn as_slice(&self) -> &[u8]
         ensures { result.now ≡ self.now }
     {
         &self.bytes
     }
 
+    #[inline(always)]
     pub(crate) fn len(&self) -> usize
         ensures is { result ≡ length self.now }
         ensures few { result ≤ 256 }

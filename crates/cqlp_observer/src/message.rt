@@ -44,6 +44,7 @@ impl<T> Message<T> {
     ghost use Rattle.cqlp_observer.specs.Messages.{id_of, is_event, is_request, meets};
 
     /// The stream id, which is a request's and its response's.
+    #[inline(always)]
     pub fn stream(&self) -> i16
         ensures { result ≡ id_of self.now }
     {
@@ -51,6 +52,7 @@ impl<T> Message<T> {
     }
 
     /// Whether it is a request.
+    #[inline(always)]
     pub fn is_request(&self) -> bool
         ensures { result ≡ is_request self.now }
     {
@@ -59,6 +61,7 @@ impl<T> Message<T> {
 
     /// Whether it is an event that the node pushed: an EVENT under a negative stream id. Section 4.2.6 of
     /// `native_protocol_v4.spec`.
+    #[inline(always)]
     pub fn is_event(&self) -> bool
         ensures { result ≡ is_event self.now }
     {
@@ -74,6 +77,7 @@ impl<T> Message<T> {
 
     /// Whether it and the next under its stream id are a request and its response: a request and any response, or a response and a request
     /// whose first byte was captured no later than that of the response, where both times are known.
+    #[inline(always)]
     pub(crate) fn meets(&self, next: &Message<T>) -> bool
         ensures { result ≡ meets self.now next.now }
     {
@@ -86,6 +90,7 @@ impl<T> Message<T> {
 }
 
 /// Whether one time is known to be no later than another.
+#[inline(always)]
 pub(crate) fn is_no_later(one: Option<u64>, other: Option<u64>) -> bool
     ensures { result ≡ is_no_later one other }
 {

@@ -72,6 +72,7 @@ impl<T: Drop, A: Allocator + Clone> Pairing<T, A> {
     }
 
     /// How many messages wait.
+    #[inline(always)]
     pub fn len(&self) -> usize
         ensures is { result ≡ length self.now }
         ensures ordered { IsStrictlySortedBy int_cmp (keys_of self.now) }
@@ -87,6 +88,7 @@ impl<T: Drop, A: Allocator + Clone> Pairing<T, A> {
     }
 
     /// The message that waits under a stream id.
+    #[inline]
     pub(crate) fn under(&self, id: i16) -> Option<&MessageRecord<T>>
         ensures { option_copied result ≡ under id self.now }
     {
@@ -143,6 +145,7 @@ impl<T: Drop, A: Allocator + Clone> Pairing<T, A> {
     }
 
     /// A message comes after one that waited under its stream id.
+    #[inline]
     fn meet(&mut self, first: Message<T>, second: Message<T>) -> Result<Paired<T>, AllocError>
         ensures { IfOk result (λ told. paired (Some told) self.new ≡ met first second self.old) }
     {
@@ -155,6 +158,7 @@ impl<T: Drop, A: Allocator + Clone> Pairing<T, A> {
     }
 
     /// A message waits under its stream id.
+    #[inline]
     fn wait(&mut self, message: Message<T>) -> Result<(), AllocError>
         ensures { IfOk result (λ _. self.new ≡ with_message message self.old) }
     {
@@ -170,6 +174,7 @@ impl<T: Drop, A: Allocator + Clone> Pairing<T, A> {
     }
 
     /// The message under a stream id waits no more.
+    #[inline]
     fn leave(&mut self, id: i16) -> Option<Message<T>>
         ensures which { result ≡ under id self.old }
         ensures others { self.new ≡ without id self.old }
@@ -206,6 +211,7 @@ fn message_in<T>(waited: Option<MessageRecord<T>>) -> Option<Message<T>>
 }
 
 /// Where the message under a stream id waits, or where it would.
+#[inline(always)]
 fn place_in<T, A: Allocator>(
     waiting: &VecDeque<MessageRecord<T>, A>,
     id: i16,
@@ -218,6 +224,7 @@ fn place_in<T, A: Allocator>(
 }
 
 /// What becomes of a message after the one that waits under its stream id, if one does, where there is room for one more that waits, or none.
+#[inline(always)]
 pub(crate) fn fate_of<T>(
     first: Option<&MessageRecord<T>>,
     message: &Message<T>,
@@ -235,6 +242,7 @@ pub(crate) fn fate_of<T>(
 }
 
 /// What becomes of a message after one that waits under its stream id.
+#[inline(always)]
 fn fate_after<T>(first: &MessageRecord<T>, second: &Message<T>) -> Fate
     ensures { result ≡ fate_after first.now second.now }
 {
@@ -246,6 +254,7 @@ fn fate_after<T>(first: &MessageRecord<T>, second: &Message<T>) -> Fate
 }
 
 /// What becomes of a message under whose stream id none waits.
+#[inline(always)]
 fn fate_alone(has_room: bool) -> Fate
     ensures { result ≡ fate_alone has_room }
 {

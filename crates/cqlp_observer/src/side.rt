@@ -67,6 +67,7 @@ impl<A: Allocator + Clone> Present<A> {
     }
 
     /// Its next bytes.
+    #[inline(always)]
     fn keep(&mut self, bytes: &[u8]) -> Result<(), AllocError>
         ensures { IfOk result (λ _. self.new ≡ read_on bytes.now self.old) }
     {
@@ -85,6 +86,7 @@ impl<A: Allocator + Clone> Present<A> {
     }
 
     /// What is kept of it.
+    #[inline(always)]
     fn into_kept(self, alloc: A) -> Result<Kept<A>, AllocError>
         ensures { IfOk result (λ k. k ≡ kept_in self) }
     {
@@ -131,6 +133,7 @@ impl<A: Allocator + Clone> Side<A> {
     }
 
     /// Whether it has memory for the message that passes.
+    #[inline(always)]
     pub(crate) fn is_keeping(&self) -> bool
         ensures { result ≡ is_keeping self.now }
     {
@@ -138,6 +141,7 @@ impl<A: Allocator + Clone> Side<A> {
     }
 
     /// What these bytes are that come next, if none came before.
+    #[inline(always)]
     pub(crate) fn opening(&self, piece: &[u8]) -> Opening
         ensures { result ≡ opening_in piece.now self.now.heads }
     {
@@ -196,6 +200,7 @@ impl<A: Allocator + Clone> Side<A> {
     }
 
     /// A frame begins, whose header ended after so many bytes of the piece.
+    #[inline(always)]
     fn begin(
         &mut self,
         header: &Header,
@@ -223,6 +228,7 @@ impl<A: Allocator + Clone> Side<A> {
     }
 
     /// All of a body that has begun is there, which ends after so many bytes of the piece: its frame ends.
+    #[inline(always)]
     fn take_whole(
         &mut self,
         header: &Header,
@@ -243,6 +249,7 @@ impl<A: Allocator + Clone> Side<A> {
     }
 
     /// What is kept of a message with this header and body.
+    #[inline(always)]
     fn kept_of_whole(&self, header: &Header, body: &[u8]) -> Result<Kept<A>, AllocError>
         ensures { IfOk result (λ k. k ≡ kept_in (read_on body.now (begun_with header.now))) }
     {
@@ -252,6 +259,7 @@ impl<A: Allocator + Clone> Side<A> {
     }
 
     /// Keeps bytes of a body.
+    #[inline(always)]
     fn keep(&mut self, bytes: &[u8]) -> Result<(), AllocError>
         ensures { IfOk result (λ _. self.new ≡ speaker self.old.heads (read_on_if bytes.now self.old.present)) }
     {
@@ -284,6 +292,7 @@ impl<A: Allocator + Clone> Side<A> {
 
 impl<A: Allocator> SideStep<A> {
     /// No message in so many bytes.
+    #[inline(always)]
     fn nothing(used: usize) -> Self
         ensures { result ≡ record { used = used; is_done = false; message = None; is_bare = false } }
     {
@@ -296,6 +305,7 @@ impl<A: Allocator> SideStep<A> {
     }
 
     /// Nothing more is said by the piece.
+    #[inline(always)]
     fn done(used: usize) -> Self
         ensures { result ≡ record { used = used; is_done = true; message = None; is_bare = false } }
     {
@@ -308,6 +318,7 @@ impl<A: Allocator> SideStep<A> {
     }
 
     /// A message begins after so many bytes of which there is no room to keep more than the header.
+    #[inline(always)]
     fn bare(used: usize) -> Self
         ensures { result ≡ record { used = used; is_done = false; message = None; is_bare = true } }
     {
@@ -320,6 +331,7 @@ impl<A: Allocator> SideStep<A> {
     }
 
     /// A message that ended after so many bytes, if one did.
+    #[inline(always)]
     fn of(used: usize, message: Option<Message<Kept<A>>>) -> Self
         ensures { result ≡ record { used = used; is_done = false; message = message; is_bare = false } }
     {

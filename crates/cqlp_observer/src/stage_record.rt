@@ -63,6 +63,7 @@ impl StageRecord {
     ghost use Rattle.cqlp_observer.specs.declared.heads.Stage.TheVariants as stage;
     ghost use Rattle.cqlp_observer.specs.Openings.{is_between};
 
+    #[inline(always)]
     pub(crate) fn new(stage: Stage) -> Self
         ensures { result ≡ stage }
     {
@@ -86,6 +87,7 @@ impl StageRecord {
     }
 
     /// The stage, in whose place `Lost` is left.
+    #[inline(always)]
     pub(crate) fn take(&mut self) -> Stage
         ensures taken { result ≡ self.old }
         ensures left { self.new ≡ stage.Lost }
@@ -93,6 +95,7 @@ impl StageRecord {
         stage_of(mem::replace(&mut self.parts, StageParts::Lost))
     }
 
+    #[inline(always)]
     pub(crate) fn is_between(&self) -> bool
         ensures { result ≡ is_between self.now }
     {
@@ -101,6 +104,7 @@ impl StageRecord {
 }
 
 /// The stage with these parts.
+#[inline(always)]
 fn stage_of(parts: StageParts) -> Stage
     ensures { result ≡ stage_in parts }
 {
@@ -127,6 +131,7 @@ fn stage_of(parts: StageParts) -> Stage
 impl PassingFrame {
     ghost use Rattle.cqlp_observer.specs.Records.{frame_in};
 
+    #[inline(always)]
     fn new(frame: &Frame, left: u32) -> Self
         ensures frame { frame_in result ≡ frame.now }
         ensures left { result.left ≡ left }
@@ -156,6 +161,7 @@ impl PassingFrame {
         }
     }
 
+    #[inline(always)]
     fn frame(&self) -> Frame
         ensures { result ≡ frame_in self.now }
     {

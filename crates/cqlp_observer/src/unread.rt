@@ -17,6 +17,7 @@ pub struct Unread<'a> {
 impl<'a> Unread<'a> {
     /// All bytes of a piece, the first of which begins a segment or not.
     #[must_use]
+    #[inline(always)]
     pub fn new(bytes: &'a [u8], begins: bool) -> Self
         ensures bytes { result.bytes.now ≡ bytes.now }
         ensures begins { result.begins ≡ begins }
@@ -31,6 +32,7 @@ impl<'a> Unread<'a> {
 
     /// What is left after a step that used so many bytes. The first of them still begins a segment if none was used.
     #[must_use]
+    #[inline(always)]
     pub fn after(self, used: usize) -> Self
         requires { used ≤ length self.bytes.now }
         ensures bytes { result.bytes.now ≡ drop used self.entry.bytes.now }

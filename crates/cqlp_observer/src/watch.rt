@@ -197,6 +197,7 @@ impl<A: Allocator + Clone> Watch<A> {
     }
 
     /// What these bytes of a direction are that come next, if none came before.
+    #[inline(always)]
     fn opening(&self, responses: bool, piece: &[u8]) -> Opening
         ensures { result ≡ opening_of responses piece.now self.now }
     {
@@ -208,6 +209,7 @@ impl<A: Allocator + Clone> Watch<A> {
     }
 
     /// Whether a side has memory for the text of the message that passes.
+    #[inline(always)]
     fn is_keeping(&self, responses: bool) -> bool
         ensures { result ≡ is_keeping_on responses self.now }
     {
@@ -219,6 +221,7 @@ impl<A: Allocator + Clone> Watch<A> {
     }
 
     /// Counts the room of a side that took some or gave it back.
+    #[inline(always)]
     fn recount(&mut self, responses: bool, room: WatchRoom, was_keeping: bool)
         ensures { self.new ≡ with_recount responses room was_keeping self.old }
     {
@@ -231,6 +234,7 @@ impl<A: Allocator + Clone> Watch<A> {
     }
 
     /// What the next bytes of a direction say.
+    #[inline(always)]
     fn read(
         &mut self,
         responses: bool,
@@ -257,6 +261,7 @@ impl<A: Allocator + Clone> Watch<A> {
     }
 
     /// Pairs a message that has ended, if one has.
+    #[inline(always)]
     fn pair(
         &mut self,
         message: Option<Message<Kept<A>>>,
@@ -271,6 +276,7 @@ impl<A: Allocator + Clone> Watch<A> {
     }
 
     /// Pairs a message that has ended.
+    #[inline]
     fn pair_one(
         &mut self,
         message: Message<Kept<A>>,
@@ -284,6 +290,7 @@ impl<A: Allocator + Clone> Watch<A> {
     }
 
     /// The message as it is paired, where there is room for one more that waits, or none: what becomes of it is counted.
+    #[inline]
     fn settle(
         &mut self,
         message: Message<Kept<A>>,
@@ -309,6 +316,7 @@ impl<A: Allocator + Clone> Watch<A> {
     }
 
     /// The message as it waits, with its first bytes or without them, where so many of others wait beside it.
+    #[inline]
     fn fit(
         &mut self,
         message: Message<Kept<A>>,
@@ -336,6 +344,7 @@ impl<A: Allocator + Clone> Watch<A> {
 const PRESENT_ROOM: usize = 512;
 
 /// How much room the texts of a connection take, which took so much, where a side kept a message's and keeps one.
+#[inline(always)]
 fn recounted(room: usize, text: usize, was_keeping: bool, is_keeping: bool) -> usize
     ensures { result ≡ recounted room text was_keeping is_keeping }
 {

@@ -112,7 +112,7 @@ field_before front (y ∷ b) x s none busy long =
     more true = omega arith
     more false = refl
 
-nothing_in : (xs : List ℕ) → length xs ≡ 0 → xs ≡ []
+pub nothing_in : (xs : List ℕ) → length xs ≡ 0 → xs ≡ []
 nothing_in [] none = refl
 nothing_in (x ∷ xs) none = absurd (omega (arith, none))
 

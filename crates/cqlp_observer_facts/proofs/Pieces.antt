@@ -47,7 +47,7 @@ read_passing (x ∷ xs) s le =
     ∙ ap (λ (n : ℕ). with_passing n s) fewer
 
 -- whether the content of a field before the one that is due lies before the message proper
-abbrev lies : Due → Bool
+abbrev pub lies : Due → Bool
 lies d = cond (is_announced d) true (is_opening d)
 
 lies_before : (s : FactsReader) → nat_lt 0 s.passing ≡ true → is_before s ≡ lies s.due
@@ -61,7 +61,7 @@ one_more : (c : Bool) (n : ℕ) → cond c 1 0 + cond c n 0 ≡ cond c (suc n) 0
 one_more true n = omega arith
 one_more false n = omega arith
 
-before_passing : (xs : List ℕ) (s : FactsReader) → length xs ≤ s.passing → before xs s ≡ cond (lies s.due) (length xs) 0
+pub before_passing : (xs : List ℕ) (s : FactsReader) → length xs ≤ s.passing → before xs s ≡ cond (lies s.due) (length xs) 0
 before_passing [] s le = none_of (lies s.due)
 before_passing (x ∷ xs) s le =
     let some : nat_lt 0 s.passing ≡ true = lt-ltb 0 s.passing (omega arith) in

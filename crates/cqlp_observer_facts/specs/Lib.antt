@@ -9,4 +9,5 @@ pub mod Types
 pub mod Rows
 pub mod Bodies
 pub mod Reading
+pub mod Columns
 pub mod Laws

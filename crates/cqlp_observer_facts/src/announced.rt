@@ -25,6 +25,7 @@ pub(crate) enum Announced {
 }
 
 impl Announced {
+    #[inline(always)]
     pub(crate) fn width(&self) -> usize
         ensures { result ≡ announced_width self.now }
     {
@@ -39,6 +40,7 @@ impl Announced {
     }
 
     /// What follows the field that these bytes are.
+    #[inline(never)]
     pub(crate) fn following(self, flags: u8, opcode: Opcode, bytes: &[u8]) -> Next
         requires { announced_width self ≤ length bytes.now }
         ensures { result ≡ announced_following flags opcode self bytes.now }
@@ -65,6 +67,7 @@ impl Announced {
 }
 
 /// The first field of a body with this header.
+#[inline(always)]
 pub(crate) fn first_due(header: &Header) -> Due
     ensures { result ≡ opening header.now }
 {
@@ -81,6 +84,7 @@ pub(crate) fn first_due(header: &Header) -> Due
 }
 
 /// What follows a tracing id: warnings, if there are any.
+#[inline(always)]
 fn after_trace_id(flags: u8, opcode: Opcode) -> Due
     ensures { result ≡ after_trace_id flags opcode }
 {
@@ -92,6 +96,7 @@ fn after_trace_id(flags: u8, opcode: Opcode) -> Due
 }
 
 /// What follows the warnings: a custom payload, if there is one, and then the message.
+#[inline(always)]
 fn after_warnings(flags: u8, opcode: Opcode) -> Due
     ensures { result ≡ after_warnings flags opcode }
 {
@@ -103,6 +108,7 @@ fn after_warnings(flags: u8, opcode: Opcode) -> Due
 }
 
 /// So many warnings.
+#[inline(always)]
 fn warnings_due(flags: u8, opcode: Opcode, count: u16) -> Due
     ensures { result ≡ warnings_due flags opcode count }
 {
@@ -114,6 +120,7 @@ fn warnings_due(flags: u8, opcode: Opcode, count: u16) -> Due
 }
 
 /// So many keys, each with its value.
+#[inline(always)]
 fn keys_due(opcode: Opcode, count: u16) -> Due
     ensures { result ≡ keys_due opcode count }
 {
@@ -125,6 +132,7 @@ fn keys_due(opcode: Opcode, count: u16) -> Due
 }
 
 /// \[bytes\] of this length and then this field. A negative one is null.
+#[inline(always)]
 pub(crate) fn past_bytes(length: u32, due: Due) -> Next
     ensures { result ≡ past_bytes length due }
 {

@@ -26,6 +26,7 @@ pub(crate) enum BatchField {
 }
 
 impl BatchField {
+    #[inline(always)]
     pub(crate) fn width(&self) -> usize
         ensures { result ≡ batch_width self.now }
     {
@@ -40,6 +41,7 @@ impl BatchField {
     }
 
     /// What follows the field that these bytes are.
+    #[inline(never)]
     pub(crate) fn following(self, bytes: &[u8]) -> Next
         requires { batch_width self ≤ length bytes.now }
         ensures { result ≡ batch_following self bytes.now }

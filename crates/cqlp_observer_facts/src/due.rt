@@ -52,6 +52,7 @@ pub(crate) struct Next {
 
 impl Next {
     /// This field is next.
+    #[inline(always)]
     pub(crate) fn at(due: Due) -> Next
         ensures { result ≡ at due }
     {
@@ -63,6 +64,7 @@ impl Next {
     }
 
     /// This field is next, after so many bytes.
+    #[inline(always)]
     pub(crate) fn past(passing: u32, due: Due) -> Next
         ensures { result ≡ past passing due }
     {
@@ -74,6 +76,7 @@ impl Next {
     }
 
     /// A fact, and the next field.
+    #[inline(always)]
     pub(crate) fn says(fact: Fact, due: Due) -> Next
         ensures { result ≡ says fact due }
     {
@@ -89,6 +92,7 @@ impl Due {
     ghost use Rattle.cqlp_observer_facts.specs.Due.{is_idle, is_opening, opening_of};
 
     /// The first field of a message.
+    #[inline(always)]
     pub(crate) fn opening_of(opcode: Opcode) -> Due
         ensures { result ≡ opening_of opcode }
     {
@@ -103,6 +107,7 @@ impl Due {
     }
 
     /// Whether a message begins with it.
+    #[inline(always)]
     pub(crate) fn is_opening(&self) -> bool
         ensures { result ≡ is_opening self.now }
     {
@@ -118,6 +123,7 @@ impl Due {
     }
 
     /// Whether no field is due.
+    #[inline(always)]
     pub(crate) fn is_idle(&self) -> bool
         ensures { result ≡ is_idle self.now }
     {
@@ -125,6 +131,7 @@ impl Due {
     }
 
     /// How many bytes it has, without its content.
+    #[inline(always)]
     pub(crate) fn width(&self) -> usize
         ensures { result ≡ width self.now }
     {
@@ -139,6 +146,7 @@ impl Due {
     }
 
     /// What follows the field that these bytes are.
+    #[inline(always)]
     pub(crate) fn following(self, flags: u8, opcode: Opcode, bytes: &[u8]) -> Next
         requires { width self ≤ length bytes.now }
         ensures { result ≡ following flags opcode self bytes.now }
@@ -158,6 +166,7 @@ impl Due {
 }
 
 /// A \[long string\] and then this field.
+#[inline(always)]
 pub(crate) fn past_text(bytes: &[u8], due: Due) -> Next
     requires { 4 ≤ length bytes.now }
     ensures { result ≡ past_text (int bytes.now) due }
@@ -171,6 +180,7 @@ pub(crate) fn past_text(bytes: &[u8], due: Due) -> Next
 }
 
 /// What follows the kind of a RESULT.
+#[inline(always)]
 fn result_kind(kind: u32) -> Next
     ensures { result ≡ result_kind kind }
 {

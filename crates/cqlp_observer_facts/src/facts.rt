@@ -42,6 +42,7 @@ impl Facts {
 
     /// Nothing is known.
     #[must_use]
+    #[inline(always)]
     pub fn new() -> Facts
         ensures { result ≡ no_facts }
     {
@@ -58,6 +59,7 @@ impl Facts {
     }
 
     /// One more is known. One that was known stays.
+    #[inline(always)]
     pub(crate) fn add(&mut self, fact: Fact)
         ensures { self.new ≡ with_fact fact self.old }
     {
@@ -75,6 +77,7 @@ impl Facts {
 }
 
 /// What is known, or else what is said.
+#[inline(always)]
 fn known_or<T: Copy>(known: Option<T>, said: T) -> Option<T>
     ensures { result ≡ known_or known said }
 {

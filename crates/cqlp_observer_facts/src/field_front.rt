@@ -22,6 +22,7 @@ impl Model for FieldFront {
 }
 
 impl FieldFront {
+    #[inline(always)]
     pub(crate) fn new() -> Self
         ensures { result ≡ [] }
     {
@@ -32,6 +33,7 @@ impl FieldFront {
     }
 
     /// The first so many of these bytes.
+    #[inline(always)]
     pub(crate) fn of(bytes: [u8; 16], len: usize) -> Self
         requires { len ≤ 15 }
         ensures { result ≡ take len bytes }
@@ -39,6 +41,7 @@ impl FieldFront {
         FieldFront { bytes, len }
     }
 
+    #[inline(always)]
     pub(crate) fn is_empty(&self) -> bool
         ensures { result ≡ (length self.now == 0) }
     {
@@ -46,6 +49,7 @@ impl FieldFront {
     }
 
     /// These bytes and one more, and how many they are then.
+    #[inline(always)]
     pub(crate) fn with(&self, byte: u8) -> ([u8; 16], usize)
         ensures bytes { take result.1 result.0 ≡ self.now ++ byte ∷ [] }
         ensures few { result.1 ≤ 16 }

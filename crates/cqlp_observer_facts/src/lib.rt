@@ -3,6 +3,7 @@
 
 mod announced;
 mod batch;
+mod columns;
 mod due;
 mod facts;
 mod field_front;

@@ -6,6 +6,7 @@ ghost use Rattle.cqlp_note.specs.Field.{is_negative};
 ghost use Rattle.cqlp_note.specs.Heading.{has as has_bit};
 
 /// The first N bytes.
+#[inline(always)]
 pub(crate) fn array<const N: usize>(bytes: &[u8]) -> [u8; N]
     requires { N ≤ length bytes.now }
     ensures { result ≡ take N bytes.now }
@@ -14,6 +15,7 @@ pub(crate) fn array<const N: usize>(bytes: &[u8]) -> [u8; N]
 }
 
 /// A \[byte\].
+#[inline(always)]
 pub(crate) fn byte(bytes: &[u8]) -> u8
     requires { 1 ≤ length bytes.now }
     ensures { result ≡ byte bytes.now }
@@ -22,6 +24,7 @@ pub(crate) fn byte(bytes: &[u8]) -> u8
 }
 
 /// A \[short\].
+#[inline(always)]
 pub(crate) fn short(bytes: &[u8]) -> u16
     requires { 2 ≤ length bytes.now }
     ensures { result ≡ short bytes.now }
@@ -30,6 +33,7 @@ pub(crate) fn short(bytes: &[u8]) -> u16
 }
 
 /// An \[int\], as a number without a sign.
+#[inline(always)]
 pub(crate) fn int(bytes: &[u8]) -> u32
     requires { 4 ≤ length bytes.now }
     ensures { result ≡ int bytes.now }
@@ -38,6 +42,7 @@ pub(crate) fn int(bytes: &[u8]) -> u32
 }
 
 /// Whether an \[int\] is negative.
+#[inline(always)]
 pub(crate) fn is_negative(number: u32) -> bool
     ensures { result ≡ is_negative number }
 {
@@ -45,6 +50,7 @@ pub(crate) fn is_negative(number: u32) -> bool
 }
 
 /// Whether some bit of these is set.
+#[inline(always)]
 pub(crate) fn has(flags: u32, bits: u32) -> bool
     ensures { result ≡ has_bit flags bits }
 {

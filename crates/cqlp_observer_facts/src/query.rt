@@ -33,6 +33,7 @@ pub(crate) struct ValueForm {
 }
 
 impl QueryField {
+    #[inline(always)]
     pub(crate) fn width(&self) -> usize
         ensures { result ≡ query_width self.now }
     {
@@ -44,6 +45,7 @@ impl QueryField {
     }
 
     /// What follows the field that these bytes are.
+    #[inline(always)]
     pub(crate) fn following(self, bytes: &[u8]) -> Next
         requires { query_width self ≤ length bytes.now }
         ensures { result ≡ query_following self bytes.now }
@@ -69,6 +71,7 @@ impl QueryField {
 }
 
 /// The first of the parameters.
+#[inline(always)]
 pub(crate) fn consistency_due() -> Due
     ensures { result ≡ Due.Query QueryField.Consistency }
 {
@@ -76,6 +79,7 @@ pub(crate) fn consistency_due() -> Due
 }
 
 /// What follows the flags: 01 says that there are values, 04 a page size, and 40 that values have names.
+#[inline(always)]
 fn flags_following(flags: u32) -> Due
     ensures { result ≡ flags_following flags }
 {
@@ -88,6 +92,7 @@ fn flags_following(flags: u32) -> Due
     }
 }
 
+#[inline(always)]
 fn page_size_due(paged: bool) -> Due
     ensures { result ≡ page_size_due paged }
 {
@@ -99,6 +104,7 @@ fn page_size_due(paged: bool) -> Due
 }
 
 /// So many values, and what follows them.
+#[inline(always)]
 fn values_due(count: u16, form: ValueForm) -> Due
     ensures { result ≡ values_due count form }
 {
@@ -118,6 +124,7 @@ fn values_due(count: u16, form: ValueForm) -> Due
 }
 
 /// A \[value\] of this length and then this field: null is -1, and not set is -2.
+#[inline(always)]
 pub(crate) fn past_value(length: u32, due: Due) -> Next
     ensures { result ≡ past_value length due }
 {

@@ -1,10 +1,11 @@
 //! The bytes of a body, as they pass.
 
-ghost use Rattle.std.specs.Prelude.{◌≡◌, ◌≤◌, false, if◌then◌else◌, length, take};
+ghost use Rattle.std.specs.Prelude.{◌≡◌, ◌≤◌, IfSome, false, if◌then◌else◌, length, take};
 ghost use Rattle.cqlp_observer_facts.specs.Due.{is_idle};
 
 use crate::announced::first_due;
-use crate::due::Due;
+use crate::columns::{Column, column_of};
+use crate::due::{Due, Next};
 use crate::facts::Facts;
 use crate::field_front::FieldFront;
 use cqlp_note::{Header, Opcode};
@@ -37,7 +38,8 @@ struct Stretch {
 
 impl FactsReader {
     ghost use Rattle.cqlp_observer_facts.specs.Bodies.{width};
-    ghost use Rattle.cqlp_observer_facts.specs.Reading.{before, begun, gone_on, idle, is_before, passed, read, taken};
+    ghost use Rattle.cqlp_observer_facts.specs.Columns.{PassesColumn};
+    ghost use Rattle.cqlp_observer_facts.specs.Reading.{before, begun, gone_on, gone_to, idle, is_before, passed, read, taken};
 
     /// Nothing is read.
     #[must_use]
@@ -56,6 +58,7 @@ impl FactsReader {
 
     /// Nothing came of a body with this header.
     #[must_use]
+    #[inline(always)]
     pub fn new(header: &Header) -> FactsReader
         ensures { result ≡ begun header.now }
     {
@@ -71,6 +74,7 @@ impl FactsReader {
 
     /// What the bytes say that came so far.
     #[must_use]
+    #[inline(always)]
     pub fn facts(&self) -> Facts
         ensures { result ≡ self.now.facts }
     {
@@ -95,6 +99,7 @@ impl FactsReader {
     }
 
     /// Whether the next byte lies before the message proper.
+    #[inline(always)]
     fn is_before(&self) -> bool
         ensures { result ≡ is_before self.now }
     {
@@ -105,6 +110,7 @@ impl FactsReader {
     }
 
     /// Takes some of these bytes.
+    #[inline(always)]
     fn take_stretch(&mut self, rest: &[u8]) -> Stretch
         requires { 1 ≤ length rest.now }
         ensures some { 1 ≤ result.used }
@@ -122,6 +128,7 @@ impl FactsReader {
     }
 
     /// Takes some of these bytes, which lie all before the message proper or none of them.
+    #[inline(always)]
     fn step(&mut self, rest: &[u8]) -> usize
         requires { 1 ≤ length rest.now }
         ensures some { 1 ≤ result }
@@ -137,10 +144,49 @@ impl FactsReader {
         if self.due.is_idle() {
             return rest.len();
         }
-        self.take_field(rest)
+        self.take_fields(rest)
+    }
+
+    /// Takes a column that is due, if it lies whole in these bytes; else bytes of the field that is due.
+    #[inline(always)]
+    fn take_fields(&mut self, rest: &[u8]) -> usize
+        requires some { 1 ≤ length rest.now }
+        requires none_passing { self.old.passing ≡ 0 }
+        requires busy { is_idle self.old.due ≡ false }
+        ensures some { 1 ≤ result }
+        ensures within { result ≤ length rest.now }
+        ensures after { self.new ≡ read (take result rest.now) self.old }
+        ensures before { before (take result rest.now) self.old ≡ (if is_before self.old then result else 0) }
+    {
+        match self.column(rest) {
+            Some(column) => {
+                self.go_to(Next::at(column.due));
+                column.used
+            }
+            None => self.take_field(rest),
+        }
+    }
+
+    /// The column that is due, if it lies whole in these bytes.
+    #[inline(always)]
+    fn column(&self, rest: &[u8]) -> Option<Column>
+        requires { self.now.passing ≡ 0 }
+        ensures { IfSome result (λ c. PassesColumn rest.now c.used c.due self.now) }
+    {
+        match self.due {
+            Due::Rows(field) => {
+                if self.front.is_empty() {
+                    column_of(field, rest)
+                } else {
+                    None
+                }
+            }
+            _ => None,
+        }
     }
 
     /// Takes bytes of the field that is due: all of it, if it has not begun and lies whole in these bytes; else one byte.
+    #[inline(always)]
     fn take_field(&mut self, rest: &[u8]) -> usize
         requires some { 1 ≤ length rest.now }
         requires none_passing { self.old.passing ≡ 0 }
@@ -160,6 +206,7 @@ impl FactsReader {
     }
 
     /// Passes over so many bytes.
+    #[inline(always)]
     fn pass(&mut self, count: u32)
         requires { count ≤ self.old.passing }
         ensures { self.new ≡ passed count self.old }
@@ -168,6 +215,7 @@ impl FactsReader {
     }
 
     /// Takes a byte of a field.
+    #[inline(never)]
     fn take(&mut self, byte: u8)
         ensures { self.new ≡ taken byte self.old }
     {
@@ -180,11 +228,24 @@ impl FactsReader {
     }
 
     /// Goes on after a field.
+    #[inline(always)]
     fn pass_field(&mut self, bytes: &[u8])
         requires { width self.old.due ≤ length bytes.now }
         ensures { self.new ≡ gone_on bytes.now self.old }
     {
-        let next = self.due.following(self.flags, self.opcode, bytes);
+        match self.due {
+            Due::Query(field) => self.go_to(field.following(bytes)),
+            Due::Batch(field) => self.go_to(field.following(bytes)),
+            Due::Rows(field) => self.go_to(field.following(bytes)),
+            due => self.go_to(due.following(self.flags, self.opcode, bytes)),
+        }
+    }
+
+    /// Goes on with what follows a field.
+    #[inline(always)]
+    fn go_to(&mut self, next: Next)
+        ensures { self.new ≡ gone_to next self.old }
+    {
         self.due = next.due;
         self.passing = next.passing;
         self.front = FieldFront::new();

@@ -30,6 +30,7 @@ pub(crate) enum RowsField {
 }
 
 impl RowsField {
+    #[inline(always)]
     pub(crate) fn width(&self) -> usize
         ensures { result ≡ rows_width self.now }
     {
@@ -47,6 +48,7 @@ impl RowsField {
     }
 
     /// What follows the field that these bytes are.
+    #[inline]
     pub(crate) fn following(self, bytes: &[u8]) -> Next
         requires { rows_width self ≤ length bytes.now }
         ensures { result ≡ rows_following self bytes.now }
@@ -74,6 +76,7 @@ impl RowsField {
 }
 
 /// What follows the number of columns.
+#[inline(always)]
 fn columns_following(flags: u32, bytes: &[u8]) -> Next
     requires { 4 ≤ length bytes.now }
     ensures { result ≡ columns_following flags bytes.now }
@@ -90,6 +93,7 @@ fn columns_following(flags: u32, bytes: &[u8]) -> Next
 }
 
 /// The paging state, if the flag 02 says that there is one, and the columns.
+#[inline(always)]
 fn paged_columns_due(flags: u32, columns: u32) -> Due
     ensures { result ≡ paged_columns_due flags columns }
 {
@@ -101,6 +105,7 @@ fn paged_columns_due(flags: u32, columns: u32) -> Due
 }
 
 /// The columns: none by the flag 04, and after one keyspace and table for all by the flag 01.
+#[inline(always)]
 fn columns_due(flags: u32, columns: u32) -> Due
     ensures { result ≡ columns_due flags columns }
 {
@@ -117,6 +122,7 @@ fn columns_due(flags: u32, columns: u32) -> Due
 }
 
 /// So many names, and what follows them.
+#[inline(always)]
 fn names_due(count: u16, types: Types) -> Due
     ensures { result ≡ names_due count types }
 {
@@ -131,6 +137,7 @@ fn names_due(count: u16, types: Types) -> Due
 }
 
 /// Types and fields, and then the number of rows.
+#[inline(always)]
 fn types_due(types: Types) -> Due
     ensures { result ≡ types_due types }
 {
@@ -143,7 +150,8 @@ fn types_due(types: Types) -> Due
 
 /// What follows the id of a type: of a custom one its name, of a list or a set one type and of a map two, of a UDT its names and fields, of
 /// a tuple its types.
-fn after_option(id: u16, types: Types) -> Due
+#[inline(always)]
+pub(crate) fn after_option(id: u16, types: Types) -> Due
     ensures { result ≡ after_option id types }
 {
     match id {
@@ -167,6 +175,7 @@ fn after_option(id: u16, types: Types) -> Due
 }
 
 /// Whether nothing follows the id of such a type.
+#[inline(always)]
 fn is_plain(id: u16) -> bool
     ensures { result ≡ is_plain id }
 {
@@ -174,6 +183,7 @@ fn is_plain(id: u16) -> bool
 }
 
 /// What follows a name of a UDT.
+#[inline(never)]
 fn udt_due(is_own: bool, types: Types) -> Due
     ensures { result ≡ udt_due is_own types }
 {
@@ -188,6 +198,7 @@ fn udt_due(is_own: bool, types: Types) -> Due
 }
 
 /// The fields of a UDT, and these types after them; none if they lie too deep.
+#[inline(never)]
 fn fields_due(count: u16, types: Types) -> Due
     ensures { result ≡ fields_due count types }
 {
@@ -198,6 +209,7 @@ fn fields_due(count: u16, types: Types) -> Due
 }
 
 /// The number of rows.
+#[inline(always)]
 fn row_count(bytes: &[u8]) -> Next
     requires { 4 ≤ length bytes.now }
     ensures { result ≡ row_count bytes.now }

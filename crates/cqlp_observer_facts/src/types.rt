@@ -33,6 +33,7 @@ pub(crate) enum TypesNext {
 }
 
 impl Level {
+    #[inline(always)]
     fn over() -> Level
         ensures { result ≡ level_over }
     {
@@ -43,6 +44,7 @@ impl Level {
         }
     }
 
+    #[inline(always)]
     fn is_over(&self) -> bool
         ensures { result ≡ is_over self.now }
     {
@@ -52,6 +54,7 @@ impl Level {
 
 impl Types {
     /// So many columns.
+    #[inline(always)]
     pub(crate) fn of_columns(count: u32, qualified: bool) -> Types
         ensures { result ≡ columns_of count qualified }
     {
@@ -68,6 +71,7 @@ impl Types {
     }
 
     /// So many more types at the innermost level.
+    #[inline(always)]
     pub(crate) fn with_types(self, count: u32) -> Types
         ensures { result ≡ with_types count self }
     {
@@ -104,6 +108,7 @@ impl Types {
     }
 
     /// What comes next.
+    #[inline(always)]
     pub(crate) fn next(self) -> TypesNext
         ensures { result ≡ types_next self }
     {
@@ -122,6 +127,7 @@ impl Types {
     }
 
     /// Without the innermost level, if nothing of it is left.
+    #[inline(always)]
     fn innermost(self) -> Types
         ensures { result ≡ innermost self }
     {
@@ -137,6 +143,7 @@ impl Types {
         }
     }
 
+    #[inline(always)]
     fn with_first(self, types: u32, fields: u32) -> Types
         ensures { result ≡ with_first types fields self }
     {

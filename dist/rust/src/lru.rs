@@ -72,17 +72,13 @@ impl Hasher for Folded {
         self.fold(u64::from(n));
     }
 
-    /// Which of its kinds an address is.
+    /// Which of its kinds an address is: those of another kind have another number of pieces.
     #[inline]
-    fn write_isize(&mut self, n: isize) {
-        self.fold(n as u64);
-    }
+    fn write_isize(&mut self, _: isize) {}
 
-    /// How long its octets are.
+    /// How long its octets are, which its kind says.
     #[inline]
-    fn write_usize(&mut self, n: usize) {
-        self.fold(n as u64);
-    }
+    fn write_usize(&mut self, _: usize) {}
 }
 
 pub struct LruCache<K, V, S, A> {
@@ -139,6 +135,7 @@ impl<K: Copy + Eq + Hash, V, S, A: Allocator> LruCache<K, V, S, A> {
     }
 
     /// Where the entry of this key is. That of the entry that was used last is found without a hash.
+    #[inline]
     fn place(&self, key: &K) -> Option<u32> {
         if self.pair(self.first).is_some_and(|(first, _)| first == key) {
             return Some(self.first);

@@ -16,6 +16,7 @@ pub(crate) struct FrameRecord {
 }
 
 impl FrameRecord {
+    #[inline(always)]
     pub(crate) fn new(frame: &Frame) -> Self {
         let (is_begun_known, begun) = parts_of(frame.begun);
         let (is_ended_known, ended) = parts_of(frame.ended);
@@ -30,6 +31,7 @@ impl FrameRecord {
         }
     }
 
+    #[inline(always)]
     pub(crate) fn frame(&self) -> Frame {
         Frame {
             header: self.header,
@@ -42,6 +44,7 @@ impl FrameRecord {
 }
 
 /// Whether a time is known, and its number, or 0.
+#[inline(always)]
 pub(crate) fn parts_of(time: Option<u64>) -> (bool, u64) {
     match time {
         Some(time) => (true, time),
@@ -50,6 +53,7 @@ pub(crate) fn parts_of(time: Option<u64>) -> (bool, u64) {
 }
 
 /// The time with this number, if it is known.
+#[inline(always)]
 pub(crate) fn time_of(is_known: bool, time: u64) -> Option<u64> {
     if is_known { Some(time) } else { None }
 }
@@ -61,6 +65,7 @@ pub(crate) struct MessageRecord<T> {
 }
 
 impl<T> MessageRecord<T> {
+    #[inline(always)]
     pub(crate) fn new(message: Message<T>) -> Self {
         MessageRecord {
             frame: FrameRecord::new(&message.frame),
@@ -68,6 +73,7 @@ impl<T> MessageRecord<T> {
         }
     }
 
+    #[inline(always)]
     pub(crate) fn into_message(self) -> Message<T> {
         Message {
             frame: self.frame.frame(),
@@ -75,11 +81,13 @@ impl<T> MessageRecord<T> {
         }
     }
 
+    #[inline(always)]
     pub(crate) fn kept(&self) -> &T {
         &self.kept
     }
 
     /// The stream id.
+    #[inline(always)]
     pub(crate) fn stream(&self) -> i16 {
         self.frame.header.stream
     }

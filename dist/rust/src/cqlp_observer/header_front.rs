@@ -10,6 +10,7 @@ pub(crate) struct HeaderFront {
 }
 
 impl HeaderFront {
+    #[inline(always)]
     pub(crate) fn new() -> Self {
         HeaderFront {
             bytes: [0; 9],
@@ -17,11 +18,13 @@ impl HeaderFront {
         }
     }
 
+    #[inline(always)]
     pub(crate) fn len(&self) -> usize {
         self.len.into()
     }
 
     /// These bytes, and as many of the input as there is room for.
+    #[inline(always)]
     pub(crate) fn with(&self, input: &[u8]) -> Self {
         let old = usize::from(self.len);
         let moved = input.len().min(9 - old);
@@ -35,6 +38,7 @@ impl HeaderFront {
     }
 
     /// The header that the bytes are, in this direction, if they are nine.
+    #[inline(always)]
     pub(crate) fn head(&self, responses: bool) -> Option<Header> {
         if self.len < 9 {
             return None;
@@ -44,6 +48,7 @@ impl HeaderFront {
 }
 
 /// The header that nine bytes are in this direction. Its frame may be compressed.
+#[inline(always)]
 fn read_head(bytes: &[u8; 9], responses: bool) -> Option<Header> {
     let flags = bytes[1];
     let mut plain = *bytes;

@@ -80,6 +80,7 @@ impl Heads {
 
     /// What the next bytes are that came at this time. `begins` says whether the first of them begins a segment. To be called again and again
     /// with the bytes that were not used, until it says `More`.
+    #[inline(always)]
     pub fn take(&mut self, piece: &[u8], time: Option<u64>, begins: bool) -> HeardStep {
         let stage = self.stage.take();
         if let Stage::Body { frame, left: 0 } = stage {
@@ -108,6 +109,7 @@ impl Heads {
     }
 
     /// What these bytes are that come next, if none came before.
+    #[inline(always)]
     pub(crate) fn opening(&self, piece: &[u8]) -> Opening {
         if self.position > 0 {
             return Opening::Frames;
@@ -151,6 +153,7 @@ impl Heads {
     }
 
     /// All that is left of the body came, the last of it at this time: its frame ends.
+    #[inline(always)]
     pub(crate) fn pass_whole(&mut self, time: Option<u64>) -> Option<Frame> {
         match self.stage.take() {
             Stage::Body { frame, left } => {
@@ -173,6 +176,7 @@ impl Heads {
     }
 
     /// Looks for a frame where a segment begins.
+    #[inline(never)]
     fn seek(&mut self, piece: &[u8], time: Option<u64>, begins: bool) -> HeardStep {
         match self.head_at_begin(piece, begins) {
             Some(header) => self.begin(9, header, self.position, time, time),
@@ -181,6 +185,7 @@ impl Heads {
     }
 
     /// The header that a segment begins with.
+    #[inline(always)]
     fn head_at_begin(&self, piece: &[u8], begins: bool) -> Option<Header> {
         if begins {
             HeaderFront::new().with(piece).head(self.responses)
@@ -190,6 +195,7 @@ impl Heads {
     }
 
     /// So many bytes are stray.
+    #[inline(never)]
     fn stray(&mut self, used: usize) -> HeardStep {
         self.count(used as u64);
         self.stage = StageRecord::new(Stage::Lost);
@@ -200,6 +206,7 @@ impl Heads {
     }
 
     /// Takes bytes of a header.
+    #[inline(always)]
     fn fill(
         &mut self,
         front: HeaderFront,
@@ -229,6 +236,7 @@ impl Heads {
     }
 
     /// A frame begins, whose header ends after so many bytes.
+    #[inline(always)]
     fn begin(
         &mut self,
         used: usize,
@@ -256,6 +264,7 @@ impl Heads {
     }
 
     /// Takes bytes of a body.
+    #[inline(always)]
     fn pass(&mut self, frame: Frame, left: u32, piece: &[u8], time: Option<u64>) -> HeardStep {
         let used = piece.len().min(left as usize);
         self.count(used as u64);
@@ -272,6 +281,7 @@ impl Heads {
         }
     }
 
+    #[inline(always)]
     fn count(&mut self, more: u64) {
         self.position = self.position.saturating_add(more);
     }

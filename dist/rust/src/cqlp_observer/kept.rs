@@ -24,12 +24,14 @@ pub(crate) struct KeptText<A: Allocator> {
 
 impl<A: Allocator> Kept<A> {
     /// These first bytes, and what the message says.
+    #[inline(always)]
     pub(crate) fn new(alloc: A, front: Front<A>, facts: Facts) -> Result<Self, AllocError> {
         let text = Box::new(alloc, KeptText { front, facts })?;
         Ok(Kept { text: Some(text) })
     }
 
     /// Nothing. Takes no memory.
+    #[inline(always)]
     pub(crate) fn bare() -> Self {
         Kept { text: None }
     }
@@ -37,6 +39,7 @@ impl<A: Allocator> Kept<A> {
     /// The first bytes of the message proper, at most [`LONGEST_FRONT`], behind what the header's flags announce before it: a tracing id, warnings and
     /// a custom payload. Section 2.2 of `native_protocol_v4.spec`. Where the body is compressed, its first bytes as they are. None where they were
     /// dropped.
+    #[inline(always)]
     pub fn front(&self) -> &[u8] {
         match &self.text {
             Some(text) => text.front.as_slice(),
@@ -45,6 +48,7 @@ impl<A: Allocator> Kept<A> {
     }
 
     /// What the message says; nothing where the body is compressed, or where that was dropped.
+    #[inline(always)]
     pub fn facts(&self) -> Facts {
         match &self.text {
             Some(text) => text.facts,
@@ -58,6 +62,7 @@ impl<A: Allocator> Kept<A> {
     }
 
     /// How many bytes of room it takes.
+    #[inline(always)]
     pub(crate) fn cost(&self) -> usize {
         match &self.text {
             Some(text) => TEXT_OVERHEAD + text.front.len(),
@@ -73,16 +78,19 @@ pub(crate) struct Front<A: Allocator> {
 
 impl<A: Allocator> Front<A> {
     /// No byte, and no memory.
+    #[inline(always)]
     pub(crate) fn new(alloc: A) -> Self {
         Front {
             bytes: Vec::new(alloc),
         }
     }
 
+    #[inline(always)]
     pub(crate) fn as_slice(&self) -> &[u8] {
         &self.bytes
     }
 
+    #[inline(always)]
     pub(crate) fn len(&self) -> usize {
         self.bytes.len()
     }

@@ -40,17 +40,20 @@ pub struct Message<T> {
 
 impl<T> Message<T> {
     /// The stream id, which is a request's and its response's.
+    #[inline(always)]
     pub fn stream(&self) -> i16 {
         self.frame.header.stream
     }
 
     /// Whether it is a request.
+    #[inline(always)]
     pub fn is_request(&self) -> bool {
         !self.frame.header.response
     }
 
     /// Whether it is an event that the node pushed: an EVENT under a negative stream id. Section 4.2.6 of
     /// `native_protocol_v4.spec`.
+    #[inline(always)]
     pub fn is_event(&self) -> bool {
         let Header {
             response,
@@ -64,6 +67,7 @@ impl<T> Message<T> {
 
     /// Whether it and the next under its stream id are a request and its response: a request and any response, or a response and a request
     /// whose first byte was captured no later than that of the response, where both times are known.
+    #[inline(always)]
     pub(crate) fn meets(&self, next: &Message<T>) -> bool {
         if self.is_request() {
             !next.is_request()
@@ -74,6 +78,7 @@ impl<T> Message<T> {
 }
 
 /// Whether one time is known to be no later than another.
+#[inline(always)]
 pub(crate) fn is_no_later(one: Option<u64>, other: Option<u64>) -> bool {
     match (one, other) {
         (Some(one), Some(other)) => one <= other,

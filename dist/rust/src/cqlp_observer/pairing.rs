@@ -46,6 +46,7 @@ impl<T, A: Allocator + Clone> Pairing<T, A> {
     }
 
     /// How many messages wait.
+    #[inline(always)]
     pub fn len(&self) -> usize {
         self.waiting.len()
     }
@@ -56,6 +57,7 @@ impl<T, A: Allocator + Clone> Pairing<T, A> {
     }
 
     /// The message that waits under a stream id.
+    #[inline]
     pub(crate) fn under(&self, id: i16) -> Option<&MessageRecord<T>> {
         match place_in(&self.waiting, id) {
             Ok(at) => Some(&self.waiting[at]),
@@ -104,6 +106,7 @@ impl<T, A: Allocator + Clone> Pairing<T, A> {
     }
 
     /// A message comes after one that waited under its stream id.
+    #[inline]
     fn meet(&mut self, first: Message<T>, second: Message<T>) -> Result<Paired<T>, AllocError> {
         if first.meets(&second) {
             Ok(Paired::exchange(first, second))
@@ -114,6 +117,7 @@ impl<T, A: Allocator + Clone> Pairing<T, A> {
     }
 
     /// A message waits under its stream id.
+    #[inline]
     fn wait(&mut self, message: Message<T>) -> Result<(), AllocError> {
         let id = message.stream();
         let record = MessageRecord::new(message);
@@ -127,6 +131,7 @@ impl<T, A: Allocator + Clone> Pairing<T, A> {
     }
 
     /// The message under a stream id waits no more.
+    #[inline]
     fn leave(&mut self, id: i16) -> Option<Message<T>> {
         match place_in(&self.waiting, id) {
             Ok(at) => {
@@ -156,6 +161,7 @@ fn message_in<T>(waited: Option<MessageRecord<T>>) -> Option<Message<T>> {
 }
 
 /// Where the message under a stream id waits, or where it would.
+#[inline(always)]
 fn place_in<T, A: Allocator>(
     waiting: &VecDeque<MessageRecord<T>, A>,
     id: i16,
@@ -164,6 +170,7 @@ fn place_in<T, A: Allocator>(
 }
 
 /// What becomes of a message after the one that waits under its stream id, if one does, where there is room for one more that waits, or none.
+#[inline(always)]
 pub(crate) fn fate_of<T>(
     first: Option<&MessageRecord<T>>,
     message: &Message<T>,
@@ -179,6 +186,7 @@ pub(crate) fn fate_of<T>(
 }
 
 /// What becomes of a message after one that waits under its stream id.
+#[inline(always)]
 fn fate_after<T>(first: &MessageRecord<T>, second: &Message<T>) -> Fate {
     if first.meets(second) {
         Fate::Meets
@@ -188,6 +196,7 @@ fn fate_after<T>(first: &MessageRecord<T>, second: &Message<T>) -> Fate {
 }
 
 /// What becomes of a message under whose stream id none waits.
+#[inline(always)]
 fn fate_alone(has_room: bool) -> Fate {
     if has_room {
         Fate::Waits

@@ -50,6 +50,7 @@ impl<A: Allocator + Clone> Present<A> {
     }
 
     /// Its next bytes.
+    #[inline(always)]
     fn keep(&mut self, bytes: &[u8]) -> Result<(), AllocError> {
         if !self.is_sound {
             return Ok(());
@@ -64,6 +65,7 @@ impl<A: Allocator + Clone> Present<A> {
     }
 
     /// What is kept of it.
+    #[inline(always)]
     fn into_kept(self, alloc: A) -> Result<Kept<A>, AllocError> {
         let Present {
             front,
@@ -91,11 +93,13 @@ impl<A: Allocator + Clone> Side<A> {
     }
 
     /// Whether it has memory for the message that passes.
+    #[inline(always)]
     pub(crate) fn is_keeping(&self) -> bool {
         self.present.is_some()
     }
 
     /// What these bytes are that come next, if none came before.
+    #[inline(always)]
     pub(crate) fn opening(&self, piece: &[u8]) -> Opening {
         self.heads.opening(piece)
     }
@@ -145,6 +149,7 @@ impl<A: Allocator + Clone> Side<A> {
     }
 
     /// A frame begins, whose header ended after so many bytes of the piece.
+    #[inline(always)]
     fn begin(
         &mut self,
         header: &Header,
@@ -168,6 +173,7 @@ impl<A: Allocator + Clone> Side<A> {
     }
 
     /// All of a body that has begun is there, which ends after so many bytes of the piece: its frame ends.
+    #[inline(always)]
     fn take_whole(
         &mut self,
         header: &Header,
@@ -185,6 +191,7 @@ impl<A: Allocator + Clone> Side<A> {
     }
 
     /// What is kept of a message with this header and body.
+    #[inline(always)]
     fn kept_of_whole(&self, header: &Header, body: &[u8]) -> Result<Kept<A>, AllocError> {
         let mut present = Present::new(self.alloc.clone()?, header);
         present.keep(body)?;
@@ -192,6 +199,7 @@ impl<A: Allocator + Clone> Side<A> {
     }
 
     /// Keeps bytes of a body.
+    #[inline(always)]
     fn keep(&mut self, bytes: &[u8]) -> Result<(), AllocError> {
         match &mut self.present {
             Some(present) => present.keep(bytes),
@@ -218,6 +226,7 @@ impl<A: Allocator + Clone> Side<A> {
 
 impl<A: Allocator> SideStep<A> {
     /// No message in so many bytes.
+    #[inline(always)]
     fn nothing(used: usize) -> Self {
         SideStep {
             used,
@@ -228,6 +237,7 @@ impl<A: Allocator> SideStep<A> {
     }
 
     /// Nothing more is said by the piece.
+    #[inline(always)]
     fn done(used: usize) -> Self {
         SideStep {
             used,
@@ -238,6 +248,7 @@ impl<A: Allocator> SideStep<A> {
     }
 
     /// A message begins after so many bytes of which there is no room to keep more than the header.
+    #[inline(always)]
     fn bare(used: usize) -> Self {
         SideStep {
             used,
@@ -248,6 +259,7 @@ impl<A: Allocator> SideStep<A> {
     }
 
     /// A message that ended after so many bytes, if one did.
+    #[inline(always)]
     fn of(used: usize, message: Option<Message<Kept<A>>>) -> Self {
         SideStep {
             used,

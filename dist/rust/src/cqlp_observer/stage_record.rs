@@ -46,6 +46,7 @@ pub(crate) struct PassingFrame {
 }
 
 impl StageRecord {
+    #[inline(always)]
     pub(crate) fn new(stage: Stage) -> Self {
         let parts = match stage {
             Stage::Lost => StageParts::Lost,
@@ -67,16 +68,19 @@ impl StageRecord {
     }
 
     /// The stage, in whose place `Lost` is left.
+    #[inline(always)]
     pub(crate) fn take(&mut self) -> Stage {
         stage_of(mem::replace(&mut self.parts, StageParts::Lost))
     }
 
+    #[inline(always)]
     pub(crate) fn is_between(&self) -> bool {
         matches!(self.parts, StageParts::Between)
     }
 }
 
 /// The stage with these parts.
+#[inline(always)]
 fn stage_of(parts: StageParts) -> Stage {
     match parts {
         StageParts::Lost => Stage::Lost,
@@ -99,6 +103,7 @@ fn stage_of(parts: StageParts) -> Stage {
 }
 
 impl PassingFrame {
+    #[inline(always)]
     fn new(frame: &Frame, left: u32) -> Self {
         let (is_begun_known, begun) = parts_of(frame.begun);
         let (is_ended_known, ended) = parts_of(frame.ended);
@@ -125,6 +130,7 @@ impl PassingFrame {
         }
     }
 
+    #[inline(always)]
     fn frame(&self) -> Frame {
         Frame {
             header: Header {

@@ -16,6 +16,7 @@ pub struct Unread<'a> {
 impl<'a> Unread<'a> {
     /// All bytes of a piece, the first of which begins a segment or not.
     #[must_use]
+    #[inline(always)]
     pub fn new(bytes: &'a [u8], begins: bool) -> Self {
         Unread {
             bytes,
@@ -26,6 +27,7 @@ impl<'a> Unread<'a> {
 
     /// What is left after a step that used so many bytes. The first of them still begins a segment if none was used.
     #[must_use]
+    #[inline(always)]
     pub(crate) fn after(self, used: usize) -> Self {
         Unread {
             bytes: &self.bytes[used..],

@@ -161,6 +161,7 @@ impl<A: Allocator + Clone> Watch<A> {
     }
 
     /// What these bytes of a direction are that come next, if none came before.
+    #[inline(always)]
     fn opening(&self, responses: bool, piece: &[u8]) -> Opening {
         if responses {
             self.responses.opening(piece)
@@ -170,6 +171,7 @@ impl<A: Allocator + Clone> Watch<A> {
     }
 
     /// Whether a side has memory for the text of the message that passes.
+    #[inline(always)]
     fn is_keeping(&self, responses: bool) -> bool {
         if responses {
             self.responses.is_keeping()
@@ -179,6 +181,7 @@ impl<A: Allocator + Clone> Watch<A> {
     }
 
     /// Counts the room of a side that took some or gave it back.
+    #[inline(always)]
     fn recount(&mut self, responses: bool, room: WatchRoom, was_keeping: bool) {
         self.text = recounted(
             room.text,
@@ -189,6 +192,7 @@ impl<A: Allocator + Clone> Watch<A> {
     }
 
     /// What the next bytes of a direction say.
+    #[inline(always)]
     fn read(
         &mut self,
         responses: bool,
@@ -212,6 +216,7 @@ impl<A: Allocator + Clone> Watch<A> {
     }
 
     /// Pairs a message that has ended, if one has.
+    #[inline(always)]
     fn pair(
         &mut self,
         message: Option<Message<Kept<A>>>,
@@ -224,6 +229,7 @@ impl<A: Allocator + Clone> Watch<A> {
     }
 
     /// Pairs a message that has ended.
+    #[inline]
     fn pair_one(
         &mut self,
         message: Message<Kept<A>>,
@@ -235,6 +241,7 @@ impl<A: Allocator + Clone> Watch<A> {
     }
 
     /// The message as it is paired, where there is room for one more that waits, or none: what becomes of it is counted.
+    #[inline]
     fn settle(
         &mut self,
         message: Message<Kept<A>>,
@@ -258,6 +265,7 @@ impl<A: Allocator + Clone> Watch<A> {
     }
 
     /// The message as it waits, with its first bytes or without them, where so many of others wait beside it.
+    #[inline]
     fn fit(
         &mut self,
         message: Message<Kept<A>>,
@@ -283,6 +291,7 @@ impl<A: Allocator + Clone> Watch<A> {
 const PRESENT_ROOM: usize = 512;
 
 /// How much room the texts of a connection take, which took so much, where a side kept a message's and keeps one.
+#[inline(always)]
 fn recounted(room: usize, text: usize, was_keeping: bool, is_keeping: bool) -> usize {
     if was_keeping {
         if is_keeping {

@@ -22,6 +22,7 @@ pub(crate) enum Announced {
 }
 
 impl Announced {
+    #[inline(always)]
     pub(crate) fn width(&self) -> usize {
         match self {
             Announced::TraceId => 16,
@@ -34,6 +35,7 @@ impl Announced {
     }
 
     /// What follows the field that these bytes are.
+    #[inline(never)]
     pub(crate) fn following(self, flags: u8, opcode: Opcode, bytes: &[u8]) -> Next {
         match self {
             Announced::TraceId => {
@@ -57,6 +59,7 @@ impl Announced {
 }
 
 /// The first field of a body with this header.
+#[inline(always)]
 pub(crate) fn first_due(header: &Header) -> Due {
     let flags: u32 = header.flags.into();
     if has(flags, 0x01) {
@@ -71,6 +74,7 @@ pub(crate) fn first_due(header: &Header) -> Due {
 }
 
 /// What follows a tracing id: warnings, if there are any.
+#[inline(always)]
 fn after_trace_id(flags: u8, opcode: Opcode) -> Due {
     if has(flags.into(), 0x08) {
         Due::Announced(Announced::WarningCount)
@@ -80,6 +84,7 @@ fn after_trace_id(flags: u8, opcode: Opcode) -> Due {
 }
 
 /// What follows the warnings: a custom payload, if there is one, and then the message.
+#[inline(always)]
 fn after_warnings(flags: u8, opcode: Opcode) -> Due {
     if has(flags.into(), 0x04) {
         Due::Announced(Announced::PayloadCount)
@@ -89,6 +94,7 @@ fn after_warnings(flags: u8, opcode: Opcode) -> Due {
 }
 
 /// So many warnings.
+#[inline(always)]
 fn warnings_due(flags: u8, opcode: Opcode, count: u16) -> Due {
     if count == 0 {
         after_warnings(flags, opcode)
@@ -98,6 +104,7 @@ fn warnings_due(flags: u8, opcode: Opcode, count: u16) -> Due {
 }
 
 /// So many keys, each with its value.
+#[inline(always)]
 fn keys_due(opcode: Opcode, count: u16) -> Due {
     if count == 0 {
         Due::opening_of(opcode)
@@ -107,6 +114,7 @@ fn keys_due(opcode: Opcode, count: u16) -> Due {
 }
 
 /// \[bytes\] of this length and then this field. A negative one is null.
+#[inline(always)]
 pub(crate) fn past_bytes(length: u32, due: Due) -> Next {
     if is_negative(length) {
         Next::at(due)

@@ -24,6 +24,7 @@ pub(crate) enum BatchField {
 }
 
 impl BatchField {
+    #[inline(always)]
     pub(crate) fn width(&self) -> usize {
         match self {
             BatchField::Type | BatchField::Kind { .. } => 1,
@@ -36,6 +37,7 @@ impl BatchField {
     }
 
     /// What follows the field that these bytes are.
+    #[inline(never)]
     pub(crate) fn following(self, bytes: &[u8]) -> Next {
         match self {
             BatchField::Type => Next::at(Due::Batch(BatchField::Count)),

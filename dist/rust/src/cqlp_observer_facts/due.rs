@@ -47,6 +47,7 @@ pub(crate) struct Next {
 
 impl Next {
     /// This field is next.
+    #[inline(always)]
     pub(crate) fn at(due: Due) -> Next {
         Next {
             passing: 0,
@@ -56,6 +57,7 @@ impl Next {
     }
 
     /// This field is next, after so many bytes.
+    #[inline(always)]
     pub(crate) fn past(passing: u32, due: Due) -> Next {
         Next {
             passing,
@@ -65,6 +67,7 @@ impl Next {
     }
 
     /// A fact, and the next field.
+    #[inline(always)]
     pub(crate) fn says(fact: Fact, due: Due) -> Next {
         Next {
             passing: 0,
@@ -76,6 +79,7 @@ impl Next {
 
 impl Due {
     /// The first field of a message.
+    #[inline(always)]
     pub(crate) fn opening_of(opcode: Opcode) -> Due {
         match opcode {
             Opcode::Query => Due::QueryText,
@@ -88,6 +92,7 @@ impl Due {
     }
 
     /// Whether a message begins with it.
+    #[inline(always)]
     pub(crate) fn is_opening(&self) -> bool {
         matches!(
             self,
@@ -101,11 +106,13 @@ impl Due {
     }
 
     /// Whether no field is due.
+    #[inline(always)]
     pub(crate) fn is_idle(&self) -> bool {
         matches!(self, Due::Unread | Due::Over)
     }
 
     /// How many bytes it has, without its content.
+    #[inline(always)]
     pub(crate) fn width(&self) -> usize {
         match self {
             Due::Announced(field) => field.width(),
@@ -118,6 +125,7 @@ impl Due {
     }
 
     /// What follows the field that these bytes are.
+    #[inline(always)]
     pub(crate) fn following(self, flags: u8, opcode: Opcode, bytes: &[u8]) -> Next {
         match self {
             Due::Announced(field) => field.following(flags, opcode, bytes),
@@ -134,6 +142,7 @@ impl Due {
 }
 
 /// A \[long string\] and then this field.
+#[inline(always)]
 pub(crate) fn past_text(bytes: &[u8], due: Due) -> Next {
     let length = int(bytes);
     if is_negative(length) {
@@ -144,6 +153,7 @@ pub(crate) fn past_text(bytes: &[u8], due: Due) -> Next {
 }
 
 /// What follows the kind of a RESULT.
+#[inline(always)]
 fn result_kind(kind: u32) -> Next {
     let due = if kind == 2 {
         Due::Rows(RowsField::Flags)

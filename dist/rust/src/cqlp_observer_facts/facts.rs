@@ -38,6 +38,7 @@ pub(crate) enum Fact {
 impl Facts {
     /// Nothing is known.
     #[must_use]
+    #[inline(always)]
     pub fn new() -> Facts {
         Facts {
             consistency: None,
@@ -52,6 +53,7 @@ impl Facts {
     }
 
     /// One more is known. One that was known stays.
+    #[inline(always)]
     pub(crate) fn add(&mut self, fact: Fact) {
         match fact {
             Fact::Consistency(level) => self.consistency = known_or(self.consistency, level),
@@ -67,6 +69,7 @@ impl Facts {
 }
 
 /// What is known, or else what is said.
+#[inline(always)]
 fn known_or<T: Copy>(known: Option<T>, said: T) -> Option<T> {
     match known {
         Some(value) => Some(value),

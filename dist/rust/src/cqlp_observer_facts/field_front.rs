@@ -8,6 +8,7 @@ pub(crate) struct FieldFront {
 }
 
 impl FieldFront {
+    #[inline(always)]
     pub(crate) fn new() -> Self {
         FieldFront {
             bytes: [0; 16],
@@ -16,15 +17,18 @@ impl FieldFront {
     }
 
     /// The first so many of these bytes.
+    #[inline(always)]
     pub(crate) fn of(bytes: [u8; 16], len: usize) -> Self {
         FieldFront { bytes, len }
     }
 
+    #[inline(always)]
     pub(crate) fn is_empty(&self) -> bool {
         self.len == 0
     }
 
     /// These bytes and one more, and how many they are then.
+    #[inline(always)]
     pub(crate) fn with(&self, byte: u8) -> ([u8; 16], usize) {
         let mut bytes = self.bytes;
         bytes[self.len] = byte;

@@ -30,6 +30,7 @@ pub(crate) struct ValueForm {
 }
 
 impl QueryField {
+    #[inline(always)]
     pub(crate) fn width(&self) -> usize {
         match self {
             QueryField::Flags => 1,
@@ -39,6 +40,7 @@ impl QueryField {
     }
 
     /// What follows the field that these bytes are.
+    #[inline(always)]
     pub(crate) fn following(self, bytes: &[u8]) -> Next {
         match self {
             QueryField::Consistency => Next::says(
@@ -61,11 +63,13 @@ impl QueryField {
 }
 
 /// The first of the parameters.
+#[inline(always)]
 pub(crate) fn consistency_due() -> Due {
     Due::Query(QueryField::Consistency)
 }
 
 /// What follows the flags: 01 says that there are values, 04 a page size, and 40 that values have names.
+#[inline(always)]
 fn flags_following(flags: u32) -> Due {
     let paged = has(flags, 0x04);
     if has(flags, 0x01) {
@@ -76,6 +80,7 @@ fn flags_following(flags: u32) -> Due {
     }
 }
 
+#[inline(always)]
 fn page_size_due(paged: bool) -> Due {
     if paged {
         Due::Query(QueryField::PageSize)
@@ -85,6 +90,7 @@ fn page_size_due(paged: bool) -> Due {
 }
 
 /// So many values, and what follows them.
+#[inline(always)]
 fn values_due(count: u16, form: ValueForm) -> Due {
     if count == 0 {
         page_size_due(form.paged)
@@ -102,6 +108,7 @@ fn values_due(count: u16, form: ValueForm) -> Due {
 }
 
 /// A \[value\] of this length and then this field: null is -1, and not set is -2.
+#[inline(always)]
 pub(crate) fn past_value(length: u32, due: Due) -> Next {
     if length == u32::MAX || length == u32::MAX - 1 {
         Next::at(due)

@@ -2,7 +2,8 @@
 //! The bytes of a body, as they pass.
 
 use crate::cqlp_observer_facts::announced::first_due;
-use crate::cqlp_observer_facts::due::Due;
+use crate::cqlp_observer_facts::columns::{Column, column_of};
+use crate::cqlp_observer_facts::due::{Due, Next};
 use crate::cqlp_observer_facts::facts::Facts;
 use crate::cqlp_observer_facts::field_front::FieldFront;
 use crate::cqlp_note::{Header, Opcode};
@@ -48,6 +49,7 @@ impl FactsReader {
 
     /// Nothing came of a body with this header.
     #[must_use]
+    #[inline(always)]
     pub fn new(header: &Header) -> FactsReader {
         FactsReader {
             flags: header.flags,
@@ -61,6 +63,7 @@ impl FactsReader {
 
     /// What the bytes say that came so far.
     #[must_use]
+    #[inline(always)]
     pub fn facts(&self) -> Facts {
         self.facts
     }
@@ -79,6 +82,7 @@ impl FactsReader {
     }
 
     /// Whether the next byte lies before the message proper.
+    #[inline(always)]
     fn is_before(&self) -> bool {
         match self.due {
             Due::Announced(_) => true,
@@ -87,6 +91,7 @@ impl FactsReader {
     }
 
     /// Takes some of these bytes.
+    #[inline(always)]
     fn take_stretch(&mut self, rest: &[u8]) -> Stretch {
         let is_before = self.is_before();
         let used = self.step(rest);
@@ -97,6 +102,7 @@ impl FactsReader {
     }
 
     /// Takes some of these bytes, which lie all before the message proper or none of them.
+    #[inline(always)]
     fn step(&mut self, rest: &[u8]) -> usize {
         if self.passing > 0 {
             let used = rest.len().min(self.passing as usize);
@@ -106,10 +112,38 @@ impl FactsReader {
         if self.due.is_idle() {
             return rest.len();
         }
-        self.take_field(rest)
+        self.take_fields(rest)
+    }
+
+    /// Takes a column that is due, if it lies whole in these bytes; else bytes of the field that is due.
+    #[inline(always)]
+    fn take_fields(&mut self, rest: &[u8]) -> usize {
+        match self.column(rest) {
+            Some(column) => {
+                self.go_to(Next::at(column.due));
+                column.used
+            }
+            None => self.take_field(rest),
+        }
+    }
+
+    /// The column that is due, if it lies whole in these bytes.
+    #[inline(always)]
+    fn column(&self, rest: &[u8]) -> Option<Column> {
+        match self.due {
+            Due::Rows(field) => {
+                if self.front.is_empty() {
+                    column_of(field, rest)
+                } else {
+                    None
+                }
+            }
+            _ => None,
+        }
     }
 
     /// Takes bytes of the field that is due: all of it, if it has not begun and lies whole in these bytes; else one byte.
+    #[inline(always)]
     fn take_field(&mut self, rest: &[u8]) -> usize {
         let width = self.due.width();
         if self.front.is_empty() && width <= rest.len() {
@@ -121,11 +155,13 @@ impl FactsReader {
     }
 
     /// Passes over so many bytes.
+    #[inline(always)]
     fn pass(&mut self, count: u32) {
         self.passing -= count;
     }
 
     /// Takes a byte of a field.
+    #[inline(never)]
     fn take(&mut self, byte: u8) {
         let (bytes, len) = self.front.with(byte);
         if len < self.due.width() {
@@ -136,8 +172,19 @@ impl FactsReader {
     }
 
     /// Goes on after a field.
+    #[inline(always)]
     fn pass_field(&mut self, bytes: &[u8]) {
-        let next = self.due.following(self.flags, self.opcode, bytes);
+        match self.due {
+            Due::Query(field) => self.go_to(field.following(bytes)),
+            Due::Batch(field) => self.go_to(field.following(bytes)),
+            Due::Rows(field) => self.go_to(field.following(bytes)),
+            due => self.go_to(due.following(self.flags, self.opcode, bytes)),
+        }
+    }
+
+    /// Goes on with what follows a field.
+    #[inline(always)]
+    fn go_to(&mut self, next: Next) {
         self.due = next.due;
         self.passing = next.passing;
         self.front = FieldFront::new();

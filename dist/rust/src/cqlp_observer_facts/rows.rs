@@ -27,6 +27,7 @@ pub(crate) enum RowsField {
 }
 
 impl RowsField {
+    #[inline(always)]
     pub(crate) fn width(&self) -> usize {
         match self {
             RowsField::Flags
@@ -42,6 +43,7 @@ impl RowsField {
     }
 
     /// What follows the field that these bytes are.
+    #[inline]
     pub(crate) fn following(self, bytes: &[u8]) -> Next {
         match self {
             RowsField::Flags => Next::at(Due::Rows(RowsField::ColumnCount { flags: int(bytes) })),
@@ -66,6 +68,7 @@ impl RowsField {
 }
 
 /// What follows the number of columns.
+#[inline(always)]
 fn columns_following(flags: u32, bytes: &[u8]) -> Next {
     let count = int(bytes);
     if is_negative(count) {
@@ -79,6 +82,7 @@ fn columns_following(flags: u32, bytes: &[u8]) -> Next {
 }
 
 /// The paging state, if the flag 02 says that there is one, and the columns.
+#[inline(always)]
 fn paged_columns_due(flags: u32, columns: u32) -> Due {
     if has(flags, 0x02) {
         Due::Rows(RowsField::PagingState { flags, columns })
@@ -88,6 +92,7 @@ fn paged_columns_due(flags: u32, columns: u32) -> Due {
 }
 
 /// The columns: none by the flag 04, and after one keyspace and table for all by the flag 01.
+#[inline(always)]
 fn columns_due(flags: u32, columns: u32) -> Due {
     if has(flags, 0x04) {
         Due::Rows(RowsField::RowCount)
@@ -102,6 +107,7 @@ fn columns_due(flags: u32, columns: u32) -> Due {
 }
 
 /// So many names, and what follows them.
+#[inline(always)]
 fn names_due(count: u16, types: Types) -> Due {
     if count == 0 {
         types_due(types)
@@ -114,6 +120,7 @@ fn names_due(count: u16, types: Types) -> Due {
 }
 
 /// Types and fields, and then the number of rows.
+#[inline(always)]
 fn types_due(types: Types) -> Due {
     match types.next() {
         TypesNext::Type(types) => Due::Rows(RowsField::Type { types }),
@@ -124,7 +131,8 @@ fn types_due(types: Types) -> Due {
 
 /// What follows the id of a type: of a custom one its name, of a list or a set one type and of a map two, of a UDT its names and fields, of
 /// a tuple its types.
-fn after_option(id: u16, types: Types) -> Due {
+#[inline(always)]
+pub(crate) fn after_option(id: u16, types: Types) -> Due {
     match id {
         0x0000 => names_due(1, types),
         0x0020 => types_due(types.with_types(1)),
@@ -146,11 +154,13 @@ fn after_option(id: u16, types: Types) -> Due {
 }
 
 /// Whether nothing follows the id of such a type.
+#[inline(always)]
 fn is_plain(id: u16) -> bool {
     id <= 0x0014 && id != 0x000A
 }
 
 /// What follows a name of a UDT.
+#[inline(never)]
 fn udt_due(is_own: bool, types: Types) -> Due {
     if is_own {
         Due::Rows(RowsField::FieldCount { types })
@@ -163,6 +173,7 @@ fn udt_due(is_own: bool, types: Types) -> Due {
 }
 
 /// The fields of a UDT, and these types after them; none if they lie too deep.
+#[inline(never)]
 fn fields_due(count: u16, types: Types) -> Due {
     match types.with_fields(count.into()) {
         Some(types) => types_due(types),
@@ -171,6 +182,7 @@ fn fields_due(count: u16, types: Types) -> Due {
 }
 
 /// The number of rows.
+#[inline(always)]
 fn row_count(bytes: &[u8]) -> Next {
     if is_negative(int(bytes)) {
         Next::at(Due::Over)

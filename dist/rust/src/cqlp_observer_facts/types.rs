@@ -31,6 +31,7 @@ pub(crate) enum TypesNext {
 }
 
 impl Level {
+    #[inline(always)]
     fn over() -> Level {
         Level {
             types: 0,
@@ -39,6 +40,7 @@ impl Level {
         }
     }
 
+    #[inline(always)]
     fn is_over(&self) -> bool {
         self.types == 0 && self.fields == 0
     }
@@ -46,6 +48,7 @@ impl Level {
 
 impl Types {
     /// So many columns.
+    #[inline(always)]
     pub(crate) fn of_columns(count: u32, qualified: bool) -> Types {
         Types {
             first: Level {
@@ -60,6 +63,7 @@ impl Types {
     }
 
     /// So many more types at the innermost level.
+    #[inline(always)]
     pub(crate) fn with_types(self, count: u32) -> Types {
         Types {
             first: Level {
@@ -92,6 +96,7 @@ impl Types {
     }
 
     /// What comes next.
+    #[inline(always)]
     pub(crate) fn next(self) -> TypesNext {
         let types = self.innermost();
         let level = types.first;
@@ -108,6 +113,7 @@ impl Types {
     }
 
     /// Without the innermost level, if nothing of it is left.
+    #[inline(always)]
     fn innermost(self) -> Types {
         if self.first.is_over() {
             Types {
@@ -121,6 +127,7 @@ impl Types {
         }
     }
 
+    #[inline(always)]
     fn with_first(self, types: u32, fields: u32) -> Types {
         Types {
             first: Level {

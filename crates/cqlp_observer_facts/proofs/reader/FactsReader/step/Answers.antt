@@ -1,7 +1,6 @@
-use Rattle.std.proofs.Common.{◌≡◌, ℕ, ◌≤◌, ◌<◌, Bool, List, length, take, cond, sym, ap, ◌∙◌, arith}
+use Rattle.std.proofs.Common.{◌≡◌, ℕ, List, length, take, cond, sym, ap, ◌∙◌, arith}
 use Rattle.std.proofs.lemmas.List.{length-take-le}
 use Rattle.std.proofs.Math.Seq.{take-length}
-use Rattle.cqlp_observer_facts.specs.declared.reader.FactsReader.{FactsReader}
 use Rattle.cqlp_observer_facts.specs.Reading.{before, is_before, passed, read}
 use Rattle.cqlp_observer_facts.proofs.Pieces.{before_content, before_idle, read_idle, read_passing}
 use Rattle.cqlp_observer_facts.proofs.reader.FactsReader.step.Goals as goal
