@@ -101,15 +101,15 @@ impl Place {
     /// What the bytes say that are read next, under these limits, where these are the interfaces so far.
     #[inline(always)]
     pub fn tell(
-        self,
+        &self,
         limits: &CaptureLimits,
         known: &[KnownInterface],
         bytes: &[u8],
     ) -> Result<Told, CaptureRefusal>
-        requires place { IsPlace limits.now self }
-        requires size { length bytes.now ≡ wanted self.stage }
+        requires place { IsPlace limits.now self.now }
+        requires size { length bytes.now ≡ wanted self.now.stage }
         requires few { length known.now < 2 ^ 32 }
-        ensures { result ≡ told_at limits.now known.now self.offset self.stage bytes.now }
+        ensures { result ≡ told_at limits.now known.now self.now.offset self.now.stage bytes.now }
     {
         let offset = self.offset;
         match self.stage {

@@ -12,3 +12,4 @@ pub mod Came
 pub mod Fed
 pub mod Few
 pub mod Said
+pub mod NoBytes

@@ -17,3 +17,4 @@ pub mod Openings
 pub mod Watches
 pub mod Laws
 pub mod Rooms
+pub mod Nothing

@@ -68,7 +68,7 @@ pub struct Heads {
 
 impl Heads {
     ghost use Rattle.cqlp_observer.specs.Heads.{head_within};
-    ghost use Rattle.cqlp_observer.specs.Openings.{opening_in};
+    ghost use Rattle.cqlp_observer.specs.Openings.{is_between, opening_in};
     ghost use Rattle.cqlp_observer.specs.Directions.{after_end, after_gap, anew, begun, closing, counted, filled, heard};
     ghost use Rattle.cqlp_observer.specs.Directions.{hears, passed, passed_whole, sought, stepping};
 
@@ -120,6 +120,14 @@ impl Heads {
             Stage::Header { front, at, begun } => self.fill(front, at, begun, piece, time),
             Stage::Body { frame, left } => self.pass(frame, left, piece, time),
         }
+    }
+
+    /// Whether it is between two frames.
+    #[inline(always)]
+    pub(crate) fn is_between(&self) -> bool
+        ensures { result ≡ is_between self.now.stage }
+    {
+        self.stage.is_between()
     }
 
     /// What these bytes are that come next, if none came before.

@@ -109,7 +109,7 @@ impl<A: Allocator> Model for Side<A> {
 }
 
 impl<A: Allocator + Clone> Side<A> {
-    ghost use Rattle.cqlp_observer.specs.Openings.{opening_in};
+    ghost use Rattle.cqlp_observer.specs.Openings.{is_between, opening_in};
     ghost use Rattle.cqlp_observer.specs.Passing.{begun_with, broken_if, kept_in, read_on, read_on_if};
     ghost use Rattle.cqlp_observer.specs.Speakers.{after_end, after_gap, begins, closed, ending, ends_at_once, heard, hearing, is_keeping, silent, speaker};
 
@@ -138,6 +138,14 @@ impl<A: Allocator + Clone> Side<A> {
         ensures { result ≡ is_keeping self.now }
     {
         self.present.is_some()
+    }
+
+    /// Whether it is between two frames.
+    #[inline(always)]
+    pub(crate) fn is_between(&self) -> bool
+        ensures { result ≡ is_between self.now.heads.stage }
+    {
+        self.heads.is_between()
     }
 
     /// What these bytes are that come next, if none came before.

@@ -59,6 +59,7 @@ impl<A: Allocator> Model for Watch<A> {
 impl<A: Allocator + Clone> Watch<A> {
     ghost use Rattle.std.specs.Prelude.{Some};
     ghost use Rattle.cqlp_observer.specs.Watches.{after_end, after_gap, begun, finished, fitted, fitting, heard};
+    ghost use Rattle.cqlp_observer.specs.Nothing.{has_nothing};
     ghost use Rattle.cqlp_observer.specs.Watches.{is_keeping_on, new_watched, opening_of, paired_if, read, reading, settled, stepping, telling, with_recount};
 
     /// A connection of which nothing was seen. Takes no memory beside what clones of `alloc` do.
@@ -97,6 +98,7 @@ impl<A: Allocator + Clone> Watch<A> {
     /// # Errors
     ///
     /// Memory that is refused.
+    #[tactic(auto, using(crate::proofs::NoBytes::heard_nothing))]
     pub fn take(
         &mut self,
         responses: bool,
@@ -108,6 +110,9 @@ impl<A: Allocator + Clone> Watch<A> {
         ensures told { IfOk result (λ step. stepping step self.new ≡ heard responses time begins piece.now room self.old) }
         ensures within { IfOk result (λ step. step.used ≤ length piece.now) }
     {
+        if self.is_done(responses, piece) {
+            return Ok(WatchStep::done());
+        }
         let opening = self.opening(responses, piece);
         self.missed.count_opening(opening)?;
         let step = self.read(responses, piece, time, begins, room)?;
@@ -194,6 +199,19 @@ impl<A: Allocator + Clone> Watch<A> {
         ensures { result ≡ self.now.missed }
     {
         self.missed.missed()
+    }
+
+    /// Whether these are no bytes, and the direction is between two frames: then nothing more is told.
+    #[inline(always)]
+    fn is_done(&self, responses: bool, piece: &[u8]) -> bool
+        ensures { result ≡ has_nothing responses piece.now self.now }
+    {
+        piece.is_empty()
+            && if responses {
+                self.responses.is_between()
+            } else {
+                self.requests.is_between()
+            }
     }
 
     /// What these bytes of a direction are that come next, if none came before.
@@ -336,6 +354,23 @@ impl<A: Allocator + Clone> Watch<A> {
                 frame: message.frame,
                 kept: Kept::bare(),
             })
+        }
+    }
+}
+
+impl<A: Allocator> WatchStep<A> {
+    ghost use Rattle.std.specs.Prelude.{None, true};
+
+    /// Nothing is told of no bytes.
+    #[inline(always)]
+    fn done() -> Self
+        ensures { result ≡ record { used = 0; is_done = true; opening = Opening.Frames; told = None } }
+    {
+        WatchStep {
+            used: 0,
+            is_done: true,
+            opening: Opening::Frames,
+            told: None,
         }
     }
 }

@@ -94,7 +94,7 @@ impl Place {
     /// What the bytes say that are read next, under these limits, where these are the interfaces so far.
     #[inline(always)]
     pub(crate) fn tell(
-        self,
+        &self,
         limits: &CaptureLimits,
         known: &[KnownInterface],
         bytes: &[u8],

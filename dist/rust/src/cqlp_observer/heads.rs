@@ -108,6 +108,12 @@ impl Heads {
         }
     }
 
+    /// Whether it is between two frames.
+    #[inline(always)]
+    pub(crate) fn is_between(&self) -> bool {
+        self.stage.is_between()
+    }
+
     /// What these bytes are that come next, if none came before.
     #[inline(always)]
     pub(crate) fn opening(&self, piece: &[u8]) -> Opening {

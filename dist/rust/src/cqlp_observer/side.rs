@@ -98,6 +98,12 @@ impl<A: Allocator + Clone> Side<A> {
         self.present.is_some()
     }
 
+    /// Whether it is between two frames.
+    #[inline(always)]
+    pub(crate) fn is_between(&self) -> bool {
+        self.heads.is_between()
+    }
+
     /// What these bytes are that come next, if none came before.
     #[inline(always)]
     pub(crate) fn opening(&self, piece: &[u8]) -> Opening {

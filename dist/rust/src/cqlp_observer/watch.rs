@@ -84,6 +84,9 @@ impl<A: Allocator + Clone> Watch<A> {
         begins: bool,
         room: WatchRoom,
     ) -> Result<WatchStep<A>, AllocError> {
+        if self.is_done(responses, piece) {
+            return Ok(WatchStep::done());
+        }
         let opening = self.opening(responses, piece);
         self.missed.count_opening(opening)?;
         let step = self.read(responses, piece, time, begins, room)?;
@@ -158,6 +161,17 @@ impl<A: Allocator + Clone> Watch<A> {
     /// What was missed so far, since it was made.
     pub fn missed(&self) -> Missed {
         self.missed.missed()
+    }
+
+    /// Whether these are no bytes, and the direction is between two frames: then nothing more is told.
+    #[inline(always)]
+    fn is_done(&self, responses: bool, piece: &[u8]) -> bool {
+        piece.is_empty()
+            && if responses {
+                self.responses.is_between()
+            } else {
+                self.requests.is_between()
+            }
     }
 
     /// What these bytes of a direction are that come next, if none came before.
@@ -283,6 +297,19 @@ impl<A: Allocator + Clone> Watch<A> {
                 frame: message.frame,
                 kept: Kept::bare(),
             })
+        }
+    }
+}
+
+impl<A: Allocator> WatchStep<A> {
+    /// Nothing is told of no bytes.
+    #[inline(always)]
+    fn done() -> Self {
+        WatchStep {
+            used: 0,
+            is_done: true,
+            opening: Opening::Frames,
+            told: None,
         }
     }
 }
