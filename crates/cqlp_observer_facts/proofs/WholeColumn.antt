@@ -1,6 +1,6 @@
 -- A column that lies whole in a piece is read at once.
-use Rattle.std.proofs.Common.{◌≡◌, ℕ, zero, suc, ◌+◌, ◌-◌, ◌<◌, ◌≤◌, Bool, true, false, cond, List, [], ◌∷◌, ◌++◌, length, take, drop, refl, sym, ap, subst, ◌∙◌, arith}
-use Rattle.std.specs.Prelude.{Option, Some, None, IfSome}
+use Rattle.std.proofs.Common.{◌≡◌, ℕ, ◌+◌, ◌-◌, ◌≤◌, List, [], ◌∷◌, ◌++◌, length, take, drop, refl, sym, ap, ◌∙◌, arith}
+use Rattle.std.specs.Prelude.{Option, IfSome}
 use Rattle.std.proofs.lemmas.List.{length-drop, length-take-le}
 use Rattle.std.proofs.lemmas.Option.{IfSome_then}
 use Rattle.std.proofs.Math.Seq.{take-add}
@@ -16,7 +16,7 @@ use Rattle.cqlp_observer_facts.specs.declared.types.TypesNext.TheVariants as nex
 use Rattle.cqlp_observer_facts.specs.Columns.{IsColumn, IsColumnOf, PassesColumn}
 use Rattle.cqlp_observer_facts.specs.Due.{at}
 use Rattle.cqlp_observer_facts.specs.Numbers.{short}
-use Rattle.cqlp_observer_facts.specs.Reading.{before, gone_on, gone_to, is_before, passed, read}
+use Rattle.cqlp_observer_facts.specs.Reading.{before, gone_to, is_before, read}
 use Rattle.cqlp_observer_facts.specs.Rows.{after_option, due_of}
 use Rattle.cqlp_observer_facts.specs.Types.{types_next}
 use Rattle.cqlp_observer_facts.proofs.Fields.{before_field, nothing_in, read_field}
