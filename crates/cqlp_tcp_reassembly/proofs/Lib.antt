@@ -4,6 +4,7 @@ pub mod Lasts
 pub mod Settled
 pub mod Entries
 pub mod Places
+pub mod Pairs
 pub mod Parts
 pub mod Carries
 pub mod Streamed

@@ -1,6 +1,5 @@
 -- Bytes that came early.
 use Rattle.std.specs.Prelude.{ℕ, ◌+◌, ◌-◌, ◌==◌, ◌&&◌, Bool, false, List, [], ◌∷◌, length, insert, max, min, Option, Some, None, nat_lt, if◌then◌else◌}
-use Rattle.std.specs.Prelude.{Box}
 use Rattle.cqlp_tcp_reassembly.specs.declared.run.EarlyPart.{EarlyPart}
 use Rattle.cqlp_tcp_reassembly.specs.declared.run.Part.{Part}
 use Rattle.cqlp_tcp_reassembly.specs.declared.run.RunSummary.{RunSummary}
@@ -41,11 +40,6 @@ abbrev pub without_bytes : EarlyRun → EarlyRun
 without_bytes r = early_run (r.at + length r.bytes) [] r.missing false r.time
 
 -- ---- those that are kept, by position
-
--- those of a queue, which has memory only while there are any
-abbrev pub runs_in : {B : Type 0} → Option (Box (List EarlyRun) B) → List EarlyRun
-runs_in (Some queue) = queue.value
-runs_in None = []
 
 -- what they count: their bytes, and 144 for each
 abbrev pub size_of : List EarlyRun → ℕ

@@ -1,6 +1,7 @@
 //! Runs in a queue.
 
-ghost use Rattle.std.specs.Prelude.{◌≡◌, ◌+◌, ◌-◌, ◌<◌, ◌≤◌, ◌==◌, ◌^◌, [], length, IfOk, IfSome, OnErr};
+ghost use Rattle.std.specs.Prelude.{◌≡◌, ◌+◌, ◌-◌, ◌<◌, ◌≤◌, ◌==◌, ◌^◌, [], ◌∷◌, length, IfOk, IfSome, OnErr, if◌then◌else◌};
+ghost use Rattle.std.specs.VecDeque.{deque_capacity, deque_len};
 ghost use Rattle.cqlp_tcp_reassembly.specs.Runs.{behind_first, behind_last, bytes_at, first_at, first_free, free_part, last_of, size_of, summary_at, with_run};
 
 use crate::run::{EarlyPart, Part, RUN_SIZE, Run, RunSummary};
@@ -36,6 +37,31 @@ impl<A: Allocator> RunQueue<A> {
             runs: VecDeque::new(alloc),
             size: 0,
         }
+    }
+
+    /// A run and one that comes before it or behind it, in memory for two.
+    pub(crate) fn of_two(
+        room: VecDeque<Run<A>, A>,
+        one: Run<A>,
+        other: Run<A>,
+        is_before: bool,
+    ) -> Self
+        requires none { deque_len room ≡ 0 }
+        requires empty { room.items ≡ [] }
+        requires room { 2 ≤ deque_capacity room }
+        requires size { length one.bytes + length other.bytes + 288 < 2 ^ 64 }
+        ensures { result ≡ (if is_before then other ∷ one ∷ [] else one ∷ other ∷ []) }
+    {
+        let mut runs = room;
+        let size = one.size() + other.size();
+        if is_before {
+            runs.push_back_reserved(other);
+            runs.push_back_reserved(one);
+        } else {
+            runs.push_back_reserved(one);
+            runs.push_back_reserved(other);
+        }
+        RunQueue { runs, size }
     }
 
     /// What they count.

@@ -1,7 +1,7 @@
 //! A part of a segment that came early.
 
-ghost use Rattle.std.specs.Prelude.{◌≡◌, ◌+◌, ◌-◌, ◌≤◌, ◌^◌, drop, length, take, IfOk};
-ghost use Rattle.cqlp_tcp_reassembly.specs.Runs.{EarlyRun, early_run, kept, run_end, summary, without_bytes};
+ghost use Rattle.std.specs.Prelude.{◌≡◌, ◌+◌, ◌-◌, ◌<◌, ◌≤◌, ◌^◌, [], ◌∷◌, drop, length, take, IfOk};
+ghost use Rattle.cqlp_tcp_reassembly.specs.Runs.{EarlyRun, bytes_at, early_run, first_free, kept, run_end, summary, summary_at, without_bytes};
 
 use std::alloc::{AllocError, Allocator};
 use std::marker::Model;
@@ -84,6 +84,18 @@ impl<A: Allocator> Run<A> {
         })
     }
 
+    /// Of no bytes. It takes no memory.
+    pub(crate) fn blank(alloc: A) -> Self {
+        Run {
+            at: 0,
+            bytes: Vec::new(alloc),
+            missing: 0,
+            time: 0,
+            has_time: false,
+            begins: false,
+        }
+    }
+
     /// The position of its first byte.
     pub(crate) fn at(&self) -> u64
         ensures { result ≡ self.now.at }
@@ -113,6 +125,57 @@ impl<A: Allocator> Run<A> {
             missing: self.missing,
             begins: self.begins,
             time: self.time(),
+        }
+    }
+
+    /// What it counts, in the measure of `Stream::size`.
+    pub(crate) fn size(&self) -> usize
+        ensures { result ≡ length self.now.bytes + 144 }
+    {
+        self.bytes.len() + RUN_SIZE
+    }
+
+    /// It, if it begins at this position.
+    pub(crate) fn summary_at(&self, position: u64) -> Option<RunSummary>
+        ensures { result ≡ summary_at position (self.now ∷ []) }
+    {
+        if self.at == position {
+            Some(self.summary())
+        } else {
+            None
+        }
+    }
+
+    /// Its bytes, if it begins at this position.
+    pub(crate) fn bytes_at(&self, position: u64) -> &[u8]
+        ensures { result.now ≡ bytes_at position (self.now ∷ []) }
+    {
+        if self.at == position {
+            self.bytes.as_slice()
+        } else {
+            &[]
+        }
+    }
+
+    /// The first part from a position on, up to another, that it does not cover. It is empty where it covers all.
+    pub(crate) fn first_free(&self, from: u64, to: u64) -> Part
+        ensures is { result ≡ first_free from to (self.now ∷ []) }
+        ensures index { result.index ≤ 1 }
+        ensures from { from ≤ result.from }
+        ensures to { result.to ≤ to }
+    {
+        if from < self.at {
+            Part {
+                index: 0,
+                from,
+                to: to.min(self.at),
+            }
+        } else {
+            Part {
+                index: 1,
+                from: from.max(self.end()),
+                to,
+            }
         }
     }
 

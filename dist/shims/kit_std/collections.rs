@@ -144,7 +144,7 @@ impl<K: Ord, V, A: Allocator> BTreeMap<K, V, A> {
         (row, self.rows.get(row).map_or(Err(0), |row| row.binary_search_by(|entry| entry.0.cmp(key))))
     }
 
-    /// Room for one more entry at this place, which may lie in another row then.
+    /// Room for one more entry at this place, which may lie in another row then: behind all others in a new one, so that ascending keys fill rows.
     fn make_room(&mut self, row: usize, at: usize) -> Result<(usize, usize), AllocError> {
         if self.rows.is_empty() {
             let mut first = Rows::new();
@@ -159,9 +159,10 @@ impl<K: Ord, V, A: Allocator> BTreeMap<K, V, A> {
         let mut behind = Rows::new();
         behind.try_reserve_exact(MOST).map_err(|_| AllocError)?;
         self.rows.try_reserve(1).map_err(|_| AllocError)?;
-        behind.extend(self.rows[row].drain(MOST / 2..));
+        let kept = if at == MOST && row + 1 == self.rows.len() { MOST } else { MOST / 2 };
+        behind.extend(self.rows[row].drain(kept..));
         self.rows.insert(row + 1, behind);
-        Ok(if at <= MOST / 2 { (row, at) } else { (row + 1, at - MOST / 2) })
+        Ok(if at <= MOST / 2 { (row, at) } else { (row + 1, at - kept) })
     }
 
     fn take(&mut self, row: usize, at: usize) -> (K, V) {

@@ -22,6 +22,25 @@ impl<A: Allocator> RunQueue<A> {
         }
     }
 
+    /// A run and one that comes before it or behind it, in memory for two.
+    pub(crate) fn of_two(
+        room: VecDeque<Run<A>, A>,
+        one: Run<A>,
+        other: Run<A>,
+        is_before: bool,
+    ) -> Self {
+        let mut runs = room;
+        let size = one.size() + other.size();
+        if is_before {
+            runs.push_back_reserved(other);
+            runs.push_back_reserved(one);
+        } else {
+            runs.push_back_reserved(one);
+            runs.push_back_reserved(other);
+        }
+        RunQueue { runs, size }
+    }
+
     /// What they count.
     pub(crate) fn size(&self) -> usize {
         self.size

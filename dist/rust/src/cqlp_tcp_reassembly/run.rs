@@ -66,6 +66,18 @@ impl<A: Allocator> Run<A> {
         })
     }
 
+    /// Of no bytes. It takes no memory.
+    pub(crate) fn blank(alloc: A) -> Self {
+        Run {
+            at: 0,
+            bytes: Vec::new(alloc),
+            missing: 0,
+            time: 0,
+            has_time: false,
+            begins: false,
+        }
+    }
+
     /// The position of its first byte.
     pub(crate) fn at(&self) -> u64 {
         self.at
@@ -86,6 +98,46 @@ impl<A: Allocator> Run<A> {
             missing: self.missing,
             begins: self.begins,
             time: self.time(),
+        }
+    }
+
+    /// What it counts, in the measure of `Stream::size`.
+    pub(crate) fn size(&self) -> usize {
+        self.bytes.len() + RUN_SIZE
+    }
+
+    /// It, if it begins at this position.
+    pub(crate) fn summary_at(&self, position: u64) -> Option<RunSummary> {
+        if self.at == position {
+            Some(self.summary())
+        } else {
+            None
+        }
+    }
+
+    /// Its bytes, if it begins at this position.
+    pub(crate) fn bytes_at(&self, position: u64) -> &[u8] {
+        if self.at == position {
+            self.bytes.as_slice()
+        } else {
+            &[]
+        }
+    }
+
+    /// The first part from a position on, up to another, that it does not cover. It is empty where it covers all.
+    pub(crate) fn first_free(&self, from: u64, to: u64) -> Part {
+        if from < self.at {
+            Part {
+                index: 0,
+                from,
+                to: to.min(self.at),
+            }
+        } else {
+            Part {
+                index: 1,
+                from: from.max(self.end()),
+                to,
+            }
         }
     }
 
