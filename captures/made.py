@@ -26,6 +26,7 @@ passed       a pcapng file with two connections: of one the packets are in packe
              resolution, a packet too long, one beyond its block, one of no interface and a block too short
 crowd        COUNT connections, 65,536 where it is not said, on each of which four requests are open, a request and a response lack their last byte, and some
              bytes come too early in both directions; and then packets as long as may be, all at one time
+laden        256 statements that are answered, and then as crowd, but for the early bytes: as many whole packets of them as there is room for
 deep         eight connections, on each of which 32,768 requests are open, and 1,000 others, of each of which a direction has as many bytes that came too
              early as there is room for
 scattered    32 connections, of both of whose directions only each second byte comes, in packets of a byte
@@ -101,15 +102,26 @@ def at_end():
         yield record(bytes(length))
 
 
-def crowd(count=65_536):
+def crowd(count=65_536, early=64, holders=65_536):
     types = b"\0\0\0\2\0\0\0\1\0\0\0\1" + b"\0\1k\0\1t\0\1c" + b"\0\x31\0\x96" + b"\0\x09" * 150
     asked, answered = b"".join(map(query, range(5)))[:-1], frame(0x84, 0, 9, 0x08, types)[:-1]
     for i in range(count):
         client, port = 0x0A010000 + i // 30_000, 10_000 + i % 30_000
         for is_response, sent in enumerate((asked, answered)):
             yield record(segment(client, port, 0, sent, is_response))
-            yield record(segment(client, port, len(sent) + 1, bytes(64), is_response))
+            if i < holders:
+                yield record(segment(client, port, len(sent) + 1, bytes(early), is_response))
     yield from at_end()
+
+
+def laden():
+    for i in range(256):
+        text = b"SELECT %c%c" % (97 + i // 16, 97 + i % 16)
+        asked = frame(0x04, 0, 0, 0x07, struct.pack(">I", len(text)) + text + b"\0\1\0")
+        answered = frame(0x84, 0, 0, 0x08, b"\0\0\0\1")
+        yield record(segment(1, 10_000, i * len(asked), asked))
+        yield record(segment(1, 10_000, i * len(answered), answered, True))
+    yield from crowd(65_535, 1_448, 7_905)
 
 
 def deep():
@@ -429,7 +441,7 @@ def capture(kind, *count):
         return of_pcap(wraps(), 1)
     made = {"connections": connections, "lost": lost, "requests": requests, "contents": contents, "pages": pages, "packets": packets,
             "prepared": lambda: in_turn(statements_in_turn()), "statements": lambda: in_turn(many_statements()),
-            "crowd": crowd, "deep": deep, "scattered": scattered, "headers": headers, "record": greatest_record, "batches": batches,
+            "crowd": crowd, "laden": laden, "deep": deep, "scattered": scattered, "headers": headers, "record": greatest_record, "batches": batches,
             "flight": flight, "versions": versions, "tls": tls}[kind]
     return of_pcap(made(*map(int, count)))
 
