@@ -1,6 +1,5 @@
 -- What bytes tell, step by step.
-use Rattle.std.proofs.Common.{◌≡◌, ◌∙◌, ◌-◌, ◌<◌, ◌≤◌, ◌&&◌, ◌==◌, length, ℕ, zero, suc, Bool, true, false, List, [], ◌∷◌, ◌++◌, take, drop, if◌then◌else◌, Option, None, Some, Result, Ok, Err, IsErr, IsErrAnd, OnOk, refl, sym, ap, subst, append-nil, arith}
-use Rattle.std.proofs.lemmas.Grind.{common_steps}
+use Rattle.std.proofs.Common.{◌≡◌, ◌∙◌, ◌-◌, ◌<◌, ◌≤◌, ◌&&◌, ◌==◌, ℕ, zero, suc, Bool, true, false, List, [], ◌∷◌, ◌++◌, take, drop, if◌then◌else◌, Option, None, Some, Result, Ok, Err, IsErr, IsErrAnd, OnOk, refl, sym, ap, subst, append-nil, arith}
 use Rattle.cqlp_note.specs.declared.refusal.Refusal.{Refusal}
 use Rattle.cqlp_note.specs.Limits.{Rules}
 use Rattle.cqlp_kind.specs.declared.node.Node.{Node}
@@ -41,9 +40,6 @@ module _ {S : Type 0} (m : Manner S) (room : Bool) where
   pub told_none : (left at : ℕ) (begins : Bool) (b : List ℕ) (s : S) (d : Direction) → left ≤ 0 → all_told m room left at begins b s d ≡ telling [] d s
   told_none zero at begins b s d none = refl
   told_none (suc n) at begins b s d none = absurd (omega arith)
-
-pub rest_is : (n : ℕ) (b : List ℕ) → take (length b - n) (drop n b) ≡ drop n b
-rest_is n b = grind (arith, common_steps)
 
 module _ {S : Type 0} where
   next_done : (d : Bool) (t k : Telling S) → d ≡ true → (if d then t else before t.text k) ≡ t

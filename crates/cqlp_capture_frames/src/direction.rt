@@ -1,6 +1,6 @@
 //! One direction of a connection.
 
-ghost use Rattle.std.specs.Prelude.{◌≡◌, ◌&&◌, ◌==◌, true, IfOk, OnOk};
+ghost use Rattle.std.specs.Prelude.{◌≡◌, true, IfOk, OnOk};
 ghost use Rattle.cqlp_note.specs.Limits.{rules_of};
 ghost use Rattle.cqlp_capture_frames.specs.Directions.{is_done, is_plain};
 
@@ -8,7 +8,7 @@ use crate::drain::behind;
 use crate::reader::FrameReader;
 use crate::transcript::Transcript;
 use cqlp_note::{Header, Limits};
-use cqlp_observer::{Heads, Heard, HeardStep};
+use cqlp_observer::{Heads, Heard, HeardStep, Unread};
 use cqlp_tcp_reassembly::StreamStep;
 use cqlp_text::{Pen, TextWriter};
 use cqlp_type::TypeTable;
@@ -170,20 +170,23 @@ impl<A: Allocator + Clone> Direction<A> {
             result writer.old writer.new self.new (T.Transcript.state transcript.new) }
         ensures same { IsSame self.old self.new }
     {
-        let mut steps = 2 * bytes.len() as u128 + 2;
-        let mut rest = bytes;
-        let mut is_first = begins;
+        let mut unread = Unread::new(bytes, begins);
         let mut end = at;
-        while steps > 0 {
-            let HeardStep { used, heard } = self.heads.take(rest, None, is_first);
+        while unread.steps > 0 {
+            let HeardStep { used, heard } = self.heads.take(unread.bytes, None, unread.begins);
             end = behind(end, used as u64);
-            self.tell(has_room, end, heard, &rest[..used], transcript, writer)?;
+            self.tell(
+                has_room,
+                end,
+                heard,
+                &unread.bytes[..used],
+                transcript,
+                writer,
+            )?;
             if is_done(heard) {
                 return Ok(());
             }
-            is_first = still_first(is_first, used);
-            rest = &rest[used..];
-            steps -= 1;
+            unread = unread.after(used);
         }
         Ok(())
     }
@@ -310,13 +313,6 @@ fn is_done(heard: Heard) -> bool
         Heard::More => true,
         Heard::Begins(_) | Heard::Body | Heard::Ends(_) | Heard::Stray => false,
     }
-}
-
-/// Whether what follows the bytes that were used still begins a segment.
-fn still_first(is_first: bool, used: usize) -> bool
-    ensures { result ≡ (is_first && used == 0) }
-{
-    is_first && used == 0
 }
 
 /// Whether a frame is not compressed, goes in its opcode's direction, and is not too long.

@@ -6,7 +6,7 @@ use crate::cqlp_capture_frames::drain::behind;
 use crate::cqlp_capture_frames::reader::FrameReader;
 use crate::cqlp_capture_frames::transcript::Transcript;
 use crate::cqlp_note::{Header, Limits};
-use crate::cqlp_observer::{Heads, Heard, HeardStep};
+use crate::cqlp_observer::{Heads, Heard, HeardStep, Unread};
 use crate::cqlp_tcp_reassembly::StreamStep;
 use crate::cqlp_text::{Pen, TextWriter};
 use crate::cqlp_type::TypeTable;
@@ -123,20 +123,23 @@ impl<A: Allocator + Clone> Direction<A> {
         transcript: &mut T,
         writer: &mut TextWriter<P>,
     ) -> Result<(), T::Fault> {
-        let mut steps = 2 * bytes.len() as u128 + 2;
-        let mut rest = bytes;
-        let mut is_first = begins;
+        let mut unread = Unread::new(bytes, begins);
         let mut end = at;
-        while steps > 0 {
-            let HeardStep { used, heard } = self.heads.take(rest, None, is_first);
+        while unread.steps > 0 {
+            let HeardStep { used, heard } = self.heads.take(unread.bytes, None, unread.begins);
             end = behind(end, used as u64);
-            self.tell(has_room, end, heard, &rest[..used], transcript, writer)?;
+            self.tell(
+                has_room,
+                end,
+                heard,
+                &unread.bytes[..used],
+                transcript,
+                writer,
+            )?;
             if is_done(heard) {
                 return Ok(());
             }
-            is_first = still_first(is_first, used);
-            rest = &rest[used..];
-            steps -= 1;
+            unread = unread.after(used);
         }
         Ok(())
     }
@@ -239,11 +242,6 @@ fn is_done(heard: Heard) -> bool {
         Heard::More => true,
         Heard::Begins(_) | Heard::Body | Heard::Ends(_) | Heard::Stray => false,
     }
-}
-
-/// Whether what follows the bytes that were used still begins a segment.
-fn still_first(is_first: bool, used: usize) -> bool {
-    is_first && used == 0
 }
 
 /// Whether a frame is not compressed, goes in its opcode's direction, and is not too long.
