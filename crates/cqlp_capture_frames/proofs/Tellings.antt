@@ -27,6 +27,9 @@ pub none_refused : {T : Type 0} (X : Type 0) (r : Result T TellFault) → IsErr 
 none_refused X (Ok u) stops = tt
 none_refused X (Err f) stops = λ memory. absurd (let no : ◌≡◌ {A = Bool} true false = sym memory ∙ ap is_memory stops.1 in cc)
 
+-- the ways in which a text ends early where memory is asked for
+pub ruleset early_ends = (asked_here, breaks_here, none_refused, refused_here)
+
 -- what was taken is passed on, and the output fails then
 pub passing_fails : (old mid new : Written) (text : List ℕ) (r : Result (Unit {0}) TellFault) → IsErr r × IsErrAnd r (λ f. f ≡ fault.Write) → Receives old text mid → BreaksOff mid [] new → Takes is_memory old text r new
 passing_fails old mid new text r stops takes breaks =

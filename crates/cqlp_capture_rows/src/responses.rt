@@ -226,7 +226,7 @@ impl<A: Allocator + Clone> Transcript<A> for Responses<A> {
         Ok(put_gap(writer, self.place(), at, length, cause)?)
     }
 
-    #[tactic(auto, using(cqlp_capture_frames::proofs::Tellings::asked_here, cqlp_capture_frames::proofs::Tellings::breaks_here, cqlp_capture_frames::proofs::Tellings::none_refused, cqlp_capture_frames::proofs::Tellings::refused_here))]
+    #[tactic(auto, using(cqlp_capture_frames::proofs::Tellings::early_ends))]
     fn end<P: Pen>(
         &mut self,
         types: &TypeTable<A>,
