@@ -16,6 +16,8 @@ batches      BATCHes and what answers them: of no statement, of a text and an id
 prepared     one connection, on which statements are prepared and executed, and pages come that describe no columns
 statements   one connection, on which 300 statements are prepared, each with as many columns as are known, and executed
 flight       one connection, on which 100 requests are sent before the first of their 100 responses
+parted       one connection with an exchange under stream id 0 and one under id COUNT, whose request stands in the file before the response to the first, which
+             passed earlier
 versions     three connections: one begins in version 5 on both sides, one is in version 3 from the middle, and one is from the middle of a body
 tls          one connection, which begins with TLS on both sides
 pages        one connection, whose responses are five pages in pieces: of the third a cell has no lawful length, within the fourth three bytes are
@@ -63,9 +65,9 @@ def segment(client, port, number, payload, is_response=False, seen=0, flags=0):
     return ip + struct.pack(">HHIIBBHHH", *ports, number % (1 << 32), seen, 0x50, flags, 65_535, 0, 0) + payload
 
 
-def record(packet, captured=None, original=None):
+def record(packet, captured=None, original=None, microseconds=0):
     captured = len(packet) if captured is None else captured
-    return struct.pack("<IIII", 0, 0, captured, captured if original is None else original) + packet
+    return struct.pack("<IIII", 0, microseconds, captured, captured if original is None else original) + packet
 
 
 def connections(count=100_000):
@@ -352,6 +354,13 @@ def exchange(port, stream, number):
     yield segment(1, port, number, frame(0x84, 0, stream, 0x02, b""), True)
 
 
+def parted(second):
+    """An exchange under stream id 0 and one under this id, whose request stands in the file before the response to the first, which passed earlier."""
+    first, then = exchange(10_000, 0, 0), exchange(10_000, second, 9)
+    for microseconds, packet in zip((0, 2, 1, 3), (next(first), next(then), next(first), next(then))):
+        yield record(packet, microseconds=microseconds)
+
+
 def wraps():
     for i, wrap in enumerate(WRAPS):
         yield from map(record, map(wrap, exchange(10_000, i, 9 * i)))
@@ -442,7 +451,7 @@ def capture(kind, *count):
     made = {"connections": connections, "lost": lost, "requests": requests, "contents": contents, "pages": pages, "packets": packets,
             "prepared": lambda: in_turn(statements_in_turn()), "statements": lambda: in_turn(many_statements()),
             "crowd": crowd, "laden": laden, "deep": deep, "scattered": scattered, "headers": headers, "record": greatest_record, "batches": batches,
-            "flight": flight, "versions": versions, "tls": tls}[kind]
+            "flight": flight, "versions": versions, "tls": tls, "parted": parted}[kind]
     return of_pcap(made(*map(int, count)))
 
 

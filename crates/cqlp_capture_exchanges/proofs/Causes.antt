@@ -73,4 +73,4 @@ module _ (limits : StreamsLimits) (most : ExchangeLimits) (filter : ExchangeFilt
 
 pub exchanges_causes : FaultsHaveCauses
 exchanges_causes limits most filter form ports xs m left out err out' err' (r, sums, missed, (w, read, reads, are, miss, closes), ends) =
-    ended_noted ports (note_text (losses_of limits most r missed)) (last_words limits most sums missed r) m r out err out' err' (closed limits most filter form ports xs m left out w read r out' reads closes) ends
+    ended_noted ports (note_text (losses_of limits most r sums missed)) (last_words limits most sums missed r) m r out err out' err' (closed limits most filter form ports xs m left out w read r out' reads closes) ends

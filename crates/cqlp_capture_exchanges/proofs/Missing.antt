@@ -22,5 +22,5 @@ pub some_noted : (l : Losses) → has_losses l ≡ not (length (note_text l) == 
 some_noted l = noted_if (has_losses l) _ _
 
 -- by what was missed
-pub noted : (c : StreamsLimits) (most : ExchangeLimits) (ports : List ℕ) (l : Losses) (sums : ExchangeSums) (missed : Missed) (r : Result CaptureRead StreamsFault) (before : Output) (status : ℕ) (after : Output) → l ≡ losses_of c most r missed → ConcludesNoted ports (note_text l) (words_of sums l) r before status after → ConcludesSums c most ports sums missed r before status after
+pub noted : (c : StreamsLimits) (most : ExchangeLimits) (ports : List ℕ) (l : Losses) (sums : ExchangeSums) (missed : Missed) (r : Result CaptureRead StreamsFault) (before : Output) (status : ℕ) (after : Output) → l ≡ losses_of c most r sums missed → ConcludesNoted ports (note_text l) (words_of sums l) r before status after → ConcludesSums c most ports sums missed r before status after
 noted c most ports l sums missed r before status after is ends = subst (λ (z : Losses). ConcludesNoted ports (note_text z) (words_of sums z) r before status after) is ends

@@ -40,15 +40,15 @@ told_of c l ports w sums missed read r err err' status s m is ends =
     (subst (λ (z : Result CaptureRead StreamsFault). ConcludesSums c l ports sums missed z err status err') is ends))
 
 abbrev note_of : StreamsLimits → ExchangeLimits → Listening → Result CaptureRead StreamsFault → List ℕ
-note_of c l w r = note_text (losses_of c l r (missed_of w))
+note_of c l w r = note_text (losses_of c l r (sums_of w) (missed_of w))
 
 abbrev words_of : StreamsLimits → ExchangeLimits → Listening → Result CaptureRead StreamsFault → List ℕ
 words_of c l w r = last_words c l (sums_of w) (missed_of w) r
 
 pub exchanges_once : OneAnswerOfWriteExchanges
 exchanges_once limits most filter form ports xs out err made made' left left' status status' out' out'' err' err'' (r, sums, missed, (w, read, reads, are, miss, closes), ends) well (r', sums', missed', (w', read', reads', are', miss', closes'), ends') well' =
-    let c = ended ports w.account read r out' err err' status (note_text (losses_of limits most r missed)) (last_words limits most sums missed r) ends well closes in
-    let c' = ended ports w'.account read' r' out'' err err'' status' (note_text (losses_of limits most r' missed')) (last_words limits most sums' missed' r') ends' well' closes' in
+    let c = ended ports w.account read r out' err err' status (note_text (losses_of limits most r sums missed)) (last_words limits most sums missed r) ends well closes in
+    let c' = ended ports w'.account read' r' out'' err err'' status' (note_text (losses_of limits most r' sums' missed')) (last_words limits most sums' missed' r') ends' well' closes' in
     let e = told_of limits most ports w sums missed read r err err' status are miss c.0 ends in
     let e' = told_of limits most ports w' sums' missed' read' r' err err'' status' are' miss' c'.0 ends' in
     let one = runs_noted with_saying StopsAt (note_of limits most) (words_of limits most) limits ports xs (new_listening most filter form out) w w' made made' left left' read read' err err' err'' status status' reads e well reads' e' well' in

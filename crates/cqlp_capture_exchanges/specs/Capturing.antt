@@ -31,13 +31,13 @@ abbrev pub words_of : ExchangeSums → Losses → List ℕ
 words_of s l = joined (sums_words s ∷ loss_words l ∷ [])
 
 abbrev pub last_words : StreamsLimits → ExchangeLimits → ExchangeSums → Missed → Result CaptureRead StreamsFault → List ℕ
-last_words c l s m r = words_of s (losses_of c l r m)
+last_words c l s m r = words_of s (losses_of c l r s m)
 
 -- So ends what was told: before the last line is the reason not to trust its numbers, where something was missed.
 abbrev pub ConcludesSums : StreamsLimits → ExchangeLimits → (ports : List ℕ) → ExchangeSums → Missed → Result CaptureRead StreamsFault
     → (before : Output) → (status : ℕ) → (after : Output) → Type 0
 ConcludesSums c l ports s m r before status after =
-    ConcludesNoted ports (note_text (losses_of c l r m)) (last_words c l s m r) r before status after
+    ConcludesNoted ports (note_text (losses_of c l r s m)) (last_words c l s m r) r before status after
 
 -- Where the capture was read, what is written at the end was, or the output failed within it.
 abbrev pub Closes : Account → (read : Result CaptureRead StreamsFault) → Result CaptureRead StreamsFault → Output → Type 0

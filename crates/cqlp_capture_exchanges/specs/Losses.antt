@@ -10,23 +10,30 @@ use Rattle.cqlp_capture_exchanges.specs.declared.losses.Losses.{Losses}
 use Rattle.cqlp_capture_exchanges.specs.declared.losses.Reason.{Reason}
 use Rattle.cqlp_capture_exchanges.specs.declared.losses.Reason.TheVariants as reason
 use Rattle.cqlp_capture_exchanges.specs.declared.pool.ExchangeLimits.{ExchangeLimits}
+use Rattle.cqlp_capture_exchanges.specs.declared.sums.ExchangeSums.{ExchangeSums}
 use Rattle.cqlp_capture_exchanges.specs.Times.{joined}
 
-abbrev pub losses : StreamsLimits → ExchangeLimits → Missed → (snapped early late crowded : ℕ) → Losses
-losses c l m snapped early late crowded = record {
+abbrev pub losses : StreamsLimits → ExchangeLimits → Missed → (snapped early late out_of_order crowded : ℕ) → Losses
+losses c l m snapped early late out_of_order crowded = record {
   streams = c;
   exchanges = l;
   missed = m;
   snapped = snapped;
   early = early;
   late = late;
+  out_of_order = out_of_order;
   crowded = crowded;
 }
 
--- what was missed of the connections, and what the reading of the capture did not have
-abbrev pub losses_of : StreamsLimits → ExchangeLimits → Result CaptureRead StreamsFault → Missed → Losses
-losses_of c l (Ok r) m = losses c l m r.packets.snapped r.connections.given_up r.order.late r.connections.crowded
-losses_of c l (Err f) m = losses c l m 0 0 0 0
+-- Packets that no window put in order are a loss if a message was reported alone, whose partner they may have split from it.
+abbrev pub unordered : ExchangeSums → (packets : ℕ) → ℕ
+unordered s n = if nat_lt 0 s.unanswered || nat_lt 0 s.unasked then n else 0
+
+-- what was reported and missed of the connections, and what the reading of the capture did not have
+abbrev pub losses_of : StreamsLimits → ExchangeLimits → Result CaptureRead StreamsFault → ExchangeSums → Missed → Losses
+losses_of c l (Ok r) s m =
+    losses c l m r.packets.snapped r.connections.given_up r.order.late (unordered s r.order.out_of_order) r.connections.crowded
+losses_of c l (Err f) s m = losses c l m 0 0 0 0 0
 
 -- ---- the reasons not to trust numbers, each unless its number is 0
 
@@ -50,7 +57,7 @@ reason_text (reason.Limit n limit words) = if_some n (limit_words limit words.no
 abbrev pub has_losses : Losses → Bool
 has_losses l =
     nat_lt 0 l.missed.overtaken || nat_lt 0 l.missed.texts || nat_lt 0 l.snapped || nat_lt 0 l.missed.gaps || nat_lt 0 l.early || nat_lt 0 l.late
-    || nat_lt 0 l.crowded || nat_lt 0 l.missed.other_versions || nat_lt 0 l.missed.tls || nat_lt 0 l.missed.http
+    || nat_lt 0 l.out_of_order || nat_lt 0 l.crowded || nat_lt 0 l.missed.other_versions || nat_lt 0 l.missed.tls || nat_lt 0 l.missed.http
 
 abbrev pub plain : (count : ℕ) → (words : List ℕ) → List ℕ
 plain n words = if_some n (plain_words words)
@@ -66,6 +73,7 @@ reasons_text l =
     ∷ plain l.missed.gaps (codes "bytes were not captured")
     ∷ limit l.early (mebibytes l.streams.connections.early) (codes " MiB that came early (--early)")
     ∷ limit l.late l.streams.order.packets (codes " packets out of order (--order)")
+    ∷ plain l.out_of_order (codes "packets out of order may split exchanges (give the file instead of -, or --order)")
     ∷ limit l.crowded l.streams.connections.connections (codes " connections at one time (--connections)")
     ∷ plain l.missed.other_versions (codes "a version of the protocol other than 4")
     ∷ plain l.missed.tls (codes "TLS") ∷ plain l.missed.http (codes "HTTP") ∷ [])

@@ -135,7 +135,7 @@ fn conclude<E: Target>(
 {
     let last = LastCounts {
         sums: counts.sums,
-        losses: losses_of(streams, limits, answer, &counts.missed),
+        losses: losses_of(streams, limits, answer, &counts.sums, &counts.missed),
     };
     conclude_capture(answer, ports, &last, err)
 }

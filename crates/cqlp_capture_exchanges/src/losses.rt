@@ -4,9 +4,10 @@ ghost use Rattle.std.specs.Prelude.{◌≡◌};
 ghost use Rattle.std.specs.List.{flat_map};
 ghost use Rattle.cqlp_text.specs.Written.{Writes};
 ghost use Rattle.cqlp_capture_exchanges.specs.Losses.{has_losses, loss_words, losses_of, mebibytes, note_text};
-ghost use Rattle.cqlp_capture_exchanges.specs.Losses.{limit_words, plain_words, reason_text, reasons_line, reasons_text};
+ghost use Rattle.cqlp_capture_exchanges.specs.Losses.{limit_words, plain_words, reason_text, reasons_line, reasons_text, unordered};
 
 use crate::pool::ExchangeLimits;
+use crate::sums::ExchangeSums;
 use cqlp_capture_streams::{CaptureRead, StreamsFault, StreamsLimits, put_count};
 use cqlp_grammar::SinkFault;
 use cqlp_observer::Missed;
@@ -25,18 +26,21 @@ pub(crate) struct Losses {
     early: u64,
     /// Packets that came after later ones were passed on.
     late: u64,
+    /// Packets that came after later ones and that no window put in order, if a message was reported alone.
+    out_of_order: u64,
     /// Connections that had to leave.
     crowded: u64,
 }
 
-/// What a capture that was read so, with these limits, did not have, beside what was missed of its connections.
+/// What a capture that was read so, with these limits, did not have, where this was reported and missed of its connections.
 pub(crate) fn losses_of(
     streams: StreamsLimits,
     exchanges: ExchangeLimits,
     answer: &Result<CaptureRead, StreamsFault>,
+    sums: &ExchangeSums,
     missed: &Missed,
 ) -> Losses
-    ensures { result ≡ losses_of streams exchanges answer.now missed.now }
+    ensures { result ≡ losses_of streams exchanges answer.now sums.now missed.now }
 {
     match answer {
         Ok(read) => Losses {
@@ -46,6 +50,7 @@ pub(crate) fn losses_of(
             snapped: read.packets.snapped,
             early: read.connections.given_up,
             late: read.order.late,
+            out_of_order: unordered(sums, read.order.out_of_order),
             crowded: read.connections.crowded,
         },
         Err(_) => Losses {
@@ -55,8 +60,20 @@ pub(crate) fn losses_of(
             snapped: 0,
             early: 0,
             late: 0,
+            out_of_order: 0,
             crowded: 0,
         },
+    }
+}
+
+/// How many of these packets out of order are a loss: all if a message was reported alone, whose partner they may have split from it; else none.
+fn unordered(sums: &ExchangeSums, packets: u64) -> u64
+    ensures { result ≡ unordered sums.now packets }
+{
+    if sums.unanswered > 0 || sums.unasked > 0 {
+        packets
+    } else {
+        0
     }
 }
 
@@ -72,6 +89,7 @@ impl Losses {
             || missed.gaps > 0
             || self.early > 0
             || self.late > 0
+            || self.out_of_order > 0
             || self.crowded > 0
             || missed.other_versions > 0
             || missed.tls > 0
@@ -125,6 +143,10 @@ fn put_reasons<P: Pen>(writer: &mut TextWriter<P>, losses: &Losses) -> Result<()
             Reason::Plain(missed.gaps, "bytes were not captured"),
             Reason::Limit(losses.early, early, " MiB that came early (--early)"),
             Reason::Limit(losses.late, packets, " packets out of order (--order)"),
+            Reason::Plain(
+                losses.out_of_order,
+                "packets out of order may split exchanges (give the file instead of -, or --order)",
+            ),
             Reason::Limit(
                 losses.crowded,
                 connections,

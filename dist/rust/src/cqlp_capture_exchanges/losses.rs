@@ -2,6 +2,7 @@
 //! What a capture did not have, or was given up, in words.
 
 use crate::cqlp_capture_exchanges::pool::ExchangeLimits;
+use crate::cqlp_capture_exchanges::sums::ExchangeSums;
 use crate::cqlp_capture_streams::{CaptureRead, StreamsFault, StreamsLimits, put_count};
 use crate::cqlp_grammar::SinkFault;
 use crate::cqlp_observer::Missed;
@@ -20,15 +21,18 @@ pub(crate) struct Losses {
     early: u64,
     /// Packets that came after later ones were passed on.
     late: u64,
+    /// Packets that came after later ones and that no window put in order, if a message was reported alone.
+    out_of_order: u64,
     /// Connections that had to leave.
     crowded: u64,
 }
 
-/// What a capture that was read so, with these limits, did not have, beside what was missed of its connections.
+/// What a capture that was read so, with these limits, did not have, where this was reported and missed of its connections.
 pub(crate) fn losses_of(
     streams: StreamsLimits,
     exchanges: ExchangeLimits,
     answer: &Result<CaptureRead, StreamsFault>,
+    sums: &ExchangeSums,
     missed: &Missed,
 ) -> Losses {
     match answer {
@@ -39,6 +43,7 @@ pub(crate) fn losses_of(
             snapped: read.packets.snapped,
             early: read.connections.given_up,
             late: read.order.late,
+            out_of_order: unordered(sums, read.order.out_of_order),
             crowded: read.connections.crowded,
         },
         Err(_) => Losses {
@@ -48,8 +53,18 @@ pub(crate) fn losses_of(
             snapped: 0,
             early: 0,
             late: 0,
+            out_of_order: 0,
             crowded: 0,
         },
+    }
+}
+
+/// How many of these packets out of order are a loss: all if a message was reported alone, whose partner they may have split from it; else none.
+fn unordered(sums: &ExchangeSums, packets: u64) -> u64 {
+    if sums.unanswered > 0 || sums.unasked > 0 {
+        packets
+    } else {
+        0
     }
 }
 
@@ -63,6 +78,7 @@ impl Losses {
             || missed.gaps > 0
             || self.early > 0
             || self.late > 0
+            || self.out_of_order > 0
             || self.crowded > 0
             || missed.other_versions > 0
             || missed.tls > 0
@@ -110,6 +126,10 @@ fn put_reasons<P: Pen>(writer: &mut TextWriter<P>, losses: &Losses) -> Result<()
             Reason::Plain(missed.gaps, "bytes were not captured"),
             Reason::Limit(losses.early, early, " MiB that came early (--early)"),
             Reason::Limit(losses.late, packets, " packets out of order (--order)"),
+            Reason::Plain(
+                losses.out_of_order,
+                "packets out of order may split exchanges (give the file instead of -, or --order)",
+            ),
             Reason::Limit(
                 losses.crowded,
                 connections,
