@@ -4,3 +4,6 @@ pub mod Progress
 pub mod Steps
 pub mod Whole
 pub mod OneAnswer
+pub mod Cells
+pub mod CellAnswer
+pub mod CellRuns

@@ -53,7 +53,8 @@ pub(crate) fn front_count(content: &[u8], at: usize) -> Result<u32, ReadError>
 }
 
 /// The number that the first four bytes are.
-fn front_number(bytes: &[u8]) -> u32
+#[inline(always)]
+pub(crate) fn front_number(bytes: &[u8]) -> u32
     requires { 4 ≤ length bytes.now }
     ensures { IsNumber 4 w32 result (take 4 bytes.now) }
 {

@@ -579,7 +579,7 @@ pub mod frame {
         BatchEntry, ErrorExtra, Frame, Message, Metadata, OwnedBound, PartRef, Prepared, QueryParams, Rows, SchemaChange, SchemaOptions,
         ServerEvent, Spec, TakesParts, Unfit,
     };
-    pub use crate::cqlp_read_value::{ReadError, read_value};
+    pub use crate::cqlp_read_value::{CellContent, PageCell, ReadError, read_cell, read_value};
     pub use crate::cqlp_type::{TreeCheck, TypeTree, check_type, type_len};
     pub use crate::cqlp_value::{Atom, Content, Value, content_len, fits, fitting_size, value_len, value_size};
 }

@@ -26,12 +26,17 @@ use crate::rows::error::Mismatch;
 /// struct Cents(i64);
 ///
 /// impl<'a> FromCell<'a> for Cents {
+///     const KIND: Option<cqlp::Kind> = <i64 as FromCell>::KIND;
+///
 ///     fn from_cell(cell: LentCell<'a, '_>) -> Result<Self, Mismatch> {
 ///         i64::from_cell(cell).map(Cents)
 ///     }
 /// }
 /// ```
 pub trait FromCell<'a>: Sized {
+    /// The kind of columns that are read the fastest. It changes no value; a newtype takes that of its inner type.
+    const KIND: Option<Kind> = None;
+
     /// The value of a cell.
     ///
     /// # Errors
@@ -42,8 +47,10 @@ pub trait FromCell<'a>: Sized {
 
 /// Implements `FromCell` for types by the scalars that each reads.
 macro_rules! scalars {
-    ($($type:ty: $($pattern:pat => $made:expr),+;)+) => {$(
+    ($($type:ty, $kind:ident: $($pattern:pat => $made:expr),+;)+) => {$(
         impl<'a> FromCell<'a> for $type {
+            const KIND: Option<$crate::cqlp_kind::Kind> = Some($crate::cqlp_kind::Kind::$kind);
+
             #[inline(always)]
             fn from_cell(cell: LentCell<'a, '_>) -> Result<Self, Mismatch> {
                 match cell {
@@ -57,16 +64,16 @@ macro_rules! scalars {
 pub(crate) use scalars;
 
 scalars! {
-    i8: Scalar::Tinyint(number) => number;
-    i16: Scalar::Smallint(number) => number;
-    i32: Scalar::Int(number) => number;
-    i64: Scalar::Bigint(number) => number;
-    f32: Scalar::Float(bytes) => f32::from_be_bytes(bytes);
-    f64: Scalar::Double(bytes) => f64::from_be_bytes(bytes);
-    bool: Scalar::Boolean(truth) => truth;
-    IpAddr: Scalar::Inet(address) => ip_of(address);
-    Ipv4Addr: Scalar::Inet(Address::V4(octets)) => Ipv4Addr::from(octets);
-    Ipv6Addr: Scalar::Inet(Address::V6(octets)) => Ipv6Addr::from(octets);
+    i8, Tinyint: Scalar::Tinyint(number) => number;
+    i16, Smallint: Scalar::Smallint(number) => number;
+    i32, Int: Scalar::Int(number) => number;
+    i64, Bigint: Scalar::Bigint(number) => number;
+    f32, Float: Scalar::Float(bytes) => f32::from_be_bytes(bytes);
+    f64, Double: Scalar::Double(bytes) => f64::from_be_bytes(bytes);
+    bool, Boolean: Scalar::Boolean(truth) => truth;
+    IpAddr, Inet: Scalar::Inet(address) => ip_of(address);
+    Ipv4Addr, Inet: Scalar::Inet(Address::V4(octets)) => Ipv4Addr::from(octets);
+    Ipv6Addr, Inet: Scalar::Inet(Address::V6(octets)) => Ipv6Addr::from(octets);
 }
 
 fn ip_of(address: Address) -> IpAddr {
@@ -78,6 +85,8 @@ fn ip_of(address: Address) -> IpAddr {
 
 /// The text of an ascii or a varchar, which may be empty.
 impl<'a> FromCell<'a> for &'a str {
+    const KIND: Option<Kind> = Some(Kind::Varchar);
+
     #[inline(always)]
     fn from_cell(cell: LentCell<'a, '_>) -> Result<Self, Mismatch> {
         text_of(cell, "&str")
@@ -86,6 +95,8 @@ impl<'a> FromCell<'a> for &'a str {
 
 /// The text of an ascii or a varchar, which may be empty.
 impl<'a> FromCell<'a> for String {
+    const KIND: Option<Kind> = Some(Kind::Varchar);
+
     #[inline(always)]
     fn from_cell(cell: LentCell<'a, '_>) -> Result<Self, Mismatch> {
         own(text_of(cell, "String")?)
@@ -122,6 +133,8 @@ fn text_of<'a>(cell: LentCell<'a, '_>, wanted: &'static str) -> Result<&'a str, 
 
 /// The bytes of a blob, of a custom type, or of a cell whose type is not known.
 impl<'a> FromCell<'a> for &'a [u8] {
+    const KIND: Option<Kind> = Some(Kind::Blob);
+
     #[inline(always)]
     fn from_cell(cell: LentCell<'a, '_>) -> Result<Self, Mismatch> {
         blob_of(cell, "&[u8]")
@@ -130,6 +143,8 @@ impl<'a> FromCell<'a> for &'a [u8] {
 
 /// The bytes of a blob, of a custom type, or of a cell whose type is not known.
 impl<'a> FromCell<'a> for Vec<u8> {
+    const KIND: Option<Kind> = Some(Kind::Blob);
+
     #[inline(always)]
     fn from_cell(cell: LentCell<'a, '_>) -> Result<Self, Mismatch> {
         copy_of(blob_of(cell, "Vec<u8>")?)
@@ -162,6 +177,8 @@ fn copy_large(bytes: &[u8]) -> Result<Vec<u8>, Mismatch> {
 
 /// A blob of just as many bytes, or for 16 a uuid or a timeuuid.
 impl<'a, const N: usize> FromCell<'a> for [u8; N] {
+    const KIND: Option<Kind> = if N == 16 { Some(Kind::Uuid) } else { Some(Kind::Blob) };
+
     #[inline]
     fn from_cell(cell: LentCell<'a, '_>) -> Result<Self, Mismatch> {
         let other = |came| Mismatch::Length { wanted: N, came };
@@ -176,6 +193,8 @@ impl<'a, const N: usize> FromCell<'a> for [u8; N] {
 
 /// None where the cell is null.
 impl<'a, T: FromCell<'a>> FromCell<'a> for Option<T> {
+    const KIND: Option<Kind> = T::KIND;
+
     #[inline(always)]
     fn from_cell(cell: LentCell<'a, '_>) -> Result<Self, Mismatch> {
         match cell {

@@ -60,14 +60,14 @@ pub struct Decimal {
 }
 
 scalars! {
-    Counter: Scalar::Counter(number) => Counter(number);
-    Date: Scalar::Date(days) => Date(days);
-    Time: Scalar::Time(number) => Time(number);
-    Timestamp: Scalar::Timestamp(number) => Timestamp(number);
-    Uuid: Scalar::Uuid(bytes) => Uuid(bytes), Scalar::Timeuuid(bytes) => Uuid(bytes);
-    Timeuuid: Scalar::Timeuuid(bytes) => Timeuuid(bytes);
-    Varint: Scalar::Varint(bytes) => Varint(copy_of(bytes)?);
-    Decimal: Scalar::Decimal { scale, unscaled } => Decimal { scale, unscaled: Varint(copy_of(unscaled)?) };
+    Counter, Counter: Scalar::Counter(number) => Counter(number);
+    Date, Date: Scalar::Date(days) => Date(days);
+    Time, Time: Scalar::Time(number) => Time(number);
+    Timestamp, Timestamp: Scalar::Timestamp(number) => Timestamp(number);
+    Uuid, Uuid: Scalar::Uuid(bytes) => Uuid(bytes), Scalar::Timeuuid(bytes) => Uuid(bytes);
+    Timeuuid, Timeuuid: Scalar::Timeuuid(bytes) => Timeuuid(bytes);
+    Varint, Varint: Scalar::Varint(bytes) => Varint(copy_of(bytes)?);
+    Decimal, Decimal: Scalar::Decimal { scale, unscaled } => Decimal { scale, unscaled: Varint(copy_of(unscaled)?) };
 }
 
 /// In the shortest form.

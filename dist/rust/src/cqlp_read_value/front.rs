@@ -40,7 +40,8 @@ pub(crate) fn front_count(content: &[u8], at: usize) -> Result<u32, ReadError> {
 }
 
 /// The number that the first four bytes are.
-fn front_number(bytes: &[u8]) -> u32 {
+#[inline(always)]
+pub(crate) fn front_number(bytes: &[u8]) -> u32 {
     u32::from_be_bytes(read_array(bytes))
 }
 

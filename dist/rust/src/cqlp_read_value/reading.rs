@@ -213,6 +213,7 @@ fn read_scalar(reading: &Reading, kind: Kind, content: &[u8], at: usize) -> Resu
 }
 
 /// Whether a content of this kind is past the limit on a cell, and of a length that the kind allows.
-fn is_too_long(limits: &Limits, kind: Kind, len: usize) -> bool {
+#[inline(always)]
+pub(crate) fn is_too_long(limits: &Limits, kind: Kind, len: usize) -> bool {
     len > limits.cell as usize && allows(kind, len)
 }

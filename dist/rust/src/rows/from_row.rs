@@ -1,6 +1,7 @@
 //! Rust types, read from rows.
 
 use crate::rows::cell::LentCell;
+use crate::rows::cells::{NotRead, RowCells};
 use crate::rows::error::Mismatch;
 use crate::rows::from_cell::FromCell;
 
@@ -26,6 +27,17 @@ pub trait FromRow<'a>: Row {
     ///
     /// Why the cell is no value of the field's type.
     fn set(partial: &mut Self::Partial, field: usize, cell: LentCell<'a, '_>) -> Result<(), Mismatch>;
+
+    /// The row of cells that are its fields in their order; None of a type that is made by `set` alone.
+    ///
+    /// # Errors
+    ///
+    /// Why it is not read.
+    #[doc(hidden)]
+    #[inline(always)]
+    fn read(_cells: &mut RowCells<'a, '_>) -> Result<Option<Self>, NotRead> {
+        Ok(None)
+    }
 }
 
 /// Implements both traits for tuples of these types.
@@ -50,6 +62,14 @@ macro_rules! tuples {
                     _ => {}
                 }
                 Ok(())
+            }
+
+            #[inline(always)]
+            fn read(cells: &mut RowCells<'a, '_>) -> Result<Option<Self>, NotRead> {
+                let mut first = cells.first($width);
+                let row = ($(first.take::<$type>($place)?,)+);
+                cells.pass(first);
+                Ok(Some(row))
             }
         }
     };
@@ -130,6 +150,16 @@ macro_rules! row {
                         return ::core::result::Result::Ok(());
                     })+
                     ::core::result::Result::Ok(())
+                }
+
+                #[inline(always)]
+                fn read(
+                    cells: &mut $crate::rows::RowCells<$cell, '_>,
+                ) -> ::core::result::Result<::core::option::Option<Self>, $crate::rows::NotRead> {
+                    let mut first = cells.first([$(__Field::$field as usize),+].len());
+                    let row = $name { $($field: first.take(__Field::$field as usize)?),+ };
+                    cells.pass(first);
+                    ::core::result::Result::Ok(::core::option::Option::Some(row))
                 }
             }
         };

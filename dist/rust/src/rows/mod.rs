@@ -1,8 +1,9 @@
 //! Rows of pages as Rust types, and Rust types as values to bind.
 //!
 //! This module is written by hand over the public calls of the package, without `unsafe`, and **is not proved**. What it reads was
-//! decoded by a [`Decoder`](crate::Decoder), and what it binds is written by [`bind_value`](crate::frame::bind_value): the sources of
-//! both are proved.
+//! decoded by a [`Decoder`](crate::Decoder), or, in a page that is whole in memory and has no column with items, cell by cell by
+//! [`read_cell`](crate::frame::read_cell); what it binds is written by [`bind_value`](crate::frame::bind_value). The sources of all three
+//! are proved.
 //!
 //! # Read a page into structs
 //!
@@ -85,6 +86,7 @@
 
 mod bind;
 mod cell;
+mod cells;
 mod collections;
 mod error;
 mod feed;
@@ -100,6 +102,8 @@ mod write;
 pub use crate::{bind, row};
 pub use bind::{BindFault, BoundValues, Unbound, bind_values};
 pub use cell::{LentCell, LentItems};
+#[doc(hidden)]
+pub use cells::{NotRead, RowCells};
 pub use error::{Mismatch, RowError};
 pub use from_cell::FromCell;
 pub use from_row::{FromRow, Row};

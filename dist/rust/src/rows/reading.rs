@@ -99,6 +99,9 @@ impl Names {
 /// No field's number, for a column that is passed over.
 const NO_FIELD: u32 = u32::MAX;
 
+/// The flag of metadata that has no columns. Section 4.2.5.2 of `native_protocol_v4.spec`.
+const NO_METADATA: i32 = 0x04;
+
 /// The row under way.
 pub(crate) struct Reading<T: Row> {
     partial: T::Partial,
@@ -106,6 +109,8 @@ pub(crate) struct Reading<T: Row> {
     fields: Vec<u32>,
     /// The last column.
     last: u32,
+    /// Whether the page has no metadata.
+    bare: bool,
     open: OpenCell,
     names: Names,
     /// The names of the columns of pages that have none.
@@ -120,6 +125,7 @@ impl<T: Row> Reading<T> {
             partial: T::Partial::default(),
             fields: Vec::new(),
             last: 0,
+            bare: false,
             open: OpenCell::new(limits),
             names: Names::default(),
             given: None,
@@ -144,7 +150,7 @@ impl<T: Row> Reading<T> {
     /// Gives up at a cell.
     #[cold]
     #[inline(never)]
-    fn give_up_cell(&mut self, row: u32, column: u32, why: Mismatch) -> SinkFault {
+    pub(crate) fn give_up_cell(&mut self, row: u32, column: u32, why: Mismatch) -> SinkFault {
         let name = self.columns().get(column as usize).unwrap_or_default().into();
         self.give_up(RowError::Cell { row, column, name, why })
     }
@@ -253,12 +259,26 @@ impl<T: Row> Reading<T> {
                 self.names.clear();
                 Ok(Taken::Part)
             }
+            Event::Int { field: Field::MetaFlags, value } => {
+                self.bare = value & NO_METADATA != 0;
+                Ok(Taken::Part)
+            }
             Event::Text { field: Field::ColumnName, text } => self.names.push(text).map(|()| Taken::Part),
             Event::Count { field: Field::Rows, .. } => self.begin_page().map(|()| Taken::Head),
             Event::End { .. } => Ok(Taken::Frame),
             _ => Ok(Taken::Part),
         };
         taken.map_err(|error| self.give_up(error))
+    }
+
+    /// Whether the page has no metadata.
+    pub(crate) fn is_bare(&self) -> bool {
+        self.bare
+    }
+
+    /// Whether the first columns are the fields, in their order.
+    pub(crate) fn is_in_order(&self) -> bool {
+        self.fields.get(..T::WIDTH).is_some_and(|fields| fields.iter().zip(0..).all(|(field, place)| *field == place))
     }
 
     /// Finds the column of each field.
@@ -268,11 +288,15 @@ impl<T: Row> Reading<T> {
         self.partial = T::Partial::default();
         let mut fields = core::mem::take(&mut self.fields);
         fields.clear();
-        fields.try_reserve(columns).map_err(|_| RowError::NoMemory)?;
         match T::NAMES {
             None if columns < T::WIDTH => return Err(RowError::TooFewColumns { wanted: T::WIDTH, came: columns }),
-            None => fields.extend((0..columns).map(|place| if place < T::WIDTH { place as u32 } else { NO_FIELD })),
+            None => {
+                fields.try_reserve(T::WIDTH).map_err(|_| RowError::NoMemory)?;
+                fields.extend(0..T::WIDTH as u32);
+            }
+            Some(_) if self.columns().ends.len() != columns => return Err(RowError::NoNames),
             Some(names) => {
+                fields.try_reserve(columns).map_err(|_| RowError::NoMemory)?;
                 fields.resize(columns, NO_FIELD);
                 for (field, &name) in names.iter().enumerate() {
                     match &mut fields[self.column_of(name)?] {
@@ -288,11 +312,7 @@ impl<T: Row> Reading<T> {
 
     /// The column of this name.
     fn column_of(&self, name: &'static str) -> Result<usize, RowError> {
-        let names = self.columns();
-        if names.ends.len() != self.head.columns as usize {
-            return Err(RowError::NoNames);
-        }
-        names.find(name).ok_or(RowError::MissingColumn { name })
+        self.columns().find(name).ok_or(RowError::MissingColumn { name })
     }
 }
 

@@ -6,13 +6,15 @@ use core::fmt;
 use crate::cqlp_build_cells::CellLimits;
 use crate::cqlp_decode::{Decoder, NewError};
 use crate::cqlp_grammar::{Event, SinkFault};
-use crate::cqlp_kind::Scalar;
+use crate::cqlp_kind::{Kind, Scalar};
 use crate::cqlp_message::Spec;
-use crate::cqlp_note::{Address, Header, Limits};
+use crate::cqlp_note::{Address, Header, Limits, Refusal};
 use crate::cqlp_skip::Fed;
+use crate::cqlp_type::TypeTable;
 use crate::cqlp_type_tables::{TableError, table_of_specs};
 use crate::kit_std::alloc::Global;
 use crate::rows::cell::{LentCell, Place, lend};
+use crate::rows::cells::{NotRead, RowCells, WhyNot};
 use crate::rows::error::RowError;
 use crate::rows::feed::{TakesCells, feed, for_kinds, implement};
 use crate::rows::from_row::{FromRow, Row};
@@ -39,8 +41,15 @@ pub fn page_rows<'a, T: FromRow<'a>>(frame: &'a [u8]) -> Result<PageRows<'a, Pag
 /// Reads pages that are whole in memory, one after the other.
 pub struct PageReader {
     decoder: Decoder,
+    asked: Limits,
     limits: CellLimits,
-    given: Option<Names>,
+    given: Option<Given>,
+}
+
+/// The columns of pages that come without metadata.
+struct Given {
+    names: Names,
+    kinds: Vec<Kind>,
 }
 
 impl PageReader {
@@ -50,7 +59,7 @@ impl PageReader {
     ///
     /// As [`Decoder::new`].
     pub fn new(limits: Limits) -> Result<PageReader, NewError> {
-        Ok(PageReader { decoder: Decoder::new(Global, limits)?, limits: CELL_LIMITS, given: None })
+        Ok(PageReader { decoder: Decoder::new(Global, limits)?, asked: limits, limits: CELL_LIMITS, given: None })
     }
 
     /// This reader, with limits on a cell with items: how many values are in it, and how many bytes.
@@ -68,9 +77,10 @@ impl PageReader {
     pub fn give(&mut self, columns: &[Spec]) -> Result<(), TableError> {
         let table = table_of_specs(Global, columns)?;
         let names = Names::of_specs(columns).map_err(|_| TableError::NoMemory)?;
+        let kinds = kinds_of(&table).map_err(|_| TableError::NoMemory)?;
         self.decoder.restart();
         self.decoder.give(table).map_err(|_| TableError::TooLong)?;
-        self.given = Some(names);
+        self.given = Some(Given { names, kinds });
         Ok(())
     }
 
@@ -101,6 +111,18 @@ impl PageReader {
     }
 }
 
+/// The kinds of the types that stand side by side in a table.
+fn kinds_of(table: &TypeTable) -> Result<Vec<Kind>, RowError> {
+    let mut kinds = Vec::new();
+    kinds.try_reserve_exact(table.roots() as usize).map_err(|_| RowError::NoMemory)?;
+    let mut place = 0;
+    while let Some(node) = table.node(place) {
+        kinds.push(node.kind);
+        place += node.span.max(1);
+    }
+    Ok(kinds)
+}
+
 impl fmt::Debug for PageReader {
     fn fmt(&self, f: &mut fmt::Formatter<'_>) -> fmt::Result {
         f.debug_struct("PageReader").field("limits", &self.limits).finish_non_exhaustive()
@@ -124,8 +146,15 @@ impl AsMut<PageReader> for PageReader {
 pub struct PageRows<'a, R, T: Row> {
     reader: R,
     sink: WholeSink<'a, T>,
-    /// The bytes that the decoder has not used.
+    /// The bytes that the decoder has not used; or those up to the frame's end, from the next cell on.
     rest: &'a [u8],
+    limits: Limits,
+    /// The kinds of the columns, and how many rows are left, where they are read without the decoder.
+    kinds: Vec<Kind>,
+    in_order: bool,
+    left: u32,
+    /// The index at which the frame ends.
+    end: usize,
     /// The rows of a batch that were not asked for yet.
     ready: vec::IntoIter<T>,
     error: Option<RowError>,
@@ -134,25 +163,177 @@ pub struct PageRows<'a, R, T: Row> {
 impl<'a, R: AsMut<PageReader>, T: FromRow<'a>> PageRows<'a, R, T> {
     /// Reads up to the first row.
     fn begin(mut reader: R, header: Option<[u8; HEADER]>, bytes: &'a [u8]) -> Result<Self, RowError> {
-        let PageReader { decoder, limits, given } = reader.as_mut();
+        let PageReader { decoder, asked, limits, given } = reader.as_mut();
         if let Some(table) = decoder.restart() {
             decoder.give(table).map_err(|_| RowError::NoNames)?;
         }
         let mut reading = Reading::new(*limits);
-        reading.name_columns(given.clone());
+        reading.name_columns(given.as_ref().map(|given| given.names.clone()));
         let base = header.map_or(0, |_| HEADER as u64);
         let mut sink = WholeSink { reading, page: bytes, base, made: Vec::new(), over: false };
         if let Some(header) = header {
             let _ = feed(decoder, &header, &mut sink);
         }
-        let mut rows = PageRows { reader, sink, rest: bytes, ready: Vec::new().into_iter(), error: None };
+        let limits = *asked;
+        let mut rows = PageRows {
+            reader,
+            sink,
+            rest: bytes,
+            limits,
+            kinds: Vec::new(),
+            in_order: false,
+            left: 0,
+            end: 0,
+            ready: Vec::new().into_iter(),
+            error: None,
+        };
         if !rows.sink.over {
             rows.read_on();
         }
         match rows.error.take() {
             Some(error) => Err(error),
-            None => rows.check_head(),
+            None => {
+                let mut rows = rows.check_head()?;
+                rows.begin_cells()?;
+                Ok(rows)
+            }
         }
+    }
+
+    /// Takes over from the decoder at the first row, where the frame is whole and its columns are scalars that come whole.
+    fn begin_cells(&mut self) -> Result<(), RowError> {
+        let head = self.head();
+        let (columns, rows) = (head.columns as usize, head.rows);
+        let end = head.header.map_or(u64::MAX, |header| u64::from(header.length) + HEADER as u64 - self.sink.base);
+        let left = usize::try_from(end).ok().and_then(|end| self.sink.page.get(self.used()..end));
+        // Each cell of a row takes four bytes at least.
+        let Some(left) = left.filter(|left| !self.limits.parts && columns <= left.len() / 4) else { return Ok(()) };
+        let kinds = self.find_kinds(columns)?;
+        if kinds.len() == columns && kinds.iter().all(|kind| kind.is_scalar()) {
+            self.end = self.used() + left.len();
+            (self.kinds, self.rest) = (kinds, left);
+            self.in_order = self.sink.reading.is_in_order();
+            self.left = if columns == 0 { 0 } else { rows };
+            self.sink.over = true;
+            self.sink.reading.head.ended = self.left == 0;
+        }
+        Ok(())
+    }
+
+    /// How many bytes the decoder has used.
+    fn used(&self) -> usize {
+        self.sink.page.len() - self.rest.len()
+    }
+
+    /// The kinds of the columns.
+    fn find_kinds(&mut self, columns: usize) -> Result<Vec<Kind>, RowError> {
+        let is_bare = self.sink.reading.is_bare() || !self.limits.types;
+        let PageReader { decoder, given, .. } = self.reader.as_mut();
+        if !is_bare {
+            return kinds_of(decoder.table());
+        }
+        let given = given.as_ref().map_or(&[][..], |given| &given.kinds);
+        let mut kinds = Vec::new();
+        kinds.try_reserve_exact(columns).map_err(|_| RowError::NoMemory)?;
+        if given.len() == columns {
+            kinds.extend_from_slice(given);
+        } else {
+            kinds.resize(columns, Kind::Raw);
+        }
+        Ok(kinds)
+    }
+
+    /// The next row of those that are left.
+    #[inline(always)]
+    fn next_row(&mut self) -> Result<T, RowError> {
+        if !self.in_order {
+            return self.next_by_columns();
+        }
+        let mut cells = RowCells { rest: self.rest, kinds: &self.kinds, limits: &self.limits };
+        match T::read(&mut cells) {
+            Ok(Some(row)) => {
+                self.rest = cells.rest;
+                if self.kinds.len() > T::WIDTH {
+                    self.pass_over()?;
+                }
+                self.end_row();
+                Ok(row)
+            }
+            Ok(None) => self.next_by_columns(),
+            Err(why) => Err(self.fail(why)),
+        }
+    }
+
+    #[inline(always)]
+    fn end_row(&mut self) {
+        self.left -= 1;
+        self.sink.reading.head.ended |= self.left == 0;
+    }
+
+    /// Passes over the cells that are no fields'.
+    #[inline(never)]
+    fn pass_over(&mut self) -> Result<(), RowError> {
+        let mut cells = RowCells { rest: self.rest, kinds: &self.kinds, limits: &self.limits };
+        match cells.pass_over(T::WIDTH) {
+            Ok(()) => {
+                self.rest = cells.rest;
+                Ok(())
+            }
+            Err(why) => Err(self.fail(why)),
+        }
+    }
+
+    /// The next row, whose cells are set one by one.
+    #[inline(never)]
+    fn next_by_columns(&mut self) -> Result<T, RowError> {
+        let row = self.row();
+        let mut cells = RowCells { rest: self.rest, kinds: &self.kinds, limits: &self.limits };
+        for column in 0..self.kinds.len() {
+            match cells.next_cell(column) {
+                Ok(cell) => match self.sink.reading.take_cell(row, column as u32, cell) {
+                    Ok(_) => {}
+                    Err(SinkFault) => return Err(self.stop()),
+                },
+                Err(why) => return Err(self.fail(why)),
+            }
+        }
+        match self.sink.reading.end_row() {
+            Ok(row) => {
+                self.rest = cells.rest;
+                self.end_row();
+                Ok(row)
+            }
+            Err(SinkFault) => Err(self.stop()),
+        }
+    }
+
+    /// The row under way.
+    fn row(&self) -> u32 {
+        self.sink.reading.head.rows - self.left
+    }
+
+    /// Ends the rows at a cell.
+    #[cold]
+    #[inline(never)]
+    fn fail(&mut self, NotRead { column, left, why }: NotRead) -> RowError {
+        let row = self.row();
+        match why {
+            WhyNot::Refused(why) => {
+                self.left = 0;
+                Refusal { at: self.sink.base + (self.end - left) as u64, why }.into()
+            }
+            WhyNot::Mismatch(why) => {
+                let SinkFault = self.sink.reading.give_up_cell(row, column as u32, why);
+                self.stop()
+            }
+        }
+    }
+
+    /// Ends the rows at the error that was kept.
+    #[cold]
+    fn stop(&mut self) -> RowError {
+        self.left = 0;
+        self.sink.reading.error.take().unwrap_or(RowError::Stopped)
     }
 
     /// Itself, if the frame is a page.
@@ -192,6 +373,17 @@ impl<'a, R: AsMut<PageReader>, T: FromRow<'a>> Iterator for PageRows<'a, R, T> {
 
     #[inline]
     fn next(&mut self) -> Option<Result<T, RowError>> {
+        if self.left > 0 {
+            return Some(self.next_row());
+        }
+        self.next_ready()
+    }
+}
+
+impl<'a, R: AsMut<PageReader>, T: FromRow<'a>> PageRows<'a, R, T> {
+    /// The next row that the decoder's events led to.
+    #[inline(never)]
+    fn next_ready(&mut self) -> Option<Result<T, RowError>> {
         loop {
             if let Some(row) = self.ready.next() {
                 return Some(Ok(row));
