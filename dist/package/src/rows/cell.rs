@@ -22,7 +22,8 @@ pub enum LentCell<'a, 's> {
 
 impl<'a> LentCell<'a, '_> {
     /// Why this cell is no value of a Rust type.
-    #[inline(always)]
+    #[cold]
+    #[inline(never)]
     #[must_use]
     pub fn unlike(&self, wanted: &'static str) -> Mismatch {
         match self {
