@@ -80,14 +80,15 @@ def differs(text, of):
 
 
 def sums(objects):
-    """How often each statement was asked for, its errors, rows and bytes."""
+    """How often each statement was asked for, its errors, how many were not answered, its rows and bytes."""
     found = collections.OrderedDict()
     for of in objects:
-        if of["told"] == "exchange":
+        if of["told"] in ("exchange", "unanswered"):
             word = "BATCH " if of["request"] == "BATCH" else ""
             name = of["request"] if of["statement"] is None else word + "".join(shown(of["statement"], of["statement_is_whole"]))
-            count = found.setdefault(name, [0, 0, 0, 0])
-            for at, more in enumerate([1, of["error"] is not None, of["rows"] or 0, of["request_bytes"] + of["response_bytes"]]):
+            count = found.setdefault(name, [0, 0, 0, 0, 0])
+            is_unanswered = of["told"] == "unanswered"
+            for at, more in enumerate([1, of["error"] is not None, is_unanswered, of["rows"] or 0, of["request_bytes"] + (of["response_bytes"] or 0)]):
                 count[at] += more
     return found
 
@@ -95,7 +96,7 @@ def sums(objects):
 def main(file, *command):
     lines, said = written(command, file)
     texts, said_of_objects = written(command, file, "--json")
-    summary, said_of_summary = written(command, file, "--summary")
+    summary, said_of_summary = written(command, file, "--summary", "--literal")
     objects = [json.loads(text, parse_float=Decimal) for text in texts]
     if not said == said_of_objects == said_of_summary or len(lines) != len(objects):
         print("the ends differ")
@@ -104,8 +105,8 @@ def main(file, *command):
             print(f"{text}\n{line(of)}")
     told = {}
     for text in summary[1:]:
-        words = text.split(None, 10)
-        told[words[10]] = [int(word) for word in words[3:7]]
+        words = text.split(None, 11)
+        told[words[11]] = [int(word) for word in words[2:7]]
     if told != sums(objects):
         print(f"{told}\n{dict(sums(objects))}")
 

@@ -4,7 +4,7 @@ import os
 import re
 
 HIDDEN = re.compile('[\x00-\x1f\x7f-\x9f\u061c\u200e\u200f\u2028-\u202e\u2066-\u2069]')
-HEADER = 'share          %    time_ms    count errors      rows       bytes   p50_ms   p99_ms    max_ms statement\n'
+HEADER = '     %    time_ms    count errors unanswered      rows       bytes   p50_ms   p95_ms   p99_ms    max_ms statement\n'
 MOST = 2 ** 64 - 1
 
 
@@ -32,13 +32,14 @@ def line(name, entries, total, missing=0):
     times = [e[3] for e in entries if e[3] is not None]
     time = min(sum(times), MOST)
     share = min(time * 1000 // max(total, 1), 1000)
-    text = '#' * (share // 100) + '.' * (10 - share // 100) + f' {share // 10:3}.{share % 10} {ms(6, time)}'
+    text = f' {share // 10:3}.{share % 10} {ms(6, time)}'
     sums = [min(sum(e[i] for e in entries), MOST) for i in (1, 2)]
-    text += f' {len(entries):8} {sum(e[0] for e in entries):6} {sums[0]:9} {sums[1]:11}'
+    counts = [sum(e[0] == kind for e in entries) for kind in ('error', 'unanswered')]
+    text += f' {len(entries):8} {counts[0]:6} {counts[1]:10} {sums[0]:9} {sums[1]:11}'
     if times:
-        text += f' {ms(4, quantile(times, 50))} {ms(4, quantile(times, 99))} {ms(5, max(times))}'
+        text += ''.join(f' {ms(4, quantile(times, hundredths))}' for hundredths in (50, 95, 99)) + f' {ms(5, max(times))}'
     else:
-        text += f' {"-":>8} {"-":>8} {"-":>9}'
+        text += f' {"-":>8} {"-":>8} {"-":>8} {"-":>9}'
     if missing:
         text += f' (up to {ms(1, missing)} ms more)'
     return f'{text} {name}\n'
@@ -92,7 +93,7 @@ def main():
         whole = not name.startswith('..')
         raw = name.lstrip('.').encode() if not whole else name.encode()
         key = (raw[:256], whole and len(raw) <= 256)
-        entries.append((kind == 'error', int(count), int(size), None if took == '-' else int(took), key))
+        entries.append((kind, int(count), int(size), None if took == '-' else int(took), key))
     said += summary(limit, entries)
     with open(f'{here}/said.txt', 'w', encoding='utf-8', newline='\n') as file:
         file.write(said)

@@ -3,14 +3,18 @@ use Rattle.std.specs.Prelude.{ℕ, ◌+◌, ℤ, pos, int_lt, unsigned_abs, Bool
 use Rattle.cqlp_note.specs.declared.opcode.Opcode.{Opcode}
 use Rattle.cqlp_note.specs.declared.opcode.Opcode.TheVariants as opcode
 use Rattle.cqlp_text.specs.Names.{opcode_name}
-use Rattle.cqlp_capture_summary.specs.Counts.{Entry}
-use Rattle.cqlp_capture_summary.specs.Summaries.{Summary, noted}
+use Rattle.cqlp_capture_summary.specs.Counts.{Request}
+use Rattle.cqlp_capture_summary.specs.Named.{noted_by_fingerprint}
+use Rattle.cqlp_capture_summary.specs.Summaries.{Summary, noted_request}
 use Rattle.cqlp_observer.specs.Keeping.{Kept}
 use Rattle.cqlp_observer.specs.declared.message.Message.{Message}
 use Rattle.cqlp_observer.specs.declared.paired.Paired.{Paired}
-use Rattle.cqlp_observer.specs.declared.paired.Paired.TheVariants.{Exchange}
+use Rattle.cqlp_observer.specs.declared.paired.Paired.TheVariants.{Exchange, Unanswered}
 use Rattle.cqlp_capture_exchanges.specs.Prepared.{named, Preparation}
 use Rattle.cqlp_capture_exchanges.specs.Reports.{Report, Messages, Unread}
+use Rattle.cqlp_capture_exchanges.specs.declared.naming.Naming.{Naming}
+use Rattle.cqlp_capture_exchanges.specs.declared.naming.Naming.TheVariants as naming
+use Rattle.cqlp_capture_exchanges.specs.declared.noting.Outcome.{Outcome}
 use Rattle.cqlp_capture_exchanges.specs.declared.span.Span.{Span}
 use Rattle.cqlp_capture_exchanges.specs.Filters.{is_failure}
 use Rattle.cqlp_capture_exchanges.specs.Spans.{took}
@@ -26,15 +30,35 @@ abbrev pub rows_in : Option ℤ → ℕ
 rows_in None = 0
 rows_in (Some rows) = if int_lt (pos 0) rows then unsigned_abs rows else 0
 
--- a request with its response, under a name, and whether that is all of it
-abbrev pub entry_as : (name : List ℕ) → (is_whole_name : Bool) → (request response : Message Kept) → Entry
-entry_as name is_whole_name q r = record {
-  name = name;
-  is_whole_name = is_whole_name;
+-- ---- what came of a request
+
+abbrev pub answered_by : (request response : Message Kept) → Outcome
+answered_by q r = record {
+  is_answered = true;
   is_error = is_failure r.frame;
   rows = rows_in r.kept.facts.rows;
   bytes = (9 + q.frame.header.length) + (9 + r.frame.header.length);
   took = nanoseconds_in (took q.frame r.frame);
+  at = q.frame.begun;
+}
+
+abbrev pub unanswered : Message Kept → Outcome
+unanswered q =
+    record { is_answered = false; is_error = false; rows = 0; bytes = 9 + q.frame.header.length; took = None; at = q.frame.begun }
+
+-- a request under a name, and whether that is all of it
+abbrev pub request_as : (name : List ℕ) → (is_whole_name : Bool) → Outcome → Request
+request_as name is_whole_name o = record {
+  entry = record {
+    name = name;
+    is_whole_name = is_whole_name;
+    is_error = o.is_error;
+    rows = o.rows;
+    bytes = o.bytes;
+    took = o.took;
+  };
+  is_answered = o.is_answered;
+  at = o.at;
 }
 
 -- ---- what a request is called: the text of its statement, or where that is not known its opcode. A BATCH is called by its first statement, behind a
@@ -47,25 +71,32 @@ is_batch o = false
 abbrev pub batch_name : (text : List ℕ) → List ℕ
 batch_name text = codes "BATCH " ++ take 250 text
 
-abbrev pub text_entry : (text : List ℕ) → (is_whole : Bool) → (request response : Message Kept) → Entry
-text_entry text is_whole q r =
-    if is_batch q.frame.header.opcode then entry_as (batch_name text) (is_whole && nat_le (length text) 250) q r
-    else entry_as text is_whole q r
+abbrev pub text_request : (text : List ℕ) → (is_whole : Bool) → Message Kept → Outcome → Request
+text_request text is_whole q o =
+    if is_batch q.frame.header.opcode then request_as (batch_name text) (is_whole && nat_le (length text) 250) o
+    else request_as text is_whole o
 
-abbrev pub opcode_entry : (request response : Message Kept) → Entry
-opcode_entry q r = entry_as (opcode_name q.frame.header.opcode) true q r
+abbrev pub opcode_request : Message Kept → Outcome → Request
+opcode_request q o = request_as (opcode_name q.frame.header.opcode) true o
 
-abbrev pub entry : Option Said → (request response : Message Kept) → Entry
-entry (Some (Text text is_whole)) q r = text_entry text is_whole q r
-entry s q r = opcode_entry q r
+abbrev pub request_named : Option Said → Message Kept → Outcome → Request
+request_named (Some (Text text is_whole)) q o = text_request text is_whole q o
+request_named s q o = opcode_request q o
 
-abbrev pub with_exchange : (known : List Preparation) → (request response : Message Kept) → Summary → Summary
-with_exchange known q r s = noted (entry (named known (statement q.frame.header q.kept.front)) q r) s
+-- ---- counted, by the fingerprint of its name or by the name itself
 
-abbrev pub with_told : (known : List Preparation) → Paired Kept → Summary → Summary
-with_told known (Exchange q r) s = with_exchange known q r s
-with_told known t s = s
+abbrev pub noted_as : Naming → Request → Summary → Summary
+noted_as naming.Fingerprint r s = noted_by_fingerprint r s
+noted_as naming.Literal r s = noted_request r s
 
-abbrev pub with_report : (known : List Preparation) → Report → Summary → Summary
-with_report known (Messages t end) s = with_told known t s
-with_report known (Unread time o) s = s
+abbrev pub with_request : Naming → (known : List Preparation) → Message Kept → Outcome → Summary → Summary
+with_request n known q o s = noted_as n (request_named (named known (statement q.frame.header q.kept.front)) q o) s
+
+abbrev pub with_paired : Naming → (known : List Preparation) → Paired Kept → Summary → Summary
+with_paired n known (Exchange q r) s = with_request n known q (answered_by q r) s
+with_paired n known (Unanswered q) s = with_request n known q (unanswered q) s
+with_paired n known p s = s
+
+abbrev pub with_report : Naming → (known : List Preparation) → Report → Summary → Summary
+with_report n known (Messages p end) s = with_paired n known p s
+with_report n known (Unread time o) s = s

@@ -3,6 +3,8 @@
 ghost use Rattle.std.specs.Prelude.{◌≡◌};
 ghost use Rattle.cqlp_capture_exchanges.specs.Forms.{statements_in};
 
+use crate::naming::Naming;
+
 /// How exchanges are written.
 #[derive(Clone, Copy, Debug, PartialEq, Eq)]
 pub enum ExchangeForm {
@@ -11,7 +13,7 @@ pub enum ExchangeForm {
     /// A JSON object in a line for each, as soon as the last byte of the response is there.
     Json,
     /// A line for each statement at the end of the capture: how often it was asked for, and how long that took.
-    Summary,
+    Summary(Naming),
 }
 
 impl ExchangeForm {
@@ -22,7 +24,7 @@ impl ExchangeForm {
         match self {
             ExchangeForm::Lines => 0,
             ExchangeForm::Json => 0,
-            ExchangeForm::Summary => 256,
+            ExchangeForm::Summary(_) => 256,
         }
     }
 }

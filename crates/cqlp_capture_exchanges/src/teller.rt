@@ -231,7 +231,7 @@ fn put_report<W: Target, A: Allocator, B: Allocator>(
     match form {
         ExchangeForm::Lines => put_line(writer, known, first, number, report),
         ExchangeForm::Json => put_json_line(writer, known, first, number, report),
-        ExchangeForm::Summary => Ok(()),
+        ExchangeForm::Summary(_) => Ok(()),
     }
 }
 
@@ -249,7 +249,7 @@ fn put_ending<W: Target, A: Allocator>(
     match form {
         ExchangeForm::Lines => Ok(()),
         ExchangeForm::Json => Ok(()),
-        ExchangeForm::Summary => put_summary(writer, summary),
+        ExchangeForm::Summary(_) => put_summary(writer, summary),
     }
 }
 

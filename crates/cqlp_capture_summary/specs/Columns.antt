@@ -21,14 +21,10 @@ number_column width n = text_column width (decimal n)
 abbrev pub time_column : (width nanoseconds : ℕ) → List ℕ
 time_column width n = joined (number_column width (n / 1_000_000) ∷ codes "." ∷ digits 3 (n / 1_000) ∷ [])
 
--- ---- a share in thousandths, as ten places and in hundredths
+-- ---- a share in thousandths, in hundredths
 
 abbrev pub share_of : (time total : ℕ) → ℕ
 share_of time total = min (time * 1_000 / max total 1) 1_000
 
--- a place for each whole tenth
-abbrev pub bar : (share : ℕ) → List ℕ
-bar share = joined (replicate (share / 100) 35 ∷ replicate (10 - share / 100) 46 ∷ [])
-
 abbrev pub share_text : (share : ℕ) → List ℕ
-share_text share = joined (bar share ∷ number_column 3 (share / 10) ∷ codes "." ∷ digits 1 share ∷ [])
+share_text share = joined (number_column 3 (share / 10) ∷ codes "." ∷ digits 1 share ∷ [])

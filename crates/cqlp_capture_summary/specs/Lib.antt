@@ -6,6 +6,7 @@ pub mod Heaviest
 pub mod Laws
 pub mod Lines
 pub mod Merging
+pub mod Named
 pub mod Names
 pub mod Order
 pub mod Rows

@@ -13,7 +13,7 @@ use Rattle.cqlp_capture_summary.specs.Summaries.{Summary}
 use Rattle.cqlp_capture_summary.specs.Tallies.{counted, figures_of}
 
 abbrev pub header : List ℕ
-header = codes "share          %    time_ms    count errors      rows       bytes   p50_ms   p99_ms    max_ms statement\n"
+header = codes "     %    time_ms    count errors unanswered      rows       bytes   p50_ms   p95_ms   p99_ms    max_ms statement\n"
 
 -- two points behind what is not all of a name
 abbrev pub more : (is_whole : Bool) → List ℕ
@@ -29,12 +29,16 @@ name_text n = joined (codes " " ∷ shown_text (text_front n.bytes) ∷ more n.i
 
 abbrev pub counts_text : Figures → List ℕ
 counts_text f =
-    joined (time_column 6 f.time ∷ number_column 8 f.count ∷ number_column 6 f.errors ∷ number_column 9 f.rows ∷ number_column 11 f.bytes ∷ [])
+    joined
+    (time_column 6 f.time ∷ number_column 8 f.count ∷ number_column 6 f.errors ∷ number_column 10 f.unanswered ∷ number_column 9 f.rows
+    ∷ number_column 11 f.bytes ∷ [])
 
 -- where no time is known a dash stands for each
 abbrev pub times_text : Option Times → List ℕ
-times_text None = joined (text_column 8 (codes "-") ∷ text_column 8 (codes "-") ∷ text_column 9 (codes "-") ∷ [])
-times_text (Some t) = joined (time_column 4 t.median ∷ time_column 4 t.percentile_99 ∷ time_column 5 t.greatest ∷ [])
+times_text None =
+    joined (text_column 8 (codes "-") ∷ text_column 8 (codes "-") ∷ text_column 8 (codes "-") ∷ text_column 9 (codes "-") ∷ [])
+times_text (Some t) =
+    joined (time_column 4 t.median ∷ time_column 4 t.percentile_95 ∷ time_column 4 t.percentile_99 ∷ time_column 5 t.greatest ∷ [])
 
 -- what may be missing of a statement that left the table before
 abbrev pub some_missing_text : (missing : ℕ) → List ℕ

@@ -1,7 +1,7 @@
 //! Columns of a line.
 
 ghost use Rattle.std.specs.Prelude.{◌≡◌, ◌≤◌, codes};
-ghost use Rattle.cqlp_capture_summary.specs.Columns.{bar, number_column, padded, share_of, share_text, text_column, time_column};
+ghost use Rattle.cqlp_capture_summary.specs.Columns.{number_column, padded, share_of, share_text, text_column, time_column};
 ghost use Rattle.cqlp_text.specs.Written.{Writes};
 
 use cqlp_grammar::SinkFault;
@@ -11,13 +11,6 @@ use cqlp_text::{Pen, TextWriter};
 const WIDEST: usize = 16;
 
 static SPACES: [u8; WIDEST] = [b' '; WIDEST];
-
-/// The places of a bar.
-const PLACES: usize = 10;
-
-static FULL: [u8; PLACES] = [b'#'; PLACES];
-
-static EMPTY: [u8; PLACES] = [b'.'; PLACES];
 
 /// Takes a text behind so many spaces that both have this width.
 fn put_padded<P: Pen>(
@@ -79,23 +72,12 @@ pub(crate) fn share_of(time: u64, total: u64) -> u64
     share.min(1_000) as u64
 }
 
-/// Takes a share in thousandths, as ten places and in hundredths.
+/// Writes a share in thousandths, in hundredths.
 pub(crate) fn put_share<P: Pen>(writer: &mut TextWriter<P>, share: u64) -> Result<(), SinkFault>
     requires { share ≤ 1_000 }
     ensures { Writes writer.old (share_text share) result writer.new }
 {
-    put_bar(writer, share)?;
     put_number_column(writer, 3, share / 10)?;
     writer.put(b".")?;
     writer.put_digits(1, share)
-}
-
-/// Takes a place for each whole tenth.
-fn put_bar<P: Pen>(writer: &mut TextWriter<P>, share: u64) -> Result<(), SinkFault>
-    requires { share ≤ 1_000 }
-    ensures { Writes writer.old (bar share) result writer.new }
-{
-    let full = (share / 100) as usize;
-    writer.put(&FULL[..full])?;
-    writer.put(&EMPTY[..PLACES - full])
 }

@@ -17,7 +17,7 @@ use cqlp_text::{Pen, TextWriter};
 
 /// What stands above the columns.
 const HEADER: &str =
-    "share          %    time_ms    count errors      rows       bytes   p50_ms   p99_ms    max_ms statement\n";
+    "     %    time_ms    count errors unanswered      rows       bytes   p50_ms   p95_ms   p99_ms    max_ms statement\n";
 
 /// Takes the line above the columns, a line for each of the statements that are told apart, and one for all others if there are any.
 pub(crate) fn put_summary<P: Pen>(
@@ -176,6 +176,7 @@ fn put_counts<P: Pen>(writer: &mut TextWriter<P>, figures: &Figures) -> Result<(
     put_time_column(writer, 6, figures.time)?;
     put_number_column(writer, 8, figures.count)?;
     put_number_column(writer, 6, figures.errors)?;
+    put_number_column(writer, 10, figures.unanswered)?;
     put_number_column(writer, 9, figures.rows)?;
     put_number_column(writer, 11, figures.bytes)
 }
@@ -195,6 +196,7 @@ fn put_known_times<P: Pen>(writer: &mut TextWriter<P>, times: Times) -> Result<(
     ensures { Writes writer.old (times_text (Some times)) result writer.new }
 {
     put_time_column(writer, 4, times.median)?;
+    put_time_column(writer, 4, times.percentile_95)?;
     put_time_column(writer, 4, times.percentile_99)?;
     put_time_column(writer, 5, times.greatest)
 }
@@ -202,6 +204,7 @@ fn put_known_times<P: Pen>(writer: &mut TextWriter<P>, times: Times) -> Result<(
 fn put_no_times<P: Pen>(writer: &mut TextWriter<P>) -> Result<(), SinkFault>
     ensures { Writes writer.old (times_text None) result writer.new }
 {
+    put_text_column(writer, 8, b"-")?;
     put_text_column(writer, 8, b"-")?;
     put_text_column(writer, 8, b"-")?;
     put_text_column(writer, 9, b"-")

@@ -17,7 +17,7 @@ pub(crate) struct Name {
 }
 
 /// How many bytes of a name are kept at most.
-const MOST: usize = 256;
+pub(crate) const MOST: usize = 256;
 
 impl Model for Name {
     ghost use Rattle.std.specs.Prelude.{◌≡◌, ◌≤◌, take};
@@ -43,6 +43,18 @@ impl Name {
             len: front.len(),
             bytes,
             is_whole: is_kept_whole(name, is_whole),
+        }
+    }
+
+    /// The same name once more.
+    pub(crate) fn copy(&self) -> Self
+        ensures { result ≡ self.now }
+    {
+        Name {
+            hash: self.hash,
+            len: self.len,
+            bytes: self.bytes,
+            is_whole: self.is_whole,
         }
     }
 

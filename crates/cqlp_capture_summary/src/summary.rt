@@ -10,6 +10,7 @@ ghost use Rattle.cqlp_capture_summary.specs.Tallies.{figures_of, none_counted};
 use crate::lines::put_summary;
 use crate::name::Name;
 use crate::occurrence::Occurrence;
+use crate::recent::{Recent, fingerprint_in};
 use crate::row::Row;
 use crate::tally::{Figures, Tally, time_of};
 use crate::weights::{add_weight_at, lightest};
@@ -20,7 +21,7 @@ use std::marker::Model;
 
 /// How often the statements of a capture were asked for, and how long they took: the heaviest statements in a table of bounded size, and the others together.
 /// A statement that took more than one in N of the whole time is in a table of N places. All memory is taken in `new`: for each place 15,760 bytes, and
-/// 23,664 besides; 4 MB for 256 places.
+/// 167,024 besides, or 23,664 where there are no places; 4.2 MB for 256 places.
 #[derive(Drop)]
 pub struct Summary<A: Allocator = Global> {
     statements: usize,
@@ -34,10 +35,15 @@ pub struct Summary<A: Allocator = Global> {
     others: Vec<Tally, A>,
     /// By the hash of a name, where it was seen last. A name that is not there is sought at each place.
     slots: Vec<usize, A>,
+    /// By the hash of a name, the one that came last, with its fingerprint; none where there are no places.
+    recent: Vec<Recent, A>,
 }
 
 /// How many slots there are.
 const SLOTS: usize = 1024;
+
+/// How many names are kept with their fingerprints.
+const RECENT: usize = 256;
 
 impl<A: Allocator> Model for Summary<A> {
     ghost use Rattle.std.specs.Prelude.{◌≡◌, ◌≤◌, length, slice_index_or, vec_capacity};
@@ -58,11 +64,12 @@ impl<A: Allocator> Model for Summary<A> {
 
 impl<A: Allocator> Summary<A> {
     ghost use Rattle.cqlp_capture_summary.specs.Counts.{entry_of, request_of};
+    ghost use Rattle.cqlp_capture_summary.specs.Named.{noted_by_fingerprint};
     ghost use Rattle.cqlp_capture_summary.specs.Rows.{IsRowAt};
     ghost use Rattle.cqlp_capture_summary.specs.Summaries.{new_place, new_summary, noted, noted_request, place_of, taken_in};
     ghost use Rattle.cqlp_capture_summary.specs.Summaries.{with_in_place_of, with_name, with_new, with_request, with_request_at};
 
-    /// Nothing is noted. At most so many statements have places. All memory is taken here, in five requests, or in two where there are no places.
+    /// Nothing is noted. At most so many statements have places. All memory is taken here, in six requests, or in two where there are no places.
     pub fn new(alloc: A, statements: usize) -> Result<Self, AllocError>
     where
         A: Clone,
@@ -74,7 +81,8 @@ impl<A: Allocator> Summary<A> {
             weights: Vec::with_capacity(alloc.clone()?, statements)?,
             tallies: make_tallies(alloc.clone()?, statements)?,
             others: make_tallies(alloc.clone()?, 1)?,
-            slots: make_slots(alloc)?,
+            slots: make_slots(alloc.clone()?)?,
+            recent: make_recent(alloc, if statements == 0 { 0 } else { RECENT })?,
         })
     }
 
@@ -90,6 +98,36 @@ impl<A: Allocator> Summary<A> {
         ensures { self.new ≡ noted_request (request_of occurrence.now is_answered at) self.old }
     {
         let name = Name::new(occurrence.name, occurrence.is_whole_name);
+        self.note_named(name, occurrence, is_answered, at);
+    }
+
+    /// Likewise, under the fingerprint of the statement's name.
+    pub fn note_by_fingerprint(
+        &mut self,
+        occurrence: &Occurrence<'_>,
+        is_answered: bool,
+        at: Option<u64>,
+    )
+        ensures { self.new ≡ noted_by_fingerprint (request_of occurrence.now is_answered at) self.old }
+    {
+        let name = fingerprint_in(
+            &mut self.recent,
+            occurrence.name,
+            occurrence.is_whole_name,
+        );
+        self.note_named(name, occurrence, is_answered, at);
+    }
+
+    /// Counts one time that the statement of a name was asked for.
+    fn note_named(
+        &mut self,
+        name: Name,
+        occurrence: &Occurrence<'_>,
+        is_answered: bool,
+        at: Option<u64>,
+    )
+        ensures { self.new ≡ with_request (place_of name self.old) (request_of occurrence.now is_answered at) (with_name name self.old) }
+    {
         let slot = name.slot();
         match self.place_for(name) {
             Some(place) => {
@@ -233,6 +271,14 @@ fn make_slots<A: Allocator>(alloc: A) -> Result<Vec<usize, A>, AllocError>
         slots.push_reserved(0);
     }
     Ok(slots)
+}
+
+fn make_recent<A: Allocator>(alloc: A, count: usize) -> Result<Vec<Recent, A>, AllocError> {
+    let mut recent = Vec::with_capacity(alloc, count)?;
+    for _ in 0..count {
+        recent.push_reserved(Recent::new(Name::new(b"", true)));
+    }
+    Ok(recent)
 }
 
 fn make_tallies<A: Allocator>(alloc: A, count: usize) -> Result<Vec<Tally, A>, AllocError>

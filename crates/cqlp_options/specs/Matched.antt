@@ -91,7 +91,7 @@ pub record AreOptions (name : Text) (rows : List Row) (options : Options) : Type
 
 -- where both are asked for it is a summary
 abbrev pub IsExchangesForm : List Row → ExchangesAs → Type 0
-IsExchangesForm rows exchanges_as.Summary = IsFlag (codes "summary") rows true
+IsExchangesForm rows (exchanges_as.Summary literal) = IsFlag (codes "summary") rows true × IsFlag (codes "literal") rows literal
 IsExchangesForm rows exchanges_as.Json = IsFlag (codes "summary") rows false × IsFlag (codes "json") rows true
 IsExchangesForm rows exchanges_as.Lines = IsFlag (codes "summary") rows false × IsFlag (codes "json") rows false
 

@@ -60,6 +60,7 @@ capture =
     ∷ bound (named (codes "streams"))
     ∷ bound (flag (codes "json"))
     ∷ bound (flag (codes "summary"))
+    ∷ bound (flag (codes "literal"))
     ∷ bound (flag (codes "events"))
     ∷ bound (flag (codes "rows"))
     ∷ in_range 1 1048576 (named (codes "connections"))

@@ -66,7 +66,10 @@ pub enum ExchangesAs {
     /// A JSON object in a line for each.
     Json,
     /// A line for each statement at the end.
-    Summary,
+    Summary {
+        /// Whether statements that differ in their literals alone count each for itself.
+        literal: bool,
+    },
 }
 
 impl ExchangesAs {
@@ -74,7 +77,9 @@ impl ExchangesAs {
         ensures { IsExchangesForm (rows_of (found_of matches.now)) result }
     {
         if flag(matches, "summary") {
-            ExchangesAs::Summary
+            ExchangesAs::Summary {
+                literal: flag(matches, "literal"),
+            }
         } else if flag(matches, "json") {
             ExchangesAs::Json
         } else {

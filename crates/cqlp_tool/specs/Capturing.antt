@@ -1,5 +1,5 @@
 -- What the program does with a capture.
-use Rattle.std.specs.Prelude.{◌≡◌, ℕ, ◌*◌, List, Option, None, IsSome, ◌⊎◌, codes, option_map}
+use Rattle.std.specs.Prelude.{◌≡◌, ℕ, ◌*◌, true, false, List, Option, None, IsSome, ◌⊎◌, codes, option_map}
 use Rattle.cqlp_options.specs.declared.capture.CaptureOptions.{CaptureOptions}
 use Rattle.cqlp_options.specs.declared.capture.CaptureTask.{CaptureTask}
 use Rattle.cqlp_options.specs.declared.capture.CaptureTask.TheVariants as task
@@ -15,6 +15,7 @@ use Rattle.cqlp_capture_streams.specs.Streams.{WritesStreamsBy}
 use Rattle.cqlp_capture_exchanges.specs.declared.filter.ExchangeFilter.{ExchangeFilter}
 use Rattle.cqlp_capture_exchanges.specs.declared.form.ExchangeForm.{ExchangeForm}
 use Rattle.cqlp_capture_exchanges.specs.declared.form.ExchangeForm.TheVariants as form
+use Rattle.cqlp_capture_exchanges.specs.declared.naming.Naming.TheVariants as naming
 use Rattle.cqlp_capture_exchanges.specs.declared.pool.ExchangeLimits.{ExchangeLimits}
 use Rattle.cqlp_capture_exchanges.specs.Capturing.{WritesExchanges}
 use Rattle.cqlp_capture_events.specs.Capturing.{WritesEvents}
@@ -61,7 +62,8 @@ filter_of asked =
 abbrev pub form_of : ExchangesAs → ExchangeForm
 form_of asked_as.Lines = form.Lines
 form_of asked_as.Json = form.Json
-form_of asked_as.Summary = form.Summary
+form_of (asked_as.Summary false) = form.Summary naming.Fingerprint
+form_of (asked_as.Summary true) = form.Summary naming.Literal
 
 -- The input's exchanges that were asked for went to the output, and how it ended was reported with its status, after so many reads.
 abbrev pub TellsExchanges : StreamsLimits → ExchangeLimits → ExchangeOptions → (ports : List ℕ) → (before : Streams) → (status : ℕ) → (after : Streams) → Type 0

@@ -22,7 +22,7 @@ use crate::limits::{exchange_limits_of, streams_limits_of};
 use crate::marks::MARK;
 use crate::progress::Progress;
 use cqlp_capture_events::write_events;
-use cqlp_capture_exchanges::{ExchangeFilter, ExchangeForm, write_exchanges};
+use cqlp_capture_exchanges::{ExchangeFilter, ExchangeForm, Naming, write_exchanges};
 use cqlp_capture_rows::write_rows;
 use cqlp_capture_streams::{StreamsLimits, write_streams};
 use cqlp_decode::SinkFault;
@@ -331,7 +331,8 @@ fn form_of(asked: ExchangesAs) -> ExchangeForm
     match asked {
         ExchangesAs::Lines => ExchangeForm::Lines,
         ExchangesAs::Json => ExchangeForm::Json,
-        ExchangesAs::Summary => ExchangeForm::Summary,
+        ExchangesAs::Summary { literal: false } => ExchangeForm::Summary(Naming::Fingerprint),
+        ExchangesAs::Summary { literal: true } => ExchangeForm::Summary(Naming::Literal),
     }
 }
 

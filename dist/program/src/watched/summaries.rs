@@ -1,5 +1,5 @@
-//! The summaries of statements. A line `statements N` begins one of at most so many; each other line has `ok` or `error`, rows, bytes,
-//! nanoseconds or `-`, and the statement, `..` before it if it is not whole.
+//! The summaries of statements. A line `statements N` begins one of at most so many; each other line has `ok`, `error` or `unanswered`, rows,
+//! bytes, nanoseconds or `-`, and the statement, `..` before it if it is not whole.
 use super::text;
 use crate::cqlp_note::OfStd;
 use crate::cqlp_capture_summary::{Fingerprint, Occurrence, Summary};
@@ -17,7 +17,7 @@ fn what_summaries_say() {
                 said += &written(&summary);
                 summary = begun(count.parse().unwrap());
             }
-            None => summary.note(&occurrence_of(line)),
+            None => summary.note_request(&occurrence_of(line), !line.starts_with("unanswered"), None),
         }
     }
     said += &written(&summary);
@@ -36,9 +36,30 @@ fn what_fingerprints_are() {
     assert_eq!(lines.len(), 40);
 }
 
-/// A summary of at most this many statements, for which memory is asked five times, or twice for none, and each time needed.
+/// Statements that are counted by their fingerprints, each twice, one of them whole and with more than the 256 bytes that are kept.
+#[test]
+fn what_is_counted_by_fingerprints() {
+    let lines = text("summaries/fingerprints.txt");
+    let lines: Vec<&str> = lines.lines().collect();
+    let long = format!("SELECT c FROM ks.t WHERE k = '{}'", "x".repeat(300));
+    let mut pairs: Vec<(&str, &str)> = lines.chunks(2).map(|pair| (pair[0], pair[1])).collect();
+    pairs.push((&long, "SELECT c FROM ks.t WHERE k = ?"));
+    let (mut by_fingerprint, mut literal) = (begun(64), begun(64));
+    for (statement, fingerprint) in pairs.iter().chain(&pairs) {
+        by_fingerprint.note_by_fingerprint(&named(statement), true, Some(7));
+        literal.note_request(&named(fingerprint), true, Some(7));
+    }
+    assert_eq!(written(&by_fingerprint), written(&literal));
+    assert!(by_fingerprint.len() < pairs.len());
+}
+
+fn named(name: &str) -> Occurrence<'_> {
+    Occurrence { name: name.as_bytes(), is_whole_name: true, is_error: false, rows: 1, bytes: 2, took: Some(3_000_000) }
+}
+
+/// A summary of at most this many statements, for which memory is asked six times, or twice for none, and each time needed.
 fn begun(statements: usize) -> Summary {
-    for number in 1..=2 + 3 * statements.min(1) as u64 {
+    for number in 1..=2 + 4 * statements.min(1) as u64 {
         assert!(refusing(number, number, || Summary::new(Global, statements).is_err()).0, "made without request {number}");
     }
     Summary::new(Global, statements).unwrap()

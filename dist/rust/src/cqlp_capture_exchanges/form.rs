@@ -1,6 +1,8 @@
 // Written by dist/erase from crates/cqlp_capture_exchanges/src/form.rt.
 //! How exchanges are written.
 
+use crate::cqlp_capture_exchanges::naming::Naming;
+
 /// How exchanges are written.
 #[derive(Clone, Copy, Debug, PartialEq, Eq)]
 pub enum ExchangeForm {
@@ -9,7 +11,7 @@ pub enum ExchangeForm {
     /// A JSON object in a line for each, as soon as the last byte of the response is there.
     Json,
     /// A line for each statement at the end of the capture: how often it was asked for, and how long that took.
-    Summary,
+    Summary(Naming),
 }
 
 impl ExchangeForm {
@@ -18,7 +20,7 @@ impl ExchangeForm {
         match self {
             ExchangeForm::Lines => 0,
             ExchangeForm::Json => 0,
-            ExchangeForm::Summary => 256,
+            ExchangeForm::Summary(_) => 256,
         }
     }
 }

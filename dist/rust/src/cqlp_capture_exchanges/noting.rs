@@ -1,9 +1,10 @@
 // Written by dist/erase from crates/cqlp_capture_exchanges/src/noting.rt.
-//! Requests with their responses, counted in a summary of statements.
+//! Requests with what came of them, counted in a summary of statements.
 
 use crate::cqlp_capture_exchanges::batch_name::{BatchName, MOST};
 use crate::cqlp_capture_exchanges::filter::is_failure;
 use crate::cqlp_capture_exchanges::form::ExchangeForm;
+use crate::cqlp_capture_exchanges::naming::Naming;
 use crate::cqlp_capture_exchanges::prepared::{Preparation, named};
 use crate::cqlp_capture_exchanges::report::Report;
 use crate::cqlp_capture_exchanges::span::{Span, took};
@@ -13,6 +14,21 @@ use crate::cqlp_note::Opcode;
 use crate::cqlp_observer::{Kept, Message, Paired};
 use crate::cqlp_text::opcode_name;
 use crate::kit_std::alloc::Allocator;
+
+/// What came of a request.
+#[derive(Clone, Copy, Debug)]
+pub(crate) struct Outcome {
+    pub(crate) is_answered: bool,
+    /// Whether the response is an ERROR, or did not come to its end.
+    pub(crate) is_error: bool,
+    pub(crate) rows: u64,
+    /// Of the frames of both.
+    pub(crate) bytes: u64,
+    /// Nanoseconds until the last byte of the response.
+    pub(crate) took: Option<u64>,
+    /// When the request began, in nanoseconds.
+    pub(crate) at: Option<u64>,
+}
 
 /// Counts what is reported, where a summary is the form.
 pub(crate) fn note<A: Allocator, B: Allocator>(
@@ -25,72 +41,100 @@ pub(crate) fn note<A: Allocator, B: Allocator>(
     match form {
         ExchangeForm::Lines => {}
         ExchangeForm::Json => {}
-        ExchangeForm::Summary => note_report(summary, known, report),
+        ExchangeForm::Summary(naming) => note_report(summary, naming, known, report),
     }
 }
 
-/// Counts a request with its response.
+/// Counts a request with what came of it.
 fn note_report<A: Allocator, B: Allocator>(
     summary: &mut Summary<A>,
+    naming: Naming,
     known: &[Preparation<B>],
     report: &Report<B>,
 )
 {
     match report {
-        Report::Messages { paired, .. } => note_told(summary, known, paired),
+        Report::Messages { paired, .. } => note_paired(summary, naming, known, paired),
         Report::Unread { .. } => {}
     }
 }
 
-fn note_told<A: Allocator, B: Allocator>(
+fn note_paired<A: Allocator, B: Allocator>(
     summary: &mut Summary<A>,
+    naming: Naming,
     known: &[Preparation<B>],
-    told: &Paired<Kept<B>>,
+    paired: &Paired<Kept<B>>,
 )
 {
-    match told {
-        Paired::Exchange { request, response } => note_exchange(summary, known, request, response),
-        Paired::Unanswered { .. } | Paired::Unasked { .. } | Paired::Event { .. } => {}
+    match paired {
+        Paired::Exchange { request, response } => {
+            let outcome = answered_by(request, response);
+            note_request(summary, naming, known, request, &outcome);
+        }
+        Paired::Unanswered { request } => {
+            let outcome = unanswered(request);
+            note_request(summary, naming, known, request, &outcome);
+        }
+        Paired::Unasked { .. } | Paired::Event { .. } => {}
     }
 }
 
-fn note_exchange<A: Allocator, B: Allocator>(
+fn answered_by<B: Allocator>(request: &Message<Kept<B>>, response: &Message<Kept<B>>) -> Outcome {
+    Outcome {
+        is_answered: true,
+        is_error: is_failure(&response.frame),
+        rows: rows_in(response.kept.facts().rows),
+        bytes: (9 + request.frame.header.length as u64) + (9 + response.frame.header.length as u64),
+        took: nanoseconds_in(took(&request.frame, &response.frame)),
+        at: request.frame.begun,
+    }
+}
+
+fn unanswered<B: Allocator>(request: &Message<Kept<B>>) -> Outcome {
+    Outcome {
+        is_answered: false,
+        is_error: false,
+        rows: 0,
+        bytes: 9 + request.frame.header.length as u64,
+        took: None,
+        at: request.frame.begun,
+    }
+}
+
+fn note_request<A: Allocator, B: Allocator>(
     summary: &mut Summary<A>,
+    naming: Naming,
     known: &[Preparation<B>],
     request: &Message<Kept<B>>,
-    response: &Message<Kept<B>>,
+    outcome: &Outcome,
 )
 {
     let own = statement_of(&request.frame.header, request.kept.front());
     match named(known, own) {
         Some(Statement::Text { text, is_whole }) => {
-            note_text(summary, text, is_whole, request, response);
+            note_text(summary, naming, text, is_whole, request, outcome);
         }
-        Some(Statement::Id { .. }) => note_opcode(summary, request, response),
-        None => note_opcode(summary, request, response),
+        Some(Statement::Id { .. }) => note_opcode(summary, naming, request, outcome),
+        None => note_opcode(summary, naming, request, outcome),
     }
 }
 
-/// Counts a request with its response under the text of its statement, after a word where it is the first one of a BATCH.
+/// Counts a request under the text of its statement, after a word where it is the first one of a BATCH.
 fn note_text<A: Allocator, B: Allocator>(
     summary: &mut Summary<A>,
+    naming: Naming,
     text: &str,
     is_whole: bool,
     request: &Message<Kept<B>>,
-    response: &Message<Kept<B>>,
+    outcome: &Outcome,
 )
 {
     if is_batch(request.frame.header.opcode) {
         let name = BatchName::new(text.as_bytes());
-        note_as(
-            summary,
-            name.as_slice(),
-            has_all(text, is_whole),
-            request,
-            response,
-        );
+        let is_whole = has_all(text, is_whole);
+        note_as(summary, naming, name.as_slice(), is_whole, outcome);
     } else {
-        note_as(summary, text.as_bytes(), is_whole, request, response);
+        note_as(summary, naming, text.as_bytes(), is_whole, outcome);
     }
 }
 
@@ -99,35 +143,41 @@ fn has_all(text: &str, is_whole: bool) -> bool {
     is_whole && text.len() <= MOST
 }
 
-/// Counts a request with its response under its opcode, where the text of its statement is not known.
+/// Counts a request under its opcode, where the text of its statement is not known.
 fn note_opcode<A: Allocator, B: Allocator>(
     summary: &mut Summary<A>,
+    naming: Naming,
     request: &Message<Kept<B>>,
-    response: &Message<Kept<B>>,
+    outcome: &Outcome,
 )
 {
     let name = opcode_name(request.frame.header.opcode);
-    note_as(summary, name.as_bytes(), true, request, response);
+    note_as(summary, naming, name.as_bytes(), true, outcome);
 }
 
-/// Counts a request with its response under a name.
-fn note_as<A: Allocator, B: Allocator>(
+/// Counts a request under a name.
+fn note_as<A: Allocator>(
     summary: &mut Summary<A>,
+    naming: Naming,
     name: &[u8],
     is_whole_name: bool,
-    request: &Message<Kept<B>>,
-    response: &Message<Kept<B>>,
+    outcome: &Outcome,
 )
 {
-    let took = took(&request.frame, &response.frame);
-    summary.note(&Occurrence {
+    let occurrence = Occurrence {
         name,
         is_whole_name,
-        is_error: is_failure(&response.frame),
-        rows: rows_in(response.kept.facts().rows),
-        bytes: (9 + request.frame.header.length as u64) + (9 + response.frame.header.length as u64),
-        took: nanoseconds_in(took),
-    });
+        is_error: outcome.is_error,
+        rows: outcome.rows,
+        bytes: outcome.bytes,
+        took: outcome.took,
+    };
+    match naming {
+        Naming::Fingerprint => {
+            summary.note_by_fingerprint(&occurrence, outcome.is_answered, outcome.at);
+        }
+        Naming::Literal => summary.note_request(&occurrence, outcome.is_answered, outcome.at),
+    }
 }
 
 fn is_batch(opcode: Opcode) -> bool {

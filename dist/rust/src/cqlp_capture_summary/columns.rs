@@ -9,13 +9,6 @@ const WIDEST: usize = 16;
 
 static SPACES: [u8; WIDEST] = [b' '; WIDEST];
 
-/// The places of a bar.
-const PLACES: usize = 10;
-
-static FULL: [u8; PLACES] = [b'#'; PLACES];
-
-static EMPTY: [u8; PLACES] = [b'.'; PLACES];
-
 /// Takes a text behind so many spaces that both have this width.
 fn put_padded<P: Pen>(
     writer: &mut TextWriter<P>,
@@ -61,17 +54,9 @@ pub(crate) fn share_of(time: u64, total: u64) -> u64 {
     share.min(1_000) as u64
 }
 
-/// Takes a share in thousandths, as ten places and in hundredths.
+/// Writes a share in thousandths, in hundredths.
 pub(crate) fn put_share<P: Pen>(writer: &mut TextWriter<P>, share: u64) -> Result<(), SinkFault> {
-    put_bar(writer, share)?;
     put_number_column(writer, 3, share / 10)?;
     writer.put(b".")?;
     writer.put_digits(1, share)
-}
-
-/// Takes a place for each whole tenth.
-fn put_bar<P: Pen>(writer: &mut TextWriter<P>, share: u64) -> Result<(), SinkFault> {
-    let full = (share / 100) as usize;
-    writer.put(&FULL[..full])?;
-    writer.put(&EMPTY[..PLACES - full])
 }

@@ -11,7 +11,7 @@ use crate::cqlp_text::{Pen, TextWriter};
 
 /// What stands above the columns.
 const HEADER: &str =
-    "share          %    time_ms    count errors      rows       bytes   p50_ms   p99_ms    max_ms statement\n";
+    "     %    time_ms    count errors unanswered      rows       bytes   p50_ms   p95_ms   p99_ms    max_ms statement\n";
 
 /// Takes the line above the columns, a line for each of the statements that are told apart, and one for all others if there are any.
 pub(crate) fn put_summary<P: Pen>(
@@ -138,6 +138,7 @@ fn put_counts<P: Pen>(writer: &mut TextWriter<P>, figures: &Figures) -> Result<(
     put_time_column(writer, 6, figures.time)?;
     put_number_column(writer, 8, figures.count)?;
     put_number_column(writer, 6, figures.errors)?;
+    put_number_column(writer, 10, figures.unanswered)?;
     put_number_column(writer, 9, figures.rows)?;
     put_number_column(writer, 11, figures.bytes)
 }
@@ -151,11 +152,13 @@ fn put_times<P: Pen>(writer: &mut TextWriter<P>, times: Option<Times>) -> Result
 
 fn put_known_times<P: Pen>(writer: &mut TextWriter<P>, times: Times) -> Result<(), SinkFault> {
     put_time_column(writer, 4, times.median)?;
+    put_time_column(writer, 4, times.percentile_95)?;
     put_time_column(writer, 4, times.percentile_99)?;
     put_time_column(writer, 5, times.greatest)
 }
 
 fn put_no_times<P: Pen>(writer: &mut TextWriter<P>) -> Result<(), SinkFault> {
+    put_text_column(writer, 8, b"-")?;
     put_text_column(writer, 8, b"-")?;
     put_text_column(writer, 8, b"-")?;
     put_text_column(writer, 9, b"-")

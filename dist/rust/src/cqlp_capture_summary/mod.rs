@@ -10,6 +10,7 @@ mod mode;
 mod name;
 mod occurrence;
 mod order;
+mod recent;
 mod row;
 mod shown;
 mod summary;

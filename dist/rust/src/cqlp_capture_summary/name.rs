@@ -13,7 +13,7 @@ pub(crate) struct Name {
 }
 
 /// How many bytes of a name are kept at most.
-const MOST: usize = 256;
+pub(crate) const MOST: usize = 256;
 
 impl Name {
     /// The name of which these are the bytes, or the first ones.
@@ -26,6 +26,16 @@ impl Name {
             len: front.len(),
             bytes,
             is_whole: is_kept_whole(name, is_whole),
+        }
+    }
+
+    /// The same name once more.
+    pub(crate) fn copy(&self) -> Self {
+        Name {
+            hash: self.hash,
+            len: self.len,
+            bytes: self.bytes,
+            is_whole: self.is_whole,
         }
     }
 

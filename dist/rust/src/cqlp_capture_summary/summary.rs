@@ -5,6 +5,7 @@ use crate::kit_host::prelude::{AllocGlobal, Clone, ToCopy, Vec};
 use crate::cqlp_capture_summary::lines::put_summary;
 use crate::cqlp_capture_summary::name::Name;
 use crate::cqlp_capture_summary::occurrence::Occurrence;
+use crate::cqlp_capture_summary::recent::{Recent, fingerprint_in};
 use crate::cqlp_capture_summary::row::Row;
 use crate::cqlp_capture_summary::tally::{Figures, Tally, time_of};
 use crate::cqlp_capture_summary::weights::{add_weight_at, lightest};
@@ -14,7 +15,7 @@ use crate::kit_std::alloc::{AllocError, Allocator, Global};
 
 /// How often the statements of a capture were asked for, and how long they took: the heaviest statements in a table of bounded size, and the others together.
 /// A statement that took more than one in N of the whole time is in a table of N places. All memory is taken in `new`: for each place 15,760 bytes, and
-/// 23,664 besides; 4 MB for 256 places.
+/// 167,024 besides, or 23,664 where there are no places; 4.2 MB for 256 places.
 pub struct Summary<A: Allocator = Global> {
     statements: usize,
     /// The statements at the places that are taken.
@@ -27,13 +28,18 @@ pub struct Summary<A: Allocator = Global> {
     others: Vec<Tally, A>,
     /// By the hash of a name, where it was seen last. A name that is not there is sought at each place.
     slots: Vec<usize, A>,
+    /// By the hash of a name, the one that came last, with its fingerprint; none where there are no places.
+    recent: Vec<Recent, A>,
 }
 
 /// How many slots there are.
 const SLOTS: usize = 1024;
 
+/// How many names are kept with their fingerprints.
+const RECENT: usize = 256;
+
 impl<A: Allocator> Summary<A> {
-    /// Nothing is noted. At most so many statements have places. All memory is taken here, in five requests, or in two where there are no places.
+    /// Nothing is noted. At most so many statements have places. All memory is taken here, in six requests, or in two where there are no places.
     pub fn new(alloc: A, statements: usize) -> Result<Self, AllocError>
     where
         A: Clone,
@@ -44,7 +50,8 @@ impl<A: Allocator> Summary<A> {
             weights: Vec::with_capacity(alloc.to_copy()?, statements)?,
             tallies: make_tallies(alloc.to_copy()?, statements)?,
             others: make_tallies(alloc.to_copy()?, 1)?,
-            slots: make_slots(alloc)?,
+            slots: make_slots(alloc.to_copy()?)?,
+            recent: make_recent(alloc, if statements == 0 { 0 } else { RECENT })?,
         })
     }
 
@@ -56,6 +63,34 @@ impl<A: Allocator> Summary<A> {
     /// Counts one time that a statement was asked for: whether it was answered, and when it was asked for, in nanoseconds since some moment.
     pub fn note_request(&mut self, occurrence: &Occurrence<'_>, is_answered: bool, at: Option<u64>) {
         let name = Name::new(occurrence.name, occurrence.is_whole_name);
+        self.note_named(name, occurrence, is_answered, at);
+    }
+
+    /// Likewise, under the fingerprint of the statement's name.
+    pub fn note_by_fingerprint(
+        &mut self,
+        occurrence: &Occurrence<'_>,
+        is_answered: bool,
+        at: Option<u64>,
+    )
+    {
+        let name = fingerprint_in(
+            &mut self.recent,
+            occurrence.name,
+            occurrence.is_whole_name,
+        );
+        self.note_named(name, occurrence, is_answered, at);
+    }
+
+    /// Counts one time that the statement of a name was asked for.
+    fn note_named(
+        &mut self,
+        name: Name,
+        occurrence: &Occurrence<'_>,
+        is_answered: bool,
+        at: Option<u64>,
+    )
+    {
         let slot = name.slot();
         match self.place_for(name) {
             Some(place) => {
@@ -164,6 +199,14 @@ fn make_slots<A: Allocator>(alloc: A) -> Result<Vec<usize, A>, AllocError> {
         slots.push_reserved(0);
     }
     Ok(slots)
+}
+
+fn make_recent<A: Allocator>(alloc: A, count: usize) -> Result<Vec<Recent, A>, AllocError> {
+    let mut recent = Vec::with_capacity(alloc, count)?;
+    for _ in 0..count {
+        recent.push_reserved(Recent::new(Name::new(b"", true)));
+    }
+    Ok(recent)
 }
 
 fn make_tallies<A: Allocator>(alloc: A, count: usize) -> Result<Vec<Tally, A>, AllocError> {

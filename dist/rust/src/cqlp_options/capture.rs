@@ -54,13 +54,18 @@ pub enum ExchangesAs {
     /// A JSON object in a line for each.
     Json,
     /// A line for each statement at the end.
-    Summary,
+    Summary {
+        /// Whether statements that differ in their literals alone count each for itself.
+        literal: bool,
+    },
 }
 
 impl ExchangesAs {
     fn matched(matches: &ArgMatches<'_>) -> ExchangesAs {
         if flag(matches, "summary") {
-            ExchangesAs::Summary
+            ExchangesAs::Summary {
+                literal: flag(matches, "literal"),
+            }
         } else if flag(matches, "json") {
             ExchangesAs::Json
         } else {

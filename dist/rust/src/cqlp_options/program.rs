@@ -310,7 +310,7 @@ const ALL: LimitRange = LimitRange {
 
 /// What `capture` takes. The help of a limit tells its range and what the number is where it is not given, and docs/check compares both
 /// with `CaptureLimits`.
-const CAPTURE: [Word; 15] = [
+const CAPTURE: [Word; 16] = [
     Word {
         name: "file",
         form: Form::File,
@@ -367,6 +367,13 @@ const CAPTURE: [Word; 15] = [
             most time first",
         with: &[],
         without: &["streams", "json"],
+    },
+    Word {
+        name: "literal",
+        form: Form::Flag,
+        help: "With --summary, count statements that differ in their literals each for itself",
+        with: &["summary"],
+        without: &[],
     },
     Word {
         name: "events",

@@ -8,7 +8,7 @@ use crate::cqlp_tool::limits::{exchange_limits_of, streams_limits_of};
 use crate::cqlp_tool::marks::MARK;
 use crate::cqlp_tool::progress::Progress;
 use crate::cqlp_capture_events::write_events;
-use crate::cqlp_capture_exchanges::{ExchangeFilter, ExchangeForm, write_exchanges};
+use crate::cqlp_capture_exchanges::{ExchangeFilter, ExchangeForm, Naming, write_exchanges};
 use crate::cqlp_capture_rows::write_rows;
 use crate::cqlp_capture_streams::{StreamsLimits, write_streams};
 use crate::cqlp_decode::SinkFault;
@@ -255,7 +255,8 @@ fn form_of(asked: ExchangesAs) -> ExchangeForm {
     match asked {
         ExchangesAs::Lines => ExchangeForm::Lines,
         ExchangesAs::Json => ExchangeForm::Json,
-        ExchangesAs::Summary => ExchangeForm::Summary,
+        ExchangesAs::Summary { literal: false } => ExchangeForm::Summary(Naming::Fingerprint),
+        ExchangesAs::Summary { literal: true } => ExchangeForm::Summary(Naming::Literal),
     }
 }
 

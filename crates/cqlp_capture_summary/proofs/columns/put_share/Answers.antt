@@ -3,24 +3,17 @@ use Rattle.cqlp_text.proofs.Writing.{progress_starts}
 use Rattle.cqlp_capture_summary.proofs.Texts.{said_last, said_next, said_stops}
 use Rattle.cqlp_capture_summary.proofs.columns.put_share.Goals as goal
 
-pub returns-in_err-put_bar : goal.returns-in_err-put_bar
-returns-in_err-put_bar g c =
-    said_stops _ c.from_residual.result c.from_residual.ensures.0 (progress_starts _ _) refl refl c.in_err-put_bar.ensures
-
 pub returns-in_err-put_number_column : goal.returns-in_err-put_number_column
 returns-in_err-put_number_column g c =
-    let s1 = said_next _ (progress_starts _ _) refl refl c.in_ok-put_bar.ensures in
-    said_stops _ c.from_residual-in_err-put_number_column.result c.from_residual-in_err-put_number_column.ensures.0 s1 refl refl c.in_err-put_number_column.ensures
+    said_stops _ c.from_residual.result c.from_residual.ensures.0 (progress_starts _ _) refl refl c.in_err-put_number_column.ensures
 
 pub returns-in_err-put : goal.returns-in_err-put
 returns-in_err-put g c =
-    let s1 = said_next _ (progress_starts _ _) refl refl c.in_ok-put_bar.ensures in
-    let s2 = said_next _ s1 refl refl c.in_ok-put_number_column.ensures in
-    said_stops _ c.from_residual-in_err-put.result c.from_residual-in_err-put.ensures.0 s2 refl refl c.in_err-put.ensures
+    let s1 = said_next _ (progress_starts _ _) refl refl c.in_ok-put_number_column.ensures in
+    said_stops _ c.from_residual-in_err-put.result c.from_residual-in_err-put.ensures.0 s1 refl refl c.in_err-put.ensures
 
 pub returns : goal.returns
 returns g c =
-    let s1 = said_next _ (progress_starts _ _) refl refl c.in_ok-put_bar.ensures in
-    let s2 = said_next _ s1 refl refl c.in_ok-put_number_column.ensures in
-    let s3 = said_next _ s2 refl refl c.in_ok-put.ensures in
-    said_last _ _ c.put_digits.result s3 refl refl c.put_digits.ensures
+    let s1 = said_next _ (progress_starts _ _) refl refl c.in_ok-put_number_column.ensures in
+    let s2 = said_next _ s1 refl refl c.in_ok-put.ensures in
+    said_last _ _ c.put_digits.result s2 refl refl c.put_digits.ensures

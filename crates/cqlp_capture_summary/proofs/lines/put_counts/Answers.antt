@@ -25,10 +25,19 @@ returns-in_err-put_number_column-3 g c =
     let s3 = said_next _ s2 refl refl c.in_ok-put_number_column-2.ensures in
     said_stops _ c.from_residual-in_err-put_number_column-3.result c.from_residual-in_err-put_number_column-3.ensures.0 s3 refl refl c.in_err-put_number_column-3.ensures
 
+pub returns-in_err-put_number_column-4 : goal.returns-in_err-put_number_column-4
+returns-in_err-put_number_column-4 g c =
+    let s1 = said_next _ (progress_starts _ _) refl refl c.in_ok-put_time_column.ensures in
+    let s2 = said_next _ s1 refl refl c.in_ok-put_number_column.ensures in
+    let s3 = said_next _ s2 refl refl c.in_ok-put_number_column-2.ensures in
+    let s4 = said_next _ s3 refl refl c.in_ok-put_number_column-3.ensures in
+    said_stops _ c.from_residual-in_err-put_number_column-4.result c.from_residual-in_err-put_number_column-4.ensures.0 s4 refl refl c.in_err-put_number_column-4.ensures
+
 pub returns : goal.returns
 returns g c =
     let s1 = said_next _ (progress_starts _ _) refl refl c.in_ok-put_time_column.ensures in
     let s2 = said_next _ s1 refl refl c.in_ok-put_number_column.ensures in
     let s3 = said_next _ s2 refl refl c.in_ok-put_number_column-2.ensures in
     let s4 = said_next _ s3 refl refl c.in_ok-put_number_column-3.ensures in
-    said_last _ _ c.put_number_column-4.result s4 refl refl c.put_number_column-4.ensures
+    let s5 = said_next _ s4 refl refl c.in_ok-put_number_column-4.ensures in
+    said_last _ _ c.put_number_column-5.result s5 refl refl c.put_number_column-5.ensures

@@ -12,8 +12,15 @@ returns-in_err-put_time_column-2 g c =
     let s1 = said_next _ (progress_starts _ _) refl refl c.in_ok-put_time_column.ensures in
     said_stops _ c.from_residual-in_err-put_time_column-2.result c.from_residual-in_err-put_time_column-2.ensures.0 s1 refl refl c.in_err-put_time_column-2.ensures
 
+pub returns-in_err-put_time_column-3 : goal.returns-in_err-put_time_column-3
+returns-in_err-put_time_column-3 g c =
+    let s1 = said_next _ (progress_starts _ _) refl refl c.in_ok-put_time_column.ensures in
+    let s2 = said_next _ s1 refl refl c.in_ok-put_time_column-2.ensures in
+    said_stops _ c.from_residual-in_err-put_time_column-3.result c.from_residual-in_err-put_time_column-3.ensures.0 s2 refl refl c.in_err-put_time_column-3.ensures
+
 pub returns : goal.returns
 returns g c =
     let s1 = said_next _ (progress_starts _ _) refl refl c.in_ok-put_time_column.ensures in
     let s2 = said_next _ s1 refl refl c.in_ok-put_time_column-2.ensures in
-    said_last _ _ c.put_time_column-3.result s2 refl refl c.put_time_column-3.ensures
+    let s3 = said_next _ s2 refl refl c.in_ok-put_time_column-3.ensures in
+    said_last _ _ c.put_time_column-4.result s3 refl refl c.put_time_column-4.ensures

@@ -1,0 +1,11 @@
+// Written by dist/erase from crates/cqlp_capture_exchanges/src/naming.rt.
+//! What makes two requests ones of the same statement.
+
+/// What makes two requests ones of the same statement in a summary.
+#[derive(Clone, Copy, Debug, PartialEq, Eq)]
+pub enum Naming {
+    /// Texts that differ in their literals, white space and comments alone.
+    Fingerprint,
+    /// The same text.
+    Literal,
+}
