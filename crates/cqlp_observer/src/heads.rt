@@ -60,10 +60,10 @@ pub struct HeardStep {
 /// and the next one begins where that one ends. A header may say that its frame is compressed. Takes no memory.
 #[derive(Drop)]
 pub struct Heads {
-    responses: bool,
     /// How many bytes, and bytes of gaps, came.
     position: u64,
     stage: StageRecord,
+    responses: bool,
 }
 
 impl Heads {

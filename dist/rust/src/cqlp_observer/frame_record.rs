@@ -6,10 +6,10 @@ use crate::cqlp_note::Header;
 
 /// A frame, as it is kept while it waits: 40 bytes in place of 56.
 pub(crate) struct FrameRecord {
-    header: Header,
     at: u64,
     begun: u64,
     ended: u64,
+    header: Header,
     extent: Extent,
     is_begun_known: bool,
     is_ended_known: bool,

@@ -56,10 +56,10 @@ pub struct HeardStep {
 /// the direction begins anew at the next segment that begins with a header of its direction. A gap within a body cuts its frame,
 /// and the next one begins where that one ends. A header may say that its frame is compressed. Takes no memory.
 pub struct Heads {
-    responses: bool,
     /// How many bytes, and bytes of gaps, came.
     position: u64,
     stage: StageRecord,
+    responses: bool,
 }
 
 impl Heads {

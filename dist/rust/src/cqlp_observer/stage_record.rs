@@ -31,18 +31,18 @@ pub(crate) enum StageParts {
 /// A frame whose body passes, and how many bytes of it are still to come.
 #[derive(Clone, Copy)]
 pub(crate) struct PassingFrame {
-    response: bool,
-    flags: u8,
-    stream: i16,
-    opcode: Opcode,
-    length: u32,
     at: u64,
     begun: u64,
     ended: u64,
+    length: u32,
+    left: u32,
+    stream: i16,
+    response: bool,
+    flags: u8,
+    opcode: Opcode,
     extent: Extent,
     is_begun_known: bool,
     is_ended_known: bool,
-    left: u32,
 }
 
 impl StageRecord {
