@@ -15,10 +15,10 @@ pub struct ExchangeLimits {
 }
 
 impl ExchangeLimits {
-    /// 262,144 messages, and 8 MiB.
+    /// 262,144 messages, and 6 MiB.
     pub const DEFAULT: ExchangeLimits = ExchangeLimits {
         open: 262_144,
-        text: 8_388_608,
+        text: 6_291_456,
     };
 }
 

@@ -25,11 +25,11 @@ pub struct OrderCounts {
 }
 
 impl OrderLimits {
-    /// 1,000 packets, one second and 4 MiB.
+    /// 1,000 packets, one second and 2 MiB.
     pub const DEFAULT: OrderLimits = OrderLimits {
         packets: 1_000,
         nanoseconds: 1_000_000_000,
-        bytes: 4_194_304,
+        bytes: 2_097_152,
     };
 
     /// Each packet passes as it comes.
