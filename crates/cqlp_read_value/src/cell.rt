@@ -16,6 +16,7 @@ use cqlp_note::{Limits, Reason};
 pub struct PageCell<'a> {
     /// How many bytes the cell takes, the four of its length counted.
     pub used: usize,
+    /// What is in it.
     pub content: CellContent<'a>,
 }
 
