@@ -47,10 +47,11 @@ impl<T, A: Allocator> VecDeque<T, A> {
 
     /// Adds an item before the one at this index, or at the end; it comes back where memory is refused.
     pub fn insert(&mut self, at: usize, item: T) -> Result<(), AllocFailed<T>> {
-        if self.reserve(1).is_err() {
-            return Err(AllocFailed(item));
+        match self.reserve(1) {
+            Err(AllocError) => return Err(AllocFailed(item)),
+            Ok(()) if at == self.items.len() => self.items.push_back(item),
+            Ok(()) => self.items.insert(at, item),
         }
-        self.items.insert(at, item);
         Ok(())
     }
 
@@ -78,8 +79,7 @@ impl<T, A: Allocator> DerefMut for VecDeque<T, A> {
     }
 }
 
-/// A map in the order of its keys, as Rust's `BTreeMap`, but that what needs memory may be refused: its entries lie in rows of at most 64, and a
-/// row that is full becomes two.
+/// Rust's `BTreeMap`, but that what needs memory may be refused: its entries lie in rows of at most 64, and a full row becomes two.
 pub struct BTreeMap<K, V, A: Allocator = Global> {
     rows: Rows<Rows<(K, V)>>,
     len: usize,
