@@ -13,7 +13,7 @@ use Rattle.cqlp_build.specs.declared.builder.BuildLimits.{BuildLimits}
 use Rattle.cqlp_build.specs.declared.error.BuildError.{BuildError}
 use Rattle.cqlp_build.specs.declared.error.BuildError.TheVariants as error
 use Rattle.cqlp_build.specs.Building.{BuilderState, CanBeBuilt, HaveNoParts, TakesEvent, empty, is_due, is_end, is_inner, is_unbuilt}
-use Rattle.cqlp_build.specs.Laws.{Answer, AreTaken, NoneRefused, OnlyBoundsRefuse, is_of_bounds, told_all}
+use Rattle.cqlp_build.specs.Laws.{Answer, AreTaken, NoneRefused, OnlyBoundsRefuse, is_of_bounds, without_offsets}
 use Rattle.cqlp_build.proofs.FrameViews.{AreInner, body_inner, body_of, frame_said, none_both}
 use Rattle.cqlp_build.proofs.Several.{both}
 use Rattle.cqlp_build.proofs.Streams.{end_step, header_step, inner_step}
@@ -146,17 +146,17 @@ empty_front [] after e = refl
 empty_front (b ∷ before) after e = absurd cc
 
 all_bounds : (limits : BuildLimits) (l : Rules) (at : ℕ) (fs : List (FrameValue × ℕ)) (before after : List Event) (rs : List Answer) (e : BuildError) (new : BuilderState)
-    → AllByRecursion (λ f. CanBeBuilt f.0) fs → before ++ after ≡ told_all (FlatAll l at fs)
+    → AllByRecursion (λ f. CanBeBuilt f.0) fs → before ++ after ≡ without_offsets (FlatAll l at fs)
     → HaveNoParts before → AreTaken (empty limits) before (rs ++ Err e ∷ []) new → NoneRefused rs
     → is_of_bounds e ≡ true
 all_bounds limits l at [] before after rs e new p b v a n =
     absurd (no_answer (empty limits) rs e new (subst (λ (k : List Event). AreTaken (empty limits) k (rs ++ Err e ∷ []) new) (empty_front before after b) a))
 all_bounds limits l at (f ∷ fs) before after rs e new p b v a n =
     let later = FlatAll l (at + frame_size f.0 f.1) fs in
-    let all : before ++ after ≡ Frame (header_of f.0 (parts_size (frame_parts f.0) + f.1)) ∷ body_of l at f.0 ++ End f.1 ∷ told_all later =
-    b ∙ (map-append (λ e. e.1) (Flat l at f.0 f.1) later ∙ (ap (λ es. es ++ told_all later) (frame_said l at f.0 f.1)
-    ∙ append_assoc (Frame (header_of f.0 (parts_size (frame_parts f.0) + f.1)) ∷ body_of l at f.0) (End f.1 ∷ []) (told_all later))) in
-    elim (frame_bounds l at f.0 f.1 p.0 (empty limits) (told_all later) before after rs e new refl all v a n) [
+    let all : before ++ after ≡ Frame (header_of f.0 (parts_size (frame_parts f.0) + f.1)) ∷ body_of l at f.0 ++ End f.1 ∷ without_offsets later =
+    b ∙ (map-append (λ e. e.1) (Flat l at f.0 f.1) later ∙ (ap (λ es. es ++ without_offsets later) (frame_said l at f.0 f.1)
+    ∙ append_assoc (Frame (header_of f.0 (parts_size (frame_parts f.0) + f.1)) ∷ body_of l at f.0) (End f.1 ∷ []) (without_offsets later))) in
+    elim (frame_bounds l at f.0 f.1 p.0 (empty limits) (without_offsets later) before after rs e new refl all v a n) [
       | inl k ↦ k
       | inr k ↦ all_bounds limits l (at + frame_size f.0 f.1) fs k.before after k.rs e new p.1 k.same k.whole k.run k.sound
     ]

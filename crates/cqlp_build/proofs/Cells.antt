@@ -45,7 +45,7 @@ one_more n =
     let same : n + 1 ≡ suc n = omega arith in
     ap (λ m. m == 0) same ∙ eqb-suc-zero n
 
--- nothing that is told within a value ends its cell
+-- no event within a value ends its cell
 inside_none : (n : ℕ) → (n == 0) ≡ false → (ts : Types) (vs : Values) → none_ends (values_said n ts vs) ≡ true
 inside_none n z NoMore vs = refl
 inside_none n z (Type_and k inner ts) NoValue = refl
@@ -67,7 +67,7 @@ at_last (x ∷ y ∷ es) e n h =
     let p = both (not (ends x)) (none_ends (y ∷ es)) n in
     join (not (ends x)) (ends_at_last (y ∷ es ++ e ∷ [])) p.0 (at_last (y ∷ es) e p.1 h)
 
--- nothing comes of a cell after the last that is told of its value, and of no other
+-- nothing comes of a cell after the last event of its value, and of no other
 pub cell_ends : (k : Kind) (inner : Types) (v : Values) → Fit (Type_and k inner NoMore) v → ends_at_last (values_said 0 (Type_and k inner NoMore) v) ≡ true
 cell_ends k inner NoValue f = absurd cc
 cell_ends k inner (Null_and vs) f = refl
@@ -81,56 +81,56 @@ cell_ends k inner (Fields_and j items vs) f =
 
 -- ---- one cell comes first
 
-told_back : (row column : ℕ) (e : CellEvent) → cell_of (cell_event row column e) ≡ Some e
-told_back row column (Leaf level v) = refl
-told_back row column (Null level) = refl
-told_back row column (Empty level) = refl
-told_back row column (Enter level k n) = refl
-told_back row column (Leave level n) = refl
-told_back row column (Part level offset c last) = refl
+emitted_back : (row column : ℕ) (e : CellEvent) → cell_of (cell_event row column e) ≡ Some e
+emitted_back row column (Leaf level v) = refl
+emitted_back row column (Null level) = refl
+emitted_back row column (Empty level) = refl
+emitted_back row column (Enter level k n) = refl
+emitted_back row column (Leave level n) = refl
+emitted_back row column (Part level offset c last) = refl
 
-same_told : (row column : ℕ) (e d : CellEvent) → cell_event row column e ≡ cell_event row column d → e ≡ d
-same_told row column e d h =
-    let s : Some e ≡ Some d = sym (told_back row column e) ∙ (ap cell_of h ∙ told_back row column d) in
+same_emitted : (row column : ℕ) (e d : CellEvent) → cell_event row column e ≡ cell_event row column d → e ≡ d
+same_emitted row column e d h =
+    let s : Some e ≡ Some d = sym (emitted_back row column e) ∙ (ap cell_of h ∙ emitted_back row column d) in
     cc
 
 never_both : (e d : CellEvent) → e ≡ d → ends e ≡ true → not (ends d) ≡ true → ⊥
 never_both e d h p q = let r : not true ≡ true = ap not (sym p ∙ ap ends h) ∙ q in absurd cc
 
 module _ (row column : ℕ) where
-  abbrev told : List CellEvent → List Event
-  told es = map (cell_event row column) es
+  abbrev emitted : List CellEvent → List Event
+  emitted es = map (cell_event row column) es
 
-  pub one_cell : (es fs : List CellEvent) → ends_at_last es ≡ true → ends_at_last fs ≡ true → (r s : List Event) → told es ++ r ≡ told fs ++ s → (es ≡ fs) × (r ≡ s)
+  pub one_cell : (es fs : List CellEvent) → ends_at_last es ≡ true → ends_at_last fs ≡ true → (r s : List Event) → emitted es ++ r ≡ emitted fs ++ s → (es ≡ fs) × (r ≡ s)
   one_cell [] fs p q r s h = absurd cc
   one_cell (e ∷ es) [] p q r s h = absurd cc
   one_cell (e ∷ []) (f ∷ []) p q r s h =
       let first : cell_event row column e ≡ cell_event row column f = cc in
       let rest : r ≡ s = cc in
-      (ap (λ x. x ∷ []) (same_told row column e f first), rest)
+      (ap (λ x. x ∷ []) (same_emitted row column e f first), rest)
   one_cell (e ∷ []) (f ∷ g ∷ fs) p q r s h =
       let first : cell_event row column e ≡ cell_event row column f = cc in
-      absurd (never_both e f (same_told row column e f first) p (both (not (ends f)) (ends_at_last (g ∷ fs)) q).0)
+      absurd (never_both e f (same_emitted row column e f first) p (both (not (ends f)) (ends_at_last (g ∷ fs)) q).0)
   one_cell (e ∷ d ∷ es) (f ∷ []) p q r s h =
       let first : cell_event row column e ≡ cell_event row column f = cc in
-      absurd (never_both f e (sym (same_told row column e f first)) q (both (not (ends e)) (ends_at_last (d ∷ es)) p).0)
+      absurd (never_both f e (sym (same_emitted row column e f first)) q (both (not (ends e)) (ends_at_last (d ∷ es)) p).0)
   one_cell (e ∷ d ∷ es) (f ∷ g ∷ fs) p q r s h =
       let first : cell_event row column e ≡ cell_event row column f = cc in
-      let later : told (d ∷ es) ++ r ≡ told (g ∷ fs) ++ s = cc in
+      let later : emitted (d ∷ es) ++ r ≡ emitted (g ∷ fs) ++ s = cc in
       let o = one_cell (d ∷ es) (g ∷ fs) (both (not (ends e)) (ends_at_last (d ∷ es)) p).1 (both (not (ends f)) (ends_at_last (g ∷ fs)) q).1 r s later in
-      let same = same_told row column e f first in
+      let same = same_emitted row column e f first in
       (λ i. same i ∷ o.0 i, o.1)
 
-  -- what was told of a cell that has not ended is not all of it
-  pub not_over : (es fs : List CellEvent) → none_ends es ≡ true → ends_at_last fs ≡ true → (r s : List Event) → told es ++ r ≡ told fs ++ s
+  -- the events of a cell that has not ended are not all of it
+  pub not_over : (es fs : List CellEvent) → none_ends es ≡ true → ends_at_last fs ≡ true → (r s : List Event) → emitted es ++ r ≡ emitted fs ++ s
       → (e : CellEvent) × (more : List Event) × (r ≡ cell_event row column e ∷ more)
   not_over es [] n q r s h = absurd cc
-  not_over [] (f ∷ fs) n q r s h = (f, told fs ++ s, h)
+  not_over [] (f ∷ fs) n q r s h = (f, emitted fs ++ s, h)
   not_over (e ∷ es) (f ∷ []) n q r s h =
       let first : cell_event row column e ≡ cell_event row column f = cc in
-      absurd (never_both f e (sym (same_told row column e f first)) q (both (not (ends e)) (none_ends es) n).0)
+      absurd (never_both f e (sym (same_emitted row column e f first)) q (both (not (ends e)) (none_ends es) n).0)
   not_over (e ∷ es) (f ∷ g ∷ fs) n q r s h =
-      let later : told es ++ r ≡ told (g ∷ fs) ++ s = cc in
+      let later : emitted es ++ r ≡ emitted (g ∷ fs) ++ s = cc in
       not_over es (g ∷ fs) (both (not (ends e)) (none_ends es) n).1 (both (not (ends f)) (ends_at_last (g ∷ fs)) q).1 r s later
 
 -- ---- gathering
@@ -146,23 +146,23 @@ pub record Comes (row column : ℕ) (start now : Held) : Type 0 where
   pub none : none_ends (cell.left now.cell) ≡ true
 
 module _ (row column : ℕ) (start now next new : Held) (c : Comes row column start now) (s : ℕ × Step) (t : TakesStep row column (Some s) now next)
-    (fault : new.fault ≡ next.fault) (rest : left new ≡ left next) (held : cell.left new.cell ≡ cell.left now.cell ++ cell.told_by s ∷ []) where
+    (fault : new.fault ≡ next.fault) (rest : left new ≡ left next) (held : cell.left new.cell ≡ cell.left now.cell ++ cell.item_event s ∷ []) where
   come : left start ≡ map (cell_event row column) (cell.left new.cell) ++ left new
   come =
       let es = map (cell_event row column) (cell.left now.cell) in
-      let e = cell_event row column (cell.told_by s) in
+      let e = cell_event row column (cell.item_event s) in
       c.came ∙ (ap (λ r. es ++ r) t.1 ∙ (ap (λ r. es ++ e ∷ r) (sym rest)
-      ∙ (sym (append_assoc es (e ∷ []) (left new)) ∙ ap (λ r. r ++ left new) (sym (map-append (cell_event row column) (cell.left now.cell) (cell.told_by s ∷ [])) ∙ ap (map (cell_event row column)) (sym held)))))
+      ∙ (sym (append_assoc es (e ∷ []) (left new)) ∙ ap (λ r. r ++ left new) (sym (map-append (cell_event row column) (cell.left now.cell) (cell.item_event s ∷ [])) ∙ ap (map (cell_event row column)) (sym held)))))
 
-  pub comes_on : ends (cell.told_by s) ≡ false → Comes row column start new
+  pub comes_on : ends (cell.item_event s) ≡ false → Comes row column start new
   comes_on e = record {
     fault = fault ∙ (t.2 ∙ (sym t.0 ∙ c.fault));
     came = come;
-    none = ap none_ends held ∙ none_both (cell.left now.cell) (cell.told_by s ∷ []) c.none (ap (λ b. not b && true) e);
+    none = ap none_ends held ∙ none_both (cell.left now.cell) (cell.item_event s ∷ []) c.none (ap (λ b. not b && true) e);
   }
 
-  pub comes_whole : ends (cell.told_by s) ≡ true → Gathers row column true start new
-  comes_whole e = (sym c.fault ∙ t.0, fault ∙ t.2, come, ap ends_at_last held ∙ at_last (cell.left now.cell) (cell.told_by s) c.none e)
+  pub comes_whole : ends (cell.item_event s) ≡ true → Gathers row column true start new
+  comes_whole e = (sym c.fault ∙ t.0, fault ∙ t.2, come, ap ends_at_last held ∙ at_last (cell.left now.cell) (cell.item_event s) c.none e)
 
 pub comes_not : (row column : ℕ) (start now new : Held) → Comes row column start now → TakesStep row column None now new → Gathers row column false start new
 comes_not row column start now new c t = inr (

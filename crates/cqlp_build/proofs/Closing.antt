@@ -15,9 +15,9 @@ use Rattle.cqlp_build.specs.declared.error.BuildError.{BuildError}
 use Rattle.cqlp_build.specs.declared.error.BuildError.TheVariants as error
 use Rattle.cqlp_build.specs.declared.held.Held.{Held}
 use Rattle.cqlp_build.specs.Building.{AreOfNone, BeginsWith, IsOfHeader}
-use Rattle.cqlp_build.specs.Closing.{ClosesAt, IsOfSome, TellsOf, of_length}
+use Rattle.cqlp_build.specs.Closing.{ClosesAt, IsOfSome, ReportsOf, of_length}
 use Rattle.cqlp_build.specs.Held.{Builds, IsRefused, IsSound, left}
-use Rattle.cqlp_build.specs.Told.{told}
+use Rattle.cqlp_build.specs.Emitted.{emitted}
 use Rattle.cqlp_build.proofs.Finishing.{built_of, directed_by, header_by, none_left, none_of_header, none_refused, measured, only_this, refused}
 use Rattle.cqlp_build.proofs.FrameViews.{left_none}
 use Rattle.cqlp_build.proofs.Steps.{AreNone}
@@ -28,13 +28,13 @@ begins_of h n f b = record { flags = b.flags; stream = b.stream; opcode = b.opco
 begins_back : (h : Header) (n : ℕ) (f : FrameValue) → BeginsWith (of_length h n) f → BeginsWith h f
 begins_back h n f b = record { flags = b.flags; stream = b.stream; opcode = b.opcode; agrees = b.agrees; built = b.built; cells = b.cells }
 
-module _ (h : Header) (n : ℕ) (f : FrameValue) (old new : Held) (b : Builds (λ g. told (frame_parts g)) (BeginsWith h) f old new) where
-  none_by : IsRefused old ⊎ AreNone (λ g. told (frame_parts g)) (BeginsWith h) old
-      → IsRefused old ⊎ AreNone (λ g. told (frame_parts g)) (BeginsWith (of_length h n)) old
+module _ (h : Header) (n : ℕ) (f : FrameValue) (old new : Held) (b : Builds (λ g. emitted (frame_parts g)) (BeginsWith h) f old new) where
+  none_by : IsRefused old ⊎ AreNone (λ g. emitted (frame_parts g)) (BeginsWith h) old
+      → IsRefused old ⊎ AreNone (λ g. emitted (frame_parts g)) (BeginsWith (of_length h n)) old
   none_by (inl r) = inl r
   none_by (inr k) = inr (k.0, λ g rest p e. k.1 g rest (begins_back h n g p) e)
 
-  pub builds_of : Builds (λ g. told (frame_parts g)) (BeginsWith (of_length h n)) f old new
+  pub builds_of : Builds (λ g. emitted (frame_parts g)) (BeginsWith (of_length h n)) f old new
   builds_of = record {
     made = λ s. let m = b.made s in (m.0, m.1, begins_of h n f m.2);
     only = λ s g rest p e. b.only s g rest (begins_back h n g p) e;
@@ -52,8 +52,8 @@ of_some h f b s =
 pub some_of : (h : Header) (n : ℕ) (f : FrameValue) → BeginsWith (of_length h n) f → IsOfHeader f (of_length h n) 0 → IsOfSome h f
 some_of h n f b i = (i.0, directed_by f (of_length h n) 0 b i)
 
-module _ (h : Header) (f : OwnedFrame) (old new : Held) (s : IsSound old) (b : Builds (λ g. told (frame_parts g)) (BeginsWith h) (frame_of f) old new) where
-  pub closes : TellsOf h (frame_of f) new None → ClosesAt h (left old) (Ok f)
+module _ (h : Header) (f : OwnedFrame) (old new : Held) (s : IsSound old) (b : Builds (λ g. emitted (frame_parts g)) (BeginsWith h) (frame_of f) old new) where
+  pub closes : ReportsOf h (frame_of f) new None → ClosesAt h (left old) (Ok f)
   closes t =
       let n = parts_size (frame_parts (frame_of f)) in
       let m = b.made t.0 in
@@ -66,7 +66,7 @@ module _ (h : Header) (f : OwnedFrame) (old new : Held) (s : IsSound old) (b : B
         only = λ k g d a. (only_this (of_length h k) 0 (frame_of f) old new (builds_of h k (frame_of f) old new b) g 0 t.0 d a).0;
       }
 
-  no_frame : (n : ℕ) → TellsOf h (frame_of f) new (Some error.NoFrame) → AreOfNone (Frame (of_length h n) ∷ left old ++ End 0 ∷ [])
+  no_frame : (n : ℕ) → ReportsOf h (frame_of f) new (Some error.NoFrame) → AreOfNone (Frame (of_length h n) ∷ left old ++ End 0 ∷ [])
   no_frame n (inl r) = none_refused (of_length h n) 0 (frame_of f) old new (builds_of h n (frame_of f) old new b) s r
   no_frame n (inr (k, inl e)) =
       none_left (of_length h n) 0 (frame_of f) old new (builds_of h n (frame_of f) old new b) k (λ d. e (sym d))
@@ -75,7 +75,7 @@ module _ (h : Header) (f : OwnedFrame) (old new : Held) (s : IsSound old) (b : B
       none_of_header (of_length h n) 0 (frame_of f) old new c k
       (λ i. e (b.made k).2 (some_of h n (frame_of f) (c.made k).2 i))
 
-  pub closes_not : (why : BuildError) → TellsOf h (frame_of f) new (Some why) → ClosesAt h (left old) (Err why)
+  pub closes_not : (why : BuildError) → ReportsOf h (frame_of f) new (Some why) → ClosesAt h (left old) (Err why)
   closes_not error.NoFrame t = λ n. no_frame n t
   closes_not error.NoMemory t = tt
   closes_not error.Misplaced t = absurd t

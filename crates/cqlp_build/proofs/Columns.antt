@@ -17,7 +17,7 @@ use Rattle.cqlp_build.proofs.Several.{both, join}
 use Rattle.cqlp_kind.specs.declared.kind.Kind.TheVariants as kind
 use Rattle.cqlp_kind.specs.Types.{NoMore, Type_and, how_many}
 use Rattle.cqlp_grammar.specs.Productions.{raw_types}
-use Rattle.cqlp_message.specs.Bodies.{cell_types, column_types, types_told}
+use Rattle.cqlp_message.specs.Bodies.{cell_types, column_types, types_described}
 use Rattle.cqlp_message.specs.FrameValues.{Metadata, Spec, TableName}
 use Rattle.cqlp_build.specs.Productions.{AreReadable, column_type}
 
@@ -26,15 +26,15 @@ raw_column zero i h = absurd (omega (arith, h))
 raw_column (suc n) zero h = refl
 raw_column (suc n) (suc i) h = raw_column n i (omega (arith, h))
 
--- where no columns are told
-pub untold_column : (m : Metadata) (i : ℕ) → m.specs ≡ None → i < m.columns → column_type i (cell_types m) ≡ Type_and kind.Raw NoMore NoMore
-untold_column m i e h = ap (λ o. column_type i (types_told m.columns o)) e ∙ raw_column m.columns i h
+-- where no columns are described
+pub undescribed_column : (m : Metadata) (i : ℕ) → m.specs ≡ None → i < m.columns → column_type i (cell_types m) ≡ Type_and kind.Raw NoMore NoMore
+undescribed_column m i e h = ap (λ o. column_type i (types_described m.columns o)) e ∙ raw_column m.columns i h
 
 -- where they are
-pub told_column : (specs : List OwnedSpec) (i : ℕ) (s : OwnedSpec) → s ≡ get_or specs i s → i < length specs → column_type i (column_types (map spec_of specs)) ≡ types_in (tree_of s.tree)
-told_column [] i s h lt = absurd (omega (arith, lt))
-told_column (c ∷ specs) zero s h lt = ap (λ (x : OwnedSpec). types_in (tree_of x.tree)) (sym h)
-told_column (c ∷ specs) (suc i) s h lt = told_column specs i s h (omega (arith, lt))
+pub described_column : (specs : List OwnedSpec) (i : ℕ) (s : OwnedSpec) → s ≡ get_or specs i s → i < length specs → column_type i (column_types (map spec_of specs)) ≡ types_in (tree_of s.tree)
+described_column [] i s h lt = absurd (omega (arith, lt))
+described_column (c ∷ specs) zero s h lt = ap (λ (x : OwnedSpec). types_in (tree_of x.tree)) (sym h)
+described_column (c ∷ specs) (suc i) s h lt = described_column specs i s h (omega (arith, lt))
 
 pub column_readable : (specs : List OwnedSpec) (i : ℕ) (s : OwnedSpec) → s ≡ get_or specs i s → i < length specs → list_all (λ c. is_tree c.tree) (map spec_of specs) ≡ true → IsReadable s.tree
 column_readable [] i s h lt r = absurd (omega (arith, lt))
@@ -46,29 +46,29 @@ column_readable (c ∷ specs) (suc i) s h lt r =
 
 -- ---- metadata that agrees
 
-trees_told : (own : Bool) (specs : List Spec) → list_all (spec_agrees own) specs ≡ true → list_all (λ c. is_tree c.tree) specs ≡ true
-trees_told own [] e = refl
-trees_told own (c ∷ specs) e =
+trees_described : (own : Bool) (specs : List Spec) → list_all (spec_agrees own) specs ≡ true → list_all (λ c. is_tree c.tree) specs ≡ true
+trees_described own [] e = refl
+trees_described own (c ∷ specs) e =
     let p = both (spec_agrees own c) (list_all (spec_agrees own) specs) e in
     let q = both (there_if own c.table) (is_tree c.tree) p.0 in
-    join (is_tree c.tree) (list_all (λ d. is_tree d.tree) specs) q.1 (trees_told own specs p.1)
+    join (is_tree c.tree) (list_all (λ d. is_tree d.tree) specs) q.1 (trees_described own specs p.1)
 
 pub readable : (m : Metadata) → metadata_agrees m ≡ true → AreReadable m
-readable m e specs told =
+readable m e specs emitted =
     let f = bits m.flags in
     let own = not (has f 0x01) in
     let c = (both (there_if (has f 0x02) m.paging) (columns_agree f m.columns m.table m.specs) e).1 in
-    let d : columns_agree f m.columns m.table (Some specs) ≡ true = subst (λ (o : Option (List Spec)). columns_agree f m.columns m.table o ≡ true) told c in
+    let d : columns_agree f m.columns m.table (Some specs) ≡ true = subst (λ (o : Option (List Spec)). columns_agree f m.columns m.table o ≡ true) emitted c in
     let s = (both (not (has f 0x04)) (specs_agree f m.columns m.table specs) d).1 in
     let p = both ((length specs == m.columns) && there_if (has f 0x01) m.table) (list_all (spec_agrees own) specs) s in
     let q = both (length specs == m.columns) (there_if (has f 0x01) m.table) p.0 in
-    (eqb-true (length specs) m.columns q.0, trees_told own specs p.1)
+    (eqb-true (length specs) m.columns q.0, trees_described own specs p.1)
 
 -- there are as many types as columns
 pub column_count : (m : OwnedMetadata) → AreReadable (metadata_of m) → how_many (cell_types (metadata_of m)) ≡ m.columns
 column_count m r = by_specs m.specs refl
   where
-    by_specs : (o : _) → o ≡ m.specs → how_many (types_told m.columns (option_map (λ cs. map spec_of cs.items) o)) ≡ m.columns
+    by_specs : (o : _) → o ≡ m.specs → how_many (types_described m.columns (option_map (λ cs. map spec_of cs.items) o)) ≡ m.columns
     by_specs None e = how_many-raw m.columns
     by_specs (Some cs) e =
         let is : (metadata_of m).specs ≡ Some (map spec_of cs.items) = ap (λ o. option_map (λ cs. map spec_of cs.items) o) (sym e) in

@@ -17,13 +17,13 @@ use Rattle.cqlp_note.specs.Heading.{answers, same}
 use Rattle.cqlp_message.specs.Agreement.{has_its_cells, opcode_of}
 use Rattle.std.specs.Prelude.{IsTrue, false}
 use Rattle.std.proofs.Common.{◌↔◌}
-use Rattle.cqlp_build.specs.Building.{BuilderState, TakesEvent, empty, is_due, AreEventsOf, AreOfNone, BeginsWith, CanBeBuilt, Finishes, HaveNoParts, IsOfHeader, Tells, has_fit_cells}
+use Rattle.cqlp_build.specs.Building.{BuilderState, TakesEvent, empty, is_due, AreEventsOf, AreOfNone, BeginsWith, CanBeBuilt, Finishes, HaveNoParts, IsOfHeader, Reports, has_fit_cells}
 use Rattle.cqlp_build.specs.declared.error.BuildError.{BuildError}
 use Rattle.cqlp_build.specs.declared.error.BuildError.TheVariants as error
 use Rattle.cqlp_build.specs.Held.{Builds, IsRefused, IsSound, left}
-use Rattle.cqlp_build.specs.Told.{told}
+use Rattle.cqlp_build.specs.Emitted.{emitted}
 use Rattle.cqlp_build.proofs.Several.{both, join}
-use Rattle.cqlp_build.proofs.FrameViews.{body_of, body_told, frame_said, left_none}
+use Rattle.cqlp_build.proofs.FrameViews.{body_of, body_events, frame_said, left_none}
 use Rattle.cqlp_build.proofs.Steps.{AreNone}
 
 -- ---- ends of lists
@@ -46,7 +46,7 @@ last_is (x ∷ xs) (y ∷ ys) a b e =
 -- what a frame with these events is
 pub record IsFrameOf (h : Header) (es : List Event) (x : ℕ) (g : FrameValue) (y : ℕ) : Type 0 where
   pub header : header_of g (parts_size (frame_parts g) + y) ≡ h
-  pub parts : told (frame_parts g) ≡ es
+  pub parts : emitted (frame_parts g) ≡ es
   pub extra : y ≡ x
 
 frame_from : (h k : Header) (es fs : List Event) (x y : ℕ) → Frame k ∷ fs ++ End y ∷ [] ≡ Frame h ∷ es ++ End x ∷ [] → (k ≡ h) × (fs ≡ es) × (y ≡ x)
@@ -61,7 +61,7 @@ frame_from h k es fs x y e =
 pub is_frame_of : (h : Header) (es : List Event) (x : ℕ) (g : FrameValue) (y : ℕ) → HaveNoParts es → AreEventsOf (Frame h ∷ es ++ End x ∷ []) g y → IsFrameOf h es x g y
 is_frame_of h es x g y n a =
     let r = frame_from h (header_of g (parts_size (frame_parts g) + y)) es (body_of a.rules a.at g) x y (sym (frame_said a.rules a.at g y) ∙ a.are) in
-    record { header = r.0; parts = sym (body_told a.rules a.at g (inr (subst HaveNoParts (sym r.1) n))) ∙ r.1; extra = r.2 }
+    record { header = r.0; parts = sym (body_events a.rules a.at g (inr (subst HaveNoParts (sym r.1) n))) ∙ r.1; extra = r.2 }
 
 -- of a frame that some bytes spell all cells are there, each of its type
 fit_cells : (g : FrameValue) → IsFit g → has_fit_cells g.message ≡ true
@@ -93,25 +93,25 @@ pub are_events : (h : Header) (es : List Event) (x : ℕ) (f : FrameValue) → C
 are_events h es x f c i = record {
   rules = no_rules;
   at = 0;
-  are = frame_said no_rules 0 f x ∙ ap (λ k. Frame k ∷ body_of no_rules 0 f ++ End x ∷ []) i.header ∙ ap (λ r. Frame h ∷ r ++ End x ∷ []) (body_told no_rules 0 f (inl refl) ∙ i.parts);
+  are = frame_said no_rules 0 f x ∙ ap (λ k. Frame k ∷ body_of no_rules 0 f ++ End x ∷ []) i.header ∙ ap (λ r. Frame h ∷ r ++ End x ∷ []) (body_events no_rules 0 f (inl refl) ∙ i.parts);
 }
 
-module _ (h : Header) (x : ℕ) (f : FrameValue) (old new : Held) (b : Builds (λ g. told (frame_parts g)) (BeginsWith h) f old new) where
+module _ (h : Header) (x : ℕ) (f : FrameValue) (old new : Held) (b : Builds (λ g. emitted (frame_parts g)) (BeginsWith h) f old new) where
   pub only_this : (g : FrameValue) (y : ℕ) → IsSound new → CanBeBuilt g → AreEventsOf (Frame h ∷ left old ++ End x ∷ []) g y → (g ≡ f) × ([] ≡ left new) × (y ≡ x)
   only_this g y s c a =
       let i = is_frame_of h (left old) x g y (left_none old) a in
-      let o = b.only s g [] (begins_with h g _ c i.header) (sym i.parts ∙ sym (append-nil (told (frame_parts g)))) in
+      let o = b.only s g [] (begins_with h g _ c i.header) (sym i.parts ∙ sym (append-nil (emitted (frame_parts g)))) in
       (o.0, o.1, i.extra)
 
   -- it was refused
   pub none_refused : IsSound old → IsRefused new → AreOfNone (Frame h ∷ left old ++ End x ∷ [])
   none_refused s r = never s (b.none r)
     where
-      never : IsSound old → IsRefused old ⊎ AreNone (λ g. told (frame_parts g)) (BeginsWith h) old → AreOfNone (Frame h ∷ left old ++ End x ∷ [])
+      never : IsSound old → IsRefused old ⊎ AreNone (λ g. emitted (frame_parts g)) (BeginsWith h) old → AreOfNone (Frame h ∷ left old ++ End x ∷ [])
       never s (inl k) g y c a = absurd cc
       never s (inr k) g y c a =
           let i = is_frame_of h (left old) x g y (left_none old) a in
-          k.1 g [] (begins_with h g _ c i.header) (sym i.parts ∙ sym (append-nil (told (frame_parts g))))
+          k.1 g [] (begins_with h g _ c i.header) (sym i.parts ∙ sym (append-nil (emitted (frame_parts g))))
 
   -- something is left
   pub none_left : IsSound new → ([] ≡ left new → ⊥) → AreOfNone (Frame h ∷ left old ++ End x ∷ [])
@@ -129,15 +129,15 @@ module _ (h : Header) (x : ℕ) (f : FrameValue) (old new : Held) (b : Builds (�
   built_of s n i =
       let m = b.made s in
       let c : CanBeBuilt f = (i.0, m.2.built) in
-      let e : told (frame_parts f) ≡ left old = sym (append-nil (told (frame_parts f))) ∙ ap (λ r. told (frame_parts f) ++ r) n ∙ sym m.1 in
+      let e : emitted (frame_parts f) ≡ left old = sym (append-nil (emitted (frame_parts f))) ∙ ap (λ r. emitted (frame_parts f) ++ r) n ∙ sym m.1 in
       (are_events h (left old) x f c (record { header = i.1; parts = e; extra = refl }), c, λ g y d a. let o = only_this g y s d a in (o.0, o.2))
 
-  pub no_frame : IsSound old → Tells h x f new (Some error.NoFrame) → AreOfNone (Frame h ∷ left old ++ End x ∷ [])
+  pub no_frame : IsSound old → Reports h x f new (Some error.NoFrame) → AreOfNone (Frame h ∷ left old ++ End x ∷ [])
   no_frame s (inl r) = none_refused s r
   no_frame s (inr (k, inl n)) = none_left k (λ e. n (sym e))
   no_frame s (inr (k, inr n)) = none_of_header k (n (b.made k).2)
 
-  pub finishes_not : IsSound old → (why : BuildError) → Tells h x f new (Some why) → Finishes h x (left old) (Err why)
+  pub finishes_not : IsSound old → (why : BuildError) → Reports h x f new (Some why) → Finishes h x (left old) (Err why)
   finishes_not s error.NoFrame t = no_frame s t
   finishes_not s error.NoMemory t = tt
   finishes_not s error.Misplaced t = absurd t
@@ -176,7 +176,7 @@ header_is f h x i =
     let size : parts_size (frame_parts f) + x ≡ h.length = ap (λ (k : Header). k.length) i.1 in
     subst (λ (k : ℕ). header_of f k ≡ h) size i.1
 
--- ---- what is told of the end
+-- ---- what is reported at the end
 
 pub decided : (f : FrameValue) (h : Header) (x len : ℕ) (r : Bool) → (IsTrue r ↔ (len + x ≡ h.length + 9)) → measure_of f ≡ Ok len → header_of f h.length ≡ h → (IsTrue r ↔ IsOfHeader f h x)
 decided f h x len r e m hd = (λ t. is_of_header f h x len m hd (e.0 t), λ i. e.1 (length_of_header f h x len m i))

@@ -16,9 +16,9 @@ use Rattle.cqlp_build.specs.declared.held.Held.{Held}
 use Rattle.cqlp_build.specs.Building.{BeginsWith}
 use Rattle.cqlp_build.specs.Held.{Builds}
 use Rattle.cqlp_build.specs.Productions.{BuildsMessage, IsOf}
-use Rattle.cqlp_build.specs.Told.{payload_parts, told}
+use Rattle.cqlp_build.specs.Emitted.{payload_parts, emitted}
 use Rattle.cqlp_build.proofs.Several.{both, join}
-use Rattle.cqlp_build.proofs.Steps.{as_builds, told_four, ◌then◌}
+use Rattle.cqlp_build.proofs.Steps.{as_builds, emitted_four, ◌then◌}
 
 abbrev Announced : Type 0
 Announced = ((Unit {0} × Option Octets) × Option (List Octets)) × Option (List (Octets × Option Octets))
@@ -90,14 +90,14 @@ to_parts h f b =
 
 pub frame_builds : (h : Header) {tracing : Option Octets} {warnings : Option (List Octets)} {payload : Option (List (Octets × Option Octets))} {message : Message} {a b c d e f : Held}
     → Builds {A = Unit {0}} (λ _. []) (λ _. not (has h.flags 0x01) ≡ true) tt a b
-    → Builds (λ o. told (body.where_some (λ id. Field_is field.TraceId notation.Uuid (note.Uuid id) ∷ []) o)) (λ o. there_if (answers h.opcode && has h.flags 0x02) o ≡ true) tracing b c
-    → Builds (λ o. told (body.where_some (body.texts field.Warnings field.Warning) o)) (λ o. there_if (answers h.opcode && has h.flags 0x08) o ≡ true) warnings c d
-    → Builds (λ o. told (body.where_some (body.counted field.PayloadItems payload_parts) o)) (λ o. there_if (has h.flags 0x04) o ≡ true) payload d e
+    → Builds (λ o. emitted (body.where_some (λ id. Field_is field.TraceId notation.Uuid (note.Uuid id) ∷ []) o)) (λ o. there_if (answers h.opcode && has h.flags 0x02) o ≡ true) tracing b c
+    → Builds (λ o. emitted (body.where_some (body.texts field.Warnings field.Warning) o)) (λ o. there_if (answers h.opcode && has h.flags 0x08) o ≡ true) warnings c d
+    → Builds (λ o. emitted (body.where_some (body.counted field.PayloadItems payload_parts) o)) (λ o. there_if (has h.flags 0x04) o ≡ true) payload d e
     → BuildsMessage h.opcode message e f
-    → Builds (λ g. told (frame_parts g)) (BeginsWith h) (record { flags = h.flags; stream = h.stream; tracing = tracing; warnings = warnings; payload = payload; message = message }) a f
+    → Builds (λ g. emitted (frame_parts g)) (BeginsWith h) (record { flags = h.flags; stream = h.stream; tracing = tracing; warnings = warnings; payload = payload; message = message }) a f
 frame_builds h one two three four five =
-    as_builds (λ g. told (frame_parts g)) (BeginsWith h) (frame_from h)
-    (λ p q. told_four (body.where_some (λ id. Field_is field.TraceId notation.Uuid (note.Uuid id) ∷ []) p.0.0.0.1) (body.where_some (body.texts field.Warnings field.Warning) p.0.0.1) (body.where_some (body.counted field.PayloadItems payload_parts) p.0.1) (body.message_parts p.1))
+    as_builds (λ g. emitted (frame_parts g)) (BeginsWith h) (frame_from h)
+    (λ p q. emitted_four (body.where_some (λ id. Field_is field.TraceId notation.Uuid (note.Uuid id) ∷ []) p.0.0.0.1) (body.where_some (body.texts field.Warnings field.Warning) p.0.0.1) (body.where_some (body.counted field.PayloadItems payload_parts) p.0.1) (body.message_parts p.1))
     (λ p q. from_parts h p q)
     (λ g b. (parts_in g, to_parts h g b, frame_same h g b.flags b.stream))
     (one then two then three then four then five)

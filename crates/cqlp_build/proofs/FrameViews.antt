@@ -21,8 +21,8 @@ use Rattle.cqlp_build.specs.declared.held.Held.{Held}
 use Rattle.cqlp_build.specs.declared.item.Item.{Item}
 use Rattle.cqlp_build.specs.declared.item.Item.TheVariants as item
 use Rattle.cqlp_build.specs.Building.{HaveNoParts, is_inner, is_unbuilt}
-use Rattle.cqlp_build.specs.Held.{left, told_by}
-use Rattle.cqlp_build.specs.Told.{part_told, told}
+use Rattle.cqlp_build.specs.Held.{left, item_event}
+use Rattle.cqlp_build.specs.Emitted.{part_emitted, emitted}
 use Rattle.cqlp_build.proofs.Several.{both, join}
 
 -- ---- without offsets
@@ -76,14 +76,14 @@ module _ (l : Rules) where
   cell_whole row column es (inl e) = inl e
   cell_whole row column es (inr e) = inr (none_of_cell row column (said es) (subst HaveNoParts (said_cell row column es) e))
 
-  said_part : (at : ℕ) (p : parts.Part) → AreWhole (said (part_events l at p)) → said (part_events l at p) ≡ part_told p
+  said_part : (at : ℕ) (p : parts.Part) → AreWhole (said (part_events l at p)) → said (part_events l at p) ≡ part_emitted p
   said_part at (Field_is f m v) off = refl
   said_part at (Type_is t) off = said_items at (trees_items false t)
   said_part at (Cell_is row column k inner v) off =
       let es = value_items l at k inner v in
       said_cell row column es ∙ ap (λ r. map (cell_event row column) r) (items_said l 0 at (Type_and k inner NoMore) v (cell_whole row column es off))
 
-  said_parts : (at : ℕ) (ps : List parts.Part) → AreWhole (said (parts_events l at ps)) → said (parts_events l at ps) ≡ told ps
+  said_parts : (at : ℕ) (ps : List parts.Part) → AreWhole (said (parts_events l at ps)) → said (parts_events l at ps) ≡ emitted ps
   said_parts at [] off = refl
   said_parts at (p ∷ ps) off =
       let one = part_events l at p in
@@ -92,7 +92,7 @@ module _ (l : Rules) where
       let whole = subst AreWhole split off in
       split
       ∙ ap (λ r. r ++ said more) (said_part at p (front (said one) (said more) whole))
-      ∙ ap (λ r. part_told p ++ r) (said_parts (at + part_size p) ps (back (said one) (said more) whole))
+      ∙ ap (λ r. part_emitted p ++ r) (said_parts (at + part_size p) ps (back (said one) (said more) whole))
 
 -- what is between a header and an end
 abbrev pub AreInner : List Event → Type 0
@@ -151,11 +151,11 @@ frame_said l at f x =
     map-append (λ e. e.1) ((at, Frame (header_of f (parts_size (frame_parts f) + x))) ∷ [] ++ parts_events l (at + 9) (frame_parts f)) ((at + frame_size f x, End x) ∷ [])
 
 -- those of its parts, where nothing comes in parts
-pub body_told : (l : Rules) (at : ℕ) (f : FrameValue) → AreWhole l (body_of l at f) → body_of l at f ≡ told (frame_parts f)
-body_told l at f off = said_parts l (at + 9) (frame_parts f) off
+pub body_events : (l : Rules) (at : ℕ) (f : FrameValue) → AreWhole l (body_of l at f) → body_of l at f ≡ emitted (frame_parts f)
+body_events l at f off = said_parts l (at + 9) (frame_parts f) off
 
 -- what is held is no part
-item_none : (i : Item) → not (is_unbuilt (told_by i)) ≡ true
+item_none : (i : Item) → not (is_unbuilt (item_event i)) ≡ true
 item_none (item.Holds f c) = refl
 item_none (item.Kind k) = refl
 item_none (item.Cell row column level (step.Leaf a)) = refl
@@ -164,9 +164,9 @@ item_none (item.Cell row column level step.Empty) = refl
 item_none (item.Cell row column level (step.Enter k n)) = refl
 item_none (item.Cell row column level (step.Leave n)) = refl
 
-items_none : (is : List Item) → HaveNoParts (map told_by is)
+items_none : (is : List Item) → HaveNoParts (map item_event is)
 items_none [] = refl
-items_none (i ∷ is) = join (not (is_unbuilt (told_by i))) (list_all (λ e. not (is_unbuilt e)) (map told_by is)) (item_none i) (items_none is)
+items_none (i ∷ is) = join (not (is_unbuilt (item_event i))) (list_all (λ e. not (is_unbuilt e)) (map item_event is)) (item_none i) (items_none is)
 
 pub left_none : (h : Held) → HaveNoParts (left h)
 left_none h = items_none h.items.items

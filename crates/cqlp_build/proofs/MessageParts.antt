@@ -14,10 +14,10 @@ use Rattle.cqlp_message.specs.Bodies as body
 use Rattle.cqlp_build.specs.declared.held.Held.{Held}
 use Rattle.cqlp_build.specs.Held.{Builds, any}
 use Rattle.cqlp_build.specs.Productions.{BuildsMessage, IsOf}
-use Rattle.cqlp_build.specs.Told.{told}
+use Rattle.cqlp_build.specs.Emitted.{emitted}
 use Rattle.cqlp_build.proofs.Optional.{all_true}
 use Rattle.cqlp_build.proofs.Several.{both, join}
-use Rattle.cqlp_build.proofs.Steps.{as_builds, pair_builds, told_four, ◌then◌}
+use Rattle.cqlp_build.proofs.Steps.{as_builds, pair_builds, emitted_four, ◌then◌}
 
 -- ---- what a message of an opcode is
 
@@ -98,34 +98,34 @@ batch_view (Batch k es c f s t) i =
     ((((k, es), c), (f, ((tt, s), t))), (((refl, all_true es), refl), (refl, (q, p.1))), refl)
 batch_view m i = let o = i.opcode in absurd cc
 
-batch_told : (kind : ℕ) (es : List BatchEntry) (consistency flags : ℕ) (serial : Option ℕ) (timestamp : Option ℤ)
-    → told (body.message_parts (Batch kind es consistency flags serial timestamp))
-    ≡ Holds field.BatchType (note.Byte kind) ∷ ((told (body.counted field.Entries body.entry_parts es) ++ Holds field.Consistency (note.Short consistency) ∷ [])
-    ++ Holds field.BatchFlags (note.Byte flags) ∷ (told (body.serial_parts serial) ++ told (body.timestamp_parts timestamp)))
-batch_told kind es consistency flags serial timestamp =
-    let entries = told (body.counted field.Entries body.entry_parts es) in
+batch_events : (kind : ℕ) (es : List BatchEntry) (consistency flags : ℕ) (serial : Option ℕ) (timestamp : Option ℤ)
+    → emitted (body.message_parts (Batch kind es consistency flags serial timestamp))
+    ≡ Holds field.BatchType (note.Byte kind) ∷ ((emitted (body.counted field.Entries body.entry_parts es) ++ Holds field.Consistency (note.Short consistency) ∷ [])
+    ++ Holds field.BatchFlags (note.Byte flags) ∷ (emitted (body.serial_parts serial) ++ emitted (body.timestamp_parts timestamp)))
+batch_events kind es consistency flags serial timestamp =
+    let entries = emitted (body.counted field.Entries body.entry_parts es) in
     let one = Holds field.Consistency (note.Short consistency) in
     let two = Holds field.BatchFlags (note.Byte flags) in
-    let s = told (body.serial_parts serial) in
-    let t = told (body.timestamp_parts timestamp) in
+    let s = emitted (body.serial_parts serial) in
+    let t = emitted (body.timestamp_parts timestamp) in
     ap (λ r. Holds field.BatchType (note.Byte kind) ∷ r)
-    (told_four (body.counted field.Entries body.entry_parts es) (body.short field.Consistency consistency ∷ body.byte field.BatchFlags flags ∷ []) (body.serial_parts serial) (body.timestamp_parts timestamp)
+    (emitted_four (body.counted field.Entries body.entry_parts es) (body.short field.Consistency consistency ∷ body.byte field.BatchFlags flags ∷ []) (body.serial_parts serial) (body.timestamp_parts timestamp)
     ∙ append_assoc (entries ++ one ∷ two ∷ []) s t
     ∙ append_assoc entries (one ∷ two ∷ []) (s ++ t)
     ∙ sym (append_assoc entries (one ∷ []) (two ∷ (s ++ t))))
 
 pub batch_builds : {kind consistency flags : ℕ} {entries : List BatchEntry} {serial : Option ℕ} {timestamp : Option ℤ} {a b c d e f g h : Held}
     → Builds (λ n. Holds field.BatchType (note.Byte n) ∷ []) any kind a b
-    → Builds (λ es. told (body.counted field.Entries body.entry_parts es)) (λ es. list_all (λ _. true) es ≡ true) entries b c
+    → Builds (λ es. emitted (body.counted field.Entries body.entry_parts es)) (λ es. list_all (λ _. true) es ≡ true) entries b c
     → Builds (λ n. Holds field.Consistency (note.Short n) ∷ []) any consistency c d
     → Builds (λ n. Holds field.BatchFlags (note.Byte n) ∷ []) any flags d e
     → Builds {A = Unit {0}} (λ _. []) (λ _. not (has flags 0x4F) ≡ true) tt e f
-    → Builds (λ o. told (body.serial_parts o)) (λ o. there_if (has flags 0x10) o ≡ true) serial f g
-    → Builds (λ o. told (body.timestamp_parts o)) (λ o. there_if (has flags 0x20) o ≡ true) timestamp g h
+    → Builds (λ o. emitted (body.serial_parts o)) (λ o. there_if (has flags 0x10) o ≡ true) serial f g
+    → Builds (λ o. emitted (body.timestamp_parts o)) (λ o. there_if (has flags 0x20) o ≡ true) timestamp g h
     → BuildsMessage opcode.Batch (Batch kind entries consistency flags serial timestamp) a h
 batch_builds one two three four five six seven =
-    as_builds (λ m. told (body.message_parts m)) (IsOf opcode.Batch) batch_from
-    (λ p q. batch_told p.0.0.0 p.0.0.1 p.0.1 p.1.0 p.1.1.0.1 p.1.1.1)
+    as_builds (λ m. emitted (body.message_parts m)) (IsOf opcode.Batch) batch_from
+    (λ p q. batch_events p.0.0.0 p.0.0.1 p.0.1 p.1.0 p.1.1.0.1 p.1.1.1)
     (λ p q. record {
       opcode = refl;
       agrees = join (not (has p.1.0 0x4F) && there_if (has p.1.0 0x10) p.1.1.0.1) (there_if (has p.1.0 0x20) p.1.1.1) (join (not (has p.1.0 0x4F)) (there_if (has p.1.0 0x10) p.1.1.0.1) q.1.1.0.0 q.1.1.0.1) q.1.1.1;

@@ -15,12 +15,12 @@ use Rattle.cqlp_message.specs.Parts.{Type_is}
 use Rattle.cqlp_build.specs.declared.held.Held.{Held}
 use Rattle.cqlp_build.specs.Held.{Builds, Many, any}
 use Rattle.cqlp_build.specs.Productions.{AreColumns, AreColumnsIf, columns_parts, columns_parts_if}
-use Rattle.cqlp_build.specs.Told.{told}
-use Rattle.cqlp_build.specs.Types.{are_built_columns, are_built_if, is_built_metadata, is_built_statement, is_built_type, names_count, type_told}
-use Rattle.cqlp_build.proofs.Counted.{told_many}
+use Rattle.cqlp_build.specs.Emitted.{emitted}
+use Rattle.cqlp_build.specs.Types.{are_built_columns, are_built_if, is_built_metadata, is_built_statement, is_built_type, names_count, type_events}
+use Rattle.cqlp_build.proofs.Counted.{emitted_many}
 use Rattle.cqlp_build.proofs.Optional.{nothing_builds}
 use Rattle.cqlp_build.proofs.Several.{both, join}
-use Rattle.cqlp_build.proofs.Steps.{as_builds, pair_builds, told_append, ◌then◌}
+use Rattle.cqlp_build.proofs.Steps.{as_builds, pair_builds, emitted_append, ◌then◌}
 
 all_both : {A : Type 0} (p q : A → Bool) (xs : List A) → list_all (λ x. p x && q x) xs ≡ true → (list_all p xs ≡ true) × (list_all q xs ≡ true)
 all_both p q [] e = (refl, refl)
@@ -42,12 +42,12 @@ all_join p q (x ∷ xs) a b =
 abbrev spec_from : (Option TableName × Octets) × Trees → Spec
 spec_from p = record { table = p.0.0; name = p.0.1; tree = p.1 }
 
-spec_said : (p : (Option TableName × Octets) × Trees) → told (body.spec_parts (spec_from p)) ≡ (told (body.table_parts p.0.0) ++ Holds field.ColumnName (note.Text p.0.1) ∷ []) ++ type_told p.1
+spec_said : (p : (Option TableName × Octets) × Trees) → emitted (body.spec_parts (spec_from p)) ≡ (emitted (body.table_parts p.0.0) ++ Holds field.ColumnName (note.Text p.0.1) ∷ []) ++ type_events p.1
 spec_said p =
     let name = Holds field.ColumnName (note.Text p.0.1) in
-    told_append (body.table_parts p.0.0) (body.text field.ColumnName p.0.1 ∷ Type_is p.1 ∷ [])
-    ∙ ap (λ es. told (body.table_parts p.0.0) ++ name ∷ es) (append-nil (type_told p.1))
-    ∙ sym (append_assoc (told (body.table_parts p.0.0)) (name ∷ []) (type_told p.1))
+    emitted_append (body.table_parts p.0.0) (body.text field.ColumnName p.0.1 ∷ Type_is p.1 ∷ [])
+    ∙ ap (λ es. emitted (body.table_parts p.0.0) ++ name ∷ es) (append-nil (type_events p.1))
+    ∙ sym (append_assoc (emitted (body.table_parts p.0.0)) (name ∷ []) (type_events p.1))
 
 abbrev IsSpec : (own : Bool) → (Option TableName × Octets) × Trees → Type 0
 IsSpec own p = ((there_if own p.0.0 ≡ true) × (true ≡ true)) × (is_built_type p.1 ≡ true)
@@ -64,11 +64,11 @@ spec_view own c e =
     (((c.table, c.name), c.tree), ((q.0, refl), join (is_tree c.tree) (names_count false c.tree) q.1 p.1), refl)
 
 pub spec_builds : (own : Bool) {table : Option TableName} {name : Octets} {tree : Trees} {a b c d : Held}
-    → Builds (λ o. told (body.table_parts o)) (λ o. there_if own o ≡ true) table a b → Builds (λ t. Holds field.ColumnName (note.Text t) ∷ []) any name b c
-    → Builds type_told (λ t. is_built_type t ≡ true) tree c d
-    → Builds (λ c. told (body.spec_parts c)) (λ c. (spec_agrees own c && names_count false c.tree) ≡ true) (record { table = table; name = name; tree = tree }) a d
+    → Builds (λ o. emitted (body.table_parts o)) (λ o. there_if own o ≡ true) table a b → Builds (λ t. Holds field.ColumnName (note.Text t) ∷ []) any name b c
+    → Builds type_events (λ t. is_built_type t ≡ true) tree c d
+    → Builds (λ c. emitted (body.spec_parts c)) (λ c. (spec_agrees own c && names_count false c.tree) ≡ true) (record { table = table; name = name; tree = tree }) a d
 spec_builds own one two three =
-    as_builds (λ c. told (body.spec_parts c)) (λ c. (spec_agrees own c && names_count false c.tree) ≡ true) spec_from (λ p q. spec_said p) (λ p q. spec_on own p q) (spec_view own) (one then two then three)
+    as_builds (λ c. emitted (body.spec_parts c)) (λ c. (spec_agrees own c && names_count false c.tree) ≡ true) spec_from (λ p q. spec_said p) (λ p q. spec_on own p q) (spec_view own) (one then two then three)
 
 abbrev Columns : Type 0
 Columns = Option TableName × List Spec
@@ -89,57 +89,57 @@ columns_view flags n c e =
     let r = both (length c.1 == n) (there_if (has flags 0x01) c.0) q.0 in
     (c, (r.1, (eqb-true (length c.1) n r.0, all_join (spec_agrees own) (λ c. names_count false c.tree) c.1 q.1 p.1)), refl)
 
-columns_said : (c : Columns) → told (columns_parts c) ≡ told (body.table_parts c.0) ++ flat_map (λ c. told (body.spec_parts c)) c.1
-columns_said c = told_append (body.table_parts c.0) (flat_map body.spec_parts c.1) ∙ ap (λ es. told (body.table_parts c.0) ++ es) (told_many body.spec_parts c.1)
+columns_said : (c : Columns) → emitted (columns_parts c) ≡ emitted (body.table_parts c.0) ++ flat_map (λ c. emitted (body.spec_parts c)) c.1
+columns_said c = emitted_append (body.table_parts c.0) (flat_map body.spec_parts c.1) ∙ ap (λ es. emitted (body.table_parts c.0) ++ es) (emitted_many body.spec_parts c.1)
 
 pub columns_builds : (flags n : ℕ) {table : Option TableName} {specs : List Spec} {a b c : Held}
-    → Builds (λ o. told (body.table_parts o)) (λ o. there_if (has flags 0x01) o ≡ true) table a b
-    → Builds (flat_map (λ c. told (body.spec_parts c))) (Many (λ c. spec_agrees (not (has flags 0x01)) c && names_count false c.tree) n) specs b c
-    → Builds (λ c. told (columns_parts c)) (AreColumns flags n) (table, specs) a c
+    → Builds (λ o. emitted (body.table_parts o)) (λ o. there_if (has flags 0x01) o ≡ true) table a b
+    → Builds (flat_map (λ c. emitted (body.spec_parts c))) (Many (λ c. spec_agrees (not (has flags 0x01)) c && names_count false c.tree) n) specs b c
+    → Builds (λ c. emitted (columns_parts c)) (AreColumns flags n) (table, specs) a c
 columns_builds flags n one two =
-    as_builds (λ c. told (columns_parts c)) (AreColumns flags n) (λ c. c) (λ p q. columns_said p) (λ p q. columns_on flags n p q.0 q.1) (columns_view flags n) (one then two)
+    as_builds (λ c. emitted (columns_parts c)) (AreColumns flags n) (λ c. c) (λ p q. columns_said p) (λ p q. columns_on flags n p q.0 q.1) (columns_view flags n) (one then two)
 
--- ---- columns that may be told
+-- ---- columns that may be described
 
 abbrev ColumnsIf : Type 0
 ColumnsIf = Option TableName × Option (List Spec)
 
-nothing_told : (flags n : ℕ) → has flags 0x04 ≡ true → (c : ColumnsIf) → AreColumnsIf flags n c → c ≡ (None, None)
-nothing_told flags n on (None, None) e = refl
-nothing_told flags n on (Some t, None) e =
+nothing_described : (flags n : ℕ) → has flags 0x04 ≡ true → (c : ColumnsIf) → AreColumnsIf flags n c → c ≡ (None, None)
+nothing_described flags n on (None, None) e = refl
+nothing_described flags n on (Some t, None) e =
     let p = both (has flags 0x04 && false) true e in
     let q = both (has flags 0x04) false p.0 in
     let d : false ≡ true = q.1 in
     absurd cc
-nothing_told flags n on (o, Some specs) e =
+nothing_described flags n on (o, Some specs) e =
     let p = both (not (has flags 0x04) && specs_agree flags n o specs) (are_built_columns specs) e in
     let q = both (not (has flags 0x04)) (specs_agree flags n o specs) p.0 in
     let d : false ≡ true = sym (ap not on) ∙ q.0 in
     absurd cc
 
-pub untold_builds : (flags n : ℕ) → has flags 0x04 ≡ true → (old : Held) → Builds (λ c. told (columns_parts_if c)) (AreColumnsIf flags n) (None, None) old old
-untold_builds flags n on old =
-    nothing_builds (λ c. told (columns_parts_if c)) (AreColumnsIf flags n) (None, None) old refl (join (has flags 0x04 && true) true (join (has flags 0x04) true on refl) refl) (nothing_told flags n on)
+pub undescribed_builds : (flags n : ℕ) → has flags 0x04 ≡ true → (old : Held) → Builds (λ c. emitted (columns_parts_if c)) (AreColumnsIf flags n) (None, None) old old
+undescribed_builds flags n on old =
+    nothing_builds (λ c. emitted (columns_parts_if c)) (AreColumnsIf flags n) (None, None) old refl (join (has flags 0x04 && true) true (join (has flags 0x04) true on refl) refl) (nothing_described flags n on)
 
-told_view : (flags n : ℕ) → has flags 0x04 ≡ false → (c : ColumnsIf) → AreColumnsIf flags n c → (p : Columns) × (AreColumns flags n p) × (c ≡ (p.0, Some p.1))
-told_view flags n off (o, None) e =
+described_view : (flags n : ℕ) → has flags 0x04 ≡ false → (c : ColumnsIf) → AreColumnsIf flags n c → (p : Columns) × (AreColumns flags n p) × (c ≡ (p.0, Some p.1))
+described_view flags n off (o, None) e =
     let p = both (has flags 0x04 && not (is_some o)) true e in
     let q = both (has flags 0x04) (not (is_some o)) p.0 in
     let d : false ≡ true = sym off ∙ q.0 in
     absurd cc
-told_view flags n off (o, Some specs) e =
+described_view flags n off (o, Some specs) e =
     let p = both (not (has flags 0x04) && specs_agree flags n o specs) (are_built_columns specs) e in
     let q = both (not (has flags 0x04)) (specs_agree flags n o specs) p.0 in
     ((o, specs), join (specs_agree flags n o specs) (are_built_columns specs) q.1 p.1, refl)
 
-told_on : (flags n : ℕ) → has flags 0x04 ≡ false → (c : Columns) → AreColumns flags n c → AreColumnsIf flags n (c.0, Some c.1)
-told_on flags n off c e =
+described_on : (flags n : ℕ) → has flags 0x04 ≡ false → (c : Columns) → AreColumns flags n c → AreColumnsIf flags n (c.0, Some c.1)
+described_on flags n off c e =
     let p = both (specs_agree flags n c.0 c.1) (are_built_columns c.1) e in
     join (not (has flags 0x04) && specs_agree flags n c.0 c.1) (are_built_columns c.1) (join (not (has flags 0x04)) (specs_agree flags n c.0 c.1) (ap not off) p.0) p.1
 
-pub told_builds : (flags n : ℕ) → has flags 0x04 ≡ false → {c : Columns} {old new : Held} → Builds (λ c. told (columns_parts c)) (AreColumns flags n) c old new
-    → Builds (λ c. told (columns_parts_if c)) (AreColumnsIf flags n) (c.0, Some c.1) old new
-told_builds flags n off one = as_builds (λ c. told (columns_parts_if c)) (AreColumnsIf flags n) (λ (c : Columns). (c.0, Some c.1)) (λ c p. refl) (told_on flags n off) (told_view flags n off) one
+pub described_builds : (flags n : ℕ) → has flags 0x04 ≡ false → {c : Columns} {old new : Held} → Builds (λ c. emitted (columns_parts c)) (AreColumns flags n) c old new
+    → Builds (λ c. emitted (columns_parts_if c)) (AreColumnsIf flags n) (c.0, Some c.1) old new
+described_builds flags n off one = as_builds (λ c. emitted (columns_parts_if c)) (AreColumnsIf flags n) (λ (c : Columns). (c.0, Some c.1)) (λ c p. refl) (described_on flags n off) (described_view flags n off) one
 
 -- ---- metadata
 
@@ -155,13 +155,13 @@ metadata_from p = record { flags = p.0; columns = p.1.0; paging = p.1.1.0; table
 abbrev AreAfterFlags : ℤ → ℕ × (Option (Option Octets) × ColumnsIf) → Type 0
 AreAfterFlags z r = (true ≡ true) × ((there_if (has (bits z) 0x02) r.1.0 ≡ true) × AreColumnsIf (bits z) r.0 r.1.1)
 
-metadata_said : (p : MetadataParts) → told (body.metadata_parts (metadata_from p))
-    ≡ Holds field.MetaFlags (note.Int p.0) ∷ Holds field.Columns (note.Count p.1.0) ∷ (told (body.paging_parts p.1.1.0) ++ told (columns_parts_if p.1.1.1))
+metadata_said : (p : MetadataParts) → emitted (body.metadata_parts (metadata_from p))
+    ≡ Holds field.MetaFlags (note.Int p.0) ∷ Holds field.Columns (note.Count p.1.0) ∷ (emitted (body.paging_parts p.1.1.0) ++ emitted (columns_parts_if p.1.1.1))
 metadata_said p =
     let paging = body.paging_parts p.1.1.0 in
     let table = body.table_parts p.1.1.1.0 in
     let specs = body.where_some (flat_map body.spec_parts) p.1.1.1.1 in
-    ap (λ es. Holds field.MetaFlags (note.Int p.0) ∷ Holds field.Columns (note.Count p.1.0) ∷ es) (ap told (append_assoc paging table specs) ∙ told_append paging (table ++ specs))
+    ap (λ es. Holds field.MetaFlags (note.Int p.0) ∷ Holds field.Columns (note.Count p.1.0) ∷ es) (ap emitted (append_assoc paging table specs) ∙ emitted_append paging (table ++ specs))
 
 metadata_on : (p : MetadataParts) → AreAfterFlags p.0 p.1 → IsMetadata (metadata_from p)
 metadata_on p q =
@@ -179,11 +179,11 @@ metadata_view m e =
 
 pub metadata_builds : {flags : ℤ} {columns : ℕ} {paging : Option (Option Octets)} {c : ColumnsIf} {h i j k l : Held}
     → Builds (λ z. Holds field.MetaFlags (note.Int z) ∷ []) any flags h i → Builds (λ n. Holds field.Columns (note.Count n) ∷ []) any columns i j
-    → Builds (λ o. told (body.paging_parts o)) (λ o. there_if (has (bits flags) 0x02) o ≡ true) paging j k
-    → Builds (λ c. told (columns_parts_if c)) (AreColumnsIf (bits flags) columns) c k l
-    → Builds (λ m. told (body.metadata_parts m)) IsMetadata (metadata_from (flags, (columns, (paging, c)))) h l
+    → Builds (λ o. emitted (body.paging_parts o)) (λ o. there_if (has (bits flags) 0x02) o ≡ true) paging j k
+    → Builds (λ c. emitted (columns_parts_if c)) (AreColumnsIf (bits flags) columns) c k l
+    → Builds (λ m. emitted (body.metadata_parts m)) IsMetadata (metadata_from (flags, (columns, (paging, c)))) h l
 metadata_builds {flags} one two three four =
-    as_builds (λ m. told (body.metadata_parts m)) IsMetadata metadata_from (λ p q. metadata_said p) (λ p q. metadata_on p q.1) metadata_view
+    as_builds (λ m. emitted (body.metadata_parts m)) IsMetadata metadata_from (λ p q. metadata_said p) (λ p q. metadata_on p q.1) metadata_view
     (pair_builds AreAfterFlags one (pair_builds (λ n r. (there_if (has (bits flags) 0x02) r.0 ≡ true) × AreColumnsIf (bits flags) n r.1) two (three then four)))
 
 -- ---- prepared statements
@@ -206,15 +206,15 @@ AreAfterCount z n r = (true ≡ true) × (AreColumns (bits z) n r.1.0 × IsMetad
 abbrev AreAfterId : ℤ → ℕ × AfterCount → Type 0
 AreAfterId z r = (true ≡ true) × AreAfterCount z r.0 r.1
 
-statement_said : (p : StatementParts) → told (body.prepared_parts (statement_from p))
+statement_said : (p : StatementParts) → emitted (body.prepared_parts (statement_from p))
     ≡ Holds field.StatementId (note.Bytes (Some p.0)) ∷ Holds field.MetaFlags (note.Int p.1.0) ∷ Holds field.Columns (note.Count p.1.1.0)
-    ∷ (told (body.counted_keys p.1.1.1.0) ++ (told (columns_parts p.1.1.1.1.0) ++ told (body.metadata_parts p.1.1.1.1.1)))
+    ∷ (emitted (body.counted_keys p.1.1.1.0) ++ (emitted (columns_parts p.1.1.1.1.0) ++ emitted (body.metadata_parts p.1.1.1.1.1)))
 statement_said p =
     let keys = body.counted_keys p.1.1.1.0 in
     let columns = columns_parts p.1.1.1.1.0 in
     let result = body.metadata_parts p.1.1.1.1.1 in
     ap (λ es. Holds field.StatementId (note.Bytes (Some p.0)) ∷ Holds field.MetaFlags (note.Int p.1.0) ∷ Holds field.Columns (note.Count p.1.1.0) ∷ es)
-    (ap told (append_assoc keys columns result) ∙ told_append keys (columns ++ result) ∙ ap (λ es. told keys ++ es) (told_append columns result))
+    (ap emitted (append_assoc keys columns result) ∙ emitted_append keys (columns ++ result) ∙ ap (λ es. emitted keys ++ es) (emitted_append columns result))
 
 statement_on : (p : StatementParts) → AreAfterId p.1.0 p.1.1 → IsStatement (statement_from p)
 statement_on p q =
@@ -240,9 +240,9 @@ statement_view s e =
 
 pub statement_builds : {id : Octets} {flags : ℤ} {columns : ℕ} {keys : List ℕ} {c : Columns} {m : Metadata} {h i j k l n o : Held}
     → Builds (λ id. Holds field.StatementId (note.Bytes (Some id)) ∷ []) any id h i → Builds (λ z. Holds field.MetaFlags (note.Int z) ∷ []) any flags i j
-    → Builds (λ n. Holds field.Columns (note.Count n) ∷ []) any columns j k → Builds (λ ks. told (body.counted_keys ks)) any keys k l
-    → Builds (λ c. told (columns_parts c)) (AreColumns (bits flags) columns) c l n → Builds (λ m. told (body.metadata_parts m)) IsMetadata m n o
-    → Builds (λ p. told (body.prepared_parts p)) IsStatement (statement_from (id, (flags, (columns, (keys, (c, m)))))) h o
+    → Builds (λ n. Holds field.Columns (note.Count n) ∷ []) any columns j k → Builds (λ ks. emitted (body.counted_keys ks)) any keys k l
+    → Builds (λ c. emitted (columns_parts c)) (AreColumns (bits flags) columns) c l n → Builds (λ m. emitted (body.metadata_parts m)) IsMetadata m n o
+    → Builds (λ p. emitted (body.prepared_parts p)) IsStatement (statement_from (id, (flags, (columns, (keys, (c, m)))))) h o
 statement_builds {flags = flags} one two three four five six =
-    as_builds (λ p. told (body.prepared_parts p)) IsStatement statement_from (λ p q. statement_said p) (λ p q. statement_on p q.1.1) statement_view
+    as_builds (λ p. emitted (body.prepared_parts p)) IsStatement statement_from (λ p q. statement_said p) (λ p q. statement_on p q.1.1) statement_view
     (one then pair_builds AreAfterId two (pair_builds (AreAfterCount flags) three (four then (five then six))))

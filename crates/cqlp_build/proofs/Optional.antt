@@ -7,7 +7,7 @@ use Rattle.cqlp_message.specs.Bodies.{where_some}
 use Rattle.cqlp_message.specs.Parts.{Part}
 use Rattle.cqlp_build.specs.declared.held.Held.{Held}
 use Rattle.cqlp_build.specs.Held.{Builds, left}
-use Rattle.cqlp_build.specs.Told.{told}
+use Rattle.cqlp_build.specs.Emitted.{emitted}
 use Rattle.cqlp_build.proofs.Steps.{as_builds}
 
 -- nothing comes, of what has no events
@@ -25,26 +25,26 @@ all_true (x ∷ xs) = all_true xs
 module _ {A : Type 0} (parts : A → List Part) where
   -- it is there
   pub some_builds : {P : A → Type 0} (Q : Option A → Type 0) → ((x : A) → P x → Q (Some x)) → ((x : A) → Q (Some x) → P x) → (Q None → ⊥)
-      → {a : A} {old new : Held} → Builds (λ x. told (parts x)) P a old new → Builds (λ o. told (where_some parts o)) Q (Some a) old new
-  some_builds {P} Q into out nay one = as_builds (λ o. told (where_some parts o)) Q Some (λ x p. refl) into view one
+      → {a : A} {old new : Held} → Builds (λ x. emitted (parts x)) P a old new → Builds (λ o. emitted (where_some parts o)) Q (Some a) old new
+  some_builds {P} Q into out nay one = as_builds (λ o. emitted (where_some parts o)) Q Some (λ x p. refl) into view one
     where
       view : (o : Option A) → Q o → (a : A) × (P a) × (o ≡ Some a)
       view (Some x) q = (x, out x q, refl)
       view None q = absurd (nay q)
 
   -- it is not
-  pub none_builds : (Q : Option A → Type 0) → Q None → ((x : A) → Q (Some x) → ⊥) → (old : Held) → Builds (λ o. told (where_some parts o)) Q None old old
-  none_builds Q q nay old = nothing_builds (λ o. told (where_some parts o)) Q None old refl q one
+  pub none_builds : (Q : Option A → Type 0) → Q None → ((x : A) → Q (Some x) → ⊥) → (old : Held) → Builds (λ o. emitted (where_some parts o)) Q None old old
+  none_builds Q q nay old = nothing_builds (λ o. emitted (where_some parts o)) Q None old refl q one
     where
       one : (o : Option A) → Q o → o ≡ None
       one None p = refl
       one (Some x) p = absurd (nay x p)
 
   pub some_there : {P : A → Type 0} → ((x : A) → P x) → (there : Bool) → there ≡ true
-      → {a : A} {old new : Held} → Builds (λ x. told (parts x)) P a old new → Builds (λ o. told (where_some parts o)) (λ o. there_if there o ≡ true) (Some a) old new
+      → {a : A} {old new : Held} → Builds (λ x. emitted (parts x)) P a old new → Builds (λ o. emitted (where_some parts o)) (λ o. there_if there o ≡ true) (Some a) old new
   some_there all true e one = some_builds (λ o. there_if true o ≡ true) (λ x p. refl) (λ x q. all x) (λ q. absurd cc) one
   some_there all false e one = absurd cc
 
-  pub none_there : (there : Bool) → there ≡ false → (old : Held) → Builds (λ o. told (where_some parts o)) (λ o. there_if there o ≡ true) None old old
+  pub none_there : (there : Bool) → there ≡ false → (old : Held) → Builds (λ o. emitted (where_some parts o)) (λ o. there_if there o ≡ true) None old old
   none_there false e old = none_builds (λ o. there_if false o ≡ true) refl (λ x q. absurd cc) old
   none_there true e old = absurd cc

@@ -1,4 +1,4 @@
--- Pages, as the values that are made of what is told of their columns, of how many rows they have, and of their cells.
+-- Pages, as the values that are made of the description of their columns, of how many rows they have, and of their cells.
 use Rattle.std.proofs.Common.{◌≡◌, ℕ, ◌*◌, ◌++◌, List, [], ◌∷◌, true, length, refl, sym, ap, subst, ◌∙◌, arith, inl}
 use Rattle.std.specs.List.{list_all}
 use Rattle.std.proofs.lemmas.List.{nil_from_length}
@@ -15,24 +15,24 @@ use Rattle.cqlp_message.proofs.PageWalks.{rows_cut}
 use Rattle.cqlp_build.specs.declared.held.Held.{Held}
 use Rattle.cqlp_build.specs.Held.{Builds, any, left}
 use Rattle.cqlp_build.specs.Productions.{AreCells, IsPage, cells_parts}
-use Rattle.cqlp_build.specs.Told.{told}
+use Rattle.cqlp_build.specs.Emitted.{emitted}
 use Rattle.cqlp_build.specs.Types.{is_built_metadata}
 use Rattle.cqlp_build.proofs.MetadataParts.{IsMetadata}
 use Rattle.cqlp_build.proofs.Rows.{BuildsRows}
 use Rattle.cqlp_build.proofs.Several.{both, join}
-use Rattle.cqlp_build.proofs.Steps.{after_builds, as_builds, told_append}
+use Rattle.cqlp_build.proofs.Steps.{after_builds, as_builds, emitted_append}
 
 abbrev page_from : Metadata × (ℕ × List Values) → Page
 page_from p = record { meta = p.0; rows = p.1.0; cells = p.1.1 }
 
-abbrev rest_told : Metadata → ℕ × List Values → List Event
-rest_told m r = (Holds field.Rows (note.Count r.0) ∷ []) ++ told (cells_parts m r.0 r.1)
+abbrev rest_events : Metadata → ℕ × List Values → List Event
+rest_events m r = (Holds field.Rows (note.Count r.0) ∷ []) ++ emitted (cells_parts m r.0 r.1)
 
 abbrev AreRest : Metadata → ℕ × List Values → Type 0
 AreRest m r = (true ≡ true) × AreCells m r.0 r.1
 
-page_said : (p : Metadata × (ℕ × List Values)) → told (page_parts (page_from p)) ≡ told (metadata_parts p.0) ++ rest_told p.0 p.1
-page_said p = told_append (metadata_parts p.0) (count field.Rows p.1.0 ∷ cells_parts p.0 p.1.0 p.1.1)
+page_said : (p : Metadata × (ℕ × List Values)) → emitted (page_parts (page_from p)) ≡ emitted (metadata_parts p.0) ++ rest_events p.0 p.1
+page_said p = emitted_append (metadata_parts p.0) (count field.Rows p.1.0 ∷ cells_parts p.0 p.1.0 p.1.1)
 
 page_on : (p : Metadata × (ℕ × List Values)) → IsMetadata p.0 × AreRest p.0 p.1 → IsPage (page_from p)
 page_on p q = let m = both (metadata_agrees p.0) (is_built_metadata p.0) q.0 in (m.0, m.1, q.1.1)
@@ -41,30 +41,30 @@ page_view : (p : Page) → IsPage p → (a : Metadata × (ℕ × List Values)) �
 page_view p q = ((p.meta, (p.rows, p.cells)), (join (metadata_agrees p.meta) (is_built_metadata p.meta) q.0 q.1, (refl, q.2)), refl)
 
 pub page_made : {m : Metadata} {n : ℕ} {cells : List Values} {a b c d : Held}
-    → Builds (λ m. told (metadata_parts m)) IsMetadata m a b → Builds (λ n. Holds field.Rows (note.Count n) ∷ []) any n b c
-    → Builds (λ vs. told (cells_parts m n vs)) (AreCells m n) cells c d
-    → Builds (λ p. told (page_parts p)) IsPage (page_from (m, (n, cells))) a d
+    → Builds (λ m. emitted (metadata_parts m)) IsMetadata m a b → Builds (λ n. Holds field.Rows (note.Count n) ∷ []) any n b c
+    → Builds (λ vs. emitted (cells_parts m n vs)) (AreCells m n) cells c d
+    → Builds (λ p. emitted (page_parts p)) IsPage (page_from (m, (n, cells))) a d
 page_made {m} one two three =
-    as_builds (λ p. told (page_parts p)) IsPage page_from (λ p q. page_said p) page_on page_view
-    (after_builds rest_told AreRest one (after_builds (λ n vs. told (cells_parts m n vs)) (λ n vs. AreCells m n vs) two three))
+    as_builds (λ p. emitted (page_parts p)) IsPage page_from (λ p q. page_said p) page_on page_view
+    (after_builds rest_events AreRest one (after_builds (λ n vs. emitted (cells_parts m n vs)) (λ n vs. AreCells m n vs) two three))
 
 -- ---- cells
 
 -- the cells of all rows are those of the page
 pub cells_made : (m : Metadata) (n : ℕ) (vs : List Values) (old new : Held) → how_many (cell_types m) ≡ m.columns → BuildsRows 0 n (cell_types m) vs old new
-    → Builds (λ ws. told (cells_parts m n ws)) (AreCells m n) vs old new
+    → Builds (λ ws. emitted (cells_parts m n ws)) (AreCells m n) vs old new
 cells_made m n vs old new e b =
-    subst (λ (k : ℕ). Builds (λ ws. told (cells_parts m n ws)) (λ ws. (length ws ≡ n * k) × (list_all cell_fits (cells_parts m n ws) ≡ true)) vs old new) e b
+    subst (λ (k : ℕ). Builds (λ ws. emitted (cells_parts m n ws)) (λ ws. (length ws ≡ n * k) × (list_all cell_fits (cells_parts m n ws) ≡ true)) vs old new) e b
 
 -- a page without columns has none
-pub no_cells : (m : Metadata) (n : ℕ) (h : Held) → m.columns ≡ 0 → Builds (λ ws. told (cells_parts m n ws)) (AreCells m n) [] h h
+pub no_cells : (m : Metadata) (n : ℕ) (h : Held) → m.columns ≡ 0 → Builds (λ ws. emitted (cells_parts m n ws)) (AreCells m n) [] h h
 no_cells m n h z =
     let cut : cells_parts m n [] ≡ [] = rows_cut 0 (cell_types m) n in
     let none : n * m.columns ≡ 0 = rw z (omega arith) in
     record {
-      made = λ s. (s, ap (λ ps. told ps ++ left h) (sym cut), (sym none, ap (list_all cell_fits) cut));
+      made = λ s. (s, ap (λ ps. emitted ps ++ left h) (sym cut), (sym none, ap (list_all cell_fits) cut));
       only = λ s ws rest p e.
           let nil : ws ≡ [] = nil_from_length ws (p.0 ∙ none) in
-          (nil, sym (e ∙ (ap (λ xs. told (cells_parts m n xs) ++ rest) nil ∙ ap (λ ps. told ps ++ rest) cut)));
+          (nil, sym (e ∙ (ap (λ xs. emitted (cells_parts m n xs) ++ rest) nil ∙ ap (λ ps. emitted ps ++ rest) cut)));
       none = λ s. inl s;
     }

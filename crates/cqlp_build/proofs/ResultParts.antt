@@ -14,7 +14,7 @@ use Rattle.cqlp_message.specs.FrameValues.{Message, Void, SetKeyspace, Rows, Pre
 use Rattle.cqlp_build.specs.declared.held.Held.{Held}
 use Rattle.cqlp_build.specs.Held.{Builds, IsRefused, IsSound, any, left}
 use Rattle.cqlp_build.specs.Productions.{BuildsMessage, IsOf, IsPage, cells_parts}
-use Rattle.cqlp_build.specs.Told.{told}
+use Rattle.cqlp_build.specs.Emitted.{emitted}
 use Rattle.cqlp_build.specs.Types.{is_built_statement}
 use Rattle.cqlp_build.proofs.MetadataParts.{IsStatement}
 use Rattle.cqlp_build.proofs.Several.{both, join}
@@ -24,7 +24,7 @@ abbrev kind_event : ℤ → Event
 kind_event z = Holds field.ResultKind (note.Int z)
 
 -- a result begins with its kind
-begins : (m : Message) → IsOf opcode.Result m → (z : ℤ) × (es : List Event) × (told (body.message_parts m) ≡ kind_event z ∷ es)
+begins : (m : Message) → IsOf opcode.Result m → (z : ℤ) × (es : List Event) × (emitted (body.message_parts m) ≡ kind_event z ∷ es)
 begins Void i = (pos code.void, _, refl)
 begins (SetKeyspace k) i = (pos code.set_keyspace, _, refl)
 begins (Rows p) i = (pos code.rows, _, refl)
@@ -34,8 +34,8 @@ begins (UnknownResult k) i = (k, _, refl)
 begins m i = let o = i.opcode in absurd cc
 
 -- a result of this kind is a prepared statement
-by_kind : (m : Message) (es rest : List Event) → IsOf opcode.Result m → kind_event (pos code.prepared) ∷ es ≡ told (body.message_parts m) ++ rest
-    → (p : PreparedStatement) × (IsStatement p) × (m ≡ Prepared p) × (es ≡ told (body.prepared_parts p) ++ rest)
+by_kind : (m : Message) (es rest : List Event) → IsOf opcode.Result m → kind_event (pos code.prepared) ∷ es ≡ emitted (body.message_parts m) ++ rest
+    → (p : PreparedStatement) × (IsStatement p) × (m ≡ Prepared p) × (es ≡ emitted (body.prepared_parts p) ++ rest)
 by_kind (Prepared p) es rest i e = (p, join (prepared_agrees p) (is_built_statement p) i.agrees i.built, refl, cc)
 by_kind Void es rest i e = absurd cc
 by_kind (SetKeyspace k) es rest i e = absurd cc
@@ -47,17 +47,17 @@ by_kind (UnknownResult k) es rest i e =
     absurd cc
 by_kind m es rest i e = let o = i.opcode in absurd cc
 
-module _ {z : ℤ} {p : PreparedStatement} {a b c : Held} (is : z ≡ pos code.prepared) (one : Builds (λ y. kind_event y ∷ []) any z a b) (two : Builds (λ s. told (body.prepared_parts s)) IsStatement p b c) where
+module _ {z : ℤ} {p : PreparedStatement} {a b c : Held} (is : z ≡ pos code.prepared) (one : Builds (λ y. kind_event y ∷ []) any z a b) (two : Builds (λ s. emitted (body.prepared_parts s)) IsStatement p b c) where
   first : IsSound b → left a ≡ kind_event (pos code.prepared) ∷ left b
   first s = (one.made s).1 ∙ ap (λ y. kind_event y ∷ left b) is
 
-  only_one : IsSound c → (m : Message) (rest : List Event) → IsOf opcode.Result m → left a ≡ told (body.message_parts m) ++ rest → (m ≡ Prepared p) × (rest ≡ left c)
+  only_one : IsSound c → (m : Message) (rest : List Event) → IsOf opcode.Result m → left a ≡ emitted (body.message_parts m) ++ rest → (m ≡ Prepared p) × (rest ≡ left c)
   only_one s m rest i e =
       let k = by_kind m (left b) rest i (sym (first (two.made s).0) ∙ e) in
       let o = two.only s k.0 rest k.1 k.3 in
       (k.2 ∙ ap Prepared o.0, o.1)
 
-  none_one : IsRefused b ⊎ AreNone (λ s. told (body.prepared_parts s)) IsStatement b → IsRefused a ⊎ AreNone (λ m. told (body.message_parts m)) (IsOf opcode.Result) a
+  none_one : IsRefused b ⊎ AreNone (λ s. emitted (body.prepared_parts s)) IsStatement b → IsRefused a ⊎ AreNone (λ m. emitted (body.message_parts m)) (IsOf opcode.Result) a
   none_one (inl r) =
       elim (one.none r) [
         | inl h ↦ inl h
@@ -79,8 +79,8 @@ module _ {z : ℤ} {p : PreparedStatement} {a b c : Held} (is : z ≡ pos code.p
 -- ---- pages
 
 -- a result of this kind is a page
-page_by_kind : (m : Message) (es rest : List Event) → IsOf opcode.Result m → kind_event (pos code.rows) ∷ es ≡ told (body.message_parts m) ++ rest
-    → (p : Page) × (IsPage p) × (m ≡ Rows p) × (es ≡ told (body.page_parts p) ++ rest)
+page_by_kind : (m : Message) (es rest : List Event) → IsOf opcode.Result m → kind_event (pos code.rows) ∷ es ≡ emitted (body.message_parts m) ++ rest
+    → (p : Page) × (IsPage p) × (m ≡ Rows p) × (es ≡ emitted (body.page_parts p) ++ rest)
 page_by_kind (Rows p) es rest i e =
     let c = both (has_its_cells (Rows p)) (list_all cell_fits (cells_parts p.meta p.rows p.cells)) i.cells in
     (p, (i.agrees, i.built, (eqb-true _ _ c.0, c.1)), refl, cc)
@@ -94,17 +94,17 @@ page_by_kind (UnknownResult k) es rest i e =
     absurd cc
 page_by_kind m es rest i e = let o = i.opcode in absurd cc
 
-module _ {z : ℤ} {p : Page} {a b c : Held} (is : z ≡ pos code.rows) (one : Builds (λ y. kind_event y ∷ []) any z a b) (two : Builds (λ s. told (body.page_parts s)) IsPage p b c) where
+module _ {z : ℤ} {p : Page} {a b c : Held} (is : z ≡ pos code.rows) (one : Builds (λ y. kind_event y ∷ []) any z a b) (two : Builds (λ s. emitted (body.page_parts s)) IsPage p b c) where
   page_first : IsSound b → left a ≡ kind_event (pos code.rows) ∷ left b
   page_first s = (one.made s).1 ∙ ap (λ y. kind_event y ∷ left b) is
 
-  only_page : IsSound c → (m : Message) (rest : List Event) → IsOf opcode.Result m → left a ≡ told (body.message_parts m) ++ rest → (m ≡ Rows p) × (rest ≡ left c)
+  only_page : IsSound c → (m : Message) (rest : List Event) → IsOf opcode.Result m → left a ≡ emitted (body.message_parts m) ++ rest → (m ≡ Rows p) × (rest ≡ left c)
   only_page s m rest i e =
       let k = page_by_kind m (left b) rest i (sym (page_first (two.made s).0) ∙ e) in
       let o = two.only s k.0 rest k.1 k.3 in
       (k.2 ∙ ap Rows o.0, o.1)
 
-  no_page : IsRefused b ⊎ AreNone (λ s. told (body.page_parts s)) IsPage b → IsRefused a ⊎ AreNone (λ m. told (body.message_parts m)) (IsOf opcode.Result) a
+  no_page : IsRefused b ⊎ AreNone (λ s. emitted (body.page_parts s)) IsPage b → IsRefused a ⊎ AreNone (λ m. emitted (body.message_parts m)) (IsOf opcode.Result) a
   no_page (inl r) =
       elim (one.none r) [
         | inl h ↦ inl h

@@ -13,16 +13,16 @@ use Rattle.cqlp_build.specs.declared.held.Held.{Held}
 use Rattle.cqlp_build.specs.declared.held.Fault.{Fault}
 use Rattle.cqlp_build.specs.Held.{Builds, IsSound, left}
 use Rattle.cqlp_build.specs.Productions.{BuildsCell, BuildsRow, column_type}
-use Rattle.cqlp_build.specs.Told.{told}
+use Rattle.cqlp_build.specs.Emitted.{emitted}
 use Rattle.cqlp_build.proofs.Several.{both, join}
-use Rattle.cqlp_build.proofs.Steps.{as_builds, other_value, stuck, told_append, ◌then◌}
+use Rattle.cqlp_build.proofs.Steps.{as_builds, other_value, stuck, emitted_append, ◌then◌}
 
 -- a cell of each of these columns, the first of which has this number
 abbrev pub AreOf : (row column : ℕ) → Types → List Values → Type 0
 AreOf row column ts vs = (length vs ≡ how_many ts) × (list_all cell_fits (row_parts row column ts vs) ≡ true)
 
 abbrev pub BuildsFrom : (row column : ℕ) → Types → List Values → (old new : Held) → Type 0
-BuildsFrom row column ts vs old new = Builds (λ ws. told (row_parts row column ts ws)) (AreOf row column ts) vs old new
+BuildsFrom row column ts vs old new = Builds (λ ws. emitted (row_parts row column ts ws)) (AreOf row column ts) vs old new
 
 module _ (row : ℕ) where
   nothing : (ws : List Values) → length ws ≡ 0 → ws ≡ []
@@ -47,7 +47,7 @@ module _ (row : ℕ) where
   pub first_built : (column : ℕ) (k : Kind) (inner ts : Types) {v : Values} {vs : List Values} {a b c : Held}
       → BuildsCell row column (Type_and k inner NoMore) v a b → BuildsFrom row (column + 1) ts vs b c → BuildsFrom row column (Type_and k inner ts) (v ∷ vs) a c
   first_built column k inner ts one more =
-      as_builds (λ ws. told (row_parts row column (Type_and k inner ts) ws)) (AreOf row column (Type_and k inner ts)) (λ p. p.0 ∷ p.1)
+      as_builds (λ ws. emitted (row_parts row column (Type_and k inner ts) ws)) (AreOf row column (Type_and k inner ts)) (λ p. p.0 ∷ p.1)
       (λ p q. refl)
       (λ p q. (omega (arith, q.1.0), join (value_fits k inner p.0) (list_all cell_fits (row_parts row (column + 1) ts p.1)) q.0 q.1.1))
       (first_view column k inner ts)
@@ -139,7 +139,7 @@ abbrev pub AreRows : (row rows : ℕ) → Types → List Values → Type 0
 AreRows row n ts vs = (length vs ≡ n * how_many ts) × (list_all cell_fits (rows_parts row ts n vs) ≡ true)
 
 abbrev pub BuildsRows : (row rows : ℕ) → Types → List Values → (old new : Held) → Type 0
-BuildsRows row n ts vs old new = Builds (λ ws. told (rows_parts row ts n ws)) (AreRows row n ts) vs old new
+BuildsRows row n ts vs old new = Builds (λ ws. emitted (rows_parts row ts n ws)) (AreRows row n ts) vs old new
 
 -- more cells change no row
 row_more : (row column : ℕ) (ts : Types) (vs ws : List Values) → length vs ≡ how_many ts → row_parts row column ts (vs ++ ws) ≡ row_parts row column ts vs
@@ -165,8 +165,8 @@ module _ (ts : Types) where
   AreBoth row n p = AreOf row 0 ts p.0 × AreRows (row + 1) n ts p.1
 
   rows_said : (row n : ℕ) (p : List Values × List Values) → AreBoth row n p
-      → told (rows_parts row ts (suc n) (both_rows p)) ≡ told (row_parts row 0 ts p.0) ++ told (rows_parts (row + 1) ts n p.1)
-  rows_said row n p q = ap told (rows_more row ts n p.0 p.1 q.0.0) ∙ told_append (row_parts row 0 ts p.0) (rows_parts (row + 1) ts n p.1)
+      → emitted (rows_parts row ts (suc n) (both_rows p)) ≡ emitted (row_parts row 0 ts p.0) ++ emitted (rows_parts (row + 1) ts n p.1)
+  rows_said row n p q = ap emitted (rows_more row ts n p.0 p.1 q.0.0) ∙ emitted_append (row_parts row 0 ts p.0) (rows_parts (row + 1) ts n p.1)
 
   rows_on : (row n : ℕ) (p : List Values × List Values) → AreBoth row n p → AreRows row (suc n) ts (both_rows p)
   rows_on row n p q =
@@ -193,7 +193,7 @@ module _ (ts : Types) where
   -- a row, and those after it
   pub first_row : (row n : ℕ) {vs ws : List Values} {a b c : Held} → BuildsRow row ts vs a b → BuildsRows (row + 1) n ts ws b c → BuildsRows row (suc n) ts (vs ++ ws) a c
   first_row row n one more =
-      as_builds (λ xs. told (rows_parts row ts (suc n) xs)) (AreRows row (suc n) ts) both_rows (rows_said row n) (rows_on row n) (rows_view row n)
+      as_builds (λ xs. emitted (rows_parts row ts (suc n) xs)) (AreRows row (suc n) ts) both_rows (rows_said row n) (rows_on row n) (rows_view row n)
       (one then more)
 
   -- What is still to be built of rows, when these cells are.

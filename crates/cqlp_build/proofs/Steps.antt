@@ -6,7 +6,7 @@ use Rattle.cqlp_build.specs.declared.held.Held.{Held}
 use Rattle.std.proofs.lemmas.Grind.{flat_map-append}
 use Rattle.cqlp_grammar.specs.Events.{Event}
 use Rattle.cqlp_message.specs.Parts.{Part}
-use Rattle.cqlp_build.specs.Told.{part_told, told}
+use Rattle.cqlp_build.specs.Emitted.{part_emitted, emitted}
 use Rattle.cqlp_build.specs.Held.{Builds, IsSound, IsRefused, left}
 
 module _ {A : Type 0} {h : A → List Event} {P : A → Type 0} where
@@ -114,16 +114,16 @@ made_of one g Q f same on view = as_builds g Q f same on view one
 pub with_flag : {B : Type 0} {g : B → List Event} (Q : Bool → B → Type 0) {x y : Bool} → x ≡ y → {b : B} {old new : Held} → Builds g (Q x) b old new → Builds g (Q y) b old new
 with_flag {B} {g} Q e {b} {old} {new} one = subst (λ (t : Bool). Builds g (Q t) b old new) e one
 
--- ---- what is told of parts one after the other
+-- ---- the events of parts one after the other
 
-pub told_append : (ps qs : List Part) → told (ps ++ qs) ≡ told ps ++ told qs
-told_append ps qs = flat_map-append part_told ps qs
+pub emitted_append : (ps qs : List Part) → emitted (ps ++ qs) ≡ emitted ps ++ emitted qs
+emitted_append ps qs = flat_map-append part_emitted ps qs
 
-pub told_three : (a b c : List Part) → told (a ++ b ++ c) ≡ told a ++ told b ++ told c
-told_three a b c = told_append (a ++ b) c ∙ ap (λ es. es ++ told c) (told_append a b)
+pub emitted_three : (a b c : List Part) → emitted (a ++ b ++ c) ≡ emitted a ++ emitted b ++ emitted c
+emitted_three a b c = emitted_append (a ++ b) c ∙ ap (λ es. es ++ emitted c) (emitted_append a b)
 
-pub told_four : (a b c d : List Part) → told (a ++ b ++ c ++ d) ≡ told a ++ told b ++ told c ++ told d
-told_four a b c d = told_append (a ++ b ++ c) d ∙ ap (λ es. es ++ told d) (told_three a b c)
+pub emitted_four : (a b c d : List Part) → emitted (a ++ b ++ c ++ d) ≡ emitted a ++ emitted b ++ emitted c ++ emitted d
+emitted_four a b c d = emitted_append (a ++ b ++ c) d ∙ ap (λ es. es ++ emitted d) (emitted_three a b c)
 
-pub told_five : (a b c d e : List Part) → told (a ++ b ++ c ++ d ++ e) ≡ told a ++ told b ++ told c ++ told d ++ told e
-told_five a b c d e = told_append (a ++ b ++ c ++ d) e ∙ ap (λ es. es ++ told e) (told_four a b c d)
+pub emitted_five : (a b c d e : List Part) → emitted (a ++ b ++ c ++ d ++ e) ≡ emitted a ++ emitted b ++ emitted c ++ emitted d ++ emitted e
+emitted_five a b c d e = emitted_append (a ++ b ++ c ++ d) e ∙ ap (λ es. es ++ emitted e) (emitted_four a b c d)

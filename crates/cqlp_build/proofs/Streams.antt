@@ -11,7 +11,7 @@ use Rattle.cqlp_message.specs.Frames.{Flat, FlatAll, frame_parts, frame_size, he
 use Rattle.cqlp_message.specs.Parts.{parts_size}
 use Rattle.cqlp_build.specs.declared.builder.BuildLimits.{BuildLimits}
 use Rattle.cqlp_build.specs.Building.{BuilderState, CanBeBuilt, TakesEvent, empty, is_end, is_inner, with_event}
-use Rattle.cqlp_build.specs.Laws.{Answer, AreFirstOf, AreTaken, IsCut, NoneRefused, StreamIsBuilt, frames_given, told_all}
+use Rattle.cqlp_build.specs.Laws.{Answer, AreFirstOf, AreTaken, IsCut, NoneRefused, StreamIsBuilt, frames_given, without_offsets}
 use Rattle.cqlp_build.proofs.FrameViews.{body_inner, body_of, frame_said}
 use Rattle.cqlp_build.proofs.Several.{both}
 
@@ -73,7 +73,7 @@ module _ (l : Rules) (at : ℕ) (f : FrameValue) (x : ℕ) (c : CanBeBuilt f) wh
   abbrev pub head : Header
   head = header_of f (parts_size (frame_parts f) + x)
 
-  all_said : told_all (Flat l at f x) ≡ Frame head ∷ body_of l at f ++ End x ∷ []
+  all_said : without_offsets (Flat l at f x) ≡ Frame head ∷ body_of l at f ++ End x ∷ []
   all_said = frame_said l at f x
 
   pub end_step : (s : BuilderState) (r : Answer) (mid : BuilderState) → s.events ≡ Frame head ∷ body_of l at f → TakesEvent s (End x) r mid → is_ok r ≡ true → (frames_given (r ∷ []) ≡ (f, x) ∷ []) × (mid ≡ empty s.limits)
@@ -116,9 +116,9 @@ module _ (l : Rules) (at : ℕ) (f : FrameValue) (x : ℕ) (c : CanBeBuilt f) wh
       let d = at_end g.mid s.limits rest g.later new events limits g.run g.sound in
       record { later = d.0; run = d.1; sound = d.2; frames = frames_first r rs [] t.0 ∙ (g.frames ∙ d.3) }
 
-  pub frame_done : (s : BuilderState) (rest : List Event) (rs : List Answer) (new : BuilderState) → s.events ≡ [] → AreTaken s (told_all (Flat l at f x) ++ rest) rs new → NoneRefused rs → Done s rest rs new
+  pub frame_done : (s : BuilderState) (rest : List Event) (rs : List Answer) (new : BuilderState) → s.events ≡ [] → AreTaken s (without_offsets (Flat l at f x) ++ rest) rs new → NoneRefused rs → Done s rest rs new
   frame_done s rest rs new z a n =
-      let all : told_all (Flat l at f x) ++ rest ≡ Frame head ∷ body_of l at f ++ End x ∷ rest = ap (λ es. es ++ rest) all_said ∙ append_assoc (Frame head ∷ body_of l at f) (End x ∷ []) rest in
+      let all : without_offsets (Flat l at f x) ++ rest ≡ Frame head ∷ body_of l at f ++ End x ∷ rest = ap (λ es. es ++ rest) all_said ∙ append_assoc (Frame head ∷ body_of l at f) (End x ∷ []) rest in
       with_head s rest rs new z (subst (λ (es : List Event). AreTaken s es rs new) all a) n
 
   -- ---- a frame that is cut
@@ -138,7 +138,7 @@ module _ (l : Rules) (at : ℕ) (f : FrameValue) (x : ℕ) (c : CanBeBuilt f) wh
   cut_taken s e es [] new z w a n = absurd a
   cut_taken s e es (r ∷ rs) new z w a n =
       let o = both (is_ok r) (list_all is_ok rs) n in
-      let said : told_all (Flat w.rules w.at f x) ≡ Frame head ∷ body_of w.rules w.at f ++ End x ∷ [] = frame_said w.rules w.at f x in
+      let said : without_offsets (Flat w.rules w.at f x) ≡ Frame head ∷ body_of w.rules w.at f ++ End x ∷ [] = frame_said w.rules w.at f x in
       let all : e ∷ (es ++ w.next ∷ w.rest) ≡ Frame head ∷ (body_of w.rules w.at f ++ End x ∷ []) = w.are ∙ said in
       let first : e ≡ Frame head = cc in
       let later : es ++ w.next ∷ w.rest ≡ body_of w.rules w.at f ++ End x ∷ [] = cc in
@@ -163,14 +163,14 @@ cut_end s (e ∷ es) rs new z c a n = cut_taken c.3.rules c.3.at c.0 c.1 c.2 s e
 
 all_built : (limits : BuildLimits) (l : Rules) (at : ℕ) (fs : List (FrameValue × ℕ)) (cut : List Event) (rs : List Answer) (new : BuilderState)
     → AllByRecursion (λ f. CanBeBuilt f.0) fs → IsCut cut
-    → AreTaken (empty limits) (told_all (FlatAll l at fs) ++ cut) rs new → NoneRefused rs
+    → AreTaken (empty limits) (without_offsets (FlatAll l at fs) ++ cut) rs new → NoneRefused rs
     → (frames_given rs ≡ fs) × (new.events ≡ cut)
 all_built limits l at [] cut rs new p c a n = cut_end (empty limits) cut rs new refl c a n
 all_built limits l at (f ∷ fs) cut rs new p c a n =
     let later = FlatAll l (at + frame_size f.0 f.1) fs in
-    let all : told_all (Flat l at f.0 f.1 ++ later) ++ cut ≡ told_all (Flat l at f.0 f.1) ++ (told_all later ++ cut) =
-    ap (λ es. es ++ cut) (map-append (λ e. e.1) (Flat l at f.0 f.1) later) ∙ append_assoc (told_all (Flat l at f.0 f.1)) (told_all later) cut in
-    let d = frame_done l at f.0 f.1 p.0 (empty limits) (told_all later ++ cut) rs new refl (subst (λ (es : List Event). AreTaken (empty limits) es rs new) all a) n in
+    let all : without_offsets (Flat l at f.0 f.1 ++ later) ++ cut ≡ without_offsets (Flat l at f.0 f.1) ++ (without_offsets later ++ cut) =
+    ap (λ es. es ++ cut) (map-append (λ e. e.1) (Flat l at f.0 f.1) later) ∙ append_assoc (without_offsets (Flat l at f.0 f.1)) (without_offsets later) cut in
+    let d = frame_done l at f.0 f.1 p.0 (empty limits) (without_offsets later ++ cut) rs new refl (subst (λ (es : List Event). AreTaken (empty limits) es rs new) all a) n in
     let more = all_built limits l (at + frame_size f.0 f.1) fs cut d.later new p.1 c d.run d.sound in
     (d.frames ∙ ap (λ gs. f ∷ gs) more.0, more.1)
 

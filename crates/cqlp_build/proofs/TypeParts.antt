@@ -25,7 +25,7 @@ use Rattle.cqlp_message.specs.FrameValues.{Octets}
 use Rattle.cqlp_build.specs.declared.held.Held.{Held}
 use Rattle.cqlp_build.specs.declared.held.Fault.TheVariants as fault
 use Rattle.cqlp_build.specs.Held.{Builds, HoldsNoMore, IsRefused, IsSound, Many, TakesKind, any, first_fault, left}
-use Rattle.cqlp_build.specs.Types.{IsOfKind, Wraps, beside, field_told, is_built_field, is_built_type, list_of, map_of, names_count, set_of, told_after_kind, type_told}
+use Rattle.cqlp_build.specs.Types.{IsOfKind, Wraps, beside, field_events, is_built_field, is_built_type, list_of, map_of, names_count, set_of, events_after_kind, type_events}
 use Rattle.cqlp_build.proofs.Several.{both, join}
 use Rattle.cqlp_build.proofs.Steps.{AreNone, as_builds, no_memory, pair_builds, ◌then◌}
 
@@ -81,8 +81,8 @@ row [] = NoTree
 row ((name, NoTree) ∷ fs) = row fs
 row ((name, Tree_and n h inner others) ∷ fs) = Tree_and name h inner (row fs)
 
-abbrev item_told : Bool → Octets × Trees → List Event
-item_told named f = map type_event (name_items named f.0) ++ type_told f.1
+abbrev item_events : Bool → Octets × Trees → List Event
+item_events named f = map type_event (name_items named f.0) ++ type_events f.1
 
 abbrev good : Bool → Octets × Trees → Bool
 good named f = (named || (length f.0 == 0)) && is_built_type f.1
@@ -92,7 +92,7 @@ own_then k hs is rs = ap (λ es. k ∷ es) (ap (λ es. hs ++ es) (sym (append_as
 
 -- the events of a type before others
 first_said : (named : Bool) (name n : List ℕ) (h : Head) (inner others more : Trees) → others ≡ NoTree
-    → map type_event (trees_items named (Tree_and name h inner more)) ≡ item_told named (name, Tree_and n h inner others) ++ map type_event (trees_items named more)
+    → map type_event (trees_items named (Tree_and name h inner more)) ≡ item_events named (name, Tree_and n h inner others) ++ map type_event (trees_items named more)
 first_said named name n h inner others more none =
     let front = name_items named name in
     let own = IsNode (kind_in h) ∷ (head_items h (trees_in inner) ++ (trees_items (has_names h) inner ++ [])) in
@@ -100,11 +100,11 @@ first_said named name n h inner others more none =
     map-append type_event front (IsNode (kind_in h) ∷ (head_items h (trees_in inner) ++ (trees_items (has_names h) inner ++ rest)))
     ∙ ap (λ es. map type_event front ++ es) (ap (λ es. map type_event es) (own_then (IsNode (kind_in h)) (head_items h (trees_in inner)) (trees_items (has_names h) inner) rest) ∙ map-append type_event own rest)
     ∙ sym (append_assoc (map type_event front) (map type_event own) (map type_event rest))
-    ∙ ap (λ (r : Trees). item_told named (name, Tree_and n h inner r) ++ map type_event rest) (sym none)
+    ∙ ap (λ (r : Trees). item_events named (name, Tree_and n h inner r) ++ map type_event rest) (sym none)
 
 -- what types side by side are
 pub record IsRow (named : Bool) (fs : List (Octets × Trees)) : Type 0 where
-  pub said : map type_event (trees_items named (row fs)) ≡ flat_map (item_told named) fs
+  pub said : map type_event (trees_items named (row fs)) ≡ flat_map (item_events named) fs
   pub many : trees_in (row fs) ≡ length fs
   pub trees : are_trees (row fs) ≡ true
   pub names : names_count named (row fs) ≡ true
@@ -122,7 +122,7 @@ is_row named ((name, Tree_and n h inner others) ∷ fs) g =
     let o = one_of n h inner others q.1 in
     let more = is_row named fs p.1 in
     record {
-      said = first_said named name n h inner others (row fs) o.no_others ∙ ap (λ es. item_told named (name, Tree_and n h inner others) ++ es) more.said;
+      said = first_said named name n h inner others (row fs) o.no_others ∙ ap (λ es. item_events named (name, Tree_and n h inner others) ++ es) more.said;
       many = ap suc more.many;
       trees = join (is_head h (trees_in inner) && are_trees inner) (are_trees (row fs)) (join (is_head h (trees_in inner)) (are_trees inner) o.fits o.trees) more.trees;
       names = join ((named || (length name == 0)) && names_count (has_names h) inner) (names_count named (row fs)) (join (named || (length name == 0)) (names_count (has_names h) inner) q.0 o.names) more.names;
@@ -154,9 +154,9 @@ bare_good (t ∷ ts) g =
     let p = both (is_built_type t) (list_all is_built_type ts) g in
     join (is_built_type t) (list_all (good false) (bare ts)) p.0 (bare_good ts p.1)
 
-bare_said : (ts : List Trees) → flat_map (item_told false) (bare ts) ≡ flat_map type_told ts
+bare_said : (ts : List Trees) → flat_map (item_events false) (bare ts) ≡ flat_map type_events ts
 bare_said [] = refl
-bare_said (t ∷ ts) = ap (λ es. type_told t ++ es) (bare_said ts)
+bare_said (t ∷ ts) = ap (λ es. type_events t ++ es) (bare_said ts)
 
 bare_many : (ts : List Trees) → length (bare ts) ≡ length ts
 bare_many [] = refl
@@ -172,7 +172,7 @@ bare_view ((name, t) ∷ fs) g =
 
 -- what types without names are
 pub record AreTypes (ts : List Trees) : Type 0 where
-  pub said : type_told (types_all ts) ≡ flat_map type_told ts
+  pub said : type_events (types_all ts) ≡ flat_map type_events ts
   pub many : trees_in (types_all ts) ≡ length ts
   pub trees : are_trees (types_all ts) ≡ true
   pub names : names_count false (types_all ts) ≡ true
@@ -246,9 +246,9 @@ list_view (Tree_and name h inner others) i =
     let k = list_head h (trees_in inner) i.0 o.fits in
     (inner, to_one inner k.1 o.trees (ap (λ g. names_count (has_names g) inner) (sym k.0) ∙ o.names), alone name h inner others o ∙ ap (λ (g : Head). Tree_and [] g inner NoTree) k.0)
 
-pub list_builds : {a : Trees} {old new : Held} → Builds type_told (λ t. is_built_type t ≡ true) a old new → Builds told_after_kind (IsOfKind kind.List) (list_of a) old new
+pub list_builds : {a : Trees} {old new : Held} → Builds type_events (λ t. is_built_type t ≡ true) a old new → Builds events_after_kind (IsOfKind kind.List) (list_of a) old new
 list_builds one =
-    as_builds told_after_kind (IsOfKind kind.List) list_of (λ a p. refl)
+    as_builds events_after_kind (IsOfKind kind.List) list_of (λ a p. refl)
     (λ a p. let q = is_one a p in (refl, of_one ListOf a (eq-eqb (trees_in a) 1 q.0) q.1 q.2)) list_view one
 
 set_view : (t : Trees) → IsOfKind kind.Set t → (a : Trees) × (is_built_type a ≡ true) × (t ≡ set_of a)
@@ -258,9 +258,9 @@ set_view (Tree_and name h inner others) i =
     let k = set_head h (trees_in inner) i.0 o.fits in
     (inner, to_one inner k.1 o.trees (ap (λ g. names_count (has_names g) inner) (sym k.0) ∙ o.names), alone name h inner others o ∙ ap (λ (g : Head). Tree_and [] g inner NoTree) k.0)
 
-pub set_builds : {a : Trees} {old new : Held} → Builds type_told (λ t. is_built_type t ≡ true) a old new → Builds told_after_kind (IsOfKind kind.Set) (set_of a) old new
+pub set_builds : {a : Trees} {old new : Held} → Builds type_events (λ t. is_built_type t ≡ true) a old new → Builds events_after_kind (IsOfKind kind.Set) (set_of a) old new
 set_builds one =
-    as_builds told_after_kind (IsOfKind kind.Set) set_of (λ a p. refl)
+    as_builds events_after_kind (IsOfKind kind.Set) set_of (λ a p. refl)
     (λ a p. let q = is_one a p in (refl, of_one SetOf a (eq-eqb (trees_in a) 1 q.0) q.1 q.2)) set_view one
 
 -- ---- maps
@@ -276,9 +276,9 @@ two_row (Tree_and n h i r) (Tree_and m g j s) p q =
 two_good : (a b : Trees) → is_built_type a ≡ true → is_built_type b ≡ true → list_all is_built_type (a ∷ b ∷ []) ≡ true
 two_good a b p q = join (is_built_type a) (is_built_type b && true) p (join (is_built_type b) true q refl)
 
-map_said : (a b : Trees) → is_built_type a ≡ true → is_built_type b ≡ true → told_after_kind (map_of a b) ≡ type_told a ++ type_told b
+map_said : (a b : Trees) → is_built_type a ≡ true → is_built_type b ≡ true → events_after_kind (map_of a b) ≡ type_events a ++ type_events b
 map_said a b p q =
-    ap type_told (two_row a b p q) ∙ (are_types (a ∷ b ∷ []) (two_good a b p q)).said ∙ ap (λ es. type_told a ++ es) (append-nil (type_told b))
+    ap type_events (two_row a b p q) ∙ (are_types (a ∷ b ∷ []) (two_good a b p q)).said ∙ ap (λ es. type_events a ++ es) (append-nil (type_events b))
 
 map_on : (a b : Trees) → is_built_type a ≡ true → is_built_type b ≡ true → IsOfKind kind.Map (map_of a b)
 map_on a b p q =
@@ -305,20 +305,20 @@ map_view (Tree_and name h inner others) i =
     let is : inner ≡ beside w.0.0 w.0.1 = v.2 ∙ ap types_all w.2 ∙ sym (two_row w.0.0 w.0.1 w.1.0 w.1.1) in
     (w.0, w.1, alone name h inner others o ∙ ap (λ (g : Head). Tree_and [] g inner NoTree) k.0 ∙ ap (λ (x : Trees). Tree_and [] MapOf x NoTree) is)
 
-pub map_builds : {a b : Trees} {old mid new : Held} → Builds type_told (λ t. is_built_type t ≡ true) a old mid → Builds type_told (λ t. is_built_type t ≡ true) b mid new
-    → Builds told_after_kind (IsOfKind kind.Map) (map_of a b) old new
+pub map_builds : {a b : Trees} {old mid new : Held} → Builds type_events (λ t. is_built_type t ≡ true) a old mid → Builds type_events (λ t. is_built_type t ≡ true) b mid new
+    → Builds events_after_kind (IsOfKind kind.Map) (map_of a b) old new
 map_builds one two =
-    as_builds told_after_kind (IsOfKind kind.Map) (λ p. map_of p.0 p.1) (λ p q. map_said p.0 p.1 q.0 q.1) (λ p q. map_on p.0 p.1 q.0 q.1) map_view (one then two)
+    as_builds events_after_kind (IsOfKind kind.Map) (λ p. map_of p.0 p.1) (λ p q. map_said p.0 p.1 q.0 q.1) (λ p q. map_on p.0 p.1 q.0 q.1) map_view (one then two)
 
 -- ---- tuples and user-defined types
 
 abbrev pub tuple_of : ℕ × List Trees → Trees
 tuple_of p = Tree_and [] TupleOf (types_all p.1) NoTree
 
-tuple_said : (n : ℕ) (ts : List Trees) → Many is_built_type n ts → told_after_kind (tuple_of (n, ts)) ≡ Holds field.Fields (note.Count n) ∷ flat_map type_told ts
+tuple_said : (n : ℕ) (ts : List Trees) → Many is_built_type n ts → events_after_kind (tuple_of (n, ts)) ≡ Holds field.Fields (note.Count n) ∷ flat_map type_events ts
 tuple_said n ts m =
     let r = are_types ts m.1 in
-    ap (λ k. Holds field.Fields (note.Count k) ∷ type_told (types_all ts)) (r.many ∙ m.0) ∙ ap (λ es. Holds field.Fields (note.Count n) ∷ es) r.said
+    ap (λ k. Holds field.Fields (note.Count k) ∷ type_events (types_all ts)) (r.many ∙ m.0) ∙ ap (λ es. Holds field.Fields (note.Count n) ∷ es) r.said
 
 tuple_view : (t : Trees) → IsOfKind kind.Tuple t → (p : ℕ × List Trees) × ((true ≡ true) × Many is_built_type p.0 p.1) × (t ≡ tuple_of p)
 tuple_view NoTree i = absurd i
@@ -328,10 +328,10 @@ tuple_view (Tree_and name h inner others) i =
     let v = types_view (trees_in inner) inner refl o.trees (ap (λ g. names_count (has_names g) inner) (sym k) ∙ o.names) in
     ((trees_in inner, v.0), (refl, v.1), alone name h inner others o ∙ ap (λ (g : Head). Tree_and [] g inner NoTree) k ∙ ap (λ (x : Trees). Tree_and [] TupleOf x NoTree) v.2)
 
-pub tuple_builds : {n : ℕ} {ts : List Trees} {old mid new : Held} → Builds (λ k. Holds field.Fields (note.Count k) ∷ []) any n old mid → Builds (flat_map type_told) (Many is_built_type n) ts mid new
-    → Builds told_after_kind (IsOfKind kind.Tuple) (tuple_of (n, ts)) old new
+pub tuple_builds : {n : ℕ} {ts : List Trees} {old mid new : Held} → Builds (λ k. Holds field.Fields (note.Count k) ∷ []) any n old mid → Builds (flat_map type_events) (Many is_built_type n) ts mid new
+    → Builds events_after_kind (IsOfKind kind.Tuple) (tuple_of (n, ts)) old new
 tuple_builds one two =
-    as_builds told_after_kind (IsOfKind kind.Tuple) tuple_of (λ p q. tuple_said p.0 p.1 q.1)
+    as_builds events_after_kind (IsOfKind kind.Tuple) tuple_of (λ p q. tuple_said p.0 p.1 q.1)
     (λ p q. let r = are_types p.1 q.1.1 in (refl, of_one TupleOf (types_all p.1) refl r.trees r.names))
     tuple_view (pair_builds (λ k. Many is_built_type k) one two)
 
@@ -339,7 +339,7 @@ abbrev pub udt_of : (Octets × Octets) × (ℕ × List (Octets × Trees)) → Tr
 udt_of p = Tree_and [] (UdtOf p.0.0 p.0.1) (row p.1.1) NoTree
 
 udt_said : (keyspace name : Octets) (n : ℕ) (fs : List (Octets × Trees)) → Many is_built_field n fs
-    → told_after_kind (udt_of ((keyspace, name), (n, fs))) ≡ Holds field.Keyspace (note.Text keyspace) ∷ Holds field.TypeName (note.Text name) ∷ Holds field.Fields (note.Count n) ∷ flat_map field_told fs
+    → events_after_kind (udt_of ((keyspace, name), (n, fs))) ≡ Holds field.Keyspace (note.Text keyspace) ∷ Holds field.TypeName (note.Text name) ∷ Holds field.Fields (note.Count n) ∷ flat_map field_events fs
 udt_said keyspace name n fs m =
     let r = is_row true fs m.1 in
     let head : ℕ → List Event → List Event = λ k es. Holds field.Keyspace (note.Text keyspace) ∷ Holds field.TypeName (note.Text name) ∷ Holds field.Fields (note.Count k) ∷ es in
@@ -360,10 +360,10 @@ udt_view (Tree_and name h inner others) i =
 
 pub udt_builds : {keyspace name : Octets} {n : ℕ} {fs : List (Octets × Trees)} {a b c d e : Held}
     → Builds (λ t. Holds field.Keyspace (note.Text t) ∷ []) any keyspace a b → Builds (λ t. Holds field.TypeName (note.Text t) ∷ []) any name b c
-    → Builds (λ k. Holds field.Fields (note.Count k) ∷ []) any n c d → Builds (flat_map field_told) (Many is_built_field n) fs d e
-    → Builds told_after_kind (IsOfKind kind.Udt) (udt_of ((keyspace, name), (n, fs))) a e
+    → Builds (λ k. Holds field.Fields (note.Count k) ∷ []) any n c d → Builds (flat_map field_events) (Many is_built_field n) fs d e
+    → Builds events_after_kind (IsOfKind kind.Udt) (udt_of ((keyspace, name), (n, fs))) a e
 udt_builds one two three four =
-    as_builds told_after_kind (IsOfKind kind.Udt) udt_of (λ p q. udt_said p.0.0 p.0.1 p.1.0 p.1.1 q.1.1)
+    as_builds events_after_kind (IsOfKind kind.Udt) udt_of (λ p q. udt_said p.0.0 p.0.1 p.1.0 p.1.1 q.1.1)
     (λ p q. let r = is_row true p.1.1 q.1.1.1 in (refl, of_one (UdtOf p.0.0 p.0.1) (row p.1.1) refl r.trees r.names))
     udt_view ((one then two) then pair_builds (λ k. Many is_built_field k) three four)
 
@@ -379,9 +379,9 @@ custom_view (Tree_and name h inner others) i =
     let k = custom_head h (trees_in inner) i.0 o.fits in
     (k.0, refl, alone name h inner others o ∙ ap (λ (g : Head). Tree_and [] g inner NoTree) k.1 ∙ ap (λ (x : Trees). Tree_and [] (Custom k.0) x NoTree) (none_in inner k.2))
 
-pub custom_builds : {class : Octets} {old new : Held} → Builds (λ t. Holds field.Class (note.Text t) ∷ []) any class old new → Builds told_after_kind (IsOfKind kind.Custom) (custom_of class) old new
+pub custom_builds : {class : Octets} {old new : Held} → Builds (λ t. Holds field.Class (note.Text t) ∷ []) any class old new → Builds events_after_kind (IsOfKind kind.Custom) (custom_of class) old new
 custom_builds one =
-    as_builds told_after_kind (IsOfKind kind.Custom) custom_of (λ a p. refl) (λ a p. (refl, of_one (Custom a) NoTree refl refl refl)) custom_view one
+    as_builds events_after_kind (IsOfKind kind.Custom) custom_of (λ a p. refl) (λ a p. (refl, of_one (Custom a) NoTree refl refl refl)) custom_view one
 
 -- a kind with parameters
 abbrev pub has_parameters : Kind → Bool
@@ -414,9 +414,9 @@ plain_view k off (Tree_and name h inner others) i =
     let p = plain_head k h (trees_in inner) off i.0 o.fits in
     (tt, p.1, alone name h inner others o ∙ ap (λ (g : Head). Tree_and [] g inner NoTree) p.0 ∙ ap (λ (x : Trees). Tree_and [] (Plain k) x NoTree) (none_in inner p.2))
 
-pub plain_builds : (k : Kind) → has_parameters k ≡ false → {old new : Held} → Builds {A = Unit {0}} (λ _. []) (λ _. is_plain k ≡ true) tt old new → Builds told_after_kind (IsOfKind k) (plain_of k) old new
+pub plain_builds : (k : Kind) → has_parameters k ≡ false → {old new : Held} → Builds {A = Unit {0}} (λ _. []) (λ _. is_plain k ≡ true) tt old new → Builds events_after_kind (IsOfKind k) (plain_of k) old new
 plain_builds k off one =
-    as_builds told_after_kind (IsOfKind k) (λ _. plain_of k) (λ a p. refl) (λ a p. (refl, of_one (Plain k) NoTree (join (is_plain k) true p refl) refl refl)) (plain_view k off) one
+    as_builds events_after_kind (IsOfKind k) (λ _. plain_of k) (λ a p. refl) (λ a p. (refl, of_one (Plain k) NoTree (join (is_plain k) true p refl) refl refl)) (plain_view k off) one
 
 -- ---- a type after its kind
 
@@ -427,7 +427,7 @@ kind_builds {k} {old} {new} t = record {
   none = λ r. let d : None ≡ Some fault.NoFrame = sym t.2 ∙ r in absurd cc;
 }
 
-after_said : (k : Kind) (t : Trees) → IsOfKind k t → type_told t ≡ Node_of k ∷ told_after_kind t
+after_said : (k : Kind) (t : Trees) → IsOfKind k t → type_events t ≡ Node_of k ∷ events_after_kind t
 after_said k NoTree i = absurd i
 after_said k (Tree_and name h inner others) i =
     let o = one_of name h inner others i.1 in
@@ -445,31 +445,31 @@ of_kind_built : (k : Kind) (t : Trees) → IsOfKind k t → is_built_type t ≡ 
 of_kind_built k NoTree i = absurd i
 of_kind_built k (Tree_and name h inner others) i = i.1
 
-pub tree_builds : {k : Kind} {t : Trees} {old mid new : Held} → TakesKind (Some k) old mid → Builds told_after_kind (IsOfKind k) t mid new → Builds type_told (λ t. is_built_type t ≡ true) t old new
+pub tree_builds : {k : Kind} {t : Trees} {old mid new : Held} → TakesKind (Some k) old mid → Builds events_after_kind (IsOfKind k) t mid new → Builds type_events (λ t. is_built_type t ≡ true) t old new
 tree_builds one two =
-    as_builds type_told (λ t. is_built_type t ≡ true) (λ (p : Kind × Trees). p.1) (λ p q. after_said p.0 p.1 q.1) (λ p q. of_kind_built p.0 p.1 q.1) tree_view (pair_builds (λ k. IsOfKind k) (kind_builds one) two)
+    as_builds type_events (λ t. is_built_type t ≡ true) (λ (p : Kind × Trees). p.1) (λ p q. after_said p.0 p.1 q.1) (λ p q. of_kind_built p.0 p.1 q.1) tree_view (pair_builds (λ k. IsOfKind k) (kind_builds one) two)
 
 -- no type begins where no kind does
-pub no_tree : (t : Trees) (old mid new : Held) → TakesKind None old mid → new.fault ≡ first_fault mid.fault fault.NoFrame → Builds type_told (λ t. is_built_type t ≡ true) t old new
+pub no_tree : (t : Trees) (old mid new : Held) → TakesKind None old mid → new.fault ≡ first_fault mid.fault fault.NoFrame → Builds type_events (λ t. is_built_type t ≡ true) t old new
 no_tree t old mid new k f = record { made = λ s. absurd (never mid.fault (sym f ∙ s)); only = λ s. absurd (never mid.fault (sym f ∙ s)); none = λ r. refused old.fault refl r }
   where
     never : (o : _) → first_fault o fault.NoFrame ≡ None → ⊥
     never None e = absurd cc
     never (Some g) e = absurd cc
 
-    no_kind : (s : IsSound old) (b : Trees) (rest : List Event) → is_built_type b ≡ true → left old ≡ type_told b ++ rest → ⊥
+    no_kind : (s : IsSound old) (b : Trees) (rest : List Event) → is_built_type b ≡ true → left old ≡ type_events b ++ rest → ⊥
     no_kind s NoTree rest p e = absurd cc
     no_kind s (Tree_and name h inner others) rest p e = k.1 s (kind_in h) _ e
 
-    refused : (o : _) → old.fault ≡ o → new.fault ≡ Some fault.NoFrame → IsRefused old ⊎ AreNone type_told (λ t. is_built_type t ≡ true) old
+    refused : (o : _) → old.fault ≡ o → new.fault ≡ Some fault.NoFrame → IsRefused old ⊎ AreNone type_events (λ t. is_built_type t ≡ true) old
     refused None is r = inr (is, no_kind is)
     refused (Some g) is r = inl (is ∙ (sym (ap (λ o. first_fault o fault.NoFrame) (k.0 ∙ is)) ∙ (sym f ∙ r)))
 
 -- ---- types that are wrapped
 
-pub wrapped : (k : Kind) (t r : Trees) {old mid new : Held} → Builds told_after_kind (IsOfKind k) t old mid → Wraps t r mid new → Builds told_after_kind (IsOfKind k) r old new
+pub wrapped : (k : Kind) (t r : Trees) {old mid new : Held} → Builds events_after_kind (IsOfKind k) t old mid → Wraps t r mid new → Builds events_after_kind (IsOfKind k) r old new
 wrapped k t r {old} {mid} {new} one (inl w) =
-    subst (λ (h : Held). Builds told_after_kind (IsOfKind k) r old h) (sym w.1) (subst (λ (x : Trees). Builds told_after_kind (IsOfKind k) x old mid) (sym w.0) one)
+    subst (λ (h : Held). Builds events_after_kind (IsOfKind k) r old h) (sym w.1) (subst (λ (x : Trees). Builds events_after_kind (IsOfKind k) x old mid) (sym w.0) one)
 wrapped k t r one (inr w) = no_memory r w.0
 
 pub wrapped_fewer : (t r : Trees) (old mid new : Held) → HoldsNoMore old mid → Wraps t r mid new → HoldsNoMore old new
@@ -478,9 +478,9 @@ wrapped_fewer t r old mid new l (inr w) = omega (arith, l, ap (λ (q : _). lengt
 
 -- ---- fields
 
-pub field_builds : {name : Octets} {t : Trees} {old mid new : Held} → Builds (λ t. Holds field.FieldName (note.Text t) ∷ []) any name old mid → Builds type_told (λ t. is_built_type t ≡ true) t mid new
-    → Builds field_told (λ f. is_built_field f ≡ true) (name, t) old new
-field_builds one two = as_builds field_told (λ f. is_built_field f ≡ true) (λ (f : Octets × Trees). f) (λ a p. refl) (λ a p. p.1) (λ b q. (b, (refl, q), refl)) (one then two)
+pub field_builds : {name : Octets} {t : Trees} {old mid new : Held} → Builds (λ t. Holds field.FieldName (note.Text t) ∷ []) any name old mid → Builds type_events (λ t. is_built_type t ≡ true) t mid new
+    → Builds field_events (λ f. is_built_field f ≡ true) (name, t) old new
+field_builds one two = as_builds field_events (λ f. is_built_field f ≡ true) (λ (f : Octets × Trees). f) (λ a p. refl) (λ a p. p.1) (λ b q. (b, (refl, q), refl)) (one then two)
 
 -- ---- as a caller owns them
 
@@ -503,8 +503,8 @@ udt_tree keyspace name v n = ap (λ (x : Trees). Tree_and [] (UdtOf (string_byte
 
 -- ---- kinds
 
-pub of_kind : {k j : Kind} {t : Trees} {old new : Held} → k ≡ j → Builds told_after_kind (IsOfKind j) t old new → Builds told_after_kind (IsOfKind k) t old new
-of_kind {k} {j} {t} {old} {new} e one = subst (λ (x : Kind). Builds told_after_kind (IsOfKind x) t old new) (sym e) one
+pub of_kind : {k j : Kind} {t : Trees} {old new : Held} → k ≡ j → Builds events_after_kind (IsOfKind j) t old new → Builds events_after_kind (IsOfKind k) t old new
+of_kind {k} {j} {t} {old} {new} e one = subst (λ (x : Kind). Builds events_after_kind (IsOfKind x) t old new) (sym e) one
 
 pub without_parameters : (k : Kind) → (k ≡ kind.Custom → ⊥) → (k ≡ kind.List → ⊥) → (k ≡ kind.Set → ⊥) → (k ≡ kind.Map → ⊥) → (k ≡ kind.Udt → ⊥) → (k ≡ kind.Tuple → ⊥) → has_parameters k ≡ false
 without_parameters kind.Custom a b c d e f = absurd (a refl)

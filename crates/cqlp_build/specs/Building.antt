@@ -97,7 +97,7 @@ is_due [] e = false
 is_due (e ∷ es) (Frame h) = false
 is_due (e ∷ es) f = true
 
--- a field, the kind of a type option, or what is told of a cell
+-- a field, the kind of a type option, or an event of a cell
 abbrev pub is_field : Event → Bool
 is_field (Holds f v) = true
 is_field (Node_of k) = true
@@ -131,7 +131,7 @@ HasPlace s = length s.events ≤ s.limits.fields
 abbrev pub IsWithin : BuilderState → Event → Type 0
 IsWithin s e = HasPlace s × (depth_at e s.around ≤ s.limits.depth) × (content_size e ≤ s.room)
 
--- a header, or a field, the kind of a type option or what is told of a cell within the limits
+-- a header, or a field, the kind of a type option or an event of a cell within the limits
 abbrev pub IsTaken : BuilderState → Event → Type 0
 IsTaken s (Frame h) = ⊤
 IsTaken s (Holds f v) = IsWithin s (Holds f v)
@@ -201,10 +201,10 @@ pub record BeginsWith (h : Header) (f : FrameValue) : Type 0 where
   pub built : is_built f.message ≡ true
   pub cells : has_fit_cells f.message ≡ true
 
--- What is told of a frame whose parts were taken: nothing where nothing was refused, nothing is left, and it is of the header
+-- What is reported of a frame whose parts were taken: nothing where nothing was refused, nothing is left, and it is of the header
 -- with x bytes more, if it begins with it.
-abbrev pub Tells : Header → (x : ℕ) → FrameValue → Held → Option BuildError → Type 0
-Tells h x f after None = IsSound after × (left after ≡ []) × (BeginsWith h f → IsOfHeader f h x)
-Tells h x f after (Some error.NoFrame) = IsRefused after ⊎ (IsSound after × (((left after ≡ []) → ⊥) ⊎ (BeginsWith h f → IsOfHeader f h x → ⊥)))
-Tells h x f after (Some error.NoMemory) = Unit {0}
-Tells h x f after (Some e) = ⊥
+abbrev pub Reports : Header → (x : ℕ) → FrameValue → Held → Option BuildError → Type 0
+Reports h x f after None = IsSound after × (left after ≡ []) × (BeginsWith h f → IsOfHeader f h x)
+Reports h x f after (Some error.NoFrame) = IsRefused after ⊎ (IsSound after × (((left after ≡ []) → ⊥) ⊎ (BeginsWith h f → IsOfHeader f h x → ⊥)))
+Reports h x f after (Some error.NoMemory) = Unit {0}
+Reports h x f after (Some e) = ⊥

@@ -49,10 +49,10 @@ Closes old r new = Ends old.events r × (((old.events ≡ []) × (new ≡ old)) 
 abbrev pub IsOfSome : Header → FrameValue → Type 0
 IsOfSome h f = (unfit_of f ≡ None) × (same h.response (answers h.opcode) ≡ true)
 
--- What is told of a frame whose parts were taken: nothing where nothing was refused, nothing is left, and it is of the header
+-- What is reported of a frame whose parts were taken: nothing where nothing was refused, nothing is left, and it is of the header
 -- with some length, if it begins with it.
-abbrev pub TellsOf : Header → FrameValue → Held → Option BuildError → Type 0
-TellsOf h f after None = IsSound after × (left after ≡ []) × (BeginsWith h f → IsOfSome h f)
-TellsOf h f after (Some error.NoFrame) = IsRefused after ⊎ (IsSound after × (((left after ≡ []) → ⊥) ⊎ (BeginsWith h f → IsOfSome h f → ⊥)))
-TellsOf h f after (Some error.NoMemory) = ⊤
-TellsOf h f after (Some e) = ⊥
+abbrev pub ReportsOf : Header → FrameValue → Held → Option BuildError → Type 0
+ReportsOf h f after None = IsSound after × (left after ≡ []) × (BeginsWith h f → IsOfSome h f)
+ReportsOf h f after (Some error.NoFrame) = IsRefused after ⊎ (IsSound after × (((left after ≡ []) → ⊥) ⊎ (BeginsWith h f → IsOfSome h f → ⊥)))
+ReportsOf h f after (Some error.NoMemory) = ⊤
+ReportsOf h f after (Some e) = ⊥

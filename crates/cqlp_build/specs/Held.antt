@@ -33,12 +33,12 @@ held_in (content.Bound v) = note.Bound (bound_of v)
 held_in (content.Inet a z) = note.Inet a z
 
 -- the event that an item is
-abbrev pub told_by : Item → Event
-told_by (item.Holds f c) = Holds f (held_in c)
-told_by (item.Kind k) = Node_of k
-told_by (item.Cell row column level s) = cell_event row column (cell.told_at level s)
+abbrev pub item_event : Item → Event
+item_event (item.Holds f c) = Holds f (held_in c)
+item_event (item.Kind k) = Node_of k
+item_event (item.Cell row column level s) = cell_event row column (cell.emitted_at level s)
 
--- a field, the kind of a type option, or what is told of a cell but parts of scalars
+-- a field, the kind of a type option, or an event of a cell but a part of a scalar
 abbrev pub IsHeld : Event → Type 0
 IsHeld (Holds f v) = ⊤
 IsHeld (Node_of k) = ⊤
@@ -48,7 +48,7 @@ IsHeld e = ⊥
 
 -- the events that are left
 abbrev pub left : Held → List Event
-left h = map told_by h.items.items
+left h = map item_event h.items.items
 
 -- nothing was refused
 abbrev pub IsSound : Held → Type 0
@@ -62,22 +62,22 @@ abbrev pub first_fault : Option Fault → Fault → Option Fault
 first_fault None f = Some f
 first_fault (Some g) f = Some g
 
--- What the next event holds where it is this field, which is taken; of any other nothing is told, and it is taken or not.
+-- What the next event holds where it is this field, which is taken; of any other nothing is said, and it is taken or not.
 abbrev pub TakesField : Field → Option Content → (old new : Held) → Type 0
 TakesField f (Some k) old new = IsSound old × (left old ≡ Holds f (held_in k) ∷ left new) × IsSound new
 TakesField f None old new =
     (new.fault ≡ old.fault) × (IsSound old → (v : FieldValue) (rest : List Event) → left old ≡ Holds f v ∷ rest → ⊥)
 
--- The kind of a type option, which came next and is taken; of anything else nothing is told, and it is taken or not.
+-- The kind of a type option, which came next and is taken; of anything else nothing is said, and it is taken or not.
 abbrev pub TakesKind : Option Kind → (old new : Held) → Type 0
 TakesKind (Some k) old new = IsSound old × (left old ≡ Node_of k ∷ left new) × IsSound new
 TakesKind None old new =
     (new.fault ≡ old.fault) × (IsSound old → (k : Kind) (rest : List Event) → left old ≡ Node_of k ∷ rest → ⊥)
 
--- What is told next of the cell of this row and column, which is taken; where nothing is, nothing is told, and it is taken or not.
+-- The next event of the cell of this row and column, which is taken; where nothing is, nothing is said, and it is taken or not.
 abbrev pub TakesStep : (row column : ℕ) → Option (ℕ × Step) → (old new : Held) → Type 0
 TakesStep row column (Some s) old new =
-    IsSound old × (left old ≡ cell_event row column (cell.told_by s) ∷ left new) × IsSound new
+    IsSound old × (left old ≡ cell_event row column (cell.item_event s) ∷ left new) × IsSound new
 TakesStep row column None old new =
     (new.fault ≡ old.fault) × (IsSound old → (e : CellEvent) (rest : List Event) → left old ≡ cell_event row column e ∷ rest → ⊥)
 
@@ -95,12 +95,12 @@ TakesValue {A} f make None old new =
 
 -- Where nothing was refused, the events of this value came first, P holds of it, and of no other such value did they come.
 -- Where it was refused now, they are those of no such value. Of what memory was refused for nothing is said.
-pub record Builds {A : Type 0} (told : A → List Event) (P : A → Type 0) (a : A) (old new : Held) : Type 0 where
-  pub made : IsSound new → IsSound old × (left old ≡ told a ++ left new) × P a
-  pub only : IsSound new → (b : A) (rest : List Event) → P b → left old ≡ told b ++ rest → (b ≡ a) × (rest ≡ left new)
+pub record Builds {A : Type 0} (emitted : A → List Event) (P : A → Type 0) (a : A) (old new : Held) : Type 0 where
+  pub made : IsSound new → IsSound old × (left old ≡ emitted a ++ left new) × P a
+  pub only : IsSound new → (b : A) (rest : List Event) → P b → left old ≡ emitted b ++ rest → (b ≡ a) × (rest ≡ left new)
   pub none :
       IsRefused new
-      → IsRefused old ⊎ (IsSound old × ((b : A) (rest : List Event) → P b → left old ≡ told b ++ rest → ⊥))
+      → IsRefused old ⊎ (IsSound old × ((b : A) (rest : List Event) → P b → left old ≡ emitted b ++ rest → ⊥))
 
 -- no more events are left than were
 abbrev pub HoldsNoMore : (old new : Held) → Type 0

@@ -36,8 +36,8 @@ abbrev pub NoneRefused : List Answer → Type 0
 NoneRefused rs = list_all is_ok rs ≡ true
 
 -- events without their offsets
-abbrev pub told_all : List (ℕ × Event) → List Event
-told_all es = map (λ e. e.1) es
+abbrev pub without_offsets : List (ℕ × Event) → List Event
+without_offsets es = map (λ e. e.1) es
 
 -- The events are the first of this frame, with x bytes after its last field, and not all of them.
 pub record AreFirstOf (es : List Event) (f : FrameValue) (x : ℕ) : Type 0 where
@@ -45,7 +45,7 @@ pub record AreFirstOf (es : List Event) (f : FrameValue) (x : ℕ) : Type 0 wher
   pub at : ℕ
   pub next : Event
   pub rest : List Event
-  pub are : es ++ next ∷ rest ≡ told_all (Flat rules at f x)
+  pub are : es ++ next ∷ rest ≡ without_offsets (Flat rules at f x)
 
 -- The events of a frame that is cut: none, or the first of one that is built.
 abbrev pub IsCut : List Event → Type 0
@@ -58,7 +58,7 @@ abbrev pub StreamIsBuilt : Type 0
 StreamIsBuilt =
     (limits : BuildLimits) (l : Rules) (at : ℕ) (fs : List (FrameValue × ℕ)) (cut : List Event) (rs : List Answer) (new : BuilderState)
     → AllByRecursion (λ f. CanBeBuilt f.0) fs → IsCut cut
-    → AreTaken (empty limits) (told_all (FlatAll l at fs) ++ cut) rs new → NoneRefused rs
+    → AreTaken (empty limits) (without_offsets (FlatAll l at fs) ++ cut) rs new → NoneRefused rs
     → (frames_given rs ≡ fs) × (new.events ≡ cut)
 
 -- for want of memory, or as a limit says
@@ -74,7 +74,7 @@ abbrev pub OnlyBoundsRefuse : Type 0
 OnlyBoundsRefuse =
     (limits : BuildLimits) (l : Rules) (at : ℕ) (fs : List (FrameValue × ℕ)) (before after : List Event) (rs : List Answer)
     (e : BuildError) (new : BuilderState)
-    → AllByRecursion (λ f. CanBeBuilt f.0) fs → before ++ after ≡ told_all (FlatAll l at fs)
+    → AllByRecursion (λ f. CanBeBuilt f.0) fs → before ++ after ≡ without_offsets (FlatAll l at fs)
     → HaveNoParts before → AreTaken (empty limits) before (rs ++ Err e ∷ []) new → NoneRefused rs
     → is_of_bounds e ≡ true
 

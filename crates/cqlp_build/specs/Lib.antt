@@ -1,4 +1,4 @@
-pub mod Told
+pub mod Emitted
 pub mod Held
 pub mod Types
 pub mod Nesting

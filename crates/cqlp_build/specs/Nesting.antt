@@ -11,7 +11,7 @@ use Rattle.cqlp_grammar.specs.Events.{Event, Holds, Node_of}
 -- The type options in which others are still to begin, the innermost first, are a list of how many: of each, how many inner
 -- options have not begun. Behind one that has some stand those around it, also where they have none.
 
--- how many inner options of a type option of this kind are to begin; where they are counted, one before their count is told
+-- how many inner options of a type option of this kind are to begin; where they are counted, one before their count comes
 abbrev pub inner_due : Kind → ℕ
 inner_due kind.Udt = 1
 inner_due kind.Tuple = 1

@@ -19,18 +19,18 @@ use Rattle.cqlp_message.specs.FrameValues.{ErrorExtra, Message, Metadata, Page, 
 use Rattle.cqlp_build.specs.Building.{has_fit_cells, is_built}
 use Rattle.cqlp_build.specs.declared.held.Held.{Held}
 use Rattle.cqlp_build.specs.Held.{Builds, IsSound, left}
-use Rattle.cqlp_build.specs.Told.{told}
+use Rattle.cqlp_build.specs.Emitted.{emitted}
 use Rattle.cqlp_build.specs.Types.{are_built_columns, are_built_if, is_built_metadata}
 use Rattle.cqlp_build_cells.specs.Said.{Fit, values_said}
 use Rattle.cqlp_message.specs.Parts.{Part, cell_fits}
 
 -- what stands after the message of an error of this code
 abbrev pub BuildsExtra : (code : ℕ) → ErrorExtra → (old new : Held) → Type 0
-BuildsExtra code x old new = Builds (λ y. told (extra_parts y)) (λ y. extra_agrees code y ≡ true) x old new
+BuildsExtra code x old new = Builds (λ y. emitted (extra_parts y)) (λ y. extra_agrees code y ≡ true) x old new
 
 -- what was changed, of which this test holds
 abbrev pub BuildsOptions : (SchemaOptions → Bool) → SchemaOptions → (old new : Held) → Type 0
-BuildsOptions test o old new = Builds (λ y. told (options_parts y)) (λ y. test y ≡ true) o old new
+BuildsOptions test o old new = Builds (λ y. emitted (options_parts y)) (λ y. test y ≡ true) o old new
 
 abbrev pub is_named : SchemaOptions → Bool
 is_named (Named keyspace name) = true
@@ -40,9 +40,9 @@ abbrev pub is_callable : SchemaOptions → Bool
 is_callable (Callable keyspace name arguments) = true
 is_callable o = false
 
--- what an event tells, of which this test holds
+-- what an event reports, of which this test holds
 abbrev pub BuildsDetail : (ServerEvent → Bool) → ServerEvent → (old new : Held) → Type 0
-BuildsDetail test e old new = Builds (λ y. told (event_parts y)) (λ y. test y ≡ true) e old new
+BuildsDetail test e old new = Builds (λ y. emitted (event_parts y)) (λ y. test y ≡ true) e old new
 
 abbrev pub is_node : ServerEvent → Bool
 is_node (Node change address port) = true
@@ -56,7 +56,7 @@ pub record IsOf (o : Opcode) (m : Message) : Type 0 where
   pub cells : has_fit_cells m ≡ true
 
 abbrev pub BuildsMessage : Opcode → Message → (old new : Held) → Type 0
-BuildsMessage o m old new = Builds (λ y. told (message_parts y)) (IsOf o) m old new
+BuildsMessage o m old new = Builds (λ y. emitted (message_parts y)) (IsOf o) m old new
 
 -- ---- columns
 
@@ -70,13 +70,13 @@ AreColumns flags n c = (specs_agree flags n c.0 c.1 && are_built_columns c.1) �
 abbrev pub columns_parts_if : Option TableName × Option (List Spec) → List Part
 columns_parts_if c = table_parts c.0 ++ where_some (flat_map spec_parts) c.1
 
--- the same, where the flags say that columns are told
+-- the same, where the flags say that columns are described
 abbrev pub AreColumnsIf : (flags count : ℕ) → Option TableName × Option (List Spec) → Type 0
 AreColumnsIf flags n c = (columns_agree flags n c.0 c.1 && are_built_if c.1) ≡ true
 
 -- ---- pages
 
--- the cells of this many rows of these columns, of which this is told
+-- the cells of this many rows of these columns, whose events these are
 abbrev pub cells_parts : Metadata → (rows : ℕ) → List Values → List Part
 cells_parts m n cells = rows_parts 0 (cell_types m) n cells
 
@@ -98,7 +98,7 @@ ends_at_last [] = false
 ends_at_last (e ∷ []) = ends e
 ends_at_last (e ∷ d ∷ es) = not (ends e) && ends_at_last (d ∷ es)
 
--- All that is told of the cell of this row and column was taken; or memory was refused, or it did not come.
+-- All events of the cell of this row and column were taken; or memory was refused, or it did not come.
 abbrev pub Gathers : (row column : ℕ) → Bool → (old new : Held) → Type 0
 Gathers row column true old new =
     IsSound old × IsSound new × (left old ≡ map (cell_event row column) (cell.left new.cell) ++ left new) × (ends_at_last (cell.left new.cell) ≡ true)
@@ -116,9 +116,9 @@ column_type (suc n) (Type_and k inner ts) = column_type n ts
 -- One row, of columns of these types.
 abbrev pub BuildsRow : (row : ℕ) → Types → List Values → (old new : Held) → Type 0
 BuildsRow row ts vs old new =
-    Builds (λ ws. told (row_parts row 0 ts ws)) (λ ws. (length ws ≡ how_many ts) × (list_all cell_fits (row_parts row 0 ts ws) ≡ true)) vs old new
+    Builds (λ ws. emitted (row_parts row 0 ts ws)) (λ ws. (length ws ≡ how_many ts) × (list_all cell_fits (row_parts row 0 ts ws) ≡ true)) vs old new
 
--- the types of these columns are formed, where they are told
+-- the types of these columns are formed, where they are described
 abbrev pub AreReadable : Metadata → Type 0
 AreReadable m = (specs : List Spec) → m.specs ≡ Some specs → (length specs ≡ m.columns) × (list_all (λ c. is_tree c.tree) specs ≡ true)
 

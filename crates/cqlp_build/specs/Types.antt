@@ -15,12 +15,12 @@ use Rattle.cqlp_build.specs.declared.held.Fault.TheVariants as fault
 use Rattle.cqlp_build.specs.declared.held.Held.{Held}
 
 -- the events of types side by side
-abbrev pub type_told : Trees → List Event
-type_told t = map type_event (trees_items false t)
+abbrev pub type_events : Trees → List Event
+type_events t = map type_event (trees_items false t)
 
 -- the events of a type that has a name before it
-abbrev pub field_told : Octets × Trees → List Event
-field_told f = Holds field.FieldName (Text f.0) ∷ type_told f.1
+abbrev pub field_events : Octets × Trees → List Event
+field_events f = Holds field.FieldName (Text f.0) ∷ type_events f.1
 
 -- A name counts in a user-defined type alone, and is empty elsewhere, as it is in the types of a `Frame`.
 abbrev pub names_count : (named : Bool) → Trees → Bool
@@ -36,9 +36,9 @@ abbrev pub is_built_field : Octets × Trees → Bool
 is_built_field f = is_built_type f.1
 
 -- what comes after the kind of a type option
-abbrev pub told_after_kind : Trees → List Event
-told_after_kind NoTree = []
-told_after_kind (Tree_and name h inner others) =
+abbrev pub events_after_kind : Trees → List Event
+events_after_kind NoTree = []
+events_after_kind (Tree_and name h inner others) =
     map type_event (head_items h (trees_in inner) ++ trees_items (has_names h) inner)
 
 -- one type of this kind, with names where they count

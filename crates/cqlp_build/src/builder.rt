@@ -2,11 +2,11 @@
 
 ghost use Rattle.std.specs.Prelude.{◌≡◌, ◌+◌, ◌<◌, ◌≤◌, ◌↔◌, IsTrue, OnOk, [], length, true};
 ghost use Rattle.std.specs.VecDeque.{deque_capacity, deque_len};
-ghost use Rattle.cqlp_grammar.specs.Events as told;
+ghost use Rattle.cqlp_grammar.specs.Events as model;
 ghost use Rattle.cqlp_grammar.specs.Events.{event_of};
-ghost use Rattle.cqlp_build.specs.Building as told_of;
-ghost use Rattle.cqlp_build.specs.Building.{BeginsWith, Finishes, IsOfHeader, TakesEvent, Tells, empty, is_inner, state};
-ghost use Rattle.cqlp_build.specs.Closing.{Closes, ClosesAt, IsOfSome, TellsOf};
+ghost use Rattle.cqlp_build.specs.Building as building;
+ghost use Rattle.cqlp_build.specs.Building.{BeginsWith, Finishes, IsOfHeader, TakesEvent, Reports, empty, is_inner, state};
+ghost use Rattle.cqlp_build.specs.Closing.{Closes, ClosesAt, IsOfSome, ReportsOf};
 ghost use Rattle.cqlp_build.specs.Held.{left};
 ghost use Rattle.cqlp_build.specs.Nesting.{depth_at};
 ghost use Rattle.cqlp_note.specs.Heading.{answers, same};
@@ -100,7 +100,7 @@ impl FrameBuilder {
     /// # Errors
     ///
     /// [`BuildError::Misplaced`] at a header within a frame, and at all else between frames. [`BuildError::Unbuilt`] at a part of
-    /// a scalar of a cell. At a field, the kind of a type option and what else is told of a cell [`BuildError::TooManyFields`] where as many
+    /// a scalar of a cell. At a field, the kind of a type option and at another event of a cell [`BuildError::TooManyFields`] where as many
     /// as the limits allow are held; else [`BuildError::TooDeep`] where the option is nested deeper than the limit; and else
     /// [`BuildError::TooManyBytes`] where the field has more bytes than are left of the limit. After these the builder is as it was.
     /// [`BuildError::NoFrame`] at the end of a frame, where the events are those of no frame that is built, after which the builder is
@@ -154,7 +154,7 @@ impl FrameBuilder {
 
     /// A frame begins.
     fn begin(&mut self, header: Header) -> Result<Option<BuiltFrame>, BuildError>
-        ensures { TakesEvent (state self.old) (told.Frame header) result (state self.new) }
+        ensures { TakesEvent (state self.old) (model.Frame header) result (state self.new) }
     {
         if self.header.is_some() {
             return Err(BuildError::Misplaced);
@@ -166,7 +166,7 @@ impl FrameBuilder {
 
     /// A frame ends, with this many bytes after its last field.
     fn end(&mut self, extra: u32) -> Result<Option<BuiltFrame>, BuildError>
-        ensures { TakesEvent (state self.old) (told.End extra) result (state self.new) }
+        ensures { TakesEvent (state self.old) (model.End extra) result (state self.new) }
     {
         let Some(header) = self.header else {
             return Err(BuildError::Misplaced);
@@ -246,14 +246,14 @@ impl FrameBuilder {
 
 /// Whether it is a part of a scalar of a cell.
 fn is_unbuilt(event: &Event<'_>) -> bool
-    ensures { result ≡ told_of.is_unbuilt (event_of event.now) }
+    ensures { result ≡ building.is_unbuilt (event_of event.now) }
 {
     matches!(event, Event::Part { .. })
 }
 
 /// How many bytes of a field the limit counts.
 fn content_size(event: &Event<'_>) -> usize
-    ensures { result ≡ told_of.content_size (event_of event.now) }
+    ensures { result ≡ building.content_size (event_of event.now) }
 {
     match event {
         Event::Text { text, .. } => text.len(),
@@ -285,7 +285,7 @@ impl Held {
 
     /// Why a frame is not the one whose events were held, if it is not: after all of its parts were taken.
     fn verdict(&self, frame: &Frame, header: &Header, extra: u32) -> Option<BuildError>
-        ensures { Tells header.now extra (frame_of frame.now) self.now result }
+        ensures { Reports header.now extra (frame_of frame.now) self.now result }
     {
         match self.fault {
             Some(Fault::NoMemory) => return Some(BuildError::NoMemory),
@@ -317,7 +317,7 @@ impl Held {
 
     /// Why a frame is not one whose events were held, whatever its length, if it is not: after all of its parts were taken.
     fn refusal(&self, frame: &Frame, header: &Header) -> Option<BuildError>
-        ensures { TellsOf header.now (frame_of frame.now) self.now result }
+        ensures { ReportsOf header.now (frame_of frame.now) self.now result }
     {
         match self.fault {
             Some(Fault::NoMemory) => return Some(BuildError::NoMemory),
@@ -355,11 +355,11 @@ fn is_of(frame: &Frame, header: &Header, extra: u32) -> bool
     is_directed(header) && is_length(header.length, len, extra)
 }
 
-/// Whether a header tells this length of a frame of so many bytes, 9 of them its header, with some more after its last field.
-fn is_length(told: u32, len: u32, extra: u32) -> bool
-    ensures { IsTrue result ↔ (len + extra ≡ told + 9) }
+/// Whether a header announces this length of a frame of so many bytes, 9 of them its header, with some more after its last field.
+fn is_length(announced: u32, len: u32, extra: u32) -> bool
+    ensures { IsTrue result ↔ (len + extra ≡ announced + 9) }
 {
-    u64::from(len) + u64::from(extra) == u64::from(told) + 9
+    u64::from(len) + u64::from(extra) == u64::from(announced) + 9
 }
 
 /// Whether a header is a response's where its opcode is one of a response.

@@ -12,7 +12,7 @@ ghost use Rattle.cqlp_message.specs.Owned.{bytes_of, frame_of, texts_of};
 ghost use Rattle.cqlp_message.specs.Parts.{Field_is};
 ghost use Rattle.cqlp_build.specs.Building.{BeginsWith};
 ghost use Rattle.cqlp_build.specs.Held.{Builds};
-ghost use Rattle.cqlp_build.specs.Told.{payload_parts, told};
+ghost use Rattle.cqlp_build.specs.Emitted.{payload_parts, emitted};
 
 use crate::held::{Held, has_flag};
 use crate::lists::Wanted;
@@ -22,7 +22,7 @@ use cqlp_note::{Field, Header};
 impl Held {
     /// Takes the frame of this header.
     pub fn frame(&mut self, header: &Header) -> Frame
-        ensures { Builds (λ f. told (frame_parts f)) (BeginsWith header.now) (frame_of result) self.old self.new }
+        ensures { Builds (λ f. emitted (frame_parts f)) (BeginsWith header.now) (frame_of result) self.old self.new }
     {
         self.check(!has_flag(header.flags, 0x01));
         let tracing = self.tracing_if(announces(header, 0x02));
@@ -41,7 +41,7 @@ impl Held {
 
     /// Takes the id of a trace, if it is to be there.
     fn tracing_if(&mut self, there: bool) -> Option<[u8; 16]>
-        ensures { Builds (λ o. told (body.where_some (λ id. Field_is field.TraceId notation.Uuid (Uuid id) ∷ []) o))
+        ensures { Builds (λ o. emitted (body.where_some (λ id. Field_is field.TraceId notation.Uuid (Uuid id) ∷ []) o))
             (λ o. there_if there o ≡ true) result self.old self.new }
     {
         if there {
@@ -53,7 +53,7 @@ impl Held {
 
     /// Takes the warnings, if they are to be there.
     fn warnings_if(&mut self, there: bool) -> Option<Vec<String>>
-        ensures { Builds (λ o. told (body.where_some (body.texts field.Warnings field.Warning) o))
+        ensures { Builds (λ o. emitted (body.where_some (body.texts field.Warnings field.Warning) o))
             (λ o. there_if there o ≡ true) (option_map texts_of result) self.old self.new }
     {
         if there {
@@ -66,7 +66,7 @@ impl Held {
     /// Takes the custom payload, if it is to be there.
     fn payload_if(&mut self, there: bool) -> Option<Vec<(String, Option<Vec<u8>>)>>
         ensures { Builds
-            (λ o. told (body.where_some
+            (λ o. emitted (body.where_some
             (body.counted field.PayloadItems payload_parts) o))
             (λ o. there_if there o ≡ true)
             (option_map (λ is. map (λ i. (string_bytes i.0, bytes_of i.1)) is.items) result) self.old self.new }

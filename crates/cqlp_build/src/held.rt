@@ -38,7 +38,7 @@ pub(crate) enum Fault {
 pub(crate) struct Held {
     pub alloc: Global,
     pub items: VecDeque<Item>,
-    /// What is told of the cell that is under way.
+    /// The events of the cell that is under way.
     pub cell: CellEvents,
     pub fault: Option<Fault>,
 }
@@ -75,7 +75,7 @@ impl Held {
         }
     }
 
-    /// Takes the next event, if nothing was refused, and gives it with its level if it is told of the cell of this row and column.
+    /// Takes the next event, if nothing was refused, and gives it with its level if it is of the cell of this row and column.
     pub fn next_step(&mut self, row: u32, column: u32) -> Option<(u32, Step)>
         ensures is { TakesStep row column result self.old self.new }
         ensures cell { self.new.cell ≡ self.old.cell }

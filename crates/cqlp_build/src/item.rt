@@ -2,9 +2,9 @@
 
 ghost use Rattle.std.specs.Prelude.{◌≡◌, IfOk, Some, option_map, true};
 ghost use Rattle.cqlp_build_cells.specs.Building.{cell_of, is_whole};
-ghost use Rattle.cqlp_grammar.specs.Events.{bound_of as told_bound, cell_event, event_of};
+ghost use Rattle.cqlp_grammar.specs.Events.{bound_of as event_bound, cell_event, event_of};
 ghost use Rattle.cqlp_message.specs.Owned.{bound_of, bytes_of};
-ghost use Rattle.cqlp_build.specs.Held.{IsHeld, told_by};
+ghost use Rattle.cqlp_build.specs.Held.{IsHeld, item_event};
 
 use cqlp_build_cells::{Step, own as own_step};
 use cqlp_grammar::Event;
@@ -20,7 +20,7 @@ pub(crate) enum Item {
     Holds(Field, Content),
     /// The kind of a type option.
     Kind(Kind),
-    /// What is told of the cell of a row and a column, at a level. The end of a value names no cell, and what it has here counts for nothing.
+    /// An event of the cell of a row and a column, at a level. The end of a value names no cell, and what it has here counts for nothing.
     Cell {
         row: u32,
         column: u32,
@@ -47,7 +47,7 @@ pub(crate) enum Content {
 /// The same, with bytes of its own.
 pub(crate) fn own(alloc: Global, event: &Event<'_>) -> Result<Item, AllocError>
     requires { IsHeld (event_of event.now) }
-    ensures { IfOk result (λ item. told_by item ≡ event_of event.now) }
+    ensures { IfOk result (λ item. item_event item ≡ event_of event.now) }
 {
     let (field, content) = match *event {
         Event::Byte { field, value } => (field, Content::Byte(value)),
@@ -78,7 +78,7 @@ pub(crate) fn own(alloc: Global, event: &Event<'_>) -> Result<Item, AllocError>
 /// The same of the cell of this row and column, with bytes of its own.
 fn own_cell(alloc: Global, row: u32, column: u32, event: &Event<'_>) -> Result<Item, AllocError>
     requires { is_whole (event_of event.now) ≡ true }
-    ensures { IfOk result (λ item. option_map (cell_event row column) (cell_of (event_of event.now)) ≡ Some (told_by item)) }
+    ensures { IfOk result (λ item. option_map (cell_event row column) (cell_of (event_of event.now)) ≡ Some (item_event item)) }
 {
     let (level, step) = own_step(alloc, event)?;
     Ok(Item::Cell {
@@ -101,7 +101,7 @@ fn own_bytes(alloc: Global, bytes: Option<&[u8]>) -> Result<Option<Vec<u8>>, All
 
 /// The same \[value\], with bytes of its own.
 fn own_bound(alloc: Global, value: BoundValue<'_>) -> Result<OwnedBound, AllocError>
-    ensures { IfOk result (λ bound. bound_of bound ≡ told_bound value.entry) }
+    ensures { IfOk result (λ bound. bound_of bound ≡ event_bound value.entry) }
 {
     Ok(match value {
         BoundValue::Null => OwnedBound::Null,

@@ -10,14 +10,14 @@ ghost use Rattle.cqlp_message.specs.FrameValues as value;
 ghost use Rattle.cqlp_message.specs.FrameValues.{Octets};
 ghost use Rattle.cqlp_message.specs.Owned.{bound_of, bytes_of, entry_of, texts_of};
 ghost use Rattle.cqlp_build.specs.Held.{Builds, Many};
-ghost use Rattle.cqlp_build.specs.Told.{told};
+ghost use Rattle.cqlp_build.specs.Emitted.{emitted};
 ghost use Rattle.cqlp_build.specs.declared.lists.Wanted.{Wanted};
 
 use crate::held::{Fault, Held};
 use cqlp_message::{BatchEntry, OwnedBound};
 use cqlp_note::Field;
 
-/// What the items of a list are to be, where that is not told by their type.
+/// What the items of a list are to be, where their type does not say it.
 #[derive(Clone, Copy)]
 pub(crate) struct Wanted {
     /// The field that each is.
@@ -27,7 +27,7 @@ pub(crate) struct Wanted {
 }
 
 impl Wanted {
-    /// Items that are told by their type.
+    /// Items whose type says it.
     pub const PLAIN: Wanted = Wanted {
         field: Field::Value,
         named: false,
@@ -51,7 +51,7 @@ pub(crate) trait FromEvents: Drop {
 
     /// Takes the events of one.
     fn build(held: &mut Held, wanted: Wanted) -> Self
-        ensures { Builds (λ v. told (parts wanted v)) (λ v. is_wanted wanted v ≡ true) (value result) held.old held.new };
+        ensures { Builds (λ v. emitted (parts wanted v)) (λ v. is_wanted wanted v ≡ true) (value result) held.old held.new };
 }
 
 impl FromEvents for String {
@@ -178,7 +178,7 @@ impl FromEvents for BatchEntry {
 impl Held {
     /// Takes this many items.
     pub fn many<T: FromEvents>(&mut self, count: u32, wanted: Wanted) -> Vec<T>
-        ensures { Builds (flat_map (λ v. told (T.parts wanted v))) (Many (T.is_wanted wanted) count)
+        ensures { Builds (flat_map (λ v. emitted (T.parts wanted v))) (Many (T.is_wanted wanted) count)
             (map T.value result.items) self.old self.new }
     {
         let mut items = Vec::new(self.alloc);
@@ -197,7 +197,7 @@ impl Held {
 
     /// Takes a number of items, and the items.
     pub fn counted<T: FromEvents>(&mut self, field: Field, wanted: Wanted) -> Vec<T>
-        ensures { Builds (λ vs. told (body.counted field (T.parts wanted) vs)) (λ vs. list_all (T.is_wanted wanted) vs ≡ true)
+        ensures { Builds (λ vs. emitted (body.counted field (T.parts wanted) vs)) (λ vs. list_all (T.is_wanted wanted) vs ≡ true)
             (map T.value result.items) self.old self.new }
     {
         let count = self.count(field);
@@ -206,7 +206,7 @@ impl Held {
 
     /// Takes a \[string list\].
     pub fn texts(&mut self, list: Field, item: Field) -> Vec<String>
-        ensures { Builds (λ ts. told (body.texts list item ts)) (λ ts. list_all (λ _. true) ts ≡ true)
+        ensures { Builds (λ ts. emitted (body.texts list item ts)) (λ ts. list_all (λ _. true) ts ≡ true)
             (texts_of result) self.old self.new }
     {
         self.counted(

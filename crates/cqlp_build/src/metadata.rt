@@ -9,7 +9,7 @@ ghost use Rattle.cqlp_message.specs.FrameValues as value;
 ghost use Rattle.cqlp_message.specs.Owned.{metadata_of, prepared_of, spec_of, table_of};
 ghost use Rattle.cqlp_build.specs.Held.{Builds, any};
 ghost use Rattle.cqlp_build.specs.Productions.{AreColumns, AreColumnsIf, columns_parts, columns_parts_if};
-ghost use Rattle.cqlp_build.specs.Told.{told};
+ghost use Rattle.cqlp_build.specs.Emitted.{emitted};
 ghost use Rattle.cqlp_build.specs.Types.{is_built_metadata, is_built_statement, names_count};
 
 use crate::held::Held;
@@ -21,7 +21,7 @@ use cqlp_note::Field;
 /// The table of all columns, and the columns.
 type Columns = (Option<(String, String)>, Vec<Spec>);
 
-/// The same, if columns are told.
+/// The same, if columns are described.
 type ColumnsIf = (Option<(String, String)>, Option<Vec<Spec>>);
 
 impl FromEvents for u16 {
@@ -58,7 +58,7 @@ impl FromEvents for Spec {
 impl Held {
     /// Takes a keyspace and a table, if they are to be there.
     fn table_if(&mut self, there: bool) -> Option<(String, String)>
-        ensures { Builds (λ o. told (body.table_parts o)) (λ o. there_if there o ≡ true) (table_of result) self.old self.new }
+        ensures { Builds (λ o. emitted (body.table_parts o)) (λ o. there_if there o ≡ true) (table_of result) self.old self.new }
     {
         if there {
             let keyspace = self.text(Field::Keyspace);
@@ -71,7 +71,7 @@ impl Held {
 
     /// Takes this many columns, after their table where the flags say that it is that of all.
     fn columns(&mut self, flags: u32, count: u32) -> Columns
-        ensures { Builds (λ c. told (columns_parts c)) (AreColumns flags count)
+        ensures { Builds (λ c. emitted (columns_parts c)) (AreColumns flags count)
             (table_of result.0, map spec_of result.1.items) self.old self.new }
     {
         let global = has(flags, 0x01);
@@ -84,9 +84,9 @@ impl Held {
         (table, specs)
     }
 
-    /// Takes this many columns, if the flags say that they are told.
+    /// Takes this many columns, if the flags say that they are described.
     fn columns_if(&mut self, flags: u32, count: u32) -> ColumnsIf
-        ensures { Builds (λ c. told (columns_parts_if c)) (AreColumnsIf flags count)
+        ensures { Builds (λ c. emitted (columns_parts_if c)) (AreColumnsIf flags count)
             (table_of result.0, option_map (λ cs. map spec_of cs.items) result.1) self.old self.new }
     {
         if has(flags, 0x04) {
@@ -96,9 +96,9 @@ impl Held {
         (table, Some(specs))
     }
 
-    /// Takes what is told of a page's columns.
+    /// Takes the description of a page's columns.
     pub fn metadata(&mut self) -> Metadata
-        ensures { Builds (λ m. told (body.metadata_parts m)) (λ m. (metadata_agrees m && is_built_metadata m) ≡ true)
+        ensures { Builds (λ m. emitted (body.metadata_parts m)) (λ m. (metadata_agrees m && is_built_metadata m) ≡ true)
             (metadata_of result) self.old self.new }
     {
         let flags = self.int(Field::MetaFlags);
@@ -117,7 +117,7 @@ impl Held {
 
     /// Takes the number of the values of a partition key, and each.
     fn keys(&mut self) -> Vec<u16>
-        ensures { Builds (λ ks. told (body.counted_keys ks)) any result.items self.old self.new }
+        ensures { Builds (λ ks. emitted (body.counted_keys ks)) any result.items self.old self.new }
     {
         let wanted = Wanted {
             field: Field::KeyIndex,
@@ -128,7 +128,7 @@ impl Held {
 
     /// Takes a prepared statement.
     pub fn prepared(&mut self) -> Prepared
-        ensures { Builds (λ p. told (body.prepared_parts p)) (λ p. (prepared_agrees p && is_built_statement p) ≡ true)
+        ensures { Builds (λ p. emitted (body.prepared_parts p)) (λ p. (prepared_agrees p && is_built_statement p) ≡ true)
             (prepared_of result) self.old self.new }
     {
         let id = self.statement();

@@ -94,7 +94,7 @@ impl Nesting {
     }
 }
 
-/// How many inner options of a type option of this kind are to begin; where they are counted, one before their count is told.
+/// How many inner options of a type option of this kind are to begin; where they are counted, one before their count comes.
 fn due(kind: Kind) -> u32
     ensures { result ≡ inner_due kind }
 {

@@ -9,7 +9,7 @@ ghost use Rattle.cqlp_message.specs.Bodies.{cell_types, page_parts};
 ghost use Rattle.cqlp_message.specs.Owned.{metadata_of, page_of};
 ghost use Rattle.cqlp_build.specs.Held.{Builds, IsSound};
 ghost use Rattle.cqlp_build.specs.Productions.{AreCells, AreReadable, BuildsCell, BuildsRow, Gathers, IsPage, cells_parts, column_type, fault_of};
-ghost use Rattle.cqlp_build.specs.Told.{told};
+ghost use Rattle.cqlp_build.specs.Emitted.{emitted};
 ghost use Rattle.cqlp_build_cells.specs.Said.{IsReadable};
 
 use crate::held::{Fault, Held};
@@ -23,7 +23,7 @@ use cqlp_value::Value;
 impl Held {
     /// Takes a page.
     pub fn page(&mut self) -> Rows
-        ensures { Builds (λ p. told (page_parts p)) IsPage (page_of result) self.old self.new }
+        ensures { Builds (λ p. emitted (page_parts p)) IsPage (page_of result) self.old self.new }
     {
         let meta = self.metadata();
         let rows = self.count(Field::Rows);
@@ -34,7 +34,7 @@ impl Held {
     /// Takes the cells of this many rows.
     fn cells(&mut self, rows: u32, meta: &Metadata) -> Vec<Value>
         requires { IsSound self.old → AreReadable (metadata_of meta.now) }
-        ensures { Builds (λ vs. told (cells_parts (metadata_of meta.now) rows vs)) (AreCells (metadata_of meta.now) rows)
+        ensures { Builds (λ vs. emitted (cells_parts (metadata_of meta.now) rows vs)) (AreCells (metadata_of meta.now) rows)
             (map value_of result.items) self.old self.new }
     {
         let mut cells = Vec::new(self.alloc);
@@ -72,7 +72,7 @@ impl Held {
         }
     }
 
-    /// Takes the cell of a row and a column, which is as it is where no columns are told.
+    /// Takes the cell of a row and a column, which is as it is where no columns are described.
     fn cell_of(&mut self, row: u32, column: u32, meta: &Metadata) -> Value
         requires readable { AreReadable (metadata_of meta.now) }
         requires within { column < meta.now.columns }
@@ -108,7 +108,7 @@ impl Held {
         }
     }
 
-    /// Takes what is told of the cell of a row and a column, up to that after which nothing comes of it, and says whether that came.
+    /// Takes the events of the cell of a row and a column, up to that after which nothing comes of it, and says whether that came.
     fn gather(&mut self, row: u32, column: u32) -> bool
         ensures { Gathers row column result self.old self.new }
     {

@@ -7,7 +7,7 @@ ghost use Rattle.cqlp_message.specs.Agreement.{are_named, params_agree, there_if
 ghost use Rattle.cqlp_message.specs.Bodies as body;
 ghost use Rattle.cqlp_message.specs.Owned.{bound_of, bytes_of, params_of};
 ghost use Rattle.cqlp_build.specs.Held.{Builds, any};
-ghost use Rattle.cqlp_build.specs.Told.{told};
+ghost use Rattle.cqlp_build.specs.Emitted.{emitted};
 
 use crate::held::{Held, has_flag};
 use crate::lists::Wanted;
@@ -17,7 +17,7 @@ use cqlp_note::Field;
 impl Held {
     /// Takes the name of a value, if it is to have one.
     pub fn name_if(&mut self, there: bool) -> Option<String>
-        ensures { Builds (λ o. told (body.where_some (λ n. body.text field.ValueName n ∷ []) o)) (λ o. there_if there o ≡ true)
+        ensures { Builds (λ o. emitted (body.where_some (λ n. body.text field.ValueName n ∷ []) o)) (λ o. there_if there o ≡ true)
             (option_map string_bytes result) self.old self.new }
     {
         if there {
@@ -29,7 +29,7 @@ impl Held {
 
     /// Takes the values of a query, if they are to be there, with names or without.
     fn values_if(&mut self, there: bool, named: bool) -> Option<Vec<(Option<String>, OwnedBound)>>
-        ensures { Builds (λ o. told (body.where_some (body.counted field.Values body.value_parts) o))
+        ensures { Builds (λ o. emitted (body.where_some (body.counted field.Values body.value_parts) o))
             (λ o. (there_if there o && are_named named o) ≡ true)
             (option_map (λ vs. map (λ v. (option_map string_bytes v.0, bound_of v.1)) vs.items) result) self.old self.new }
     {
@@ -46,7 +46,7 @@ impl Held {
 
     /// Takes the rows of a page, if they are to be there.
     fn page_size_if(&mut self, there: bool) -> Option<i32>
-        ensures { Builds (λ o. told (body.where_some (λ z. body.int field.PageSize z ∷ []) o)) (λ o. there_if there o ≡ true)
+        ensures { Builds (λ o. emitted (body.where_some (λ z. body.int field.PageSize z ∷ []) o)) (λ o. there_if there o ≡ true)
             result self.old self.new }
     {
         if there {
@@ -58,7 +58,7 @@ impl Held {
 
     /// Takes a paging state, if it is to be there.
     pub fn paging_if(&mut self, there: bool) -> Option<Option<Vec<u8>>>
-        ensures { Builds (λ o. told (body.paging_parts o)) (λ o. there_if there o ≡ true)
+        ensures { Builds (λ o. emitted (body.paging_parts o)) (λ o. there_if there o ≡ true)
             (option_map bytes_of result) self.old self.new }
     {
         if there {
@@ -70,7 +70,7 @@ impl Held {
 
     /// Takes a serial consistency, if it is to be there.
     pub fn serial_if(&mut self, there: bool) -> Option<u16>
-        ensures { Builds (λ o. told (body.serial_parts o)) (λ o. there_if there o ≡ true) result self.old self.new }
+        ensures { Builds (λ o. emitted (body.serial_parts o)) (λ o. there_if there o ≡ true) result self.old self.new }
     {
         if there {
             Some(self.short(Field::SerialConsistency))
@@ -81,7 +81,7 @@ impl Held {
 
     /// Takes a default timestamp, if it is to be there.
     pub fn timestamp_if(&mut self, there: bool) -> Option<i64>
-        ensures { Builds (λ o. told (body.timestamp_parts o)) (λ o. there_if there o ≡ true) result self.old self.new }
+        ensures { Builds (λ o. emitted (body.timestamp_parts o)) (λ o. there_if there o ≡ true) result self.old self.new }
     {
         if there {
             Some(self.long(Field::Timestamp))
@@ -92,7 +92,7 @@ impl Held {
 
     /// Takes the parameters of a query.
     pub fn params(&mut self) -> QueryParams
-        ensures { Builds (λ q. told (body.params_parts q)) (λ q. params_agree q ≡ true) (params_of result) self.old self.new }
+        ensures { Builds (λ q. emitted (body.params_parts q)) (λ q. params_agree q ≡ true) (params_of result) self.old self.new }
     {
         let consistency = self.short(Field::Consistency);
         let flags = self.byte(Field::QueryFlags);
@@ -114,7 +114,7 @@ impl Held {
 
     /// Takes the values of a statement of a batch.
     pub fn batch_values(&mut self) -> Vec<OwnedBound>
-        ensures { Builds (λ vs. told (body.counted field.Values (λ v. body.bound v ∷ []) vs)) any
+        ensures { Builds (λ vs. emitted (body.counted field.Values (λ v. body.bound v ∷ []) vs)) any
             (map bound_of result.items) self.old self.new }
     {
         self.counted(Field::Values, Wanted::PLAIN)

@@ -6,7 +6,7 @@ ghost use Rattle.cqlp_message.specs.Bodies as body;
 ghost use Rattle.cqlp_message.specs.Owned.{change_of, event_of, extra_of, options_of};
 ghost use Rattle.cqlp_build.specs.Held.{Builds};
 ghost use Rattle.cqlp_build.specs.Productions.{BuildsDetail, BuildsExtra, BuildsOptions, is_callable, is_named, is_node};
-ghost use Rattle.cqlp_build.specs.Told.{told};
+ghost use Rattle.cqlp_build.specs.Emitted.{emitted};
 ghost use Rattle.cqlp_grammar.specs.Codes as error;
 
 use crate::held::Held;
@@ -17,7 +17,7 @@ use cqlp_note::Field;
 impl Held {
     /// Takes what stands after the message of an error of this code.
     pub fn extra(&mut self, code: u32) -> ErrorExtra
-        ensures { Builds (λ x. told (body.extra_parts x)) (λ x. extra_agrees code x ≡ true) (extra_of result) self.old self.new }
+        ensures { Builds (λ x. emitted (body.extra_parts x)) (λ x. extra_agrees code x ≡ true) (extra_of result) self.old self.new }
     {
         match code {
             error_code::UNAVAILABLE => self.unavailable(),
@@ -147,7 +147,7 @@ impl Held {
 
     /// Takes a change of the schema.
     pub fn change(&mut self) -> SchemaChange
-        ensures { Builds (λ c. told (body.change_parts c)) (λ c. change_agrees c ≡ true) (change_of result) self.old self.new }
+        ensures { Builds (λ c. emitted (body.change_parts c)) (λ c. change_agrees c ≡ true) (change_of result) self.old self.new }
     {
         let change = self.text(Field::Change);
         let target = self.text(Field::Target);
@@ -161,7 +161,7 @@ impl Held {
 
     /// Takes what was changed, of a target of this kind.
     fn options(&mut self, target: &str) -> SchemaOptions
-        ensures { Builds (λ o. told (body.options_parts o)) (λ o. options_agree target.now o ≡ true) (options_of result) self.old self.new }
+        ensures { Builds (λ o. emitted (body.options_parts o)) (λ o. options_agree target.now o ≡ true) (options_of result) self.old self.new }
     {
         if target == "KEYSPACE" {
             SchemaOptions::Keyspace(self.text(Field::Keyspace))
@@ -193,9 +193,9 @@ impl Held {
         SchemaOptions::Callable(keyspace, name, arguments)
     }
 
-    /// Takes what an event of this type tells.
+    /// Takes what an event of this type reports.
     pub fn detail(&mut self, event: &str) -> ServerEvent
-        ensures { Builds (λ e. told (body.event_parts e)) (λ e. event_agrees event.now e ≡ true) (event_of result) self.old self.new }
+        ensures { Builds (λ e. emitted (body.event_parts e)) (λ e. event_agrees event.now e ≡ true) (event_of result) self.old self.new }
     {
         if event == "TOPOLOGY_CHANGE" || event == "STATUS_CHANGE" {
             self.node()

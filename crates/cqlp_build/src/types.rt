@@ -4,8 +4,8 @@ ghost use Rattle.std.specs.Prelude.{◌≡◌, ◌∷◌, [], map, string_bytes,
 ghost use Rattle.std.specs.List.{flat_map};
 ghost use Rattle.cqlp_type.specs.TypeTrees.{tree_of};
 ghost use Rattle.cqlp_build.specs.Held.{Builds, HoldsNoMore, Many};
-ghost use Rattle.cqlp_build.specs.Types.{IsBoxed, IsOfKind, Wraps, field_told, is_built_field, is_built_type};
-ghost use Rattle.cqlp_build.specs.Types.{list_of, map_of, set_of, told_after_kind, type_told};
+ghost use Rattle.cqlp_build.specs.Types.{IsBoxed, IsOfKind, Wraps, field_events, is_built_field, is_built_type};
+ghost use Rattle.cqlp_build.specs.Types.{list_of, map_of, set_of, events_after_kind, type_events};
 
 use crate::held::{Fault, Held};
 use cqlp_kind::Kind;
@@ -16,7 +16,7 @@ impl Held {
     /// Takes a type option, with all in it. It calls itself as deep as types are nested.
     #[cycle(types)]
     pub fn tree(&mut self) -> TypeTree
-        ensures is { Builds type_told (λ t. is_built_type t ≡ true) (tree_of result) self.old self.new }
+        ensures is { Builds type_events (λ t. is_built_type t ≡ true) (tree_of result) self.old self.new }
         ensures fewer { HoldsNoMore self.old self.new }
     {
         match self.next_kind() {
@@ -31,7 +31,7 @@ impl Held {
     /// Takes what comes after the kind of a type option.
     #[cycle(types)]
     fn tree_of(&mut self, kind: Kind) -> TypeTree
-        ensures is { Builds told_after_kind (IsOfKind kind) (tree_of result) self.old self.new }
+        ensures is { Builds events_after_kind (IsOfKind kind) (tree_of result) self.old self.new }
         ensures fewer { HoldsNoMore self.old self.new }
     {
         match kind {
@@ -74,7 +74,7 @@ impl Held {
     /// Takes this many type options.
     #[cycle(types)]
     fn types(&mut self, count: u32) -> Vec<TypeTree>
-        ensures is { Builds (flat_map type_told) (Many is_built_type count) (map tree_of result.items) self.old self.new }
+        ensures is { Builds (flat_map type_events) (Many is_built_type count) (map tree_of result.items) self.old self.new }
         ensures fewer { HoldsNoMore self.old self.new }
     {
         let mut types = Vec::new(self.alloc);
@@ -94,7 +94,7 @@ impl Held {
     /// Takes this many names, each with a type option.
     #[cycle(types)]
     fn fields(&mut self, count: u32) -> Vec<(String, TypeTree)>
-        ensures is { Builds (flat_map field_told) (Many is_built_field count)
+        ensures is { Builds (flat_map field_events) (Many is_built_field count)
             (map (λ f. (string_bytes f.0, tree_of f.1)) result.items) self.old self.new }
         ensures fewer { HoldsNoMore self.old self.new }
     {

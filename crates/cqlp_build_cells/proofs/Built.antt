@@ -28,7 +28,7 @@ use Rattle.cqlp_build_cells.specs.declared.held.Held.{Held}
 use Rattle.cqlp_build_cells.specs.declared.held.Fault.TheVariants as fault
 use Rattle.cqlp_build_cells.specs.declared.step.Step.{Step}
 use Rattle.cqlp_build_cells.specs.declared.step.Step.TheVariants as step
-use Rattle.cqlp_build_cells.specs.Held.{Builds, HoldsFewer, HoldsNoMore, TakesStep, any, begins_with_leave, first_fault, leaves, left, level_of, told_at}
+use Rattle.cqlp_build_cells.specs.Held.{Builds, HoldsFewer, HoldsNoMore, TakesStep, any, begins_with_leave, first_fault, leaves, left, level_of, emitted_at}
 use Rattle.cqlp_build_cells.specs.Said.{AreFirst, Fit, IsFirst, counted_said, fields_said, values_said}
 use Rattle.cqlp_build_cells.proofs.Inside.{BuildsInside, Tests, counted_inside, fields_inside, no_inside}
 use Rattle.cqlp_build_cells.proofs.Said.{no_leave}
@@ -53,7 +53,7 @@ leave_built level count (Some (step.Enter k n)) a b t e = absurd cc
 leave_built level count (Some (step.Leave n)) a b t e =
     subst (λ (m : ℕ). Builds {A = Unit {0}} (λ _. Leave level m ∷ []) any tt a b) (eqb-true n count e) (step_builds level (step.Leave n) t)
 
-leave_other : (level count : ℕ) (s : Step) (es rest : List CellEvent) → leaves (Some s) count ≡ false → told_at level s ∷ es ≡ Leave level count ∷ rest → ⊥
+leave_other : (level count : ℕ) (s : Step) (es rest : List CellEvent) → leaves (Some s) count ≡ false → emitted_at level s ∷ es ≡ Leave level count ∷ rest → ⊥
 leave_other level count (step.Leaf a) es rest off e = absurd cc
 leave_other level count step.Null es rest off e = absurd cc
 leave_other level count step.Empty es rest off e = absurd cc
@@ -77,17 +77,17 @@ refused_fewer o a b c f e = subst (λ (h : Held). HoldsNoMore a h) (sym e) (fewe
 
 -- ---- no value
 
-none_told : (level : ℕ) (k : Kind) (inner : Types) (es rest : List CellEvent) (v : Values) → Fit (Type_and k inner NoMore) v → es ≡ values_said level (Type_and k inner NoMore) v ++ rest
+none_emitted : (level : ℕ) (k : Kind) (inner : Types) (es rest : List CellEvent) (v : Values) → Fit (Type_and k inner NoMore) v → es ≡ values_said level (Type_and k inner NoMore) v ++ rest
     → ((e : CellEvent) (ds : List CellEvent) → es ≡ e ∷ ds → level_of e ≡ level → ⊥) → ⊥
-none_told level k inner es rest NoValue f is but = absurd cc
-none_told level k inner es rest (Null_and vs) f is but = but _ _ is refl
-none_told level k inner es rest (Empty_and vs) f is but = but _ _ is refl
-none_told level k inner es rest (Scalar_and v vs) f is but = but _ _ is refl
-none_told level k inner es rest (Counted_and j n items vs) f is but = but _ _ is refl
-none_told level k inner es rest (Fields_and j items vs) f is but = but _ _ is refl
+none_emitted level k inner es rest NoValue f is but = absurd cc
+none_emitted level k inner es rest (Null_and vs) f is but = but _ _ is refl
+none_emitted level k inner es rest (Empty_and vs) f is but = but _ _ is refl
+none_emitted level k inner es rest (Scalar_and v vs) f is but = but _ _ is refl
+none_emitted level k inner es rest (Counted_and j n items vs) f is but = but _ _ is refl
+none_emitted level k inner es rest (Fields_and j items vs) f is but = but _ _ is refl
 
 pub no_step : (level : ℕ) (k : Kind) (inner : Types) (v : Values) (a b c : Held) → TakesStep level None a b → c.fault ≡ first_fault b.fault fault.NoValue → BuildsAll level (Type_and k inner NoMore) v a c
-no_step level k inner v a b c t f = refused_later v a b c t.0 f (λ s w rest fit e. none_told level k inner (left a) rest w fit e (t.1 s))
+no_step level k inner v a b c t f = refused_later v a b c t.0 f (λ s w rest fit e. none_emitted level k inner (left a) rest w fit e (t.1 s))
 
 pub leave_step : (level : ℕ) (k : Kind) (inner : Types) (n : ℕ) (v : Values) (a b c : Held) → TakesStep level (Some (step.Leave n)) a b → c.fault ≡ first_fault b.fault fault.NoValue
     → BuildsAll level (Type_and k inner NoMore) v a c

@@ -79,13 +79,13 @@ first_view k inner rest (Fields_and j items vs) f =
     ((Fields_and j items NoValue, vs), (join own true p.0 refl, p.1), refl)
 
 -- What does not begin with the end of the value around has a field.
-some_told : (level i : ℕ) (rest : Types) (es more : List CellEvent) (vs : Values) → begins_with_leave es ≡ false → es ≡ fields_said level i rest vs ++ more → IsSome vs
-some_told level i rest es more NoValue but is = let d : true ≡ false = sym (ap begins_with_leave is) ∙ but in absurd cc
-some_told level i rest es more (Null_and vs) but is = omega arith
-some_told level i rest es more (Empty_and vs) but is = omega arith
-some_told level i rest es more (Scalar_and v vs) but is = omega arith
-some_told level i rest es more (Counted_and j n items vs) but is = omega arith
-some_told level i rest es more (Fields_and j items vs) but is = omega arith
+some_emitted : (level i : ℕ) (rest : Types) (es more : List CellEvent) (vs : Values) → begins_with_leave es ≡ false → es ≡ fields_said level i rest vs ++ more → IsSome vs
+some_emitted level i rest es more NoValue but is = let d : true ≡ false = sym (ap begins_with_leave is) ∙ but in absurd cc
+some_emitted level i rest es more (Null_and vs) but is = omega arith
+some_emitted level i rest es more (Empty_and vs) but is = omega arith
+some_emitted level i rest es more (Scalar_and v vs) but is = omega arith
+some_emitted level i rest es more (Counted_and j n items vs) but is = omega arith
+some_emitted level i rest es more (Fields_and j items vs) but is = omega arith
 
 module _ (level : ℕ) where
   -- the first fields of these types are built, after this many, and then the end of the value around them
@@ -95,7 +95,7 @@ module _ (level : ℕ) where
   one_first : (i : ℕ) (k : Kind) (inner rest : Types) {v vs : Values} {a b c : Held} → begins_with_leave (left a) ≡ false → BuildsAll (level + 1) (one_type k inner) v a b → BuildsFirst (i + 1) rest vs b c
       → BuildsFirst i (Type_and k inner rest) (with_others v vs) a c
   one_first i k inner rest {v} {vs} {a} {b} {c} but one more =
-      free IsSome (λ w es f is. some_told level i (Type_and k inner rest) (left a) es w but is)
+      free IsSome (λ w es f is. some_emitted level i (Type_and k inner rest) (left a) es w but is)
       (as_builds (fields_said level i (Type_and k inner rest)) (λ w. AreFirst (Type_and k inner rest) w × IsSome w) (λ (p : Values × Values). with_others p.0 p.1)
       (first_said level i k inner rest) (first_on k inner rest) (first_view k inner rest) (one then more))
 
@@ -131,9 +131,9 @@ module _ (level : ℕ) where
       never : (ws : Values) → vs ≡ ws → IsSome ws → ⊥
       never ws e some =
           let p = first_view k inner rest vs (f, subst IsSome (sym e) some) in
-          let told = is ∙ ap (λ (x : Values). fields_said level i (Type_and k inner rest) x ++ more) p.2 ∙ ap (λ x. x ++ more) (first_said level i k inner rest p.0 p.1)
+          let emitted = is ∙ ap (λ (x : Values). fields_said level i (Type_and k inner rest) x ++ more) p.2 ∙ ap (λ x. x ++ more) (first_said level i k inner rest p.0 p.1)
           ∙ append_assoc (values_said (level + 1) (one_type k inner) p.0.0) (fields_said level (i + 1) rest p.0.1) more in
-          let d : true ≡ false = sym ends ∙ ap begins_with_leave told ∙ no_leave (level + 1) k inner NoMore p.0.0 _ p.1.0 in
+          let d : true ≡ false = sym ends ∙ ap begins_with_leave emitted ∙ no_leave (level + 1) k inner NoMore p.0.0 _ p.1.0 in
           absurd cc
 
   pub end_first : (i : ℕ) (rest : Types) {a b : Held} → begins_with_leave (left a) ≡ true → Ends i a b → BuildsFirst i rest NoValue a b

@@ -11,26 +11,26 @@ use Rattle.cqlp_value.specs.Values.{Values, NoValue, Null_and, Empty_and, Scalar
 use Rattle.cqlp_value.proofs.ValuesWritten.{is_the_kind, kind_is}
 use Rattle.cqlp_build_cells.specs.declared.held.Held.{Held}
 use Rattle.cqlp_build_cells.specs.declared.step.Step.{Step}
-use Rattle.cqlp_build_cells.specs.Held.{Builds, TakesStep, left, told_at}
+use Rattle.cqlp_build_cells.specs.Held.{Builds, TakesStep, left, emitted_at}
 use Rattle.cqlp_build_cells.specs.Said.{AreFirst, Fit, IsFirst, counted_said, fields_said, said_inside, values_said}
-use Rattle.cqlp_build_cells.proofs.Said.{first_and_rest, first_told, none_fit}
+use Rattle.cqlp_build_cells.proofs.Said.{first_and_rest, first_emitted, none_fit}
 use Rattle.cqlp_build_cells.proofs.Several.{BuildsAll}
 use Rattle.cqlp_build_cells.proofs.Steps.{as_builds, both, free, join, nothing_more, pair_builds, step_builds, ◌then◌}
 
--- a value of this type is built, of which this was told first
+-- a value of this type is built, whose events begin with this one
 abbrev pub BuildsInside : (level : ℕ) → CellEvent → Kind → Types → Values → (old new : Held) → Type 0
 BuildsInside level e k inner v old new = Builds (said_inside level (Type_and k inner NoMore)) (IsFirst level e (Type_and k inner NoMore)) v old new
 
 -- ---- a value after its first event
 
-pub value_built : (level : ℕ) (s : Step) (k : Kind) (inner : Types) {v : Values} (a b c : Held) → TakesStep level (Some s) a b → BuildsInside level (told_at level s) k inner v b c
+pub value_built : (level : ℕ) (s : Step) (k : Kind) (inner : Types) {v : Values} (a b c : Held) → TakesStep level (Some s) a b → BuildsInside level (emitted_at level s) k inner v b c
     → BuildsAll level (Type_and k inner NoMore) v a c
 value_built level s k inner {v} a b c t one =
     let ts = Type_and k inner NoMore in
-    free (λ w. take 1 (values_said level ts w) ≡ told_at level s ∷ [])
-    (λ w rest f is. first_told level k inner NoMore w rest (left b) (told_at level s) f (sym t.1 ∙ is))
-    (as_builds (values_said level ts) (IsFirst level (told_at level s) ts) (λ (p : Unit {0} × Values). p.1)
-    (λ p q. first_and_rest (values_said level ts p.1) (told_at level s) q.1.1) (λ p q. q.1) (λ w q. ((tt, w), (refl, q), refl)) (step_builds level s t then one))
+    free (λ w. take 1 (values_said level ts w) ≡ emitted_at level s ∷ [])
+    (λ w rest f is. first_emitted level k inner NoMore w rest (left b) (emitted_at level s) f (sym t.1 ∙ is))
+    (as_builds (values_said level ts) (IsFirst level (emitted_at level s) ts) (λ (p : Unit {0} × Values). p.1)
+    (λ p q. first_and_rest (values_said level ts p.1) (emitted_at level s) q.1.1) (λ p q. q.1) (λ w q. ((tt, w), (refl, q), refl)) (step_builds level s t then one))
 
 -- ---- null, empty and scalars
 
@@ -154,8 +154,8 @@ module _ (level : ℕ) (said k : Kind) (n : ℕ) (inner : Types) (t : Bool) wher
     abbrev fielded : (Unit {0} × Values) × Unit {0} → Values
     fielded p = Fields_and k p.0.1 NoValue
 
-    fields_told : (p : (Unit {0} × Values) × Unit {0}) → AreFields p → said_inside level T (fielded p) ≡ fields_said level 0 inner p.0.1 ++ []
-    fields_told p q =
+    fields_emitted : (p : (Unit {0} × Values) × Unit {0}) → AreFields p → said_inside level T (fielded p) ≡ fields_said level 0 inner p.0.1 ++ []
+    fields_emitted p q =
         let same : values_in p.0.1 ≡ 0 + values_in p.0.1 = omega arith in
         ap (λ (m : ℕ). values_said (level + 1) (first_types (values_in p.0.1) inner) p.0.1 ++ Leave level m ∷ []) same ∙ sym (append-nil (fields_said level 0 inner p.0.1))
 
@@ -198,7 +198,7 @@ module _ (level : ℕ) (said k : Kind) (n : ℕ) (inner : Types) (t : Bool) wher
     pub fields_inside : {vs : Values} {a b c d : Held} → Builds {A = Unit {0}} (λ _. []) (λ _. t ≡ true) tt a b → Builds (fields_said level 0 inner) (AreFirst inner) vs b c
         → Builds {A = Unit {0}} (λ _. []) (λ _. 0 < values_in vs) tt c d → BuildsInside level (Enter level said n) k inner (Fields_and k vs NoValue) a d
     fields_inside one two three =
-        as_builds (said_inside level T) (IsFirst level (Enter level said n) T) fielded fields_told fields_on fields_view
+        as_builds (said_inside level T) (IsFirst level (Enter level said n) T) fielded fields_emitted fields_on fields_view
         (pair_builds (λ (p : Unit {0} × Values) (_ : Unit {0}). 0 < values_in p.1) (one then two) three)
 
 -- ---- scalars alone

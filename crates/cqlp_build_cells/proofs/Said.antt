@@ -1,4 +1,4 @@
--- What is told of values side by side.
+-- The events of values side by side.
 use Rattle.std.proofs.Common.{◌≡◌, ℕ, ◌+◌, ◌++◌, ◌&&◌, ◌^◌, false, ltb, List, [], ◌∷◌, take, drop, refl, sym, ap, ◌∙◌, subst, append_assoc}
 use Rattle.cqlp_kind.specs.declared.kind.Kind.{Kind}
 use Rattle.cqlp_kind.specs.Scalars.{kind_of, scalar_fits}
@@ -112,15 +112,15 @@ no_leave level k inner ts (Fields_and j items vs) rest f = refl
 head_is : (e d : CellEvent) (es ds : List CellEvent) → e ∷ es ≡ d ∷ ds → e ∷ [] ≡ d ∷ []
 head_is e d es ds is = ap (take 1) is
 
--- What came first is told of the value first.
-pub first_told : (level : ℕ) (k : Kind) (inner ts : Types) (vs : Values) (rest es : List CellEvent) (e : CellEvent) → Fit (Type_and k inner ts) vs
+-- The event that came first is of the value first.
+pub first_emitted : (level : ℕ) (k : Kind) (inner ts : Types) (vs : Values) (rest es : List CellEvent) (e : CellEvent) → Fit (Type_and k inner ts) vs
     → e ∷ es ≡ values_said level (Type_and k inner ts) vs ++ rest → take 1 (values_said level (Type_and k inner ts) vs) ≡ e ∷ []
-first_told level k inner ts NoValue rest es e f is = absurd cc
-first_told level k inner ts (Null_and vs) rest es e f is = sym (head_is _ _ _ _ is)
-first_told level k inner ts (Empty_and vs) rest es e f is = sym (head_is _ _ _ _ is)
-first_told level k inner ts (Scalar_and v vs) rest es e f is = sym (head_is _ _ _ _ is)
-first_told level k inner ts (Counted_and j n items vs) rest es e f is = sym (head_is _ _ _ _ is)
-first_told level k inner ts (Fields_and j items vs) rest es e f is = sym (head_is _ _ _ _ is)
+first_emitted level k inner ts NoValue rest es e f is = absurd cc
+first_emitted level k inner ts (Null_and vs) rest es e f is = sym (head_is _ _ _ _ is)
+first_emitted level k inner ts (Empty_and vs) rest es e f is = sym (head_is _ _ _ _ is)
+first_emitted level k inner ts (Scalar_and v vs) rest es e f is = sym (head_is _ _ _ _ is)
+first_emitted level k inner ts (Counted_and j n items vs) rest es e f is = sym (head_is _ _ _ _ is)
+first_emitted level k inner ts (Fields_and j items vs) rest es e f is = sym (head_is _ _ _ _ is)
 
 pub first_and_rest : (es : List CellEvent) (e : CellEvent) → take 1 es ≡ e ∷ [] → es ≡ e ∷ drop 1 es
 first_and_rest [] e is = absurd cc

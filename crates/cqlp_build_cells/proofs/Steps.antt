@@ -6,7 +6,7 @@ use Rattle.cqlp_build_cells.specs.declared.held.Fault.{Fault}
 use Rattle.cqlp_build_cells.specs.declared.held.Fault.TheVariants as fault
 use Rattle.cqlp_build_cells.specs.declared.held.Held.{Held}
 use Rattle.cqlp_build_cells.specs.declared.step.Step.{Step}
-use Rattle.cqlp_build_cells.specs.Held.{Builds, IsSound, IsRefused, TakesStep, any, first_fault, left, told_at}
+use Rattle.cqlp_build_cells.specs.Held.{Builds, IsSound, IsRefused, TakesStep, any, first_fault, left, emitted_at}
 
 pub both : (a b : Bool) → (a && b) ≡ true → (a ≡ true) × (b ≡ true)
 both true b e = (refl, e)
@@ -158,10 +158,10 @@ module _ {A : Type 0} {h : A → List CellEvent} {P : A → Type 0} where
 
 -- ---- one event
 
-pub step_builds : (level : ℕ) (s : Step) {old new : Held} → TakesStep level (Some s) old new → Builds {A = Unit {0}} (λ _. told_at level s ∷ []) any tt old new
+pub step_builds : (level : ℕ) (s : Step) {old new : Held} → TakesStep level (Some s) old new → Builds {A = Unit {0}} (λ _. emitted_at level s ∷ []) any tt old new
 step_builds level s {old} {new} t = record {
   made = λ x. (t.0, t.1, refl);
-  only = λ x u rest p e. let d : told_at level s ∷ rest ≡ told_at level s ∷ left new = sym e ∙ t.1 in (refl, cc);
+  only = λ x u rest p e. let d : emitted_at level s ∷ rest ≡ emitted_at level s ∷ left new = sym e ∙ t.1 in (refl, cc);
   none = λ r. let d : None ≡ Some fault.NoValue = sym t.2 ∙ r in absurd cc;
 }
 

@@ -12,7 +12,7 @@ use Rattle.cqlp_build_cells.specs.declared.held.Fault.TheVariants as fault
 use Rattle.cqlp_build_cells.specs.declared.step.Step.{Step}
 use Rattle.cqlp_build_cells.specs.declared.step.Step.TheVariants as step
 use Rattle.cqlp_build_cells.specs.Building.{AreEventsOf, AreOfNone, FinishesAs, IsBuiltOf, refusal_of}
-use Rattle.cqlp_build_cells.specs.Held.{Builds, left, told_by}
+use Rattle.cqlp_build_cells.specs.Held.{Builds, left, emitted_by}
 use Rattle.cqlp_build_cells.specs.Said.{values_said}
 use Rattle.cqlp_build_cells.proofs.Several.{BuildsAll}
 use Rattle.cqlp_build_cells.proofs.Steps.{both, join}
@@ -40,16 +40,16 @@ all_none (x ∷ xs) ys p q =
     let r = both (is_no_part x) (have_none xs) p in
     join (is_no_part x) (have_none (xs ++ ys)) r.0 (all_none xs ys r.1 q)
 
-step_none : (s : ℕ × Step) → is_no_part (told_by s) ≡ true
+step_none : (s : ℕ × Step) → is_no_part (emitted_by s) ≡ true
 step_none (level, step.Leaf a) = refl
 step_none (level, step.Null) = refl
 step_none (level, step.Empty) = refl
 step_none (level, step.Enter k n) = refl
 step_none (level, step.Leave n) = refl
 
-steps_none : (ss : List (ℕ × Step)) → have_none (map told_by ss) ≡ true
+steps_none : (ss : List (ℕ × Step)) → have_none (map emitted_by ss) ≡ true
 steps_none [] = refl
-steps_none (s ∷ ss) = join (is_no_part (told_by s)) (have_none (map told_by ss)) (step_none s) (steps_none ss)
+steps_none (s ∷ ss) = join (is_no_part (emitted_by s)) (have_none (map emitted_by ss)) (step_none s) (steps_none ss)
 
 -- nor have the values that are said
 pub said_none : (level : ℕ) (ts : Types) (vs : Values) → have_none (values_said level ts vs) ≡ true
@@ -64,27 +64,27 @@ said_none level (Type_and k inner ts) (Fields_and j items vs) =
     all_none (values_said (level + 1) (first_types (values_in items) inner) items) (Leave level (values_in items) ∷ values_said level ts vs) (said_none (level + 1) (first_types (values_in items) inner) items) (said_none level ts vs)
 
 module _ (l : Rules) where
-  abbrev told : List (ℕ × CellEvent) → List CellEvent
-  told es = map (λ e. e.1) es
+  abbrev emitted : List (ℕ × CellEvent) → List CellEvent
+  emitted es = map (λ e. e.1) es
 
-  parts_come : (n level at offset : ℕ) (c : List ℕ) (more : List (ℕ × CellEvent)) → have_none (told (part_items l n level at offset c ++ more)) ≡ false
+  parts_come : (n level at offset : ℕ) (c : List ℕ) (more : List (ℕ × CellEvent)) → have_none (emitted (part_items l n level at offset c ++ more)) ≡ false
   parts_come zero level at offset c more = refl
-  parts_come (suc n) level at offset c more = elim (leb (length c) l.part) as (λ t. leb (length c) l.part ≡ t → have_none (told (part_items l (suc n) level at offset c ++ more)) ≡ false) [
+  parts_come (suc n) level at offset c more = elim (leb (length c) l.part) as (λ t. leb (length c) l.part ≡ t → have_none (emitted (part_items l (suc n) level at offset c ++ more)) ≡ false) [
     | true ↦ λ e. rw e refl
     | false ↦ λ e. rw e refl
   ] refl
 
   -- nothing comes in parts, as no limit asks for it, or none came
   abbrev pub NoParts : List (ℕ × CellEvent) → Type 0
-  NoParts es = (l.parts ≡ false) ⊎ (have_none (told es) ≡ true)
+  NoParts es = (l.parts ≡ false) ⊎ (have_none (emitted es) ≡ true)
 
   front : (xs ys : List (ℕ × CellEvent)) → NoParts (xs ++ ys) → NoParts xs
   front xs ys (inl e) = inl e
-  front xs ys (inr e) = inr (both_none (told xs) (told ys) (ap have_none (sym (map-append (λ e. e.1) xs ys)) ∙ e)).0
+  front xs ys (inr e) = inr (both_none (emitted xs) (emitted ys) (ap have_none (sym (map-append (λ e. e.1) xs ys)) ∙ e)).0
 
   back : (xs ys : List (ℕ × CellEvent)) → NoParts (xs ++ ys) → NoParts ys
   back xs ys (inl e) = inl e
-  back xs ys (inr e) = inr (both_none (told xs) (told ys) (ap have_none (sym (map-append (λ e. e.1) xs ys)) ∙ e)).1
+  back xs ys (inr e) = inr (both_none (emitted xs) (emitted ys) (ap have_none (sym (map-append (λ e. e.1) xs ys)) ∙ e)).1
 
   scalar_comes : (level at : ℕ) (v : ScalarValue) (more : List (ℕ × CellEvent)) → NoParts (scalar_items l level at v ++ more) → scalar_items l level at v ≡ (at, Leaf level v) ∷ []
   scalar_comes level at v more off = elim (in_parts l v) as (λ t. in_parts l v ≡ t → scalar_items l level at v ≡ (at, Leaf level v) ∷ []) [
@@ -99,11 +99,11 @@ module _ (l : Rules) where
           let d : false ≡ true = sym (parts_come (length (content_of v)) level (at + 4) 0 (content_of v) more) ∙ came in
           absurd cc
 
-  inside : (e d : CellEvent) (at stop : ℕ) (xs ys : List (ℕ × CellEvent)) (fs bs : List CellEvent) → told xs ≡ fs → told ys ≡ bs → told ((at, e) ∷ (xs ++ ((stop, d) ∷ ys))) ≡ e ∷ (fs ++ (d ∷ bs))
+  inside : (e d : CellEvent) (at stop : ℕ) (xs ys : List (ℕ × CellEvent)) (fs bs : List CellEvent) → emitted xs ≡ fs → emitted ys ≡ bs → emitted ((at, e) ∷ (xs ++ ((stop, d) ∷ ys))) ≡ e ∷ (fs ++ (d ∷ bs))
   inside e d at stop xs ys fs bs p q = ap (λ es. e ∷ es) (map-append (λ e. e.1) xs ((stop, d) ∷ ys) ∙ (λ i. p i ++ (d ∷ q i)))
 
   -- the items without parts are what is said
-  pub items_said : (level at : ℕ) (ts : Types) (vs : Values) → NoParts (values_items l level at ts vs) → told (values_items l level at ts vs) ≡ values_said level ts vs
+  pub items_said : (level at : ℕ) (ts : Types) (vs : Values) → NoParts (values_items l level at ts vs) → emitted (values_items l level at ts vs) ≡ values_said level ts vs
   items_said level at NoMore vs off = refl
   items_said level at (Type_and k inner ts) NoValue off = refl
   items_said level at (Type_and k inner ts) (Null_and vs) off =
@@ -113,7 +113,7 @@ module _ (l : Rules) where
   items_said level at (Type_and k inner ts) (Scalar_and v vs) off =
       let next = at + 4 + length (content_of v) in
       let more = values_items l level next ts vs in
-      ap (λ es. told (es ++ more)) (scalar_comes level at v more off)
+      ap (λ es. emitted (es ++ more)) (scalar_comes level at v more off)
       ∙ ap (λ es. Leaf level v ∷ es) (items_said level next ts vs (back (scalar_items l level at v) more off))
   items_said level at (Type_and k inner ts) (Counted_and j n items vs) off =
       let stop = at + 8 + values_size items in

@@ -88,7 +88,7 @@ empty l = record { place = None; events = []; room = l.bytes; limits = l }
 
 -- ---- events
 
--- what an event tells of a cell
+-- what an event is of a cell
 abbrev pub cell_of : Event → Option CellEvent
 cell_of (Cell_at row column e) = Some e
 cell_of (Leave level items) = Some (cell.Leave level items)
@@ -105,7 +105,7 @@ abbrev pub is_part : Event → Bool
 is_part (Cell_at row column (cell.Part level offset c last)) = true
 is_part e = false
 
--- what is told of a cell but parts of scalars
+-- an event of a cell but a part of a scalar
 abbrev pub is_whole : Event → Bool
 is_whole (Cell_at row column (cell.Part level offset c last)) = false
 is_whole (Cell_at row column e) = true
@@ -151,7 +151,7 @@ abbrev pub content_size : Event → ℕ
 content_size (Cell_at row column (cell.Leaf level v)) = scalar_size v
 content_size e = 0
 
--- the state with this event, which tells e of the cell
+-- the state with this event, which is e of the cell
 abbrev pub with_event : CellState → Event → CellEvent → CellState
 with_event s event e = record {
   place = place_after event s.place;

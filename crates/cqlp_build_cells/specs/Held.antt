@@ -9,19 +9,19 @@ use Rattle.cqlp_build_cells.specs.declared.step.Step.{Step}
 use Rattle.cqlp_build_cells.specs.declared.step.Step.TheVariants as step
 
 -- the event that a step is at this level
-abbrev pub told_at : (level : ℕ) → Step → CellEvent
-told_at level (step.Leaf a) = Leaf level (atom_of a)
-told_at level step.Null = Null level
-told_at level step.Empty = Empty level
-told_at level (step.Enter k n) = Enter level k n
-told_at level (step.Leave n) = Leave level n
+abbrev pub emitted_at : (level : ℕ) → Step → CellEvent
+emitted_at level (step.Leaf a) = Leaf level (atom_of a)
+emitted_at level step.Null = Null level
+emitted_at level step.Empty = Empty level
+emitted_at level (step.Enter k n) = Enter level k n
+emitted_at level (step.Leave n) = Leave level n
 
-abbrev pub told_by : ℕ × Step → CellEvent
-told_by s = told_at s.0 s.1
+abbrev pub emitted_by : ℕ × Step → CellEvent
+emitted_by s = emitted_at s.0 s.1
 
 -- the events that are left
 abbrev pub left : Held → List CellEvent
-left h = map told_by h.items.items
+left h = map emitted_by h.items.items
 
 -- nothing was refused
 abbrev pub IsSound : Held → Type 0
@@ -35,7 +35,7 @@ abbrev pub first_fault : Option Fault → Fault → Option Fault
 first_fault None f = Some f
 first_fault (Some g) f = Some g
 
--- how many values are around the value of which it is told
+-- how many values are around the value whose event it is
 abbrev pub level_of : CellEvent → ℕ
 level_of (Leaf level v) = level
 level_of (Null level) = level
@@ -44,9 +44,9 @@ level_of (Enter level k items) = level
 level_of (Leave level items) = level
 level_of (Part level offset c last) = level
 
--- What comes next at this level, which is taken; where nothing does, or at another level, nothing is told, and it is taken or not.
+-- What comes next at this level, which is taken; where nothing does, or at another level, nothing is said, and it is taken or not.
 abbrev pub TakesStep : (level : ℕ) → Option Step → (old new : Held) → Type 0
-TakesStep level (Some s) old new = IsSound old × (left old ≡ told_at level s ∷ left new) × IsSound new
+TakesStep level (Some s) old new = IsSound old × (left old ≡ emitted_at level s ∷ left new) × IsSound new
 TakesStep level None old new =
     (new.fault ≡ old.fault) × (IsSound old → (e : CellEvent) (rest : List CellEvent) → left old ≡ e ∷ rest → level_of e ≡ level → ⊥)
 
@@ -66,12 +66,12 @@ begins_with_leave (e ∷ es) = is_leave e
 
 -- Where nothing was refused, the events of this value came first, P holds of it, and of no other such value did they come.
 -- Where it was refused now, they are those of no such value. Of what memory was refused for nothing is said.
-pub record Builds {A : Type 0} (told : A → List CellEvent) (P : A → Type 0) (a : A) (old new : Held) : Type 0 where
-  pub made : IsSound new → IsSound old × (left old ≡ told a ++ left new) × P a
-  pub only : IsSound new → (b : A) (rest : List CellEvent) → P b → left old ≡ told b ++ rest → (b ≡ a) × (rest ≡ left new)
+pub record Builds {A : Type 0} (emitted : A → List CellEvent) (P : A → Type 0) (a : A) (old new : Held) : Type 0 where
+  pub made : IsSound new → IsSound old × (left old ≡ emitted a ++ left new) × P a
+  pub only : IsSound new → (b : A) (rest : List CellEvent) → P b → left old ≡ emitted b ++ rest → (b ≡ a) × (rest ≡ left new)
   pub none :
       IsRefused new
-      → IsRefused old ⊎ (IsSound old × ((b : A) (rest : List CellEvent) → P b → left old ≡ told b ++ rest → ⊥))
+      → IsRefused old ⊎ (IsSound old × ((b : A) (rest : List CellEvent) → P b → left old ≡ emitted b ++ rest → ⊥))
 
 -- no more events are left than were
 abbrev pub HoldsNoMore : (old new : Held) → Type 0

@@ -1,4 +1,4 @@
--- What is told of values, wherever their bytes lie, where each scalar comes whole.
+-- The events of values, wherever their bytes lie, where each scalar comes whole.
 use Rattle.std.specs.Prelude.{◌≡◌, ℕ, ◌+◌, ◌++◌, ◌⊎◌, true, List, [], ◌∷◌, drop, take}
 use Rattle.cqlp_kind.specs.declared.kind.Kind.TheVariants as kind
 use Rattle.cqlp_kind.specs.Types.{Types, Type_and, how_many, first_types}
@@ -25,11 +25,11 @@ values_said level ts vs = []
 abbrev pub Fit : Types → Values → Type 0
 Fit ts vs = values_fit ts vs ≡ true
 
--- what is told after the first event
+-- the events after the first
 abbrev pub said_inside : (level : ℕ) → Types → Values → List CellEvent
 said_inside level ts vs = drop 1 (values_said level ts vs)
 
--- Values of these types, of which this is told first.
+-- Values of these types, whose events begin with this one.
 abbrev pub IsFirst : (level : ℕ) → CellEvent → Types → Values → Type 0
 IsFirst level e ts vs = Fit ts vs × (take 1 (values_said level ts vs) ≡ e ∷ [])
 

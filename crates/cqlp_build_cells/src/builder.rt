@@ -6,7 +6,7 @@ ghost use Rattle.cqlp_kind.specs.Contents.{value_of};
 ghost use Rattle.cqlp_type.specs.Trees.{types_in};
 ghost use Rattle.cqlp_type.specs.TypeTrees.{tree_of};
 ghost use Rattle.cqlp_value.specs.Owned.{cell_type};
-ghost use Rattle.cqlp_build_cells.specs.Building as told;
+ghost use Rattle.cqlp_build_cells.specs.Building as model;
 ghost use Rattle.cqlp_build_cells.specs.Building.{Finishes, FinishesAs, TakesEvent, empty, is_whole, state};
 ghost use Rattle.cqlp_build_cells.specs.Held.{left};
 ghost use Rattle.cqlp_build_cells.specs.Said.{IsReadable};
@@ -115,7 +115,7 @@ impl CellBuilder {
 
     /// Whether an event is of the cell under way, or the first of a cell.
     fn is_of(&self, event: &Event<'_>) -> bool
-        ensures { result ≡ told.is_of self.now.place (event_of event.now) }
+        ensures { result ≡ model.is_of self.now.place (event_of event.now) }
     {
         match (self.place, event) {
             (Some(_), Event::Leave { .. }) => true,
@@ -129,8 +129,8 @@ impl CellBuilder {
 
     /// An event comes that is of the cell.
     fn hold(&mut self, event: &Event<'_>) -> Result<(), CellError>
-        requires of { told.is_of self.old.place (event_of event.now) ≡ true }
-        requires whole { told.is_part (event_of event.now) ≡ false }
+        requires of { model.is_of self.old.place (event_of event.now) ≡ true }
+        requires whole { model.is_part (event_of event.now) ≡ false }
         ensures { TakesEvent (state self.old) (event_of event.now) result (state self.new) }
     {
         if self.place.is_none() {
@@ -200,7 +200,7 @@ impl Held {
 
 /// Why there is no value.
 fn refusal(why: Fault) -> CellError
-    ensures { result ≡ told.refusal_of why }
+    ensures { result ≡ model.refusal_of why }
 {
     match why {
         Fault::NoValue => CellError::NoValue,
@@ -211,7 +211,7 @@ fn refusal(why: Fault) -> CellError
 /// Whether nothing of its cell comes after an event: a value at level 0, or the end of one; not the beginning of one with items.
 #[must_use]
 pub fn ends_cell(event: &Event<'_>) -> bool
-    ensures { result ≡ told.ends_cell (event_of event.now) }
+    ensures { result ≡ model.ends_cell (event_of event.now) }
 {
     match *event {
         Event::Leaf { level, .. }
@@ -225,7 +225,7 @@ pub fn ends_cell(event: &Event<'_>) -> bool
 
 /// The row and the column that an event names.
 fn place_of(event: &Event<'_>) -> Option<(u32, u32)>
-    ensures { result ≡ told.place_of (event_of event.now) }
+    ensures { result ≡ model.place_of (event_of event.now) }
 {
     match *event {
         Event::Leaf { row, column, .. }
@@ -239,14 +239,14 @@ fn place_of(event: &Event<'_>) -> Option<(u32, u32)>
 
 /// Whether it is a part of a scalar.
 fn is_part(event: &Event<'_>) -> bool
-    ensures { result ≡ told.is_part (event_of event.now) }
+    ensures { result ≡ model.is_part (event_of event.now) }
 {
     matches!(event, Event::Part { .. })
 }
 
 /// How many bytes of an event the limit counts.
 fn content_size(event: &Event<'_>) -> usize
-    ensures { result ≡ told.content_size (event_of event.now) }
+    ensures { result ≡ model.content_size (event_of event.now) }
 {
     match event {
         Event::Leaf { scalar, .. } => scalar_size(scalar),

@@ -1,8 +1,8 @@
 //! The events that are held of a cell, and what is taken of them.
 
 ghost use Rattle.std.specs.Prelude.{◌≡◌, ◌↔◌, ◌∷◌, ◌++◌, IsTrue, OnOk, [], true};
-ghost use Rattle.cqlp_build_cells.specs.Held as told;
-ghost use Rattle.cqlp_build_cells.specs.Held.{Builds, HoldsFewer, HoldsNoMore, TakesStep, any, begins_with_leave, first_fault, left, told_at};
+ghost use Rattle.cqlp_build_cells.specs.Held as model;
+ghost use Rattle.cqlp_build_cells.specs.Held.{Builds, HoldsFewer, HoldsNoMore, TakesStep, any, begins_with_leave, first_fault, left, emitted_at};
 ghost use Rattle.cqlp_kind.specs.CellStep.{Leave};
 
 use crate::step::Step;
@@ -53,7 +53,7 @@ impl Held {
     ///
     /// [`AllocError`] where memory was refused, after which it is as it was.
     pub fn push(&mut self, level: u32, step: Step) -> Result<(), AllocError>
-        ensures is { OnOk result (left self.new ≡ left self.old ++ told_at level step ∷ []) }
+        ensures is { OnOk result (left self.new ≡ left self.old ++ emitted_at level step ∷ []) }
     {
         self.items.reserve(1)?;
         self.items.push_back_reserved((level, step));
@@ -127,7 +127,7 @@ impl Held {
 
 /// Whether it is the end of a value after this many items.
 fn leaves(next: &Option<Step>, count: usize) -> bool
-    ensures { result ≡ told.leaves next.now count }
+    ensures { result ≡ model.leaves next.now count }
 {
     match next {
         Some(Step::Leave(found)) => *found as usize == count,

@@ -4,16 +4,16 @@ ghost use Rattle.std.specs.Prelude.{◌≡◌, IfOk, Some, true};
 ghost use Rattle.cqlp_grammar.specs.Events.{event_of};
 ghost use Rattle.cqlp_kind.specs.Contents.{value_of};
 ghost use Rattle.cqlp_value.specs.Owned.{atom_of};
-ghost use Rattle.cqlp_build_cells.specs.Building as told;
+ghost use Rattle.cqlp_build_cells.specs.Building as model;
 ghost use Rattle.cqlp_build_cells.specs.Building.{cell_of, is_whole};
-ghost use Rattle.cqlp_build_cells.specs.Held.{told_at, told_by};
+ghost use Rattle.cqlp_build_cells.specs.Held.{emitted_at, emitted_by};
 
 use cqlp_grammar::Event;
 use cqlp_kind::{Kind, Scalar};
 use cqlp_value::Atom;
 use std::alloc::{AllocError, Global};
 
-/// What is told of a value at its level, with bytes of its own.
+/// An event of a value at its level, with bytes of its own.
 #[derive(Drop)]
 pub enum Step {
     Leaf(Atom),
@@ -28,7 +28,7 @@ pub enum Step {
 /// The same, with bytes of its own, at its level.
 pub fn own(alloc: Global, event: &Event<'_>) -> Result<(u32, Step), AllocError>
     requires { is_whole (event_of event.now) ≡ true }
-    ensures { IfOk result (λ s. cell_of (event_of event.now) ≡ Some (told_by s)) }
+    ensures { IfOk result (λ s. cell_of (event_of event.now) ≡ Some (emitted_by s)) }
 {
     Ok(match *event {
         Event::Leaf { level, scalar, .. } => (level, Step::Leaf(own_scalar(alloc, scalar)?)),
@@ -80,7 +80,7 @@ fn own_scalar(alloc: Global, scalar: Scalar<'_>) -> Result<Atom, AllocError>
 
 /// How many bytes a scalar has that has no length of its own.
 pub fn scalar_size(scalar: &Scalar<'_>) -> usize
-    ensures { result ≡ told.scalar_size (value_of scalar.now) }
+    ensures { result ≡ model.scalar_size (value_of scalar.now) }
 {
     match scalar {
         Scalar::Custom(bytes) | Scalar::Blob(bytes) | Scalar::Varint(bytes) | Scalar::Raw(bytes) =>
@@ -91,11 +91,11 @@ pub fn scalar_size(scalar: &Scalar<'_>) -> usize
     }
 }
 
-/// Whether nothing of its cell comes after what is told at this level: a value at level 0, or the end of one; not the beginning of one
+/// Whether nothing of its cell comes after the event at this level: a value at level 0, or the end of one; not the beginning of one
 /// with items.
 #[must_use]
 pub fn ends(level: u32, step: &Step) -> bool
-    ensures { result ≡ told.ends (told_at level step.now) }
+    ensures { result ≡ model.ends (emitted_at level step.now) }
 {
     match step {
         Step::Enter(_, _) => false,

@@ -11,7 +11,7 @@ use Rattle.std.proofs.lemmas.List.{append-nil}
 use Rattle.cqlp_c.specs.declared.course.CqlpBegun.{CqlpBegun}
 use Rattle.cqlp_c.specs.declared.event.CqlpEvent.{CqlpEvent}
 use Rattle.cqlp_c.specs.Course.{begun_after, begun_by, is_edge}
-use Rattle.cqlp_c.specs.Events as told
+use Rattle.cqlp_c.specs.Events as model
 
 pub begun-append : (f : CqlpBegun) (cs ds : List CqlpEvent) → begun_by f (cs ++ ds) ≡ begun_by (begun_by f cs) ds
 begun-append f [] ds = refl
@@ -26,7 +26,7 @@ pub begun_one : (f g h : CqlpBegun) (cs : List CqlpEvent) (c : CqlpEvent) (all :
 begun_one f g h cs c all at one is = begun_more f g h h cs c [] all at one refl (is ∙ sym (append-nil (cs ++ c ∷ [])))
 
 -- an event that neither begins nor ends a frame leaves the frame under way
-pub not_edge : (f : CqlpBegun) (at : ℕ) (e : Event) (place : Ptr) → is_edge e ≡ false → begun_after f (told.told_at at e place) ≡ f
+pub not_edge : (f : CqlpBegun) (at : ℕ) (e : Event) (place : Ptr) → is_edge e ≡ false → begun_after f (model.written_at at e place) ≡ f
 not_edge f at (Frame h) place flat = absurd (let e = flat in cc)
 not_edge f at (Holds g (field.Byte n)) place flat = refl
 not_edge f at (Holds g (field.Short n)) place flat = refl

@@ -66,12 +66,12 @@ verdict_by new stream es f (Some r) is done ends refused = (es, Refused r.at r.w
 pub verdict : (l : Limits) (new : StreamState) (stream : List ℕ) (f : Finish) → new.rules ≡ rules_of l → (es : List (ℕ × Event)) × IsDone new.refusal new stream es → EndsAs new f → ((r : Refusal) → new.refusal ≡ Some r → f ≡ finish.Refused r) → HasVerdict (rules_of l) stream f
 verdict l new stream f rules done ends refused = rw rules at (verdict_by new stream done.0 f new.refusal refl done.1 ends refused)
 
-checked_by : (l : Limits) (b : Result Unit BadLimits) → first_bad l ≡ b → ((z : BadLimits) → first_bad l ≡ Err z → ⊥) → (stream : List ℕ) (f : Finish) (was told : CqlpEnd) → told ≡ end_of f → HasVerdict (rules_of l) stream f → ChecksBy l b stream numbers.DONE was told
-checked_by l (Ok u) is none stream f was told shown has = inr (refl, f, shown, has)
-checked_by l (Err z) is none stream f was told shown has = absurd (none z is)
+checked_by : (l : Limits) (b : Result Unit BadLimits) → first_bad l ≡ b → ((z : BadLimits) → first_bad l ≡ Err z → ⊥) → (stream : List ℕ) (f : Finish) (was written : CqlpEnd) → written ≡ end_of f → HasVerdict (rules_of l) stream f → ChecksBy l b stream numbers.DONE was written
+checked_by l (Ok u) is none stream f was written shown has = inr (refl, f, shown, has)
+checked_by l (Err z) is none stream f was written shown has = absurd (none z is)
 
-pub checked : (l : Limits) → ((z : BadLimits) → first_bad l ≡ Err z → ⊥) → (stream : List ℕ) (f : Finish) (was told : CqlpEnd) → told ≡ end_of f → HasVerdict (rules_of l) stream f → ChecksBy l (first_bad l) stream numbers.DONE was told
-checked l none stream f was told shown has = checked_by l (first_bad l) refl none stream f was told shown has
+pub checked : (l : Limits) → ((z : BadLimits) → first_bad l ≡ Err z → ⊥) → (stream : List ℕ) (f : Finish) (was written : CqlpEnd) → written ≡ end_of f → HasVerdict (rules_of l) stream f → ChecksBy l (first_bad l) stream numbers.DONE was written
+checked l none stream f was written shown has = checked_by l (first_bad l) refl none stream f was written shown has
 
 not_checked_by : (l : Limits) (b : Result Unit BadLimits) → first_bad l ≡ b → (e : NewError) → ((z : BadLimits) → (e ≡ error.BadLimits z) ↔ (first_bad l ≡ Err z)) → (stream : List ℕ) (was : CqlpEnd) → ChecksBy l b stream (code_of_error e) was was
 not_checked_by l (Err z) is e bad stream was = (ap code_of_error ((bad z).1 is), refl)

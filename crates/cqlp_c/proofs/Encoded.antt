@@ -1,4 +1,4 @@
--- What becomes of events that C tells, one after the other.
+-- What becomes of events that C passes, one after the other.
 use Rattle.std.proofs.Common.{◌≡◌, ℕ, zero, suc, ◌+◌, ◌<◌, ◌≤◌, ◌⊎◌, inl, inr, List, [], ◌∷◌, ◌++◌, length, take, drop, get_or, refl, sym, ap, ◌∙◌, arith, Ok, Err, Some, None}
 use Rattle.std.specs.Prelude.{Bool, true, ◌==◌, Result, IsOk, is_ok}
 use Rattle.std.proofs.Math.Seq.{drop-cons, take-suc}
@@ -12,9 +12,9 @@ use Rattle.cqlp_c.specs.declared.encode.Stopped.{Stopped}
 use Rattle.cqlp_c.specs.declared.encode.Unencoded.{Unencoded}
 use Rattle.cqlp_c.specs.declared.encode.Unencoded.TheVariants as unencoded
 use Rattle.cqlp_c.specs.declared.event.CqlpEvent.{CqlpEvent}
-use Rattle.cqlp_c.specs.Encoding.{HasNone, IsEncoded, IsUnencodedAt, StopsAt, Taken, TakesOne, after_all, after_one, at_first, on_from, unless, with_told}
-use Rattle.cqlp_c.specs.declared.told.NotTold.{NotTold}
-use Rattle.cqlp_c.specs.Told.{content_len, event_told}
+use Rattle.cqlp_c.specs.Encoding.{HasNone, IsEncoded, IsUnencodedAt, StopsAt, Taken, TakesOne, after_all, after_one, at_first, on_from, unless, with_c_event}
+use Rattle.cqlp_c.specs.declared.from_c.BadEvent.{BadEvent}
+use Rattle.cqlp_c.specs.FromC.{content_len, event_from_c}
 
 -- ---- one after the other
 
@@ -67,7 +67,7 @@ module _ (t : Taken) (cs : List CqlpEvent) (i : ℕ) (d : CqlpEvent) (u : Taken)
   stops_at (unencoded.Refused error.TooDeep) new k = all_stop _ k
   stops_at (unencoded.Refused error.TooManyBytes) new k = all_stop _ k
   stops_at (unencoded.Refused error.NoFrame) new k = all_stop _ k
-  stops_at (unencoded.Untold w) new k = all_stop _ k
+  stops_at (unencoded.BadEvent w) new k = all_stop _ k
   stops_at unencoded.LeftOver new k = all_stop _ k
 
 pub all_taken : (t : Taken) (cs : List CqlpEvent) (i : ℕ) (u : Taken) → length cs ≤ i → after_all 0 t (take i cs) ≡ Ok u → after_all 0 t cs ≡ Ok u
@@ -75,20 +75,20 @@ all_taken t cs i u le front = ap (λ (ds : List CqlpEvent). after_all 0 t ds) (s
 
 -- ---- one
 
-module _ (old : ComposerState) (c : CqlpEvent) (contents : List ℕ) (e : Event) (told : Ok e ≡ event_told c contents) where
-  with_event_told : after_one (old, contents) c ≡ unless (refusal_of old e) (with_next old e, drop (content_len c) contents)
-  with_event_told = ap (λ (r : Result Event NotTold). with_told old r (drop (content_len c) contents)) (sym told)
+module _ (old : ComposerState) (c : CqlpEvent) (contents : List ℕ) (e : Event) (written : Ok e ≡ event_from_c c contents) where
+  with_event_from_c : after_one (old, contents) c ≡ unless (refusal_of old e) (with_next old e, drop (content_len c) contents)
+  with_event_from_c = ap (λ (r : Result Event BadEvent). with_c_event old r (drop (content_len c) contents)) (sym written)
 
   pub one_taken : (new : ComposerState) (rest : List ℕ) → rest ≡ drop (content_len c) contents → Takes old e (Ok tt) new → TakesOne (old, contents) c (Ok rest) new
   one_taken new rest is k =
-      with_event_told ∙ ap (λ o. unless o (with_next old e, drop (content_len c) contents)) k.0
+      with_event_from_c ∙ ap (λ o. unless o (with_next old e, drop (content_len c) contents)) k.0
       ∙ ap (λ (s : ComposerState). Ok (s, drop (content_len c) contents)) (sym k.1) ∙ ap (λ (r : List ℕ). Ok (new, r)) (sym is)
 
   one_refused : (why : BuildError) → refusal_of old e ≡ Some why → after_one (old, contents) c ≡ Err (unencoded.Refused why)
-  one_refused why k = with_event_told ∙ ap (λ o. unless o (with_next old e, drop (content_len c) contents)) k
+  one_refused why k = with_event_from_c ∙ ap (λ o. unless o (with_next old e, drop (content_len c) contents)) k
 
   one_forgotten : refusal_of old e ≡ None → IsOk (after_one (old, contents) c)
-  one_forgotten k = ap is_ok (with_event_told ∙ ap (λ o. unless o (with_next old e, drop (content_len c) contents)) k)
+  one_forgotten k = ap is_ok (with_event_from_c ∙ ap (λ o. unless o (with_next old e, drop (content_len c) contents)) k)
 
   pub one_not_taken : (why : BuildError) (new : ComposerState) → Takes old e (Err why) new → TakesOne (old, contents) c (Err (unencoded.Refused why)) new
   one_not_taken error.NoMemory new k = one_forgotten k.0
@@ -99,8 +99,8 @@ module _ (old : ComposerState) (c : CqlpEvent) (contents : List ℕ) (e : Event)
   one_not_taken error.TooManyBytes new k = one_refused error.TooManyBytes k.0
   one_not_taken error.NoFrame new k = one_refused error.NoFrame k.0
 
-pub one_untold : (old new : ComposerState) (c : CqlpEvent) (contents : List ℕ) (why : NotTold) → Err why ≡ event_told c contents → TakesOne (old, contents) c (Err (unencoded.Untold why)) new
-one_untold old new c contents why told = ap (λ (r : Result Event NotTold). with_told old r (drop (content_len c) contents)) (sym told)
+pub one_bad_event : (old new : ComposerState) (c : CqlpEvent) (contents : List ℕ) (why : BadEvent) → Err why ≡ event_from_c c contents → TakesOne (old, contents) c (Err (unencoded.BadEvent why)) new
+one_bad_event old new c contents why written = ap (λ (r : Result Event BadEvent). with_c_event old r (drop (content_len c) contents)) (sym written)
 
 -- ---- all
 
@@ -112,7 +112,7 @@ unencoded_by cs contents n (unencoded.Refused error.TooManyFields) k = inl k
 unencoded_by cs contents n (unencoded.Refused error.TooDeep) k = inl k
 unencoded_by cs contents n (unencoded.Refused error.TooManyBytes) k = inl k
 unencoded_by cs contents n (unencoded.Refused error.NoFrame) k = inl k
-unencoded_by cs contents n (unencoded.Untold w) k = inl k
+unencoded_by cs contents n (unencoded.BadEvent w) k = inl k
 unencoded_by cs contents n unencoded.LeftOver k = inl k
 
 pub all_used : (rest : List ℕ) (b : Bool) → b ≡ (length rest == 0) → b ≡ true → rest ≡ []

@@ -10,7 +10,7 @@ use Rattle.cqlp_grammar.specs.declared.event.Finish.{Finish}
 use Rattle.cqlp_grammar.specs.declared.event.Finish.TheVariants as finish
 use Rattle.cqlp_decode.specs.Reading.{Event}
 use Rattle.cqlp_decode.specs.Streams.{FinishesBy, state}
-use Rattle.cqlp_skip.specs.Stretches.{frame_under_way, told_at}
+use Rattle.cqlp_skip.specs.Stretches.{frame_under_way, stream_offset}
 use Rattle.cqlp_skip.specs.Skipping.{Skipping}
 use Rattle.cqlp_skip.specs.Skipping as skip
 use Rattle.cqlp_c.specs.declared.batch.Batch.{Batch}
@@ -28,7 +28,7 @@ use Rattle.cqlp_c.proofs.OneBatch.{one_answer}
 
 ends_so : (d : Skipping) (s : List ℕ) (events : List (ℕ × Event)) (o : Option Refusal) (f : Finish) → d.used ≡ min (length s) (2 ^ 64 - 1) → d.base ≤ d.used → FinishesBy o (drop d.base s) events f → finish_from d.base f ≡ skip.finish_from d f
 ends_so d s events None (finish.Whole bytes) used le h = ap finish.Whole (omega (arith, h.0, length-drop d.base s, used, le))
-ends_so d s events None (finish.Cut frame_at bytes) used le h = ap (λ (n : ℕ). finish.Cut (told_at d.base frame_at) n) (omega (arith, h.0, length-drop d.base s, used, le))
+ends_so d s events None (finish.Cut frame_at bytes) used le h = ap (λ (n : ℕ). finish.Cut (stream_offset d.base frame_at) n) (omega (arith, h.0, length-drop d.base s, used, le))
 ends_so d s events None (finish.Refused r) used le h = absurd h
 ends_so d s events (Some r) (finish.Whole bytes) used le h = absurd (let e = h in cc)
 ends_so d s events (Some r) (finish.Cut frame_at bytes) used le h = absurd (let e = h in cc)

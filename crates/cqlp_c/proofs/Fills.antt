@@ -14,7 +14,7 @@ use Rattle.cqlp_laws.proofs.OneAnswer.{pending_none}
 use Rattle.cqlp_c.specs.declared.event.CqlpEvent.{CqlpEvent}
 use Rattle.cqlp_c.specs.declared.batch.Batch.{Batch}
 use Rattle.cqlp_c.specs.declared.batch.Stop.TheVariants as stop
-use Rattle.cqlp_c.specs.Batches.{Buffer, Fills, Put, Puts, IsRead, IsInInput, AllInInput, OthersInInput, LastIsGathered, IsGathered, TellsAll, TellsPut, events_of, end_of}
+use Rattle.cqlp_c.specs.Batches.{Buffer, Fills, Put, Puts, IsRead, IsInInput, AllInInput, OthersInInput, LastIsGathered, IsGathered, WritesAll, WritesPut, events_of, end_of}
 
 -- ---- lists of events that were put
 
@@ -59,11 +59,11 @@ last_snoc [] p is = is
 last_snoc (q ∷ []) p is = is
 last_snoc (q ∷ r ∷ ps) p is = last_snoc (r ∷ ps) p is
 
-pub tells_snoc : (begins : Ptr) (b : Buffer) (cs : List CqlpEvent) (ps : List Put) (c : CqlpEvent) (p : Put) → TellsAll begins b cs ps → TellsPut begins b c p → TellsAll begins b (cs ++ c ∷ []) (ps ++ p ∷ [])
-tells_snoc begins b [] [] c p all is = (is, tt)
-tells_snoc begins b [] (q ∷ ps) c p all is = absurd all
-tells_snoc begins b (d ∷ cs) [] c p all is = absurd all
-tells_snoc begins b (d ∷ cs) (q ∷ ps) c p all is = (all.0, tells_snoc begins b cs ps c p all.1 is)
+pub writes_snoc : (begins : Ptr) (b : Buffer) (cs : List CqlpEvent) (ps : List Put) (c : CqlpEvent) (p : Put) → WritesAll begins b cs ps → WritesPut begins b c p → WritesAll begins b (cs ++ c ∷ []) (ps ++ p ∷ [])
+writes_snoc begins b [] [] c p all is = (is, tt)
+writes_snoc begins b [] (q ∷ ps) c p all is = absurd all
+writes_snoc begins b (d ∷ cs) [] c p all is = absurd all
+writes_snoc begins b (d ∷ cs) (q ∷ ps) c p all is = (all.0, writes_snoc begins b cs ps c p all.1 is)
 
 -- ---- a batch so far
 
@@ -85,13 +85,13 @@ pub record IsFilled (gifts : Gifts) (l : Rules) (d : StreamState) (s input : Lis
   pub puts : List Put
   pub count : length puts ≡ length cs
   pub put : Puts gifts l s input es 0 puts
-  pub told : (b : Buffer) → TellsAll begins b cs puts
+  pub written : (b : Buffer) → WritesAll begins b cs puts
   pub ends : used ≡ end_of 0 puts
   pub after : AfterGifts gifts d (s ++ take used input) (es ++ events_of puts)
   pub lie : AllInInput puts
 
 pub filled_none : (gifts : Gifts) (l : Rules) (d : StreamState) (s input : List ℕ) (begins : Ptr) (es : List (ℕ × Event)) → AfterGifts gifts d s es → IsFilled gifts l d s input begins es 0 []
-filled_none gifts l d s input begins es a = record { puts = []; count = refl; put = tt; told = λ b. tt; ends = refl; after = rw (append-nil s, append-nil es) a; lie = tt }
+filled_none gifts l d s input begins es a = record { puts = []; count = refl; put = tt; written = λ b. tt; ends = refl; after = rw (append-nil s, append-nil es) a; lie = tt }
 
 module _ (gifts : Gifts) (l : Rules) (old new : StreamState) (s input : List ℕ) (begins : Ptr) (es : List (ℕ × Event)) (used : ℕ) (cs : List CqlpEvent) (f : IsFilled gifts l old s input begins es used cs) where
   all : (s ++ take used input) ++ drop used input ≡ s ++ input
@@ -116,24 +116,24 @@ module _ (gifts : Gifts) (l : Rules) (old new : StreamState) (s input : List ℕ
     after_more = rw (events_snoc f.puts next_put, ← (append_assoc es (events_of f.puts) ((at, e) ∷ []))) there
 
     module _ (c : CqlpEvent) where
-      pub filled_more : ((b : Buffer) → TellsPut begins b c next_put) → (ds : List CqlpEvent) → ds ≡ cs ++ c ∷ [] → IsInInput next_put → IsFilled gifts l new s input begins es (used + taken) ds
-      filled_more tells ds is lies = record {
+      pub filled_more : ((b : Buffer) → WritesPut begins b c next_put) → (ds : List CqlpEvent) → ds ≡ cs ++ c ∷ [] → IsInInput next_put → IsFilled gifts l new s input begins es (used + taken) ds
+      filled_more writes ds is lies = record {
         puts = f.puts ++ next_put ∷ [];
         count = omega (arith, length_snoc f.puts next_put, f.count, ap length is, length-append cs (c ∷ []));
         put = put_more;
-        told = λ b. rw is (tells_snoc begins b cs f.puts c next_put (f.told b) (tells b));
+        written = λ b. rw is (writes_snoc begins b cs f.puts c next_put (f.written b) (writes b));
         ends = sym (end_snoc 0 f.puts next_put);
         after = after_more;
         lie = all_snoc f.puts next_put f.lie lies;
       }
 
-      pub fills_gathered : (buffer : Buffer) → TellsPut begins buffer c next_put → (free : StreamState) (room : ℕ) (b : Batch) (events : List CqlpEvent) → free.rules ≡ l → b ≡ record { used = used + taken; events = length cs + 1; stop = stop.Full } → take (length cs + 1) events ≡ cs ++ c ∷ [] → IsGathered next_put
+      pub fills_gathered : (buffer : Buffer) → WritesPut begins buffer c next_put → (free : StreamState) (room : ℕ) (b : Batch) (events : List CqlpEvent) → free.rules ≡ l → b ≡ record { used = used + taken; events = length cs + 1; stop = stop.Full } → take (length cs + 1) events ≡ cs ++ c ∷ [] → IsGathered next_put
           → Fills gifts free new s input begins buffer es room b events
-      fills_gathered buffer tells free room b events same is put gathered = record {
+      fills_gathered buffer writes free room b events same is put gathered = record {
         puts = f.puts ++ next_put ∷ [];
         count = rw is (omega (arith, length_snoc f.puts next_put, f.count));
         put = rw same put_more;
-        told = rw (is, put) (tells_snoc begins buffer cs f.puts c next_put (f.told buffer) tells);
+        written = rw (is, put) (writes_snoc begins buffer cs f.puts c next_put (f.written buffer) writes);
         after = rw is after_more;
         stops = rw is (sym (end_snoc 0 f.puts next_put), others_snoc f.puts next_put f.lie, inr (last_snoc f.puts next_put gathered));
       }
@@ -145,7 +145,7 @@ module _ (gifts : Gifts) (l : Rules) (old new : StreamState) (s input : List ℕ
       puts = f.puts;
       count = f.count ∙ sym count;
       put = rw same f.put;
-      told = rw put (f.told buffer);
+      written = rw put (f.written buffer);
       after = rw (at, ← still) f.after;
       stops = rw (at, is) (f.ends, others_of_all f.puts f.lie, inl (f.count ∙ full));
     }
@@ -158,7 +158,7 @@ module _ (gifts : Gifts) (l : Rules) (old new : StreamState) (s input : List ℕ
           puts = f.puts;
           count = f.count ∙ sym count;
           put = rw same f.put;
-          told = rw put (f.told buffer);
+          written = rw put (f.written buffer);
           after = rw (whole, take_all (length input) input (omega arith)) h.2;
           stops = rw is (whole, omega (arith, f.count, room'), f.lie, h.1, h.3);
         }
@@ -175,7 +175,7 @@ module _ (gifts : Gifts) (l : Rules) (old new : StreamState) (s input : List ℕ
       puts = f.puts;
       count = f.count ∙ sym count;
       put = rw same f.put;
-      told = rw put (f.told buffer);
+      written = rw put (f.written buffer);
       after = rw at leads.1;
       stops = rw (at, is) (f.ends, inl (omega (arith, f.count, room')), f.lie, leads.0, refuses_free free.refusal rules clear still r leads.2);
     }

@@ -18,7 +18,7 @@ use Rattle.cqlp_decode.specs.Streams.{Decoding, buffer_of, state}
 use Rattle.cqlp_laws.specs.Contents.{content_in, scalar_content}
 use Rattle.cqlp_c.specs.declared.event.CqlpEvent.{CqlpEvent}
 use Rattle.cqlp_c.specs.Events.{before_gathered, content_of, content_span, is_decimal, scale_in, span_in}
-use Rattle.cqlp_c.specs.Batches.{Buffer, IsGathered, IsInInput, LiesBy, LiesByStep, Put, PutsGathered, TellsPut, TellsStep, buffer_in}
+use Rattle.cqlp_c.specs.Batches.{Buffer, IsGathered, IsInInput, LiesBy, LiesByStep, Put, PutsGathered, WritesPut, WritesStep, buffer_in}
 use Rattle.cqlp_c.proofs.Spans.{span_event}
 
 -- the bytes of a scalar that come before its content
@@ -220,8 +220,8 @@ step_lies : (input : Ptr) (b : Buffer) (p : Put) (o : Option (List ℕ)) (place 
 step_lies input b p None place lies is = is
 step_lies input b p (Some content) place lies is = (is, λ gathered. absurd (omega (arith, gathered, lies)))
 
--- one that lies in the input is put as it is told
-pub step_put : (input : Ptr) (b : Buffer) (c : CqlpEvent) (p : Put) → IsInInput p → TellsStep input c p → TellsPut input b c p
+-- one that lies in the input is put as it is written
+pub step_put : (input : Ptr) (b : Buffer) (c : CqlpEvent) (p : Put) → IsInInput p → WritesStep input c p → WritesPut input b c p
 step_put input b c p lies t = (t.0, step_lies input b p (content_in p.event) t.0 lies t.1, t.2)
 
 there_lies : (input : Ptr) (b : Buffer) (p : Put) (some : p.from ≤ p.end) (gathered : IsGathered p) (held : IsContent p.event b.bytes) (o : Option (List ℕ)) → content_in p.event ≡ o → (n : ℕ) → n ≡ before_gathered p.event → LiesBy input b p o (b.at +ₚ n)
@@ -235,7 +235,7 @@ scale_more : (scaled : Bool) (n : ℕ) → (if scaled then n + 4 else n) ≡ n +
 scale_more true n = refl
 scale_more false n = omega arith
 
--- what is told of a gathered content, with its place in the decoder
+-- what is written of a gathered content, with its place in the decoder
 pub put_there : (d : Decoding) (c : CqlpEvent) → PutsGathered (buffer_in d) c (record c { content = buffer_of d +ₚ min (scale_in c) (length (state d).held) })
 put_there d c = λ input p some gathered held t.
     let span : span_in c ≡ content_span p.event = ap span_in t.2 ∙ span_event p.at p.event t.0 in

@@ -25,7 +25,7 @@ use Rattle.cqlp_c.specs.declared.event.CqlpEvent.{CqlpEvent}
 use Rattle.cqlp_c.specs.declared.slots.Origin.{Origin}
 use Rattle.cqlp_c.specs.Events.{content_span}
 use Rattle.cqlp_c.specs.Batches.{Buffer, IsInInput, LiesBy, Put, events_of}
-use Rattle.cqlp_c.specs.Slots.{IsPlaced, TellsIn, TellsItems}
+use Rattle.cqlp_c.specs.Slots.{IsPlaced, WritesIn, WritesItems}
 use Rattle.cqlp_c.proofs.Fills.{IsFilled, LeadsTo, filled_more, read_more}
 use Rattle.cqlp_c.proofs.Spans.{content_spanned}
 
@@ -101,7 +101,7 @@ placed o s input begins b from base long there p (Some content) within later on 
 module _ (gifts : Gifts) (l : Rules) (s input : List ℕ) (begins : Ptr) (es : List (ℕ × Event)) (o : Origin) (from : ℕ) (base : o.offset ≡ length s + from) (long : length o.input.now ≡ length input - from) (there : as_ptr o.input ≡ begins +ₚ from) where
   -- one item
   module _ (old new : StreamState) (used : ℕ) (cs : List CqlpEvent) (f : IsFilled gifts l old s input begins es used cs) (rules : old.rules ≡ l) (none : old.refusal ≡ None) (begun : IsPending old.pending []) (within : used ≤ length input) (later : from ≤ used)
-      (x : Item) (t : TakesItem old (drop used input) x.at x.used x.event new) (c : CqlpEvent) (tells : TellsIn o c x.at x.event) where
+      (x : Item) (t : TakesItem old (drop used input) x.at x.used x.event new) (c : CqlpEvent) (writes : WritesIn o c x.at x.event) where
     lies : content_span x.event ≤ x.used
     lies =
         let g = t.3.gives [] begun in
@@ -114,22 +114,22 @@ module _ (gifts : Gifts) (l : Rules) (s input : List ℕ) (begins : Ptr) (es : L
         let leads : LeadsTo gifts (s ++ take used input) (es ++ events_of f.puts) (drop used input) x.at x.used x.event new = (t.3.within, t.0 ∙ none, t.3.begun, hands_stands old new (drop used input) (s ++ take used input) (es ++ events_of f.puts) gifts x.at x.used x.event t.3 (t.0 ∙ none) t.1 after) in
         let put : Put = record { at = x.at; event = x.event; from = used; end = used + x.used } in
         let read = read_more gifts l old new s input begins es used cs f x.at x.used x.event (t.1 ∙ rules) within leads in
-        let at : (b : Buffer) → LiesBy begins b put (content_in x.event) tells.0 = λ b.
+        let at : (b : Buffer) → LiesBy begins b put (content_in x.event) writes.0 = λ b.
         placed o s input begins b from base long there put (content_in x.event) (omega (arith, t.3.within, within, length-drop used input)) later (omega arith)
         (λ content is. ends_what_is_read l gifts (s ++ take (used + x.used) input) (es ++ events_of f.puts) x.at x.event read.0 content read.1 is)
-        (λ content is. omega (arith, lies, content_spanned x.event content is)) (omega (arith, lies)) tells.0 tells.1 in
-        filled_more gifts l old new s input begins es used cs f x.at x.used x.event (t.1 ∙ rules) within leads c (λ b. (tells.0, at b, tells.2)) (cs ++ c ∷ []) refl (omega (arith, lies))
+        (λ content is. omega (arith, lies, content_spanned x.event content is)) (omega (arith, lies)) writes.0 writes.1 in
+        filled_more gifts l old new s input begins es used cs f x.at x.used x.event (t.1 ∙ rules) within leads c (λ b. (writes.0, at b, writes.2)) (cs ++ c ∷ []) refl (omega (arith, lies))
 
-  pub filled_items : (old new : StreamState) (used : ℕ) (cs ds : List CqlpEvent) (xs : List Item) → IsFilled gifts l old s input begins es used cs → old.rules ≡ l → IsPending old.pending [] → used ≤ length input → from ≤ used → TakesItems old (drop used input) xs new → TellsItems o ds xs
+  pub filled_items : (old new : StreamState) (used : ℕ) (cs ds : List CqlpEvent) (xs : List Item) → IsFilled gifts l old s input begins es used cs → old.rules ≡ l → IsPending old.pending [] → used ≤ length input → from ≤ used → TakesItems old (drop used input) xs new → WritesItems o ds xs
       → IsFilled gifts l new s input begins es (used + bytes_of xs) (cs ++ ds)
-  filled_items old new used cs [] [] f rules begun within later t tells = rw (t, append-nil cs) (subst (λ (n : ℕ). IsFilled gifts l old s input begins es n cs) (omega arith) f)
-  filled_items old new used cs (d ∷ ds) [] f rules begun within later t tells = absurd tells
-  filled_items old new used cs [] (x ∷ xs) f rules begun within later t tells = absurd tells
-  filled_items old new used cs (d ∷ ds) (x ∷ xs) f rules begun within later t tells =
-      let first = filled_item old t.0 used cs f rules t.1 begun within later x t.2 d tells.0 in
+  filled_items old new used cs [] [] f rules begun within later t writes = rw (t, append-nil cs) (subst (λ (n : ℕ). IsFilled gifts l old s input begins es n cs) (omega arith) f)
+  filled_items old new used cs (d ∷ ds) [] f rules begun within later t writes = absurd writes
+  filled_items old new used cs [] (x ∷ xs) f rules begun within later t writes = absurd writes
+  filled_items old new used cs (d ∷ ds) (x ∷ xs) f rules begun within later t writes =
+      let first = filled_item old t.0 used cs f rules t.1 begun within later x t.2 d writes.0 in
       let far : used + x.used ≤ length input = omega (arith, t.2.3.within, within, length-drop used input) in
       let rest = subst (λ (z : List ℕ). TakesItems t.0 z xs new) (drop-drop x.used used input) t.3 in
-      let more = filled_items t.0 new (used + x.used) (cs ++ d ∷ []) ds xs first (t.2.1 ∙ rules) t.2.3.begun far (omega (arith, later)) rest tells.1 in
+      let more = filled_items t.0 new (used + x.used) (cs ++ d ∷ []) ds xs first (t.2.1 ∙ rules) t.2.3.begun far (omega (arith, later)) rest writes.1 in
       let at : (used + x.used) + bytes_of xs ≡ used + bytes_of (x ∷ xs) = omega arith in
       let all : (cs ++ d ∷ []) ++ ds ≡ cs ++ d ∷ ds = append_assoc cs (d ∷ []) ds in
       subst (λ (n : ℕ). IsFilled gifts l new s input begins es n (cs ++ d ∷ ds)) at (subst (λ (z : List CqlpEvent). IsFilled gifts l new s input begins es ((used + x.used) + bytes_of xs) z) all more)

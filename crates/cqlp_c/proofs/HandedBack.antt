@@ -9,12 +9,12 @@ use Rattle.cqlp_build.specs.Building.{is_inner}
 use Rattle.cqlp_compose.specs.Composing.{ComposerState, IsWrittenOf, refusal_of, start, with_next}
 use Rattle.cqlp_c.specs.declared.encode.Stopped.{Stopped}
 use Rattle.cqlp_c.specs.declared.event.CqlpEvent.{CqlpEvent}
-use Rattle.cqlp_c.specs.EncodeLaws.{AreTold, CanBeTold, IsReadAs, after_events}
+use Rattle.cqlp_c.specs.EncodeLaws.{AreWritten, CanBeWritten, IsReadAs, after_events}
 use Rattle.cqlp_c.specs.Encoding.{IsEncoded, Taken, after_all, longest, on_from, unless}
 use Rattle.cqlp_c.specs.Events.{content_of}
-use Rattle.cqlp_c.specs.ToldLaws.{kept}
-use Rattle.cqlp_c.proofs.OneEncoded.{written_is_told}
-use Rattle.cqlp_c.proofs.ToldAll.{all_back}
+use Rattle.cqlp_c.specs.FromCLaws.{kept}
+use Rattle.cqlp_c.proofs.OneEncoded.{written_reads_back}
+use Rattle.cqlp_c.proofs.ReadBackAll.{all_back}
 
 abbrev Inner : List Event → Type 0
 Inner es = AllByRecursion (λ e. is_inner e ≡ true) es
@@ -64,13 +64,13 @@ module _ (h : Header) (fields : List Event) (extra : ℕ) (cs : List CqlpEvent) 
   frame_events : (s : ComposerState) → Inner fields → after_events 0 (start longest, []) (map kept all) ≡ Ok (s, []) → s.frame.events ≡ Frame first ∷ fields
   frame_events s i e =
       let begun = with_next (start longest) (Frame first) in
-      let told : after_events 0 (start longest, []) (Frame first ∷ (fields ++ End 0 ∷ [])) ≡ Ok (s, []) = ap (λ (fs : List Event). after_events 0 (start longest, []) (Frame first ∷ fs)) (sym (all_kept fields extra i)) ∙ e in
-      taken_are 1 begun [] fields (s, []) i (went_on 0 (refusal_of (start longest) (Frame first)) (begun, []) (λ u. after_events 1 u (fields ++ End 0 ∷ [])) (s, []) told)
+      let written : after_events 0 (start longest, []) (Frame first ∷ (fields ++ End 0 ∷ [])) ≡ Ok (s, []) = ap (λ (fs : List Event). after_events 0 (start longest, []) (Frame first ∷ fs)) (sym (all_kept fields extra i)) ∙ e in
+      taken_are 1 begun [] fields (s, []) i (went_on 0 (refusal_of (start longest) (Frame first)) (begun, []) (λ u. after_events 1 u (fields ++ End 0 ∷ [])) (s, []) written)
 
-  pub handed_back : Inner fields → CanBeTold all → AreTold cs all → IsEncoded cs (flat_map content_of all) bytes → IsReadAs h fields bytes
+  pub handed_back : Inner fields → CanBeWritten all → AreWritten cs all → IsEncoded cs (flat_map content_of all) bytes → IsReadAs h fields bytes
   handed_back i can are x =
       let back : after_events 0 (start longest, []) (map kept all) ≡ Ok (x.0, []) =
       sym (all_back all cs 0 (start longest) [] can are) ∙ ap (λ (b : List ℕ). after_all 0 (start longest, b) cs) (append-nil (flat_map content_of all)) ∙ x.1
       in
-      let w = written_is_told first fields bytes (subst (λ (es : List Event). IsWrittenOf es bytes) (frame_events x.0 i back) x.2) in
+      let w = written_reads_back first fields bytes (subst (λ (es : List Event). IsWrittenOf es bytes) (frame_events x.0 i back) x.2) in
       record { size = w.size; frame = w.frame; are = w.are; said = w.said }

@@ -34,7 +34,7 @@ pub mod Standing
 pub mod Stretching
 pub mod Tables
 pub mod There
-pub mod ToldAll
-pub mod ToldBack
+pub mod ReadBackAll
+pub mod ReadBack
 pub mod Values
 pub mod Written

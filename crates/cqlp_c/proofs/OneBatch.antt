@@ -17,8 +17,8 @@ use Rattle.cqlp_c.specs.declared.batch.Batch.{Batch}
 use Rattle.cqlp_c.specs.declared.batch.Stop.{Stop}
 use Rattle.cqlp_c.specs.declared.batch.Stop.TheVariants as stop
 use Rattle.cqlp_c.specs.declared.event.CqlpEvent.{CqlpEvent}
-use Rattle.cqlp_c.specs.Events.{before_gathered, told_at}
-use Rattle.cqlp_c.specs.Batches.{AllInInput, Buffer, Fills, IsGathered, IsInInput, LastIsGathered, LiesBy, MayRefuse, OthersInInput, Put, Puts, StopsBy, TellsAll, TellsPut, end_of, events_of}
+use Rattle.cqlp_c.specs.Events.{before_gathered, written_at}
+use Rattle.cqlp_c.specs.Batches.{AllInInput, Buffer, Fills, IsGathered, IsInInput, LastIsGathered, LiesBy, MayRefuse, OthersInInput, Put, Puts, StopsBy, WritesAll, WritesPut, end_of, events_of}
 use Rattle.cqlp_c.specs.Handle.{PutsInto}
 use Rattle.cqlp_c.specs.Laws.{AreOneAnswer, AreSame, unplaced}
 use Rattle.cqlp_c.proofs.Fills.{others_of_all}
@@ -35,21 +35,21 @@ module _ (begins : Ptr) (buffer buffer' : Buffer) where
   gathered_once p None same lies x y a b = b ∙ sym a
   gathered_once p (Some content) same lies x y a b = (b.1 lies).there ∙ ap (λ (q : Ptr). q +ₚ before_gathered p.event) same ∙ sym (a.1 lies).there
 
-  tells_once : (c d : CqlpEvent) (p : Put) → TellsPut begins buffer c p → TellsPut begins buffer' d p
+  writes_once : (c d : CqlpEvent) (p : Put) → WritesPut begins buffer c p → WritesPut begins buffer' d p
       → (unplaced d ≡ unplaced c) × (IsInInput p → d ≡ c) × (buffer'.at ≡ buffer.at → IsGathered p → d ≡ c)
-  tells_once c d p x y = (
+  writes_once c d p x y = (
     ap unplaced y.2 ∙ sym (ap unplaced x.2),
-    λ lies. y.2 ∙ ap (told_at p.at p.event) (placed_once p (content_in p.event) lies x.0 y.0 x.1 y.1) ∙ sym x.2,
-    λ same lies. y.2 ∙ ap (told_at p.at p.event) (gathered_once p (content_in p.event) same lies x.0 y.0 x.1 y.1) ∙ sym x.2,
+    λ lies. y.2 ∙ ap (written_at p.at p.event) (placed_once p (content_in p.event) lies x.0 y.0 x.1 y.1) ∙ sym x.2,
+    λ same lies. y.2 ∙ ap (written_at p.at p.event) (gathered_once p (content_in p.event) same lies x.0 y.0 x.1 y.1) ∙ sym x.2,
   )
 
-  tells_all_once : (cs ds : List CqlpEvent) (ps : List Put) → TellsAll begins buffer cs ps → TellsAll begins buffer' ds ps → AreSame buffer.at buffer'.at ps cs ds
-  tells_all_once [] [] [] x y = tt
-  tells_all_once [] (d ∷ ds) [] x y = absurd y
-  tells_all_once (c ∷ cs) ds [] x y = absurd x
-  tells_all_once [] ds (p ∷ ps) x y = absurd x
-  tells_all_once (c ∷ cs) [] (p ∷ ps) x y = absurd y
-  tells_all_once (c ∷ cs) (d ∷ ds) (p ∷ ps) x y = let head = tells_once c d p x.0 y.0 in (head.0, head.1, head.2, tells_all_once cs ds ps x.1 y.1)
+  writes_all_once : (cs ds : List CqlpEvent) (ps : List Put) → WritesAll begins buffer cs ps → WritesAll begins buffer' ds ps → AreSame buffer.at buffer'.at ps cs ds
+  writes_all_once [] [] [] x y = tt
+  writes_all_once [] (d ∷ ds) [] x y = absurd y
+  writes_all_once (c ∷ cs) ds [] x y = absurd x
+  writes_all_once [] ds (p ∷ ps) x y = absurd x
+  writes_all_once (c ∷ cs) [] (p ∷ ps) x y = absurd y
+  writes_all_once (c ∷ cs) (d ∷ ds) (p ∷ ps) x y = let head = writes_once c d p x.0 y.0 in (head.0, head.1, head.2, writes_all_once cs ds ps x.1 y.1)
 
 -- ---- what was put
 
@@ -183,7 +183,7 @@ module _ (gifts : Gifts) (old new new' : StreamState) (s input : List ℕ) (begi
   answer batch puts lie = record {
     batch = batch;
     puts = f.puts;
-    events = tells_all_once begins buffer buffer' (take b.events after) (take b.events after') f.puts f.told (subst (λ (z : Batch). TellsAll begins buffer' (take z.events after') f.puts) batch (subst (λ (z : List Put). TellsAll begins buffer' (take b'.events after') z) puts g.told));
+    events = writes_all_once begins buffer buffer' (take b.events after) (take b.events after') f.puts f.written (subst (λ (z : Batch). WritesAll begins buffer' (take z.events after') f.puts) batch (subst (λ (z : List Put). WritesAll begins buffer' (take b'.events after') z) puts g.written));
     lie = lie;
     others = subst (λ (z : Batch). drop z.events after' ≡ drop z.events before) batch y.others ∙ sym x.others;
     stands = f.after;

@@ -1,4 +1,4 @@
--- One answer of calls that make what a handle has, give it, take it back, and tell of it.
+-- One answer of calls that make what a handle has, give it, take it back, and describe it.
 use Rattle.std.proofs.Common.{◌≡◌, ℕ, Bool, true, false, List, length, nat_lt, refl, ap, sym, ◌∙◌, inl, inr, ◌⊎◌, slice_get}
 use Rattle.std.specs.Prelude.{Option, Some, None, Result, Ok, Err}
 use Rattle.std.specs.Ptr.{Ptr}

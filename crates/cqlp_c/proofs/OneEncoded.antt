@@ -7,14 +7,14 @@ use Rattle.cqlp_note.specs.Limits.{Rules}
 use Rattle.cqlp_message.specs.FrameValues.{FrameValue}
 use Rattle.cqlp_message.specs.Parts.{parts_size}
 use Rattle.cqlp_message.specs.Frames.{Flat, frame_bytes, frame_parts, header_of}
-use Rattle.cqlp_build.specs.Laws.{told_all}
+use Rattle.cqlp_build.specs.Laws.{without_offsets}
 use Rattle.cqlp_message.specs.Owned.{frame_of}
 use Rattle.cqlp_message.specs.declared.frame.Frame.{Frame as OwnedFrame}
 use Rattle.cqlp_build.specs.declared.error.BuildError.{BuildError}
 use Rattle.cqlp_build.specs.declared.error.BuildError.TheVariants as error
 use Rattle.cqlp_build.specs.Building.{HaveNoParts}
 use Rattle.cqlp_build.specs.Closing.{Ends, of_length}
-use Rattle.cqlp_build.proofs.FrameViews.{body_of, body_told, frame_said, none_both}
+use Rattle.cqlp_build.proofs.FrameViews.{body_of, body_events, frame_said, none_both}
 use Rattle.cqlp_build.proofs.Finishing.{is_frame_of}
 use Rattle.cqlp_compose.specs.Composing.{ComposerState, IsWrittenOf}
 use Rattle.cqlp_compose.proofs.Once.{one_frame, one_reason, only_memory}
@@ -57,7 +57,7 @@ stops_for cs contents n (unencoded.Refused error.TooManyFields) k = inr k
 stops_for cs contents n (unencoded.Refused error.TooDeep) k = inr k
 stops_for cs contents n (unencoded.Refused error.TooManyBytes) k = inr k
 stops_for cs contents n (unencoded.Refused error.NoFrame) k = inr k
-stops_for cs contents n (unencoded.Untold w) k = inr k
+stops_for cs contents n (unencoded.BadEvent w) k = inr k
 stops_for cs contents n unencoded.LeftOver k = inr k
 
 code_by : (w : BuildError) → w ≡ error.NoMemory → code_of_unencoded (unencoded.Refused w) ≡ numbers.NO_MEMORY
@@ -66,7 +66,7 @@ code_by w e = ap (λ (x : BuildError). code_of_unencoded (unencoded.Refused x)) 
 -- where a frame is there, nothing but memory keeps it
 none_of_frame : (s : ComposerState) (f : OwnedFrame) (why : Unencoded) → Ends s.frame.events (Ok f) → HasNone (s, []) why → code_of_unencoded why ≡ numbers.NO_MEMORY
 none_of_frame s f (unencoded.Refused w) e n = code_by w (only_memory s.frame.events f w e n)
-none_of_frame s f (unencoded.Untold w) e n = absurd n
+none_of_frame s f (unencoded.BadEvent w) e n = absurd n
 none_of_frame s f unencoded.LeftOver e n = absurd n
 
 abbrev taken_of : Taken → Result Taken Stopped → Taken
@@ -89,17 +89,17 @@ one_none_left s (unencoded.Refused a) (unencoded.Refused b) x y = by (one_reason
     by (inl e) = inl (ap (λ (x : BuildError). code_of_unencoded (unencoded.Refused x)) e)
     by (inr (inl e)) = inr (inl (code_by a e))
     by (inr (inr e)) = inr (inr (code_by b e))
-one_none_left s (unencoded.Untold a) b x y = absurd x
+one_none_left s (unencoded.BadEvent a) b x y = absurd x
 one_none_left s unencoded.LeftOver b x y = absurd x
-one_none_left s (unencoded.Refused a) (unencoded.Untold b) x y = absurd y
+one_none_left s (unencoded.Refused a) (unencoded.BadEvent b) x y = absurd y
 one_none_left s (unencoded.Refused a) unencoded.LeftOver x y = absurd y
 
 one_some_left : (s : ComposerState) (c : ℕ) (bs : List ℕ) (a b : Unencoded) → HasNone (s, c ∷ bs) a → HasNone (s, c ∷ bs) b → code_of_unencoded a ≡ code_of_unencoded b
 one_some_left s c bs unencoded.LeftOver unencoded.LeftOver x y = refl
 one_some_left s c bs unencoded.LeftOver (unencoded.Refused b) x y = absurd y
-one_some_left s c bs unencoded.LeftOver (unencoded.Untold b) x y = absurd y
+one_some_left s c bs unencoded.LeftOver (unencoded.BadEvent b) x y = absurd y
 one_some_left s c bs (unencoded.Refused a) b x y = absurd x
-one_some_left s c bs (unencoded.Untold a) b x y = absurd x
+one_some_left s c bs (unencoded.BadEvent a) b x y = absurd x
 
 one_none : (s : ComposerState) (rest : List ℕ) (a b : Unencoded) → HasNone (s, rest) a → HasNone (s, rest) b → (code_of_unencoded a ≡ code_of_unencoded b) ⊎ ((code_of_unencoded a ≡ numbers.NO_MEMORY) ⊎ (code_of_unencoded b ≡ numbers.NO_MEMORY))
 one_none s [] a b x y = one_none_left s a b x y
@@ -175,14 +175,14 @@ module _ (cs : List CqlpEvent) (contents before : List ℕ) (a b : ℕ) (one oth
 -- ---- what is written is read
 
 -- between a header and an end nothing comes in parts either
-pub body_whole : (l : Rules) (f : FrameValue) → AreWhole l (told_all (Flat l 0 f 0)) → AreWhole l (body_of l 0 f)
+pub body_whole : (l : Rules) (f : FrameValue) → AreWhole l (without_offsets (Flat l 0 f 0)) → AreWhole l (body_of l 0 f)
 body_whole l f (inl e) = inl e
 body_whole l f (inr n) =
     let head = Frame (header_of f (parts_size (frame_parts f) + 0)) in
     inr (none_both (head ∷ body_of l 0 f) (End 0 ∷ []) (subst HaveNoParts (frame_said l 0 f 0) n)).0
 
-pub written_is_told : (h : Header) (fields : List Event) (bytes : List ℕ) → IsWrittenOf (Frame h ∷ fields) bytes → IsReadAs h fields bytes
-written_is_told h fields bytes w =
+pub written_reads_back : (h : Header) (fields : List Event) (bytes : List ℕ) → IsWrittenOf (Frame h ∷ fields) bytes → IsReadAs h fields bytes
+written_reads_back h fields bytes w =
     let f = frame_of w.frame in
     let e = w.ends in
     let i = is_frame_of (of_length h e.size) fields 0 f 0 e.whole e.are in
@@ -195,7 +195,7 @@ written_is_told h fields bytes w =
         subst (λ (b : List ℕ). Says l start b (Flat l 0 f 0) Waits) (sym w.are) (written_is_read f w.range l e.can.0 within),
         λ whole. frame_said l 0 f 0
             ∙ ap (λ k. Frame k ∷ body_of l 0 f ++ End 0 ∷ []) i.header
-            ∙ ap (λ r. Frame (of_length h e.size) ∷ r ++ End 0 ∷ []) (body_told l 0 f (body_whole l f whole) ∙ i.parts),
+            ∙ ap (λ r. Frame (of_length h e.size) ∷ r ++ End 0 ∷ []) (body_events l 0 f (body_whole l f whole) ∙ i.parts),
       );
     }
 

@@ -26,13 +26,13 @@ use Rattle.cqlp_columns.specs.Sorting.{takes}
 use Rattle.cqlp_c.specs.declared.course.CqlpBegun.{CqlpBegun}
 use Rattle.cqlp_c.specs.declared.event.CqlpEvent.{CqlpEvent}
 use Rattle.cqlp_c.specs.Batches.{buffer_in}
-use Rattle.cqlp_c.specs.Columns.{FillsColumns, PutsOther, batch_at, begun_at, placed_told}
+use Rattle.cqlp_c.specs.Columns.{FillsColumns, PutsOther, batch_at, begun_at, placed_written}
 use Rattle.cqlp_c.specs.Course.{batch_from, gone_on}
-use Rattle.cqlp_c.specs.declared.batch.Batch.{Batch as Told}
-use Rattle.cqlp_skip.specs.Stretches.{told_at as told_there}
+use Rattle.cqlp_c.specs.declared.batch.Batch.{Batch as FromC}
+use Rattle.cqlp_skip.specs.Stretches.{stream_offset as written_there}
 use denote.RawPtr.{◌+ₚ◌}
 use Rattle.cqlp_c.specs.ColumnsLaws.{IsOneAnswerOfColumns}
-use Rattle.cqlp_c.specs.Events.{told_at}
+use Rattle.cqlp_c.specs.Events.{written_at}
 use Rattle.cqlp_c.specs.Laws.{unplaced}
 
 -- ---- lists
@@ -98,47 +98,47 @@ full_takes b (Whole k c) full free =
     let q = and_parts (b.next == 0) none full in
     not_both ((k == 0) && none) (and_from (k == 0) none (eq-eqb k 0 (eqb-true k b.next p.0 ∙ eqb-true b.next 0 q.0)) q.1) p.1
 
--- what C is told of at most one event
-abbrev IsToldOf : (Got : CqlpEvent → ℕ → Event → CqlpEvent → Type 0) → (was told : CqlpEvent) → List (ℕ × Event) → Type 0
-IsToldOf Got was told [] = told ≡ was
-IsToldOf Got was told (x ∷ xs) = Got was x.0 x.1 told
+-- what C gets of at most one event
+abbrev IsWrittenOf : (Got : CqlpEvent → ℕ → Event → CqlpEvent → Type 0) → (was written : CqlpEvent) → List (ℕ × Event) → Type 0
+IsWrittenOf Got was written [] = written ≡ was
+IsWrittenOf Got was written (x ∷ xs) = Got was x.0 x.1 written
 
 -- ---- the reading
 
 module _ (gifts : Gifts) (l : Rules) (s input : List ℕ) (es : List (ℕ × Event)) where
   -- the reading of all of the input goes through these events
   abbrev Through : List (ℕ × Event) → Type 0
-  Through told = (q : Place) × (rest : List ℕ) × Reads l (start_with gifts) (s ++ input) (es ++ told) q rest
+  Through written = (q : Place) × (rest : List ℕ) × Reads l (start_with gifts) (s ++ input) (es ++ written) q rest
 
-  stay : (used : ℕ) (told : List (ℕ × Event)) (p : Place) (b : List ℕ) → Reads l (start_with gifts) (s ++ take used input) (es ++ told) p b → Reads l (start_with gifts) (s ++ input) (es ++ told) p (b ++ drop used input)
-  stay used told p b run =
+  stay : (used : ℕ) (written : List (ℕ × Event)) (p : Place) (b : List ℕ) → Reads l (start_with gifts) (s ++ take used input) (es ++ written) p b → Reads l (start_with gifts) (s ++ input) (es ++ written) p (b ++ drop used input)
+  stay used written p b run =
       let there : (s ++ take used input) ++ drop used input ≡ s ++ input = append_assoc s (take used input) (drop used input) ∙ ap (λ (z : List ℕ). s ++ z) (take-append-drop used input) in
-      subst (λ (z : List ℕ). Reads l (start_with gifts) z (es ++ told) p (b ++ drop used input)) there (runs_stay (step l) (start_with gifts) (s ++ take used input) (drop used input) (es ++ told) p b run)
+      subst (λ (z : List ℕ). Reads l (start_with gifts) z (es ++ written) p (b ++ drop used input)) there (runs_stay (step l) (start_with gifts) (s ++ take used input) (drop used input) (es ++ written) p b run)
 
   -- where the reading is after these events, it has at least what was not used
-  record Reached (used : ℕ) (told : List (ℕ × Event)) : Type 0 where
+  record Reached (used : ℕ) (written : List (ℕ × Event)) : Type 0 where
     place : Place
     rest : List ℕ
-    run : Reads l (start_with gifts) (s ++ input) (es ++ told) place rest
+    run : Reads l (start_with gifts) (s ++ input) (es ++ written) place rest
     least : length input ≤ length rest + used
 
-  reached_by : (o : Option Refusal) (d : StreamState) (used : ℕ) (told : List (ℕ × Event)) → d.rules ≡ l → AfterBy o gifts d (s ++ take used input) (es ++ told) → Reached used told
-  reached_by None d used told is a = record { place = a.place; rest = a.bytes ++ drop used input; run = stay used told a.place a.bytes (rw is at a.read); least = omega (arith, length-append a.bytes (drop used input), length-drop used input) }
-  reached_by (Some r) d used told is a = record { place = a.place; rest = a.bytes ++ drop used input; run = stay used told a.place a.bytes (rw is at a.read); least = omega (arith, length-append a.bytes (drop used input), length-drop used input) }
+  reached_by : (o : Option Refusal) (d : StreamState) (used : ℕ) (written : List (ℕ × Event)) → d.rules ≡ l → AfterBy o gifts d (s ++ take used input) (es ++ written) → Reached used written
+  reached_by None d used written is a = record { place = a.place; rest = a.bytes ++ drop used input; run = stay used written a.place a.bytes (rw is at a.read); least = omega (arith, length-append a.bytes (drop used input), length-drop used input) }
+  reached_by (Some r) d used written is a = record { place = a.place; rest = a.bytes ++ drop used input; run = stay used written a.place a.bytes (rw is at a.read); least = omega (arith, length-append a.bytes (drop used input), length-drop used input) }
 
   -- the bytes used end with the last of these events, or there are none
-  abbrev Stops : (used : ℕ) → (told : List (ℕ × Event)) → Type 0
-  Stops used told = (r : Reached used told) × ((used ≡ 0) ⊎ (length r.rest + used ≡ length input))
+  abbrev Stops : (used : ℕ) → (written : List (ℕ × Event)) → Type 0
+  Stops used written = (r : Reached used written) × ((used ≡ 0) ⊎ (length r.rest + used ≡ length input))
 
-  stops_there : (used : ℕ) (told : List (ℕ × Event)) → used ≤ length input → Reached used told → EndsAtEvent gifts l s (take used input) (es ++ told) → Stops used told
-  stops_there used told within r (inl none) = (r, inl (omega (arith, ap length none, length-take-le used input within)))
-  stops_there used told within r (inr run) =
+  stops_there : (used : ℕ) (written : List (ℕ × Event)) → used ≤ length input → Reached used written → EndsAtEvent gifts l s (take used input) (es ++ written) → Stops used written
+  stops_there used written within r (inl none) = (r, inl (omega (arith, ap length none, length-take-le used input within)))
+  stops_there used written within r (inr run) =
       let long : length (drop used input) + used ≡ length input = omega (arith, within, length-drop used input) in
-      (record { place = run.0; rest = drop used input; run = stay used told run.0 [] run.1; least = omega (arith, long) }, inr long)
+      (record { place = run.0; rest = drop used input; run = stay used written run.0 [] run.1; least = omega (arith, long) }, inr long)
 
-  used_once : (used used' : ℕ) (told : List (ℕ × Event)) → Stops used told → Stops used' told → used' ≡ used
-  used_once used used' told x y =
-      let same = ap length (place_once gifts l (s ++ input) (es ++ told) x.0.place y.0.place x.0.rest y.0.rest x.0.run y.0.run).1 in
+  used_once : (used used' : ℕ) (written : List (ℕ × Event)) → Stops used written → Stops used' written → used' ≡ used
+  used_once used used' written x y =
+      let same = ap length (place_once gifts l (s ++ input) (es ++ written) x.0.place y.0.place x.0.rest y.0.rest x.0.run y.0.run).1 in
       let a = x.0.least in
       let b = y.0.least in
       elim x.1 [
@@ -201,9 +201,9 @@ module _ (gifts : Gifts) (l : Rules) (s input : List ℕ) (es : List (ℕ × Eve
     longer_by c c' used used' w' y why.Failed x e lt = absurd e
 
     -- the same cells, and of the other events the one list begins the other
-    same_told : (c c' : Batch) (used used' : ℕ) (w w' : Why) (x : Outcome c used w) (y : Outcome c' used' w')
+    same_written : (c c' : Batch) (used used' : ℕ) (w w' : Why) (x : Outcome c used w) (y : Outcome c' used' w')
         → (y.cells ≡ x.cells) × (((more : List (ℕ × Event)) × (y.other ≡ x.other ++ more)) ⊎ ((more : List (ℕ × Event)) × (x.other ≡ y.other ++ more)))
-    same_told c c' used used' w w' x y = elim (cases_lt (length x.cells) (length y.cells)) [
+    same_written c c' used used' w w' x y = elim (cases_lt (length x.cells) (length y.cells)) [
       | inl lt ↦ absurd (longer_by c c' used used' w' y w x x.ends lt)
       | inr le ↦ elim (cases_lt (length y.cells) (length x.cells)) [
         | inl lt ↦ absurd (longer_by c' c used' used w x w' y y.ends lt)
@@ -271,19 +271,19 @@ module _ (gifts : Gifts) (l : Rules) (s input : List ℕ) (es : List (ℕ × Eve
     -- of two calls, how much is used, why they stop, the columns and the other event are one
     same_outcome : (c c' : Batch) (used used' : ℕ) (w w' : Why) (x : Outcome c used w) (y : Outcome c' used' w') → (c' ≡ c) × (used' ≡ used) × (w' ≡ w) × (y.other ≡ x.other)
     same_outcome c c' used used' w w' x y =
-        let told = same_told c c' used used' w w' x y in
-        let one = same_columns c c' x.cells x.taken (subst (λ (z : List (ℕ × Event)). TakesCells columns z c') told.0 y.taken) in
-        let end = same_end c used used' x.cells x.other y.other told.1 w w' x.ends (rw (told.0, one) at y.ends) in
+        let written = same_written c c' used used' w w' x y in
+        let one = same_columns c c' x.cells x.taken (subst (λ (z : List (ℕ × Event)). TakesCells columns z c') written.0 y.taken) in
+        let end = same_end c used used' x.cells x.other y.other written.1 w w' x.ends (rw (written.0, one) at y.ends) in
         (one, end.0, end.1, end.2)
 
     -- ---- what a call makes
 
-    module _ (old new : StreamState) (none : old.refusal ≡ None) (was_rules : old.rules ≡ l) (rules : new.rules ≡ l) (Got : CqlpEvent → ℕ → Event → CqlpEvent → Type 0) (c : Batch) (was told : CqlpEvent) (used : ℕ) (within : used ≤ length input)
+    module _ (old new : StreamState) (none : old.refusal ≡ None) (was_rules : old.rules ≡ l) (rules : new.rules ≡ l) (Got : CqlpEvent → ℕ → Event → CqlpEvent → Type 0) (c : Batch) (was written : CqlpEvent) (used : ℕ) (within : used ≤ length input)
         (cells : List (ℕ × Event)) (taken : TakesCells columns cells c) where
-      through_all : (told : List (ℕ × Event)) → Reached used told → Through told
-      through_all told r = (r.place, r.rest, r.run)
+      through_all : (written : List (ℕ × Event)) → Reached used written → Through written
+      through_all written r = (r.place, r.rest, r.run)
 
-      outcome : (w : Why) → StopsBy Got (λ was at e told. ⊥) gifts old new s input (take used input) (es ++ cells) c was told w → (o : Outcome c used w) × IsToldOf Got was told o.other
+      outcome : (w : Why) → StopsBy Got (λ was at e written. ⊥) gifts old new s input (take used input) (es ++ cells) c was written w → (o : Outcome c used w) × IsWrittenOf Got was written o.other
       outcome why.More h =
           let all = rw rules at h.5 in (
             record {
@@ -338,49 +338,49 @@ bare_begun : (n : ℕ) (f : CqlpBegun) (c : CqlpEvent) → begun_at n f c ≡ be
 bare_begun zero f c = refl
 bare_begun (suc n) f c = refl
 
-module _ (begins : Ptr) (old new new' : Decoding) (was told told' : CqlpEvent) (used used' : ℕ) where
-  same_event : (o o' : List (ℕ × Event)) → o' ≡ o → IsToldOf (PutsOther begins (buffer_in new) used) was told o → IsToldOf (PutsOther begins (buffer_in new') used') was told' o' → unplaced told' ≡ unplaced told
+module _ (begins : Ptr) (old new new' : Decoding) (was written written' : CqlpEvent) (used used' : ℕ) where
+  same_event : (o o' : List (ℕ × Event)) → o' ≡ o → IsWrittenOf (PutsOther begins (buffer_in new) used) was written o → IsWrittenOf (PutsOther begins (buffer_in new') used') was written' o' → unplaced written' ≡ unplaced written
   same_event [] [] same x y = ap unplaced (y ∙ sym x)
   same_event [] (b ∷ bs) same x y = absurd cc
   same_event (a ∷ rest) [] same x y = absurd cc
   same_event (a ∷ rest) (b ∷ bs) same x y =
       let one = same_item b a bs rest same in
-      ap unplaced y.2 ∙ ap (λ (z : ℕ × Event). unplaced (told_at z.0 z.1 x.0)) one ∙ sym (ap unplaced x.2)
+      ap unplaced y.2 ∙ ap (λ (z : ℕ × Event). unplaced (written_at z.0 z.1 x.0)) one ∙ sym (ap unplaced x.2)
 
-one_fill : (gifts : Gifts) (s : List ℕ) (es : List (ℕ × Event)) (sites : List Site) (had : List Event) (old new new' : Decoding) (input : List ℕ) (begins : Ptr) (columns after after' : Batch) (was told told' : CqlpEvent) (from to to' : CqlpBegun) (b b' : Told)
+one_fill : (gifts : Gifts) (s : List ℕ) (es : List (ℕ × Event)) (sites : List Site) (had : List Event) (old new new' : Decoding) (input : List ℕ) (begins : Ptr) (columns after after' : Batch) (was written written' : CqlpEvent) (from to to' : CqlpBegun) (b b' : FromC)
     → (state old).refusal ≡ None → AfterGifts gifts (state old) s es → HasTaken columns.limits sites had columns
-    → FillsColumns old new input begins columns after was told from to b → FillsColumns old new' input begins columns after' was told' from to' b'
-    → (b' ≡ b) × (after' ≡ after) × (unplaced told' ≡ unplaced told) × (to' ≡ to)
-one_fill gifts s es sites had old new new' input begins columns after after' was told told' from to to' b b' none a has x y =
+    → FillsColumns old new input begins columns after was written from to b → FillsColumns old new' input begins columns after' was written' from to' b'
+    → (b' ≡ b) × (after' ≡ after) × (unplaced written' ≡ unplaced written) × (to' ≡ to)
+one_fill gifts s es sites had old new new' input begins columns after after' was written written' from to to' b b' none a has x y =
     let l = (state old).rules in
     let f = x.fills gifts s es a in
     let g = y.fills gifts s es a in
-    let p = outcome gifts l s input es sites had columns has (state old) (state new) none refl x.rules (PutsOther begins (buffer_in new) x.filled.used) after was told x.filled.used x.within f.cells f.taken x.filled.stop f.stops in
-    let q = outcome gifts l s input es sites had columns has (state old) (state new') none refl y.rules (PutsOther begins (buffer_in new') y.filled.used) after' was told' y.filled.used y.within g.cells g.taken y.filled.stop g.stops in
+    let p = outcome gifts l s input es sites had columns has (state old) (state new) none refl x.rules (PutsOther begins (buffer_in new) x.filled.used) after was written x.filled.used x.within f.cells f.taken x.filled.stop f.stops in
+    let q = outcome gifts l s input es sites had columns has (state old) (state new') none refl y.rules (PutsOther begins (buffer_in new') y.filled.used) after' was written' y.filled.used y.within g.cells g.taken y.filled.stop g.stops in
     let same = same_outcome gifts l s input es sites had columns has after after' x.filled.used y.filled.used x.filled.stop y.filled.stop p.0 q.0 in
     let batch : b' ≡ b = y.batch ∙ (λ i. batch_at (same.1 i) (same.2 i)) ∙ sym x.batch in
-    let event = same_event begins old new new' was told told' x.filled.used y.filled.used p.0.other q.0.other same.3 p.1 q.1 in (
+    let event = same_event begins old new new' was written written' x.filled.used y.filled.used p.0.other q.0.other same.3 p.1 q.1 in (
       batch,
       same.0,
       event,
-      y.frame ∙ bare_begun b'.events from told' ∙ (λ i. begun_at (batch i).events from (event i)) ∙ sym (bare_begun b.events from told) ∙ sym x.frame,
+      y.frame ∙ bare_begun b'.events from written' ∙ (λ i. begun_at (batch i).events from (event i)) ∙ sym (bare_begun b.events from written) ∙ sym x.frame,
     )
 
-bare_at : (base : ℕ) (c : CqlpEvent) (moved : Bool) → unplaced (if moved then record c { at = told_there base c.at } else c) ≡ (if moved then record (unplaced c) { at = told_there base c.at } else unplaced c)
+bare_at : (base : ℕ) (c : CqlpEvent) (moved : Bool) → unplaced (if moved then record c { at = written_there base c.at } else c) ≡ (if moved then record (unplaced c) { at = written_there base c.at } else unplaced c)
 bare_at base c true = refl
 bare_at base c false = refl
 
-bare_placed : (events base : ℕ) (c : CqlpEvent) → unplaced (placed_told events base c) ≡ placed_told events base (unplaced c)
+bare_placed : (events base : ℕ) (c : CqlpEvent) → unplaced (placed_written events base c) ≡ placed_written events base (unplaced c)
 bare_placed events base c = bare_at base c (nat_lt 0 base && nat_lt 0 events)
 
 pub one_answer_of_columns : IsOneAnswerOfColumns
-one_answer_of_columns gifts s es sites had old new new' from to to' input begins columns after after' was told told' b b' none a has x y =
+one_answer_of_columns gifts s es sites had old new new' from to to' input begins columns after after' was written written' b b' none a has x y =
     let passed : y.passed ≡ x.passed = y.is_passed ∙ sym x.is_passed in
     let fills = subst (λ (p : ℕ). FillsColumns old new' (drop p input) (begins +ₚ p) columns after' was y.event from.frame y.frame y.own) passed y.fills in
     let r = one_fill gifts s es sites had old new new' (drop x.passed input) (begins +ₚ x.passed) columns after after' was x.event y.event from.frame x.frame y.frame x.own y.own none a has x.fills fills in
     let batch : b' ≡ b = y.batch ∙ (λ i. batch_from from.base (passed i) (r.0 i)) ∙ sym x.batch in (
       batch,
       r.1,
-      ap unplaced y.placed ∙ bare_placed y.own.events from.base y.event ∙ (λ i. placed_told (r.0 i).events from.base (r.2 i)) ∙ sym (bare_placed x.own.events from.base x.event) ∙ sym (ap unplaced x.placed),
+      ap unplaced y.placed ∙ bare_placed y.own.events from.base y.event ∙ (λ i. placed_written (r.0 i).events from.base (r.2 i)) ∙ sym (bare_placed x.own.events from.base x.event) ∙ sym (ap unplaced x.placed),
       y.course ∙ (λ i. record (gone_on from (batch i).used) { frame = r.3 i }) ∙ sym x.course,
     )

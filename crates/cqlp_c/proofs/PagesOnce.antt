@@ -27,11 +27,11 @@ use Rattle.cqlp_c.specs.declared.page.Unbegun.TheVariants as unbegun
 use Rattle.cqlp_c.specs.declared.page.UnbegunAt.{UnbegunAt}
 use Rattle.cqlp_c.specs.declared.page.Unput.{Unput}
 use Rattle.cqlp_c.specs.declared.page.Unput.TheVariants as unput
-use Rattle.cqlp_c.specs.declared.told.NotTold.{NotTold}
+use Rattle.cqlp_c.specs.declared.from_c.BadEvent.{BadEvent}
 use Rattle.cqlp_c.specs.Encoding.{StopsAt, Taken, after_all, code_of_unencoded, longest}
-use Rattle.cqlp_c.specs.Pages.{BatchState, Begins, BeginsNone, BeginsOne, Goes, Stops, IsHead, Opens, PutsCells, PutsFrom, PutsHead, PutsOne, ReadsHead, after_event, at_begin, code_of_unbegun, longest_cell, rows_told, told_of}
+use Rattle.cqlp_c.specs.Pages.{BatchState, Begins, BeginsNone, BeginsOne, Goes, Stops, IsHead, Opens, PutsCells, PutsFrom, PutsHead, PutsOne, ReadsHead, after_event, at_begin, code_of_unbegun, longest_cell, rows_from_c, written_of}
 use Rattle.cqlp_c.specs.PagesLaws.{AreSamePages, IsOneAnswerOfPageBegin, IsOneAnswerOfPagePut}
-use Rattle.cqlp_c.specs.Told.{content_len, event_told}
+use Rattle.cqlp_c.specs.FromC.{content_len, event_from_c}
 
 -- ---- one event of a cell
 
@@ -46,25 +46,25 @@ module _ (old : PutterState) (c : CqlpEvent) (contents : List ℕ) (n : ℕ) whe
   found_of (Ok len) = Ok (len, drop (content_len c) contents)
   found_of (Err why) = Err (unput.Refused why)
 
-  abbrev Follows : Result Event NotTold → Found → List ℕ → PutterState → Type 0
-  Follows (Err why) a x s = (a ≡ Err (unput.Untold why)) × (x ≡ []) × (s ≡ old)
+  abbrev Follows : Result Event BadEvent → Found → List ℕ → PutterState → Type 0
+  Follows (Err why) a x s = (a ≡ Err (unput.BadEvent why)) × (x ≡ []) × (s ≡ old)
   Follows (Ok e) a x s = (k : Answer) × CellPuts old e n k x s × (a ≡ found_of k)
 
   abbrev Seen : Found → List ℕ → PutterState → Type 0
-  Seen a x s = (r : Result Event NotTold) × (event_told c contents ≡ r) × Follows r a x s
+  Seen a x s = (r : Result Event BadEvent) × (event_from_c c contents ≡ r) × Follows r a x s
 
   seen : (a : Found) (x : List ℕ) (s : PutterState) → PutsOne old c contents n a x s → Seen a x s
   seen (Ok found) x s p = (Ok p.0, p.1, (Ok found.0, p.2, ap (λ (rest : List ℕ). Ok (found.0, rest)) p.3))
-  seen (Err (unput.Untold why)) x s p = (Err why, p.0, (refl, p.1, p.2))
+  seen (Err (unput.BadEvent why)) x s p = (Err why, p.0, (refl, p.1, p.2))
   seen (Err (unput.Refused why)) x s p = (Ok p.0, p.1, (Err why, p.2, refl))
 
   abbrev Alike : (a b : Found) (x y : List ℕ) (s u : PutterState) → Type 0
   Alike a b x y s u = ((a ≡ b) × (x ≡ y) × (s ≡ u)) ⊎ ((a ≡ Err out_of_memory) ⊎ (b ≡ Err out_of_memory))
 
-  follows_once : (r k : Result Event NotTold) (a b : Found) (x y : List ℕ) (s u : PutterState) → r ≡ k → Follows r a x s → Follows k b y u → Alike a b x y s u
+  follows_once : (r k : Result Event BadEvent) (a b : Found) (x y : List ℕ) (s u : PutterState) → r ≡ k → Follows r a x s → Follows k b y u → Alike a b x y s u
   follows_once (Err why) (Err other) a b x y s u same p q =
       let one : why ≡ other = cc in
-      inl (p.0 ∙ ap (λ (w : NotTold). Err (unput.Untold w)) one ∙ sym q.0, p.1 ∙ sym q.1, p.2 ∙ sym q.2)
+      inl (p.0 ∙ ap (λ (w : BadEvent). Err (unput.BadEvent w)) one ∙ sym q.0, p.1 ∙ sym q.1, p.2 ∙ sym q.2)
   follows_once (Ok e) (Ok f) a b x y s u same p q =
       let one : e ≡ f = cc in
       by (one_put old f n p.0 q.0 x y s u (subst (λ (g : Event). CellPuts old g n p.0 x s) one p.1) q.1)
@@ -152,9 +152,9 @@ module _ (p : OpenPage) (cs : List CqlpEvent) (contents before : List ℕ) (a b 
   abbrev Same : Type 0
   Same = ((a ≡ b) × (x ≡ y) × (one ≡ other) × (t ≡ u)) ⊎ ((a ≡ numbers.NO_MEMORY) ⊎ (b ≡ numbers.NO_MEMORY))
 
-  code_out : (code : ℕ) (told : CqlpPut) (last : CqlpPut) (o : Option (ℕ × Unput)) → (told, code) ≡ told_of (length cs) last o → IsOut o → code ≡ numbers.NO_MEMORY
-  code_out code told last o is e =
-      ap (λ (r : CqlpPut × ℕ). r.1) is ∙ ap (λ (k : Option (ℕ × Unput)). (told_of (length cs) last k).1) e.1
+  code_out : (code : ℕ) (written : CqlpPut) (last : CqlpPut) (o : Option (ℕ × Unput)) → (written, code) ≡ written_of (length cs) last o → IsOut o → code ≡ numbers.NO_MEMORY
+  code_out code written last o is e =
+      ap (λ (r : CqlpPut × ℕ). r.1) is ∙ ap (λ (k : Option (ℕ × Unput)). (written_of (length cs) last k).1) e.1
 
   cells_once : (q r : OpenPage) → x ≡ Some q → y ≡ Some r → PutsCells p cs contents before (t, a) one q → PutsCells p cs contents before (u, b) other r → Same
   cells_once q r is was v w =
@@ -162,7 +162,7 @@ module _ (p : OpenPage) (cs : List CqlpEvent) (contents before : List ℕ) (a b 
     where
       by : Once v.1.last w.1.last v.1.stop w.1.stop → Same
       by (inl (last, stop)) =
-          let answer : (t, a) ≡ (u, b) = v.1.is ∙ (λ i. told_of (length cs) (ap (λ (z : BatchState). z.told) last i) (stop i)) ∙ sym w.1.is in
+          let answer : (t, a) ≡ (u, b) = v.1.is ∙ (λ i. written_of (length cs) (ap (λ (z : BatchState). z.written) last i) (stop i)) ∙ sym w.1.is in
           let cells : v.0 ≡ w.0 = v.1.cells ∙ ap (λ (z : BatchState). z.cells) last ∙ sym w.1.cells in
           inl (
             ap (λ (z : CqlpPut × ℕ). z.1) answer,
@@ -170,8 +170,8 @@ module _ (p : OpenPage) (cs : List CqlpEvent) (contents before : List ℕ) (a b 
             v.1.bytes ∙ ap (λ (z : BatchState). z.out ++ drop (length z.out) before) last ∙ sym w.1.bytes,
             ap (λ (z : CqlpPut × ℕ). z.0) answer,
           )
-      by (inr (inl e)) = inr (inl (code_out a t v.1.last.told v.1.stop v.1.is e))
-      by (inr (inr e)) = inr (inr (code_out b u w.1.last.told w.1.stop w.1.is e))
+      by (inr (inl e)) = inr (inl (code_out a t v.1.last.written v.1.stop v.1.is e))
+      by (inr (inr e)) = inr (inr (code_out b u w.1.last.written w.1.stop w.1.is e))
 
 pub one_answer_of_put : IsOneAnswerOfPagePut
 one_answer_of_put p cs contents before a b x y one other was t u v w = cells_once p cs contents before a b x y one other t u v.0 w.0 v.1 w.1 v.2 w.2
@@ -199,7 +199,7 @@ stop_by t cs n (unencoded.Refused build_error.TooManyFields) k = inr k
 stop_by t cs n (unencoded.Refused build_error.TooDeep) k = inr k
 stop_by t cs n (unencoded.Refused build_error.TooManyBytes) k = inr k
 stop_by t cs n (unencoded.Refused build_error.NoFrame) k = inr k
-stop_by t cs n (unencoded.Untold w) k = inr k
+stop_by t cs n (unencoded.BadEvent w) k = inr k
 stop_by t cs n unencoded.LeftOver k = inr k
 
 -- what a head comes to, where memory is not refused: its rows and what a composer has, or why it is none, and where
@@ -211,7 +211,7 @@ counted front s (Ok n) = Ok (s, n)
 counted front s (Err why) = Err (record { event = length front; why = why })
 
 abbrev read_by : (front : List CqlpEvent) → (last : CqlpEvent) → Result Taken Stopped → Read
-read_by front last (Ok t) = counted front t.0 (rows_told last t.1)
+read_by front last (Ok t) = counted front t.0 (rows_from_c last t.1)
 read_by front last (Err r) = Err (record { event = r.event; why = unbegun.Head r.why })
 
 module _ (cs : List CqlpEvent) (contents : List ℕ) where
@@ -336,18 +336,18 @@ module _ (cs : List CqlpEvent) (contents : List ℕ) where
     none_by is was = subst (λ (z : Option OpenPage). AreSamePages z y) (sym is) (subst (λ (z : Option OpenPage). AreSamePages None z) (sym was) tt)
 
     put_by : (short : Bool) (p q : BegunPage) → AreSame (Ok p) (Ok q) → t ≡ u → PutsHead short p a before one x → PutsHead short q b before other y → SameBegun
-    put_by true p q same told v w = inl (v.0 ∙ sym w.0, none_by v.2 w.2, v.1 ∙ sym w.1, told)
-    put_by false p q same told (inl v) w = inr (inl v.0)
-    put_by false p q same told (inr v) (inl w) = inr (inr w.0)
-    put_by false p q same told (inr v) (inr w) =
-        inl (v.0 ∙ sym w.0, pages_by p q (same.0, same.1) v.2 w.2, v.1 ∙ ap (λ (h : List ℕ). h ++ drop (length h) before) same.2 ∙ sym w.1, told)
+    put_by true p q same written v w = inl (v.0 ∙ sym w.0, none_by v.2 w.2, v.1 ∙ sym w.1, written)
+    put_by false p q same written (inl v) w = inr (inl v.0)
+    put_by false p q same written (inr v) (inl w) = inr (inr w.0)
+    put_by false p q same written (inr v) (inr w) =
+        inl (v.0 ∙ sym w.0, pages_by p q (same.0, same.1) v.2 w.2, v.1 ∙ ap (λ (h : List ℕ). h ++ drop (length h) before) same.2 ∙ sym w.1, written)
 
     begun_once : BeginsOne cs contents size a before one x t → BeginsOne cs contents size b before other y u → SameBegun
     begun_once v w =
         let same = one_page size v.0 w.0 v.1 w.1 in
-        let told : t ≡ u = v.3 ∙ ap (λ (h : List ℕ). record { length = length h; event = length cs }) same.2 ∙ sym w.3 in
+        let written : t ≡ u = v.3 ∙ ap (λ (h : List ℕ). record { length = length h; event = length cs }) same.2 ∙ sym w.3 in
         let heads : nat_lt (length before) (length w.0.head.items) ≡ nat_lt (length before) (length v.0.head.items) = ap (λ (h : List ℕ). nat_lt (length before) (length h)) (sym same.2) in
-        put_by (nat_lt (length before) (length v.0.head.items)) v.0 w.0 same told v.2 (subst (λ (short : Bool). PutsHead short w.0 b before other y) heads w.2)
+        put_by (nat_lt (length before) (length v.0.head.items)) v.0 w.0 same written v.2 (subst (λ (short : Bool). PutsHead short w.0 b before other y) heads w.2)
 
     begun_or_none : BeginsOne cs contents size a before one x t → BeginsNone cs contents size b before other y u → SameBegun
     begun_or_none v w = inr (inr (w.2 ∙ page_or_none size v.0 w.0 v.1 w.1))

@@ -1,4 +1,4 @@
--- What becomes of events that C tells of cells, one after the other.
+-- What becomes of events that C passes of cells, one after the other.
 use Rattle.std.proofs.Common.{◌≡◌, ℕ, suc, ◌+◌, ◌-◌, ◌<◌, ◌≤◌, ◌++◌, inl, inr, Bool, true, false, List, [], ◌∷◌, length, drop, take, get_or, Option, Some, None, Result, Ok, Err, refl, sym, ap, ◌∙◌, subst, arith, append_assoc}
 use Rattle.std.proofs.Math.ListN.{drop_of_length-le}
 use Rattle.std.proofs.Math.Seq.{drop-append_seam, drop-cons, take-append_seam}
@@ -18,29 +18,29 @@ use Rattle.cqlp_c.specs.declared.page.CqlpPut.{CqlpPut}
 use Rattle.cqlp_c.specs.declared.page.Unput.{Unput}
 use Rattle.cqlp_c.specs.declared.page.Unput.TheVariants as unput
 use Rattle.cqlp_compose.specs.declared.error.PutError.TheVariants as put_error
-use Rattle.cqlp_c.specs.declared.told.NotTold.{NotTold}
+use Rattle.cqlp_c.specs.declared.from_c.BadEvent.{BadEvent}
 use Rattle.cqlp_compose.specs.declared.page.OpenPage.{OpenPage}
 use Rattle.cqlp_c.specs.declared.encode.CqlpEncoded.{CqlpEncoded}
-use Rattle.cqlp_c.specs.Pages.{Begins, BeginsAnew, BatchState, PutsAll, PutsFrom, PutsOne, after_event, at_begin, gone_on, measured, nothing_put, sized_on, sum_of, told_of, with_all_used}
-use Rattle.cqlp_c.specs.Told.{content_len, event_told}
+use Rattle.cqlp_c.specs.Pages.{Begins, BeginsAnew, BatchState, PutsAll, PutsFrom, PutsOne, after_event, at_begin, gone_on, measured, nothing_put, sized_on, sum_of, written_of, with_all_used}
+use Rattle.cqlp_c.specs.FromC.{content_len, event_from_c}
 
 -- ---- sizes
 
 module _ (cs : List CqlpEvent) (i : ℕ) (d : CqlpEvent) (lt : i < length cs) (sum : ℕ) (rest : List ℕ) where
-  measured_here : measured i sum rest (drop i cs) ≡ sized_on i sum (event_told (get_or cs i d) rest) (λ s. measured (suc i) s (drop (content_len (get_or cs i d)) rest) (drop (suc i) cs))
+  measured_here : measured i sum rest (drop i cs) ≡ sized_on i sum (event_from_c (get_or cs i d) rest) (λ s. measured (suc i) s (drop (content_len (get_or cs i d)) rest) (drop (suc i) cs))
   measured_here = ap (measured i sum rest) (drop-cons cs i d lt)
 
-  pub measured_on : (e : Event) → event_told (get_or cs i d) rest ≡ Ok e → measured i sum rest (drop i cs) ≡ measured (suc i) (sum_of sum (event_size e)) (drop (content_len (get_or cs i d)) rest) (drop (suc i) cs)
-  measured_on e told = measured_here ∙ ap (λ (r : Result Event NotTold). sized_on i sum r (λ s. measured (suc i) s (drop (content_len (get_or cs i d)) rest) (drop (suc i) cs))) told
+  pub measured_on : (e : Event) → event_from_c (get_or cs i d) rest ≡ Ok e → measured i sum rest (drop i cs) ≡ measured (suc i) (sum_of sum (event_size e)) (drop (content_len (get_or cs i d)) rest) (drop (suc i) cs)
+  measured_on e written = measured_here ∙ ap (λ (r : Result Event BadEvent). sized_on i sum r (λ s. measured (suc i) s (drop (content_len (get_or cs i d)) rest) (drop (suc i) cs))) written
 
-  pub measured_stops : (why : NotTold) → event_told (get_or cs i d) rest ≡ Err why → measured i sum rest (drop i cs) ≡ Err (record { event = i; why = why })
-  measured_stops why told = measured_here ∙ ap (λ (r : Result Event NotTold). sized_on i sum r (λ s. measured (suc i) s (drop (content_len (get_or cs i d)) rest) (drop (suc i) cs))) told
+  pub measured_stops : (why : BadEvent) → event_from_c (get_or cs i d) rest ≡ Err why → measured i sum rest (drop i cs) ≡ Err (record { event = i; why = why })
+  measured_stops why written = measured_here ∙ ap (λ (r : Result Event BadEvent). sized_on i sum r (λ s. measured (suc i) s (drop (content_len (get_or cs i d)) rest) (drop (suc i) cs))) written
 
-  pub measured_next : (e : Event) (sum' : ℕ) (rest' : List ℕ) → Ok e ≡ event_told (get_or cs i d) rest → sum' ≡ sum_of sum (event_size e) → rest' ≡ drop (content_len (get_or cs i d)) rest
+  pub measured_next : (e : Event) (sum' : ℕ) (rest' : List ℕ) → Ok e ≡ event_from_c (get_or cs i d) rest → sum' ≡ sum_of sum (event_size e) → rest' ≡ drop (content_len (get_or cs i d)) rest
       → measured i sum rest (drop i cs) ≡ measured (i + 1) sum' rest' (drop (i + 1) cs)
-  measured_next e sum' rest' told is behind =
+  measured_next e sum' rest' written is behind =
       let next : suc i ≡ i + 1 = omega arith in
-      measured_on e (sym told) ∙ (λ j. measured (next j) (sym is j) (sym behind j) (drop (next j) cs))
+      measured_on e (sym written) ∙ (λ j. measured (next j) (sym is j) (sym behind j) (drop (next j) cs))
 
 -- ---- cells
 
@@ -67,39 +67,39 @@ pub behind_short : (old : PutterState) (c : CqlpEvent) (contents rest : List ℕ
 behind_short old c contents rest n len behind bytes new le p = omega (arith, le, ap length p.3, length-drop (content_len c) rest)
 
 -- The events before the n-th were taken.
-pub record PutSoFar (old cells : PutterState) (cs : List CqlpEvent) (contents before room : List ℕ) (n : ℕ) (told : CqlpPut) (rest : List ℕ) : Type 0 where
+pub record PutSoFar (old cells : PutterState) (cs : List CqlpEvent) (contents before room : List ℕ) (n : ℕ) (written : CqlpPut) (rest : List ℕ) : Type 0 where
   pub out : List ℕ
   pub goes : (new : BatchState) (o : Option (ℕ × Unput))
-      → PutsFrom (length before) n (length contents) (record { cells = cells; rest = rest; out = out; told = told }) (drop n cs) new o
+      → PutsFrom (length before) n (length contents) (record { cells = cells; rest = rest; out = out; written = written }) (drop n cs) new o
       → PutsFrom (length before) 0 (length contents) (at_begin old contents (length cs)) cs new o
   pub is : room ≡ out ++ drop (length out) before
-  pub long : told.length ≡ length out
+  pub long : written.length ≡ length out
   pub fits : length out ≤ length before
   pub left : length rest ≤ length contents
 
 pub none_put : (old : PutterState) (cs : List CqlpEvent) (contents before : List ℕ) → PutSoFar old old cs contents before before 0 (nothing_put (length cs)) contents
 none_put old cs contents before = record { out = []; goes = λ new o p. p; is = refl; long = refl; fits = omega arith; left = omega arith }
 
-module _ (old cells new : PutterState) (cs : List CqlpEvent) (contents before room : List ℕ) (n : ℕ) (told : CqlpPut) (rest : List ℕ) (s : PutSoFar old cells cs contents before room n told rest)
+module _ (old cells new : PutterState) (cs : List CqlpEvent) (contents before room : List ℕ) (n : ℕ) (written : CqlpPut) (rest : List ℕ) (s : PutSoFar old cells cs contents before room n written rest)
     (d : CqlpEvent) (lt : n < length cs) where
-  room_left : drop told.length room ≡ drop (length s.out) before
+  room_left : drop written.length room ≡ drop (length s.out) before
   room_left = (λ i. drop (s.long i) (s.is i)) ∙ drop-append_seam s.out (drop (length s.out) before)
 
-  left_long : length (drop told.length room) ≡ length before - length s.out
+  left_long : length (drop written.length room) ≡ length before - length s.out
   left_long = ap length room_left ∙ length-drop (length s.out) before
 
   here : drop n cs ≡ get_or cs n d ∷ drop (suc n) cs
   here = drop-cons cs n d lt
 
   abbrev state : BatchState
-  state = record { cells = cells; rest = rest; out = s.out; told = told }
+  state = record { cells = cells; rest = rest; out = s.out; written = written }
 
   -- one more is taken
-  pub one_more : (len : Option ℕ) (behind bytes room' : List ℕ) → PutsOne cells (get_or cs n d) rest (length (drop told.length room)) (Ok (len, behind)) bytes new
-      → room' ≡ take told.length room ++ (bytes ++ drop (length bytes) (drop told.length room))
-      → PutSoFar old new cs contents before room' (n + 1) (gone_on told n (length contents - length behind) len) behind
+  pub one_more : (len : Option ℕ) (behind bytes room' : List ℕ) → PutsOne cells (get_or cs n d) rest (length (drop written.length room)) (Ok (len, behind)) bytes new
+      → room' ≡ take written.length room ++ (bytes ++ drop (length bytes) (drop written.length room))
+      → PutSoFar old new cs contents before room' (n + 1) (gone_on written n (length contents - length behind) len) behind
   one_more len behind bytes room' p is =
-      let q = put_fits cells p.0 (length (drop told.length room)) len bytes new p.2 in
+      let q = put_fits cells p.0 (length (drop written.length room)) len bytes new p.2 in
       let r : PutsOne cells (get_or cs n d) rest (length before - length s.out) (Ok (len, behind)) bytes new =
       subst (λ (m : ℕ). PutsOne cells (get_or cs n d) rest m (Ok (len, behind)) bytes new) left_long p in
       let next : n + 1 ≡ suc n = omega arith in
@@ -112,23 +112,23 @@ module _ (old cells new : PutterState) (cs : List CqlpEvent) (contents before ro
             ∙ (λ i. ap (λ (xs : List ℕ). take (length s.out) xs) s.is i ++ (bytes ++ drop-drop (length bytes) (length s.out) before i))
             ∙ (λ i. take-append_seam s.out (drop (length s.out) before) i ++ (bytes ++ drop (sym (length-append s.out bytes) i) before))
             ∙ sym (append_assoc s.out bytes (drop (length (s.out ++ bytes)) before));
-        long = longer told n (length contents - length behind) len ∙ (λ i. s.long i + q.1 i) ∙ sym (length-append s.out bytes);
+        long = longer written n (length contents - length behind) len ∙ (λ i. s.long i + q.1 i) ∙ sym (length-append s.out bytes);
         fits = omega (arith, q.0, left_long, s.fits, length-append s.out bytes);
-        left = behind_short cells (get_or cs n d) contents rest (length (drop told.length room)) len behind bytes new s.left p;
+        left = behind_short cells (get_or cs n d) contents rest (length (drop written.length room)) len behind bytes new s.left p;
       }
 
   -- it is the first that is not
-  pub one_stops : (why : Unput) (bytes : List ℕ) → PutsOne cells (get_or cs n d) rest (length (drop told.length room)) (Err why) bytes new
-      → PutsFrom (length before) 0 (length contents) (at_begin old contents (length cs)) cs (record { cells = new; rest = rest; out = s.out; told = told }) (Some (n, why))
+  pub one_stops : (why : Unput) (bytes : List ℕ) → PutsOne cells (get_or cs n d) rest (length (drop written.length room)) (Err why) bytes new
+      → PutsFrom (length before) 0 (length contents) (at_begin old contents (length cs)) cs (record { cells = new; rest = rest; out = s.out; written = written }) (Some (n, why))
   one_stops why bytes p =
       let r : PutsOne cells (get_or cs n d) rest (length before - length s.out) (Err why) bytes new =
       subst (λ (m : ℕ). PutsOne cells (get_or cs n d) rest m (Err why) bytes new) left_long p in
-      s.goes (record { cells = new; rest = rest; out = s.out; told = told }) (Some (n, why))
-      (subst (λ (xs : List CqlpEvent). PutsFrom (length before) n (length contents) state xs (record { cells = new; rest = rest; out = s.out; told = told }) (Some (n, why))) (sym here)
+      s.goes (record { cells = new; rest = rest; out = s.out; written = written }) (Some (n, why))
+      (subst (λ (xs : List CqlpEvent). PutsFrom (length before) n (length contents) state xs (record { cells = new; rest = rest; out = s.out; written = written }) (Some (n, why))) (sym here)
       (inr (why, bytes, new, r, refl, refl)))
 
 nothing_of : (old : PutterState) (c : CqlpEvent) (contents : List ℕ) (n : ℕ) (why : Unput) (bytes : List ℕ) (new : PutterState) → PutsOne old c contents n (Err why) bytes new → bytes ≡ []
-nothing_of old c contents n (unput.Untold why) bytes new p = p.1
+nothing_of old c contents n (unput.BadEvent why) bytes new p = p.1
 nothing_of old c contents n (unput.Refused (put_error.Cell why)) bytes new p = p.2.2
 nothing_of old c contents n (unput.Refused (put_error.NoRoom len)) bytes new p = none_by (ends_cell p.0) p.2.2
   where
@@ -136,14 +136,14 @@ nothing_of old c contents n (unput.Refused (put_error.NoRoom len)) bytes new p =
     none_by true g = g.0
     none_by false g = absurd g
 
-module _ (old cells : PutterState) (cs : List CqlpEvent) (contents before room : List ℕ) (n : ℕ) (told : CqlpPut) (rest : List ℕ) (s : PutSoFar old cells cs contents before room n told rest) where
+module _ (old cells : PutterState) (cs : List CqlpEvent) (contents before room : List ℕ) (n : ℕ) (written : CqlpPut) (rest : List ℕ) (s : PutSoFar old cells cs contents before room n written rest) where
   -- all are taken
-  pub all_put : length cs ≤ n → PutsAll old cs contents before (told_of (length cs) told None) room cells
+  pub all_put : length cs ≤ n → PutsAll old cs contents before (written_of (length cs) written None) room cells
   all_put le = record {
-    last = record { cells = cells; rest = rest; out = s.out; told = told };
+    last = record { cells = cells; rest = rest; out = s.out; written = written };
     stop = None;
-    puts = s.goes (record { cells = cells; rest = rest; out = s.out; told = told }) None
-        (subst (λ (xs : List CqlpEvent). PutsFrom (length before) n (length contents) (record { cells = cells; rest = rest; out = s.out; told = told }) xs (record { cells = cells; rest = rest; out = s.out; told = told }) None)
+    puts = s.goes (record { cells = cells; rest = rest; out = s.out; written = written }) None
+        (subst (λ (xs : List CqlpEvent). PutsFrom (length before) n (length contents) (record { cells = cells; rest = rest; out = s.out; written = written }) xs (record { cells = cells; rest = rest; out = s.out; written = written }) None)
         (sym (drop_of_length-le cs le)) (refl, refl));
     cells = refl;
     bytes = s.is;
@@ -152,17 +152,17 @@ module _ (old cells : PutterState) (cs : List CqlpEvent) (contents before room :
 
   -- one is not
   pub some_put : (d : CqlpEvent) (why : Unput) (bytes room' : List ℕ) (new : PutterState) → n < length cs
-      → PutsOne cells (get_or cs n d) rest (length (drop told.length room)) (Err why) bytes new
-      → room' ≡ take told.length room ++ (bytes ++ drop (length bytes) (drop told.length room))
-      → PutsAll old cs contents before (told_of (length cs) told (Some (n, why))) room' new
+      → PutsOne cells (get_or cs n d) rest (length (drop written.length room)) (Err why) bytes new
+      → room' ≡ take written.length room ++ (bytes ++ drop (length bytes) (drop written.length room))
+      → PutsAll old cs contents before (written_of (length cs) written (Some (n, why))) room' new
   some_put d why bytes room' new lt p is =
-      let none : bytes ≡ [] = nothing_of cells (get_or cs n d) rest (length (drop told.length room)) why bytes new p in
+      let none : bytes ≡ [] = nothing_of cells (get_or cs n d) rest (length (drop written.length room)) why bytes new p in
       record {
-        last = record { cells = new; rest = rest; out = s.out; told = told };
+        last = record { cells = new; rest = rest; out = s.out; written = written };
         stop = Some (n, why);
-        puts = one_stops old cells new cs contents before room n told rest s d lt why bytes p;
+        puts = one_stops old cells new cs contents before room n written rest s d lt why bytes p;
         cells = refl;
-        bytes = is ∙ (λ i. take told.length room ++ (none i ++ drop (length (none i)) (drop told.length room))) ∙ take-append-drop told.length room ∙ s.is;
+        bytes = is ∙ (λ i. take written.length room ++ (none i ++ drop (length (none i)) (drop written.length room))) ∙ take-append-drop written.length room ∙ s.is;
         is = refl;
       }
 
@@ -179,47 +179,47 @@ module _ (room : List ℕ) (at : ℕ) where
   part_put bytes part is =
       (λ i. take at room ++ (is i ++ none_behind i)) ∙ (λ i. take at room ++ append-nil (bytes ++ drop (length bytes) (part_is i)) i)
 
-module _ (old cells new : PutterState) (cs : List CqlpEvent) (contents before room : List ℕ) (n : ℕ) (told : CqlpPut) (rest : List ℕ) (s : PutSoFar old cells cs contents before room n told rest)
+module _ (old cells new : PutterState) (cs : List CqlpEvent) (contents before room : List ℕ) (n : ℕ) (written : CqlpPut) (rest : List ℕ) (s : PutSoFar old cells cs contents before room n written rest)
     (d : CqlpEvent) (lt_n : n < length cs) where
   abbrev part : List ℕ
-  part = mid_of told.length (length room - told.length) room
+  part = mid_of written.length (length room - written.length) room
 
   pub more_in_part : (len : Option ℕ) (behind bytes part' : List ℕ) → PutsOne cells (get_or cs n d) rest (length part) (Ok (len, behind)) bytes new → part' ≡ bytes ++ drop (length bytes) part
-      → PutSoFar old new cs contents before (put_mid told.length (length room - told.length) room part') (n + 1) (gone_on told n (length contents - length behind) len) behind
+      → PutSoFar old new cs contents before (put_mid written.length (length room - written.length) room part') (n + 1) (gone_on written n (length contents - length behind) len) behind
   more_in_part len behind bytes part' p is =
-      one_more old cells new cs contents before room n told rest s d lt_n len behind bytes (put_mid told.length (length room - told.length) room part')
-      (subst (λ (r : List ℕ). PutsOne cells (get_or cs n d) rest (length r) (Ok (len, behind)) bytes new) (part_is room told.length) p) (part_put room told.length bytes part' is)
+      one_more old cells new cs contents before room n written rest s d lt_n len behind bytes (put_mid written.length (length room - written.length) room part')
+      (subst (λ (r : List ℕ). PutsOne cells (get_or cs n d) rest (length r) (Ok (len, behind)) bytes new) (part_is room written.length) p) (part_put room written.length bytes part' is)
 
-  pub adds_up : (len : Option ℕ) (behind bytes : List ℕ) → PutsOne cells (get_or cs n d) rest (length part) (Ok (len, behind)) bytes new → length before < 2 ^ 64 → IfSome len (λ k. told.length + k < 2 ^ 64)
+  pub adds_up : (len : Option ℕ) (behind bytes : List ℕ) → PutsOne cells (get_or cs n d) rest (length part) (Ok (len, behind)) bytes new → length before < 2 ^ 64 → IfSome len (λ k. written.length + k < 2 ^ 64)
   adds_up len behind bytes p lt =
       let q = put_fits cells p.0 (length part) len bytes new p.2 in
-      let room_is : length part ≡ length before - length s.out = ap length (part_is room told.length) ∙ left_long old cells new cs contents before room n told rest s d lt_n in
+      let room_is : length part ≡ length before - length s.out = ap length (part_is room written.length) ∙ left_long old cells new cs contents before room n written rest s d lt_n in
       by len (omega (arith, q.0, q.1, room_is, s.long, s.fits, lt))
     where
-      by : (l : Option ℕ) → told.length + added l < 2 ^ 64 → IfSome l (λ k. told.length + k < 2 ^ 64)
+      by : (l : Option ℕ) → written.length + added l < 2 ^ 64 → IfSome l (λ k. written.length + k < 2 ^ 64)
       by None f = tt
       by (Some k) f = f
 
   pub some_in_part : (why : Unput) (bytes part' : List ℕ) → PutsOne cells (get_or cs n d) rest (length part) (Err why) bytes new → part' ≡ bytes ++ drop (length bytes) part
-      → PutsAll old cs contents before (told_of (length cs) told (Some (n, why))) (put_mid told.length (length room - told.length) room part') new
+      → PutsAll old cs contents before (written_of (length cs) written (Some (n, why))) (put_mid written.length (length room - written.length) room part') new
   some_in_part why bytes part' p is =
-      some_put old cells cs contents before room n told rest s d why bytes (put_mid told.length (length room - told.length) room part') new lt_n
-      (subst (λ (r : List ℕ). PutsOne cells (get_or cs n d) rest (length r) (Err why) bytes new) (part_is room told.length) p) (part_put room told.length bytes part' is)
+      some_put old cells cs contents before room n written rest s d why bytes (put_mid written.length (length room - written.length) room part') new lt_n
+      (subst (λ (r : List ℕ). PutsOne cells (get_or cs n d) rest (length r) (Err why) bytes new) (part_is room written.length) p) (part_put room written.length bytes part' is)
 
-module _ (old cells : PutterState) (cs : List CqlpEvent) (contents before room : List ℕ) (n : ℕ) (told : CqlpPut) (rest : List ℕ) (s : PutSoFar old cells cs contents before room n told rest) (le : length cs ≤ n) where
-  code_by : (b : Bool) (code : ℕ) → (told.events == length cs) ≡ b → (if b then numbers.DONE else numbers.NOT_ENDED) ≡ code → PutsAll old cs contents before (told, code) room cells
+module _ (old cells : PutterState) (cs : List CqlpEvent) (contents before room : List ℕ) (n : ℕ) (written : CqlpPut) (rest : List ℕ) (s : PutSoFar old cells cs contents before room n written rest) (le : length cs ≤ n) where
+  code_by : (b : Bool) (code : ℕ) → (written.events == length cs) ≡ b → (if b then numbers.DONE else numbers.NOT_ENDED) ≡ code → PutsAll old cs contents before (written, code) room cells
   code_by b code is e =
-      subst (λ (k : ℕ). PutsAll old cs contents before (told, k) room cells) (ap (λ (x : Bool). if x then numbers.DONE else numbers.NOT_ENDED) is ∙ e) (all_put old cells cs contents before room n told rest s le)
+      subst (λ (k : ℕ). PutsAll old cs contents before (written, k) room cells) (ap (λ (x : Bool). if x then numbers.DONE else numbers.NOT_ENDED) is ∙ e) (all_put old cells cs contents before room n written rest s le)
 
-  pub all_done : told.events ≡ length cs → PutsAll old cs contents before (told, numbers.DONE) room cells
-  all_done e = code_by true numbers.DONE (eq-eqb told.events (length cs) e) refl
+  pub all_done : written.events ≡ length cs → PutsAll old cs contents before (written, numbers.DONE) room cells
+  all_done e = code_by true numbers.DONE (eq-eqb written.events (length cs) e) refl
 
-  pub all_cut : (told.events ≡ length cs → ⊥) → PutsAll old cs contents before (told, numbers.NOT_ENDED) room cells
-  all_cut n = by (told.events == length cs) refl
+  pub all_cut : (written.events ≡ length cs → ⊥) → PutsAll old cs contents before (written, numbers.NOT_ENDED) room cells
+  all_cut n = by (written.events == length cs) refl
     where
-      by : (b : Bool) → (told.events == length cs) ≡ b → PutsAll old cs contents before (told, numbers.NOT_ENDED) room cells
+      by : (b : Bool) → (written.events == length cs) ≡ b → PutsAll old cs contents before (written, numbers.NOT_ENDED) room cells
       by false is = code_by false numbers.NOT_ENDED is refl
-      by true is = absurd (n (eqb-true told.events (length cs) is))
+      by true is = absurd (n (eqb-true written.events (length cs) is))
 
 -- ---- the count of rows
 
@@ -236,7 +236,7 @@ short_by contents rest behind k le is = omega (arith, le, ap length is, length-d
 
 -- ---- a handle that has no page
 
-pub anew : (cs : List CqlpEvent) (contents given : List ℕ) (size : ℕ) (old : Option OpenPage) (code : ℕ) (before after : List ℕ) (new : Option OpenPage) (was told : CqlpEncoded)
-    → old ≡ None → given ≡ contents → BeginsAnew cs given size code before after new told → Begins cs contents size old code before after new was told
-anew cs contents given size old code before after new was told none is begins =
-    subst (λ (o : Option OpenPage). Begins cs contents size o code before after new was told) (sym none) (subst (λ (xs : List ℕ). BeginsAnew cs xs size code before after new told) is begins)
+pub anew : (cs : List CqlpEvent) (contents given : List ℕ) (size : ℕ) (old : Option OpenPage) (code : ℕ) (before after : List ℕ) (new : Option OpenPage) (was written : CqlpEncoded)
+    → old ≡ None → given ≡ contents → BeginsAnew cs given size code before after new written → Begins cs contents size old code before after new was written
+anew cs contents given size old code before after new was written none is begins =
+    subst (λ (o : Option OpenPage). Begins cs contents size o code before after new was written) (sym none) (subst (λ (xs : List ℕ). BeginsAnew cs xs size code before after new written) is begins)

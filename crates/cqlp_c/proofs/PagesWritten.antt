@@ -14,7 +14,7 @@ use Rattle.cqlp_build.specs.declared.error.BuildError.{BuildError}
 use Rattle.cqlp_build.specs.declared.error.BuildError.TheVariants as build_error
 use Rattle.cqlp_build.specs.Building.{is_due, is_unbuilt}
 use Rattle.cqlp_build.specs.Closing.{Ends, of_length}
-use Rattle.cqlp_build.proofs.FrameViews.{body_of, body_told, frame_said}
+use Rattle.cqlp_build.proofs.FrameViews.{body_of, body_events, frame_said}
 use Rattle.cqlp_build.proofs.Finishing.{is_frame_of}
 use Rattle.cqlp_build_cells.specs.Building.{ends_cell}
 use Rattle.cqlp_compose.specs.Composing.{ComposerState, bound_of, refusal_of, start, with_next}
@@ -38,12 +38,12 @@ use Rattle.cqlp_c.specs.declared.numbers.TheConstants as numbers
 use Rattle.cqlp_c.specs.declared.page.CqlpPut.{CqlpPut}
 use Rattle.cqlp_c.specs.declared.page.Unput.{Unput}
 use Rattle.cqlp_c.specs.declared.page.Unput.TheVariants as unput
-use Rattle.cqlp_c.specs.declared.told.NotTold.{NotTold}
+use Rattle.cqlp_c.specs.declared.from_c.BadEvent.{BadEvent}
 use Rattle.cqlp_c.specs.EncodeLaws.{IsReadAs}
-use Rattle.cqlp_c.specs.Encoding.{Taken, after_all, after_one, longest, on_from, unless, with_told}
-use Rattle.cqlp_c.specs.Pages.{BatchState, Begins, Opens, PutsCells, PutsFrom, PutsHead, PutsOne, after_event, at_begin, code_of_end, longest_cell, rows_in, told_of}
-use Rattle.cqlp_c.specs.PagesLaws.{ArePuts, IsPut, PutPagesAreRead, bytes_of, events_of, told_by, told_then}
-use Rattle.cqlp_c.specs.Told.{content_len, event_told}
+use Rattle.cqlp_c.specs.Encoding.{Taken, after_all, after_one, longest, on_from, unless, with_c_event}
+use Rattle.cqlp_c.specs.Pages.{BatchState, Begins, Opens, PutsCells, PutsFrom, PutsHead, PutsOne, after_event, at_begin, code_of_end, longest_cell, rows_in, written_of}
+use Rattle.cqlp_c.specs.PagesLaws.{ArePuts, IsPut, PutPagesAreRead, bytes_of, events_of, events_from_c, event_then}
+use Rattle.cqlp_c.specs.FromC.{content_len, event_from_c}
 use Rattle.cqlp_c.proofs.OneEncoded.{body_whole}
 use Rattle.cqlp_c.proofs.PagesPut.{longer, put_fits}
 
@@ -51,14 +51,14 @@ use Rattle.cqlp_c.proofs.PagesPut.{longer, put_fits}
 
 -- What events of C put, as events of cells: none, or so many up to the end of a cell.
 abbrev Nothing : BatchState → BatchState → Type 0
-Nothing t new = (new.told.events ≡ t.told.events) × (new.out ≡ t.out) × (new.cells.place ≡ t.cells.place)
+Nothing t new = (new.written.events ≡ t.written.events) × (new.out ≡ t.out) × (new.cells.place ≡ t.cells.place)
 
 record Something (n : ℕ) (cs : List CqlpEvent) (t new : BatchState) : Type 0 where
   many : ℕ
   bytes : List ℕ
-  events : new.told.events ≡ n + many
+  events : new.written.events ≡ n + many
   out : new.out ≡ t.out ++ bytes
-  puts : CellsPut t.cells (told_by many cs t.rest) bytes (fresh t.cells new.cells.place)
+  puts : CellsPut t.cells (events_from_c many cs t.rest) bytes (fresh t.cells new.cells.place)
 
 abbrev Put : ℕ → List CqlpEvent → BatchState → BatchState → Type 0
 Put n cs t new = Nothing t new ⊎ Something n cs t new
@@ -79,7 +79,7 @@ next : (old : PutterState) (e : Event) (n : ℕ) (len : Option ℕ) (bytes : Lis
 next old e n len bytes new p = next_by (ends_cell e) old p.0 n len bytes new p.2
 
 stays : (old : PutterState) (c : CqlpEvent) (contents : List ℕ) (n : ℕ) (why : Unput) (bytes : List ℕ) (new : PutterState) → PutsOne old c contents n (Err why) bytes new → new.place ≡ old.place
-stays old c contents n (unput.Untold why) bytes new p = ap (λ (x : PutterState). x.place) p.2
+stays old c contents n (unput.BadEvent why) bytes new p = ap (λ (x : PutterState). x.place) p.2
 stays old c contents n (unput.Refused (put_error.Cell why)) bytes new p = ap (λ (x : PutterState). x.place) p.2.3
 stays old c contents n (unput.Refused (put_error.NoRoom len)) bytes new p = by (ends_cell p.0) p.2.2
   where
@@ -87,10 +87,10 @@ stays old c contents n (unput.Refused (put_error.NoRoom len)) bytes new p = by (
     by true g = ap (λ (x : PutterState). x.place) g.3
     by false g = absurd g
 
-module _ (room size : ℕ) (n : ℕ) (c : CqlpEvent) (cs : List CqlpEvent) (t new : BatchState) (rest bytes : List ℕ) (mid : PutterState) (e : Event) (told : event_told c t.rest ≡ Ok e)
+module _ (room size : ℕ) (n : ℕ) (c : CqlpEvent) (cs : List CqlpEvent) (t new : BatchState) (rest bytes : List ℕ) (mid : PutterState) (e : Event) (written : event_from_c c t.rest ≡ Ok e)
     (behind : rest ≡ drop (content_len c) t.rest) where
-  told_on : (m : ℕ) → told_by (suc m) (c ∷ cs) t.rest ≡ e ∷ told_by m cs rest
-  told_on m = (λ i. told_then (told i) (told_by m cs (sym behind i)))
+  written_on : (m : ℕ) → events_from_c (suc m) (c ∷ cs) t.rest ≡ e ∷ events_from_c m cs rest
+  written_on m = (λ i. event_then (written i) (events_from_c m cs (sym behind i)))
 
   more : (len : Option ℕ) (m : ℕ) (others : List ℕ) → CellPuts t.cells e m (Ok len) bytes mid → (s : Something (suc n) cs (after_event n size t len rest bytes mid) new) → fresh mid new.cells.place ≡ fresh t.cells new.cells.place
       → Something n (c ∷ cs) t new
@@ -99,8 +99,8 @@ module _ (room size : ℕ) (n : ℕ) (c : CqlpEvent) (cs : List CqlpEvent) (t ne
     bytes = bytes ++ s.bytes;
     events = omega (arith, s.events);
     out = s.out ∙ append_assoc t.out bytes s.bytes;
-    puts = subst (λ (es : List Event). CellsPut t.cells es (bytes ++ s.bytes) (fresh t.cells new.cells.place)) (sym (told_on s.many))
-        (m, len, bytes, s.bytes, mid, p, subst (λ (x : PutterState). CellsPut mid (told_by s.many cs rest) s.bytes x) same s.puts, refl);
+    puts = subst (λ (es : List Event). CellsPut t.cells es (bytes ++ s.bytes) (fresh t.cells new.cells.place)) (sym (written_on s.many))
+        (m, len, bytes, s.bytes, mid, p, subst (λ (x : PutterState). CellsPut mid (events_from_c s.many cs rest) s.bytes x) same s.puts, refl);
   }
 
   goes : (len : Option ℕ) (m : ℕ) → CellPuts t.cells e m (Ok len) bytes mid → Next len t.cells bytes mid → Put (suc n) cs (after_event n size t len rest bytes mid) new → Put n (c ∷ cs) t new
@@ -114,17 +114,17 @@ module _ (room size : ℕ) (n : ℕ) (c : CqlpEvent) (cs : List CqlpEvent) (t ne
         bytes = bytes;
         events = y.0;
         out = y.1;
-        puts = subst (λ (es : List Event). CellsPut t.cells es bytes (fresh t.cells new.cells.place)) (sym (told_on 0))
+        puts = subst (λ (es : List Event). CellsPut t.cells es bytes (fresh t.cells new.cells.place)) (sym (written_on 0))
             (m, Some len, bytes, [], mid, p, (refl, sym (x ∙ ap (λ (q : PagePlace). fresh t.cells q) (sym place))), sym none);
       })
   goes (Some len) m p x (inr s) =
       inr (more (Some len) m [] p s (λ i. fresh_putter ((ap (λ (y : PutterState). y.frame) x) i) new.cells.place ((ap (λ (y : PutterState). y.limits) x) i)))
 
 put_from : (room size : ℕ) (cs : List CqlpEvent) (n : ℕ) (t new : BatchState) (o : Option (ℕ × Unput)) → PutsFrom room n size t cs new o → Put n cs t new
-put_from room size [] n t new o p = inl (ap (λ (x : BatchState). x.told.events) p.0, ap (λ (x : BatchState). x.out) p.0, ap (λ (x : BatchState). x.cells.place) p.0)
+put_from room size [] n t new o p = inl (ap (λ (x : BatchState). x.written.events) p.0, ap (λ (x : BatchState). x.out) p.0, ap (λ (x : BatchState). x.cells.place) p.0)
 put_from room size (c ∷ cs) n t new o (inr s) =
     inl (
-      ap (λ (x : BatchState). x.told.events) s.4,
+      ap (λ (x : BatchState). x.written.events) s.4,
       ap (λ (x : BatchState). x.out) s.4,
       ap (λ (x : BatchState). x.cells.place) s.4 ∙ stays t.cells c t.rest (room - length t.out) s.0 s.1 s.2 s.3,
     )
@@ -133,23 +133,23 @@ put_from room size (c ∷ cs) n t new o (inl g) =
     goes room size n c cs t new g.1 g.2 g.3 q.0 q.1 q.3 g.0 (room - length t.out) q.2 (next t.cells q.0 (room - length t.out) g.0 g.2 g.3 q.2)
     (put_from room size cs (suc n) (after_event n size t g.0 g.1 g.2 g.3) new o g.5)
 
--- what is told says how many bytes were put
-long_from : (room size : ℕ) (cs : List CqlpEvent) (n : ℕ) (t new : BatchState) (o : Option (ℕ × Unput)) → PutsFrom room n size t cs new o → t.told.length ≡ length t.out → new.told.length ≡ length new.out
-long_from room size [] n t new o p is = ap (λ (x : BatchState). x.told.length) p.0 ∙ is ∙ ap (λ (x : BatchState). length x.out) (sym p.0)
-long_from room size (c ∷ cs) n t new o (inr s) is = ap (λ (x : BatchState). x.told.length) s.4 ∙ is ∙ ap (λ (x : BatchState). length x.out) (sym s.4)
+-- what is written says how many bytes were put
+long_from : (room size : ℕ) (cs : List CqlpEvent) (n : ℕ) (t new : BatchState) (o : Option (ℕ × Unput)) → PutsFrom room n size t cs new o → t.written.length ≡ length t.out → new.written.length ≡ length new.out
+long_from room size [] n t new o p is = ap (λ (x : BatchState). x.written.length) p.0 ∙ is ∙ ap (λ (x : BatchState). length x.out) (sym p.0)
+long_from room size (c ∷ cs) n t new o (inr s) is = ap (λ (x : BatchState). x.written.length) s.4 ∙ is ∙ ap (λ (x : BatchState). length x.out) (sym s.4)
 long_from room size (c ∷ cs) n t new o (inl g) is =
     let q = g.4 in
     let fits = put_fits t.cells q.0 (room - length t.out) g.0 g.2 g.3 q.2 in
     long_from room size cs (suc n) (after_event n size t g.0 g.1 g.2 g.3) new o g.5
-    (longer t.told n (size - length g.1) g.0 ∙ (λ i. is i + fits.1 i) ∙ sym (length-append t.out g.2))
+    (longer t.written n (size - length g.1) g.0 ∙ (λ i. is i + fits.1 i) ∙ sym (length-append t.out g.2))
 
-told_length : (count : ℕ) (p : CqlpPut) (o : Option (ℕ × Unput)) → (told_of count p o).0.length ≡ p.length
-told_length count p None = refl
-told_length count p (Some s) = refl
+written_length : (count : ℕ) (p : CqlpPut) (o : Option (ℕ × Unput)) → (written_of count p o).0.length ≡ p.length
+written_length count p None = refl
+written_length count p (Some s) = refl
 
-told_events : (count : ℕ) (p : CqlpPut) (o : Option (ℕ × Unput)) → (told_of count p o).0.events ≡ p.events
-told_events count p None = refl
-told_events count p (Some s) = refl
+written_events : (count : ℕ) (p : CqlpPut) (o : Option (ℕ × Unput)) → (written_of count p o).0.events ≡ p.events
+written_events count p None = refl
+written_events count p (Some s) = refl
 
 none_before : (n : ℕ) → 0 + n ≡ n
 none_before n = omega arith
@@ -171,30 +171,30 @@ module _ (p q : OpenPage) (cs : List CqlpEvent) (contents before after : List �
   bytes_are : take answer.0.length after ≡ x.1.last.out
   bytes_are =
       let long : answer.0.length ≡ length x.1.last.out =
-      ap (λ (a : CqlpPut × ℕ). a.0.length) x.1.is ∙ told_length (length cs) x.1.last.told x.1.stop
+      ap (λ (a : CqlpPut × ℕ). a.0.length) x.1.is ∙ written_length (length cs) x.1.last.written x.1.stop
       ∙ long_from (length before) (length contents) cs 0 first x.1.last x.1.stop x.1.puts refl in
       (λ i. take (long i) (x.1.bytes i)) ∙ take-append_seam x.1.last.out (drop (length x.1.last.out) before)
 
-  many_are : answer.0.events ≡ x.1.last.told.events
-  many_are = ap (λ (a : CqlpPut × ℕ). a.0.events) x.1.is ∙ told_events (length cs) x.1.last.told x.1.stop
+  many_are : answer.0.events ≡ x.1.last.written.events
+  many_are = ap (λ (a : CqlpPut × ℕ). a.0.events) x.1.is ∙ written_events (length cs) x.1.last.written x.1.stop
 
-  batch_by : Put 0 cs first x.1.last → IsBatch p.frame p.place (told_by x.1.last.told.events cs contents) x.1.last.out x.1.last.cells.place
+  batch_by : Put 0 cs first x.1.last → IsBatch p.frame p.place (events_from_c x.1.last.written.events cs contents) x.1.last.out x.1.last.cells.place
   batch_by (inl y) = record {
     limits = longest_cell;
-    puts = subst (λ (m : ℕ). CellsPut putter (told_by m cs contents) x.1.last.out (fresh putter x.1.last.cells.place)) (sym y.0) (y.1, ap (λ (l : PagePlace). fresh putter l) y.2);
+    puts = subst (λ (m : ℕ). CellsPut putter (events_from_c m cs contents) x.1.last.out (fresh putter x.1.last.cells.place)) (sym y.0) (y.1, ap (λ (l : PagePlace). fresh putter l) y.2);
   }
   batch_by (inr s) = record {
     limits = longest_cell;
-    puts = subst (λ (m : ℕ). CellsPut putter (told_by m cs contents) x.1.last.out (fresh putter x.1.last.cells.place)) (sym (s.events ∙ none_before s.many))
-        (subst (λ (b : List ℕ). CellsPut putter (told_by s.many cs contents) b (fresh putter x.1.last.cells.place)) (sym s.out) s.puts);
+    puts = subst (λ (m : ℕ). CellsPut putter (events_from_c m cs contents) x.1.last.out (fresh putter x.1.last.cells.place)) (sym (s.events ∙ none_before s.many))
+        (subst (λ (b : List ℕ). CellsPut putter (events_from_c s.many cs contents) b (fresh putter x.1.last.cells.place)) (sym s.out) s.puts);
   }
 
-  is_batch : IsBatch p.frame p.place (told_by answer.0.events cs contents) (take answer.0.length after) q.place
+  is_batch : IsBatch p.frame p.place (events_from_c answer.0.events cs contents) (take answer.0.length after) q.place
   is_batch =
       let b = batch_by (put_from (length before) (length contents) cs 0 first x.1.last x.1.stop x.1.puts) in
-      subst (λ (m : ℕ). IsBatch p.frame p.place (told_by m cs contents) (take answer.0.length after) q.place) (sym many_are)
-      (subst (λ (bs : List ℕ). IsBatch p.frame p.place (told_by x.1.last.told.events cs contents) bs q.place) (sym bytes_are)
-      (subst (λ (l : PagePlace). IsBatch p.frame p.place (told_by x.1.last.told.events cs contents) x.1.last.out l) (sym place_is) b))
+      subst (λ (m : ℕ). IsBatch p.frame p.place (events_from_c m cs contents) (take answer.0.length after) q.place) (sym many_are)
+      (subst (λ (bs : List ℕ). IsBatch p.frame p.place (events_from_c x.1.last.written.events cs contents) bs q.place) (sym bytes_are)
+      (subst (λ (l : PagePlace). IsBatch p.frame p.place (events_from_c x.1.last.written.events cs contents) x.1.last.out l) (sym place_is) b))
 
 the_page : (a b : OpenPage) → Some a ≡ Some b → a ≡ b
 the_page a b e = cc
@@ -203,10 +203,10 @@ call : (p q : OpenPage) (es : List Event) (bytes : List ℕ) → IsPut p es byte
 call p q es bytes c =
     let r = c.puts in
     let same : q ≡ r.0 = the_page q r.0 r.1 in
-    let x : PutsCells p c.cs c.contents c.before (c.told, c.code) c.after q = subst (λ (y : OpenPage). PutsCells p c.cs c.contents c.before (c.told, c.code) c.after y) (sym same) r.2 in
-    let b = is_batch p q c.cs c.contents c.before c.after (c.told, c.code) x in (
+    let x : PutsCells p c.cs c.contents c.before (c.written, c.code) c.after q = subst (λ (y : OpenPage). PutsCells p c.cs c.contents c.before (c.written, c.code) c.after y) (sym same) r.2 in
+    let b = is_batch p q c.cs c.contents c.before c.after (c.written, c.code) x in (
       subst (λ (xs : List Event). IsBatch p.frame p.place xs bytes q.place) (sym c.events)
-          (subst (λ (bs : List ℕ). IsBatch p.frame p.place (told_by c.told.events c.cs c.contents) bs q.place) (sym c.are) b),
+          (subst (λ (bs : List ℕ). IsBatch p.frame p.place (events_from_c c.written.events c.cs c.contents) bs q.place) (sym c.are) b),
       ap (λ (y : OpenPage). y.frame) x.2,
     )
 
@@ -229,18 +229,18 @@ unless_ok (Some why) t u e = absurd cc
 -- an event that is taken, and what is taken after it
 record One (t u : Taken) (c : CqlpEvent) : Type 0 where
   event : Event
-  told : event_told c t.1 ≡ Ok event
+  written : event_from_c c t.1 ≡ Ok event
   free : refusal_of t.0 event ≡ None
   after : (with_next t.0 event, drop (content_len c) t.1) ≡ u
 
-one_by : (t u : Taken) (c : CqlpEvent) (r : Result Event NotTold) → event_told c t.1 ≡ r → with_told t.0 r (drop (content_len c) t.1) ≡ Ok u → One t u c
-one_by t u c (Ok e) told is =
+one_by : (t u : Taken) (c : CqlpEvent) (r : Result Event BadEvent) → event_from_c c t.1 ≡ r → with_c_event t.0 r (drop (content_len c) t.1) ≡ Ok u → One t u c
+one_by t u c (Ok e) written is =
     let o = unless_ok (refusal_of t.0 e) (with_next t.0 e, drop (content_len c) t.1) u is in
-    record { event = e; told = told; free = o.0; after = o.1 }
-one_by t u c (Err why) told is = absurd cc
+    record { event = e; written = written; free = o.0; after = o.1 }
+one_by t u c (Err why) written is = absurd cc
 
 one : (t u : Taken) (c : CqlpEvent) → after_one t c ≡ Ok u → One t u c
-one t u c is = one_by t u c (event_told c t.1) refl is
+one t u c is = one_by t u c (event_from_c c t.1) refl is
 
 record First (n : ℕ) (t k : Taken) (c : CqlpEvent) (cs : List CqlpEvent) : Type 0 where
   mid : Taken
@@ -278,22 +278,22 @@ still_open cs n t k e is = by t.0.ended refl
     by false q = q
     by true q = let d : true ≡ false = sym (ended_stays cs n t k e q) ∙ is in absurd cc
 
--- the events of a composer that took all are those that were told, and then those of others that come after them
-head_told : (front : List CqlpEvent) (last : CqlpEvent) (n : ℕ) (t k : Taken) → after_all n t front ≡ Ok k → k.0.ended ≡ false
-    → t.0.frame.events ++ told_by (length (front ++ last ∷ [])) (front ++ last ∷ []) t.1 ≡ k.0.frame.events ++ told_by 1 (last ∷ []) k.1
-head_told [] last n t k e is = let same : t ≡ k = cc in ap (λ (x : Taken). x.0.frame.events ++ told_by 1 (last ∷ []) x.1) same
-head_told (c ∷ front) last n t k e is =
+-- the events of a composer that took all are those that were passed, and then those of others that come after them
+head_from_c : (front : List CqlpEvent) (last : CqlpEvent) (n : ℕ) (t k : Taken) → after_all n t front ≡ Ok k → k.0.ended ≡ false
+    → t.0.frame.events ++ events_from_c (length (front ++ last ∷ [])) (front ++ last ∷ []) t.1 ≡ k.0.frame.events ++ events_from_c 1 (last ∷ []) k.1
+head_from_c [] last n t k e is = let same : t ≡ k = cc in ap (λ (x : Taken). x.0.frame.events ++ events_from_c 1 (last ∷ []) x.1) same
+head_from_c (c ∷ front) last n t k e is =
     let f = first_of_all n t k c front e in
     let o = one t f.mid c f.taken in
     let after = subst (λ (u : Taken). u.0.ended ≡ false) (sym o.after) (still_open front (suc n) f.mid k f.others is) in
     let came : f.mid.0.frame.events ≡ t.0.frame.events ++ o.event ∷ [] = ap (λ (u : Taken). u.0.frame.events) (sym o.after) ∙ open_next t.0 o.event after in
     let left : drop (content_len c) t.1 ≡ f.mid.1 = ap (λ (u : Taken). u.1) o.after in
-    let more = told_by (length (front ++ last ∷ [])) (front ++ last ∷ []) in
-    (λ i. t.0.frame.events ++ told_then (o.told i) (more (left i))) ∙ sym (append_assoc t.0.frame.events (o.event ∷ []) (more f.mid.1))
-    ∙ ap (λ (es : List Event). es ++ more f.mid.1) (sym came) ∙ head_told front last (suc n) f.mid k f.others is
+    let more = events_from_c (length (front ++ last ∷ [])) (front ++ last ∷ []) in
+    (λ i. t.0.frame.events ++ event_then (o.written i) (more (left i))) ∙ sym (append_assoc t.0.frame.events (o.event ∷ []) (more f.mid.1))
+    ∙ ap (λ (es : List Event). es ++ more f.mid.1) (sym came) ∙ head_from_c front last (suc n) f.mid k f.others is
 
 -- the last event is a count of rows
-rows_by : (r : Result Event NotTold) (rest : List ℕ) (n : ℕ) → rows_in r rest ≡ Ok n → r ≡ Ok (rows_event n)
+rows_by : (r : Result Event BadEvent) (rest : List ℕ) (n : ℕ) → rows_in r rest ≡ Ok n → r ≡ Ok (rows_event n)
 rows_by (Err why) rest n e = absurd cc
 rows_by (Ok (Holds field.Rows (Count m))) [] n e = let same : m ≡ n = cc in ap (λ (k : ℕ). Ok (rows_event k)) same
 rows_by (Ok (Holds field.Rows (Count m))) (b ∷ rest) n e = absurd cc
@@ -343,9 +343,9 @@ put_head true b code before after p x = let d = x.2 in absurd cc
 put_head false b code before after p (inl x) = let d = x.2 in absurd cc
 put_head false b code before after p (inr x) = (the_page p b.page x.2, x.1)
 
-begun_by : (cs : List CqlpEvent) (contents before after : List ℕ) (size code : ℕ) (was told : CqlpEncoded) (p : OpenPage) → Begins cs contents size None code before after (Some p) was told
-    → Begun cs contents size (take told.length after) p
-begun_by cs contents before after size code was told p (inl x) =
+begun_by : (cs : List CqlpEvent) (contents before after : List ℕ) (size code : ℕ) (was written : CqlpEncoded) (p : OpenPage) → Begins cs contents size None code before after (Some p) was written
+    → Begun cs contents size (take written.length after) p
+begun_by cs contents before after size code was written p (inl x) =
     let put = put_head (nat_lt (length before) (length x.0.head.items)) x.0 code before after p x.2 in
     record {
       begun = x.0;
@@ -353,7 +353,7 @@ begun_by cs contents before after size code was told p (inl x) =
       page_is = put.0;
       bytes_are = (λ i. take ((ap (λ (t : CqlpEncoded). t.length) x.3) i) (put.1 i)) ∙ take-append_seam x.0.head.items (drop (length x.0.head.items) before);
     }
-begun_by cs contents before after size code was told p (inr x) = let d = x.4 in absurd cc
+begun_by cs contents before after size code was written p (inr x) = let d = x.4 in absurd cc
 
 read_as : (h : Header) (fields : List Event) (bytes : List ℕ) → IsFrameWith h fields bytes → IsReadAs h fields bytes
 read_as h fields bytes w =
@@ -368,13 +368,13 @@ read_as h fields bytes w =
         subst (λ (b : List ℕ). Says l first_state b (Flat l 0 f 0) Waits) (sym w.written) (written_is_read f w.range l w.spelled within),
         λ whole. frame_said l 0 f 0
             ∙ ap (λ k. Frame k ∷ body_of l 0 f ++ End 0 ∷ []) i.header
-            ∙ ap (λ r. Frame (of_length h w.size) ∷ r ++ End 0 ∷ []) (body_told l 0 f (body_whole l f whole) ∙ i.parts),
+            ∙ ap (λ r. Frame (of_length h w.size) ∷ r ++ End 0 ∷ []) (body_events l 0 f (body_whole l f whole) ∙ i.parts),
       );
     }
 
 pub put_pages_are_read : PutPagesAreRead
-put_pages_are_read cs contents before after size was told p q calls begins puts whole =
-    let b = begun_by cs contents before after size numbers.DONE was told p begins in
+put_pages_are_read cs contents before after size was written p q calls begins puts whole =
+    let b = begun_by cs contents before after size numbers.DONE was written p begins in
     let n = b.opens.0 in
     let s = b.opens.1 in
     let head = b.opens.2 in
@@ -382,11 +382,11 @@ put_pages_are_read cs contents before after size was told p q calls begins puts 
     let header = has_header s.frame.events bare.1 (is_due_next s (rows_event 0) bare.0) bare.2 in
     let h = header.0 in
     let front = header.1 in
-    let came : [] ++ told_by (length (head.0 ++ head.1 ∷ [])) (head.0 ++ head.1 ∷ []) contents ≡ s.frame.events ++ told_by 1 (head.1 ∷ []) head.3 =
-    head_told head.0 head.1 0 (start longest, contents) (s, head.3) head.4 (is_open s (rows_event 0) bare.0) in
-    let last : told_by 1 (head.1 ∷ []) head.3 ≡ rows_event n ∷ [] = ap (λ (r : Result Event NotTold). told_then r []) (rows_by (event_told head.1 head.3) (drop (content_len head.1) head.3) n head.5) in
-    let told_is : told_by (length cs) cs contents ≡ Frame h ∷ (front ++ rows_event n ∷ []) =
-    ap (λ (xs : List CqlpEvent). told_by (length xs) xs contents) head.2 ∙ came ∙ (λ i. header.2 i ++ last i) in
+    let came : [] ++ events_from_c (length (head.0 ++ head.1 ∷ [])) (head.0 ++ head.1 ∷ []) contents ≡ s.frame.events ++ events_from_c 1 (head.1 ∷ []) head.3 =
+    head_from_c head.0 head.1 0 (start longest, contents) (s, head.3) head.4 (is_open s (rows_event 0) bare.0) in
+    let last : events_from_c 1 (head.1 ∷ []) head.3 ≡ rows_event n ∷ [] = ap (λ (r : Result Event BadEvent). event_then r []) (rows_by (event_from_c head.1 head.3) (drop (content_len head.1) head.3) n head.5) in
+    let written_is : events_from_c (length cs) cs contents ≡ Frame h ∷ (front ++ rows_event n ∷ []) =
+    ap (λ (xs : List CqlpEvent). events_from_c (length xs) xs contents) head.2 ∙ came ∙ (λ i. header.2 i ++ last i) in
     let all = all_calls calls p q puts in
     let batches : AreBatches b.begun.page.frame b.begun.page.place calls q.place = subst (λ (y : OpenPage). AreBatches y.frame y.place calls q.place) b.page_is all.0 in
     let frame : q.frame ≡ b.begun.page.frame = all.1 ∙ ap (λ (y : OpenPage). y.frame) b.page_is in
@@ -395,7 +395,7 @@ put_pages_are_read cs contents before after size was told p q calls begins puts 
     let r = read_as h (front ++ rows_event n ∷ events_of calls) (b.begun.head.items ++ bytes_of calls) w in (
       h,
       front ++ rows_event n ∷ [],
-      told_is,
-      subst (λ (es : List Event). IsReadAs h es (take told.length after ++ bytes_of calls)) (sym (append_assoc front (rows_event n ∷ []) (events_of calls)))
+      written_is,
+      subst (λ (es : List Event). IsReadAs h es (take written.length after ++ bytes_of calls)) (sym (append_assoc front (rows_event n ∷ []) (events_of calls)))
           (subst (λ (xs : List ℕ). IsReadAs h (front ++ rows_event n ∷ events_of calls) (xs ++ bytes_of calls)) (sym b.bytes_are) r),
     )

@@ -1,7 +1,7 @@
 -- Events at their offsets in the whole stream.
 use Rattle.std.proofs.Common.{◌≡◌, ℕ, zero, suc, ◌+◌, ◌<◌, ◌≤◌, List, [], ◌∷◌, ◌++◌, length, take, drop, slice_index_or, slice_set, refl, sym, ap, subst, ◌∙◌, arith}
 use Rattle.std.proofs.lemmas.List.{take-append-drop}
-use Rattle.cqlp_skip.specs.Stretches.{told_at}
+use Rattle.cqlp_skip.specs.Stretches.{stream_offset}
 use Rattle.cqlp_c.specs.declared.batch.Batch.{Batch}
 use Rattle.cqlp_c.specs.declared.batch.Stop.{Stop}
 use Rattle.cqlp_c.specs.declared.course.CqlpBegun.{CqlpBegun}
@@ -13,7 +13,7 @@ use Rattle.cqlp_c.specs.Course.{batch_from, gone_on, placed, placed_from, stop_f
 pub placed_front : (base n : ℕ) → List CqlpEvent → List CqlpEvent
 placed_front base zero cs = cs
 placed_front base (suc n) [] = []
-placed_front base (suc n) (c ∷ cs) = record c { at = told_at base c.at } ∷ placed_front base n cs
+placed_front base (suc n) (c ∷ cs) = record c { at = stream_offset base c.at } ∷ placed_front base n cs
 
 pub front_none : (base : ℕ) (cs : List CqlpEvent) → cs ≡ placed_front base 0 cs
 unfolding placed_front
@@ -24,21 +24,21 @@ unfolding placed_front
 front_all base zero [] le = refl
 front_all base (suc n) [] le = refl
 front_all base zero (c ∷ cs) le = absurd (omega (arith, le))
-front_all base (suc n) (c ∷ cs) le = ap (λ (z : List CqlpEvent). record c { at = told_at base c.at } ∷ z) (front_all base n cs (omega (arith, le)))
+front_all base (suc n) (c ∷ cs) le = ap (λ (z : List CqlpEvent). record c { at = stream_offset base c.at } ∷ z) (front_all base n cs (omega (arith, le)))
 
 -- one more
-more : (base n : ℕ) (cs : List CqlpEvent) (d : CqlpEvent) (at : ℕ) → n < length cs → at ≡ told_at base (slice_index_or (placed_front base n cs) n d).at
+more : (base n : ℕ) (cs : List CqlpEvent) (d : CqlpEvent) (at : ℕ) → n < length cs → at ≡ stream_offset base (slice_index_or (placed_front base n cs) n d).at
     → slice_set (placed_front base n cs) n (record (slice_index_or (placed_front base n cs) n d) { at = at }) ≡ placed_front base (suc n) cs
 unfolding placed_front
 more base zero [] d at lt h = absurd (omega (arith, lt))
 more base (suc n) [] d at lt h = absurd (omega (arith, lt))
 more base zero (c ∷ cs) d at lt h = ap (λ (m : ℕ). record c { at = m } ∷ cs) h
-more base (suc n) (c ∷ cs) d at lt h = ap (λ (z : List CqlpEvent). record c { at = told_at base c.at } ∷ z) (more base n cs d at (omega (arith, lt)) h)
+more base (suc n) (c ∷ cs) d at lt h = ap (λ (z : List CqlpEvent). record c { at = stream_offset base c.at } ∷ z) (more base n cs d at (omega (arith, lt)) h)
 
-pub front_more : (base n : ℕ) (cs ds : List CqlpEvent) (d : CqlpEvent) (at : ℕ) → ds ≡ placed_front base n cs → n < length cs → at ≡ told_at base (slice_index_or ds n d).at → slice_set ds n (record (slice_index_or ds n d) { at = at }) ≡ placed_front base (n + 1) cs
+pub front_more : (base n : ℕ) (cs ds : List CqlpEvent) (d : CqlpEvent) (at : ℕ) → ds ≡ placed_front base n cs → n < length cs → at ≡ stream_offset base (slice_index_or ds n d).at → slice_set ds n (record (slice_index_or ds n d) { at = at }) ≡ placed_front base (n + 1) cs
 front_more base n cs ds d at is lt h =
     let next : suc n ≡ n + 1 = omega arith in
-    subst (λ (z : List CqlpEvent). at ≡ told_at base (slice_index_or z n d).at → slice_set z n (record (slice_index_or z n d) { at = at }) ≡ placed_front base (suc n) cs) (sym is) (more base n cs d at lt) h ∙ ap (λ (m : ℕ). placed_front base m cs) next
+    subst (λ (z : List CqlpEvent). at ≡ stream_offset base (slice_index_or z n d).at → slice_set z n (record (slice_index_or z n d) { at = at }) ≡ placed_front base (suc n) cs) (sym is) (more base n cs d at lt) h ∙ ap (λ (m : ℕ). placed_front base m cs) next
 
 pub placed_none : (base n : ℕ) (cs : List CqlpEvent) → base ≡ 0 → cs ≡ placed base (take n cs) ++ drop n cs
 placed_none zero n cs none = sym (take-append-drop n cs)

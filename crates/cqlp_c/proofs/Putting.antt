@@ -9,12 +9,12 @@ use Rattle.cqlp_c.specs.declared.event.CqlpEvent.{CqlpEvent}
 use Rattle.cqlp_c.specs.declared.slots.Origin.{Origin}
 use Rattle.cqlp_c.specs.declared.slots.Slots.{Slots}
 use Rattle.cqlp_c.specs.Course.{begun_by}
-use Rattle.cqlp_c.specs.Slots.{HasRoom, PutsOne, TellsItems}
+use Rattle.cqlp_c.specs.Slots.{HasRoom, PutsOne, WritesItems}
 
 -- These events were put, after those that were there, into the same array.
 pub record PutsAll (before : Slots) (xs : List Item) (after : Slots) : Type 0 where
   pub events : List CqlpEvent
-  pub told : TellsItems before.origin events xs
+  pub written : WritesItems before.origin events xs
   pub first : take after.count after.events.now ≡ take before.count before.events.now ++ events
   pub others : drop after.count after.events.now ≡ drop after.count before.events.now
   pub long : length after.events.now ≡ length before.events.now
@@ -25,23 +25,23 @@ pub record PutsAll (before : Slots) (xs : List Item) (after : Slots) : Type 0 wh
   pub frame : after.frame ≡ begun_by before.frame events
 
 puts_none : (s : Slots) → s.count ≤ length s.events.now → PutsAll s [] s
-puts_none s fits = record { events = []; told = tt; first = sym (append-nil (take s.count s.events.now)); others = refl; long = refl; count = omega arith; fits = fits; same = refl; origin = refl; frame = refl }
+puts_none s fits = record { events = []; written = tt; first = sym (append-nil (take s.count s.events.now)); others = refl; long = refl; count = omega arith; fits = fits; same = refl; origin = refl; frame = refl }
 
 pub drops_more : {X : Type 0} (n k : ℕ) (xs ys : List X) → drop n xs ≡ drop n ys → drop (n + k) xs ≡ drop (n + k) ys
 drops_more {X = X} n k xs ys same = sym (drop-drop k n xs) ∙ ap (λ (z : List X). drop k z) same ∙ drop-drop k n ys
 
 puts_then : (s t u : Slots) (x : Item) (ys : List Item) → HasRoom s → PutsOne s x.at x.event t → PutsAll t ys u → PutsAll s (x ∷ ys) u
 puts_then s t u x ys room one more = record {
-  events = one.told ∷ more.events;
-  told = (one.tells, subst (λ (o : Origin). TellsItems o more.events ys) one.origin more.told);
+  events = one.written ∷ more.events;
+  written = (one.writes, subst (λ (o : Origin). WritesItems o more.events ys) one.origin more.written);
   first =
-      more.first ∙ ap (λ (z : List CqlpEvent). z ++ more.events) (ap (λ (n : ℕ). take n t.events.now) one.count ∙ ap (take (s.count + 1)) one.events ∙ take_more_set s.events.now s.count one.told room)
-      ∙ append_assoc (take s.count s.events.now) (one.told ∷ []) more.events;
+      more.first ∙ ap (λ (z : List CqlpEvent). z ++ more.events) (ap (λ (n : ℕ). take n t.events.now) one.count ∙ ap (take (s.count + 1)) one.events ∙ take_more_set s.events.now s.count one.written room)
+      ∙ append_assoc (take s.count s.events.now) (one.written ∷ []) more.events;
   others =
-      let behind : drop (s.count + 1) t.events.now ≡ drop (s.count + 1) s.events.now = ap (drop (s.count + 1)) one.events ∙ drop-set-lt (s.count + 1) s.events.now s.count one.told (omega arith) in
+      let behind : drop (s.count + 1) t.events.now ≡ drop (s.count + 1) s.events.now = ap (drop (s.count + 1)) one.events ∙ drop-set-lt (s.count + 1) s.events.now s.count one.written (omega arith) in
       let at : u.count ≡ (s.count + 1) + length ys = omega (arith, more.count, one.count) in
       more.others ∙ rw at (drops_more (s.count + 1) (length ys) t.events.now s.events.now behind);
-  long = more.long ∙ ap length one.events ∙ length-set s.events.now s.count one.told;
+  long = more.long ∙ ap length one.events ∙ length-set s.events.now s.count one.written;
   count = omega (arith, more.count, one.count);
   fits = more.fits;
   same = more.same ∙ one.same;
@@ -66,7 +66,7 @@ module _ (Gets : Slots → ℕ → Event → Slots → Type 0) (puts : (s t : Sl
   puts_last : (s t u : Slots) (xs : List Item) (y : Item) → GetsAll Gets s xs t → HasRoom s → (HasRoom t → PutsOne t y.at y.event u) → PutsAll s (xs ++ y ∷ []) u
   puts_last s t u [] y g room last =
       let one : PutsOne s y.at y.event u = subst (λ (z : Slots). PutsOne z y.at y.event u) g (last (subst HasRoom (sym g) room)) in
-      let long : length u.events.now ≡ length s.events.now = ap length one.events ∙ length-set s.events.now s.count one.told in
+      let long : length u.events.now ≡ length s.events.now = ap length one.events ∙ length-set s.events.now s.count one.written in
       puts_then s u u y [] room one (puts_none u (omega (arith, one.count, long, room)))
   puts_last s t u (x ∷ xs) y g room last =
       let one = puts s g.0 x.at x.event g.1 room in

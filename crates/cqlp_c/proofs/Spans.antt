@@ -1,4 +1,4 @@
--- What the bytes of a content are by what C is told.
+-- What the bytes of a content are by what C gets.
 use Rattle.std.proofs.Common.{◌≡◌, ℕ, ◌≤◌, List, length, Option, Some, None, refl, ap, ◌∙◌, arith}
 use Rattle.std.specs.Ptr.{Ptr}
 use Rattle.cqlp_note.specs.declared.prim.Address.TheVariants as address
@@ -8,7 +8,7 @@ use Rattle.cqlp_kind.specs.Scalars as scalar
 use Rattle.cqlp_grammar.specs.Events.{Event, Frame, Holds, Node_of, Cell_at, Leave, End}
 use Rattle.cqlp_laws.specs.Contents.{content_in}
 use Rattle.cqlp_c.specs.declared.event.CqlpEvent.{CqlpEvent}
-use Rattle.cqlp_c.specs.Events.{Tells, bytes_in, content_of, content_span, numbers_of, span_in, with_content}
+use Rattle.cqlp_c.specs.Events.{Writes, bytes_in, content_of, content_span, numbers_of, span_in, with_content}
 
 pub span_event : (at : ℕ) (e : Event) (p : Ptr) → span_in (with_content (numbers_of at e) (content_of e) p) ≡ content_span e
 span_event at (Frame h) p = refl
@@ -57,8 +57,8 @@ span_event at (Cell_at row column (cell.Part level offset c last)) p = refl
 span_event at (Leave level n) p = refl
 span_event at (End n) p = refl
 
-pub span_told : (c : CqlpEvent) (at : ℕ) (e : Event) → Tells c at e → span_in c ≡ content_span e
-span_told c at e tells = ap span_in tells.2 ∙ span_event at e tells.0
+pub span_written : (c : CqlpEvent) (at : ℕ) (e : Event) → Writes c at e → span_in c ≡ content_span e
+span_written c at e writes = ap span_in writes.2 ∙ span_event at e writes.0
 
 same_length : (o : Option (List ℕ)) (content : List ℕ) → o ≡ Some content → length content ≤ length (bytes_in o)
 same_length None content is = absurd cc

@@ -15,7 +15,7 @@ use Rattle.cqlp_decode.specs.Reading.{Event, Gifts, Says, Refused, Waits, start_
 use Rattle.cqlp_decode.specs.Progress.{StreamState}
 use Rattle.cqlp_decode.specs.Streams.{Decoding, Refuses, state}
 use Rattle.cqlp_skip.specs.declared.frame.OpenFrame.{OpenFrame}
-use Rattle.cqlp_skip.specs.Stretches.{Stretch, frame_after, frame_from, frame_under_way, told_at}
+use Rattle.cqlp_skip.specs.Stretches.{Stretch, frame_after, frame_from, frame_under_way, stream_offset}
 use Rattle.cqlp_skip.proofs.Passing.{behind_all, behind_piece}
 use Rattle.cqlp_skip.proofs.Folding.{frame-append}
 use Rattle.cqlp_skip.proofs.Feeding.{goes_on, still_refused}
@@ -25,35 +25,35 @@ use Rattle.cqlp_c.specs.declared.batch.Stop.TheVariants as stop
 use Rattle.cqlp_c.specs.declared.course.CqlpBegun.{CqlpBegun}
 use Rattle.cqlp_c.specs.declared.course.CqlpCourse.{CqlpCourse}
 use Rattle.cqlp_c.specs.declared.event.CqlpEvent.{CqlpEvent}
-use Rattle.cqlp_c.specs.Batches.{Buffer, Fills, Put, StopsBy, TellsAll, buffer_in, events_of}
+use Rattle.cqlp_c.specs.Batches.{Buffer, Fills, Put, StopsBy, WritesAll, buffer_in, events_of}
 use Rattle.cqlp_c.specs.Course.{batch_from, begun_after, begun_by, gone_on, placed, placed_from, stop_from}
-use Rattle.cqlp_c.specs.Events as told
+use Rattle.cqlp_c.specs.Events as model
 use Rattle.cqlp_c.specs.Handle.{PutsOn}
-use Rattle.cqlp_c.specs.Stretched.{AfterCalls, AreTold, EndsBy, ReadsOn, begun_of}
+use Rattle.cqlp_c.specs.Stretched.{AfterCalls, AreWritten, EndsBy, ReadsOn, begun_of}
 use Rattle.cqlp_c.proofs.Beginning.{not_edge}
 use Rattle.cqlp_c.proofs.Placing.{used_from}
 
 -- ---- the frame under way
 
-begun_told : (f : Option OpenFrame) (at : ℕ) (e : Event) (place : Ptr) → begun_after (begun_of f) (told.told_at at e place) ≡ begun_of (frame_after f at e)
-begun_told f at (Frame h) place = refl
-begun_told f at (Holds g v) place = not_edge (begun_of f) at (Holds g v) place refl
-begun_told f at (Node_of k) place = refl
-begun_told f at (Cell_at row column e) place = not_edge (begun_of f) at (Cell_at row column e) place refl
-begun_told f at (Leave level n) place = refl
-begun_told f at (End n) place = refl
+begun_from_c : (f : Option OpenFrame) (at : ℕ) (e : Event) (place : Ptr) → begun_after (begun_of f) (model.stream_offset at e place) ≡ begun_of (frame_after f at e)
+begun_from_c f at (Frame h) place = refl
+begun_from_c f at (Holds g v) place = not_edge (begun_of f) at (Holds g v) place refl
+begun_from_c f at (Node_of k) place = refl
+begun_from_c f at (Cell_at row column e) place = not_edge (begun_of f) at (Cell_at row column e) place refl
+begun_from_c f at (Leave level n) place = refl
+begun_from_c f at (End n) place = refl
 
-begun_puts : (f : Option OpenFrame) (begins : Ptr) (b : Buffer) (cs : List CqlpEvent) (ps : List Put) → TellsAll begins b cs ps → begun_by (begun_of f) cs ≡ begun_of (frame_from f (events_of ps))
+begun_puts : (f : Option OpenFrame) (begins : Ptr) (b : Buffer) (cs : List CqlpEvent) (ps : List Put) → WritesAll begins b cs ps → begun_by (begun_of f) cs ≡ begun_of (frame_from f (events_of ps))
 begun_puts f begins b [] [] t = refl
 begun_puts f begins b [] (p ∷ ps) t = absurd t
 begun_puts f begins b (c ∷ cs) [] t = absurd t
 begun_puts f begins b (c ∷ cs) (p ∷ ps) t =
-    ap (λ (g : CqlpBegun). begun_by g cs) (ap (λ (d : CqlpEvent). begun_after (begun_of f) d) t.0.2 ∙ begun_told f p.at p.event t.0.0)
+    ap (λ (g : CqlpBegun). begun_by g cs) (ap (λ (d : CqlpEvent). begun_after (begun_of f) d) t.0.2 ∙ begun_from_c f p.at p.event t.0.0)
     ∙ begun_puts (frame_after f p.at p.event) begins b cs ps t.1
 
 -- ---- offsets in the whole stream
 
-moved : (g : ℕ → ℕ) (at : ℕ) (e : Event) (place : Ptr) → ◌≡◌ {A = CqlpEvent} (record (told.told_at at e place) { at = g (told.told_at at e place).at }) (told.told_at (g at) e place)
+moved : (g : ℕ → ℕ) (at : ℕ) (e : Event) (place : Ptr) → ◌≡◌ {A = CqlpEvent} (record (model.stream_offset at e place) { at = g (model.stream_offset at e place).at }) (model.stream_offset (g at) e place)
 moved g at (Frame h) place = refl
 moved g at (Holds f (field.Byte n)) place = refl
 moved g at (Holds f (field.Short n)) place = refl
@@ -100,24 +100,24 @@ moved g at (Cell_at row column (cell.Part level offset c last)) place = refl
 moved g at (Leave level n) place = refl
 moved g at (End n) place = refl
 
-told_first : (begins : Ptr) (b : Buffer) (cs : List CqlpEvent) (ps : List Put) → TellsAll begins b cs ps → AreTold 0 cs ps
-told_first begins b [] [] t = tt
-told_first begins b [] (p ∷ ps) t = absurd t
-told_first begins b (c ∷ cs) [] t = absurd t
-told_first begins b (c ∷ cs) (p ∷ ps) t = ((t.0.0, t.0.2), told_first begins b cs ps t.1)
+written_first : (begins : Ptr) (b : Buffer) (cs : List CqlpEvent) (ps : List Put) → WritesAll begins b cs ps → AreWritten 0 cs ps
+written_first begins b [] [] t = tt
+written_first begins b [] (p ∷ ps) t = absurd t
+written_first begins b (c ∷ cs) [] t = absurd t
+written_first begins b (c ∷ cs) (p ∷ ps) t = ((t.0.0, t.0.2), written_first begins b cs ps t.1)
 
-told_further : (n : ℕ) (begins : Ptr) (b : Buffer) (cs : List CqlpEvent) (ps : List Put) → TellsAll begins b cs ps → AreTold (suc n) (placed_from (suc n) cs) ps
-told_further n begins b [] [] t = tt
-told_further n begins b [] (p ∷ ps) t = absurd t
-told_further n begins b (c ∷ cs) [] t = absurd t
-told_further n begins b (c ∷ cs) (p ∷ ps) t = (
-  (t.0.0, ap (λ (d : CqlpEvent). record d { at = told_at (suc n) d.at }) t.0.2 ∙ moved (told_at (suc n)) p.at p.event t.0.0),
-  told_further n begins b cs ps t.1,
+written_further : (n : ℕ) (begins : Ptr) (b : Buffer) (cs : List CqlpEvent) (ps : List Put) → WritesAll begins b cs ps → AreWritten (suc n) (placed_from (suc n) cs) ps
+written_further n begins b [] [] t = tt
+written_further n begins b [] (p ∷ ps) t = absurd t
+written_further n begins b (c ∷ cs) [] t = absurd t
+written_further n begins b (c ∷ cs) (p ∷ ps) t = (
+  (t.0.0, ap (λ (d : CqlpEvent). record d { at = stream_offset (suc n) d.at }) t.0.2 ∙ moved (stream_offset (suc n)) p.at p.event t.0.0),
+  written_further n begins b cs ps t.1,
 )
 
-are_told : (base : ℕ) (begins : Ptr) (b : Buffer) (cs : List CqlpEvent) (ps : List Put) → TellsAll begins b cs ps → AreTold base (placed base cs) ps
-are_told zero begins b cs ps t = told_first begins b cs ps t
-are_told (suc n) begins b cs ps t = told_further n begins b cs ps t
+are_written : (base : ℕ) (begins : Ptr) (b : Buffer) (cs : List CqlpEvent) (ps : List Put) → WritesAll begins b cs ps → AreWritten base (placed base cs) ps
+are_written zero begins b cs ps t = written_first begins b cs ps t
+are_written (suc n) begins b cs ps t = written_further n begins b cs ps t
 
 length_further : (base : ℕ) (cs : List CqlpEvent) → length (placed_from base cs) ≡ length cs
 length_further base [] = refl
@@ -224,7 +224,7 @@ module _ (xs s later : List ℕ) (old new : Decoding) (from to : CqlpCourse) (in
   stands = record {
     stands = goes_on old new from.base from.used (min (from.used + b.used) (2 ^ 64 - 1)) from.last (frame_under_way events) (frame_under_way (events ++ more)) xs s input later stretches gifts events p.passed a.stands is p.is_passed p.puts.rules
         (s ++ take b.used input) more p.own.used (ap (λ (n : ℕ). s ++ take n input) used) few f.after frame (ap (λ (n : ℕ). min (from.used + n) (2 ^ 64 - 1)) used) (refused (state old).refusal refl);
-    frame = ap (λ (g : CqlpBegun). begun_by g (take p.own.events p.events)) a.frame ∙ begun_puts (frame_under_way events) (begins +ₚ p.passed) (buffer_in new) (take p.own.events p.events) f.puts f.told ∙ ap begun_of (sym frame);
+    frame = ap (λ (g : CqlpBegun). begun_by g (take p.own.events p.events)) a.frame ∙ begun_puts (frame_under_way events) (begins +ₚ p.passed) (buffer_in new) (take p.own.events p.events) f.puts f.written ∙ ap begun_of (sym frame);
   }
 
   ends : (x : Stop) → StopsBy gifts (state old) (state new) (drop from.base s) (drop p.passed input) events (length before) p.own.used f.puts x → EndsBy (stop_in from.base x) new from.base s input gifts (events ++ more)
@@ -232,18 +232,18 @@ module _ (xs s later : List ℕ) (old new : Decoding) (from to : CqlpCourse) (in
   ends stop.Full h = full_in from.base new s input gifts (events ++ more)
   ends (stop.Refused r) h = refused_in from.base new s input gifts (events ++ more) r h.3
 
-  told_here : AreTold from.base (take b.events after) f.puts
-  told_here =
+  written_here : AreWritten from.base (take b.events after) f.puts
+  written_here =
       let cs = take p.own.events p.events in
       let long : length (placed from.base cs) ≡ p.own.events = length_placed from.base cs ∙ length-take-le p.own.events p.events (omega (arith, p.puts.within.1, p.puts.room)) in
       let at : take b.events after ≡ placed from.base cs = ap (λ (n : ℕ). take n after) count ∙ ap (take p.own.events) p.placed ∙ front p.own.events (placed from.base cs) (drop p.own.events p.events) long in
-      subst (λ (z : List CqlpEvent). AreTold from.base z f.puts) (sym at) (are_told from.base (begins +ₚ p.passed) (buffer_in new) cs f.puts f.told)
+      subst (λ (z : List CqlpEvent). AreWritten from.base z f.puts) (sym at) (are_written from.base (begins +ₚ p.passed) (buffer_in new) cs f.puts f.written)
 
   pub reads_on : ReadsOn xs new from to s input stretches gifts events b after
   reads_on = record {
     puts = f.puts;
     count = f.count ∙ sym count;
     stands = subst (λ (c : CqlpCourse). AfterCalls xs new c (s ++ take b.used input) stretches gifts (events ++ more)) (sym p.course) stands;
-    told = told_here;
+    written = written_here;
     ends = subst (λ (x : Stop). EndsBy x new from.base s input gifts (events ++ more)) (sym (ap (λ (z : Batch). z.stop) p.batch ∙ stops_in from.base p.passed p.own)) (ends p.own.stop f.stops);
   }

@@ -21,8 +21,8 @@ more_stand before bytes old new more at end s is behind first others = record {
 pub lt_false : (m n : ℕ) → n ≤ m → nat_lt m n ≡ false
 lt_false m n le = grind (arith, le)
 
-pub put_stand : (before bytes after : List ℕ) (told : ℕ) → length bytes ≤ length before → told ≡ length bytes → Stand before bytes after → PutsBytes bytes numbers.DONE before after told
-put_stand before bytes after told fits is s =
+pub put_stand : (before bytes after : List ℕ) (written : ℕ) → length bytes ≤ length before → written ≡ length bytes → Stand before bytes after → PutsBytes bytes numbers.DONE before after written
+put_stand before bytes after written fits is s =
     let all : after ≡ bytes ++ drop (length bytes) before = sym (take-append-drop (length bytes) after) ∙ ap (λ (z : List ℕ). z ++ drop (length bytes) after) s.first ∙ ap (λ (z : List ℕ). bytes ++ z) (s.others (length bytes) (omega arith)) in
     (subst (λ (b : Bool). PutsWhere b bytes numbers.DONE before after) (sym (lt_false (length before) (length bytes) fits)) (refl, all), is)
 
@@ -38,12 +38,12 @@ pub record Follow (old bytes : List ℕ) (at end : ℕ) (new : List ℕ) : Type 
   pub first : take end new ≡ take at old ++ bytes
   pub others : (n : ℕ) → end ≤ n → drop n new ≡ drop n old
 
-pub four_follow : (room r1 r2 r3 r4 a b n z : List ℕ) (e1 e2 e3 e4 told : ℕ) → Follow room a 0 e1 r1 → Follow r1 b e1 e2 r2 → Follow r2 n e2 e3 r3 → Follow r3 z e3 e4 r4 → told ≡ length a + (length b + length n + length z) → told ≤ length room
-    → PutsBytes (((a ++ b) ++ n) ++ z) numbers.DONE room r4 told
-four_follow room r1 r2 r3 r4 a b n z e1 e2 e3 e4 told fa fb fn fz is fits =
+pub four_follow : (room r1 r2 r3 r4 a b n z : List ℕ) (e1 e2 e3 e4 written : ℕ) → Follow room a 0 e1 r1 → Follow r1 b e1 e2 r2 → Follow r2 n e2 e3 r3 → Follow r3 z e3 e4 r4 → written ≡ length a + (length b + length n + length z) → written ≤ length room
+    → PutsBytes (((a ++ b) ++ n) ++ z) numbers.DONE room r4 written
+four_follow room r1 r2 r3 r4 a b n z e1 e2 e3 e4 written fa fb fn fz is fits =
     let one = more_stand room [] room r1 a 0 e1 (none_stand room) refl fa.behind fa.first fa.others in
     let two = more_stand room a r1 r2 b e1 e2 one (omega (arith, fa.behind)) fb.behind fb.first fb.others in
     let three = more_stand room (a ++ b) r2 r3 n e2 e3 two (omega (arith, fa.behind, fb.behind, length-append a b)) fn.behind fn.first fn.others in
     let four = more_stand room ((a ++ b) ++ n) r3 r4 z e3 e4 three (omega (arith, fa.behind, fb.behind, fn.behind, length-append a b, length-append (a ++ b) n)) fz.behind fz.first fz.others in
-    let long : told ≡ length (((a ++ b) ++ n) ++ z) = omega (arith, is, length-append a b, length-append (a ++ b) n, length-append ((a ++ b) ++ n) z) in
-    put_stand room (((a ++ b) ++ n) ++ z) r4 told (omega (arith, long, fits)) long four
+    let long : written ≡ length (((a ++ b) ++ n) ++ z) = omega (arith, is, length-append a b, length-append (a ++ b) n, length-append ((a ++ b) ++ n) z) in
+    put_stand room (((a ++ b) ++ n) ++ z) r4 written (omega (arith, long, fits)) long four

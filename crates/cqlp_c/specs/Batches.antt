@@ -15,7 +15,7 @@ use Rattle.cqlp_c.specs.declared.event.CqlpEvent.{CqlpEvent}
 use Rattle.cqlp_c.specs.declared.batch.Batch.{Batch}
 use Rattle.cqlp_c.specs.declared.batch.Stop.{Stop}
 use Rattle.cqlp_c.specs.declared.batch.Stop.TheVariants as stop
-use Rattle.cqlp_c.specs.Events.{before_gathered, content_span, told_at}
+use Rattle.cqlp_c.specs.Events.{before_gathered, content_span, written_at}
 
 -- An event that was put, at this offset of the stream. Its step used the bytes of the input from `from` to `end`.
 pub record Put : Type 0 where
@@ -76,29 +76,29 @@ LiesBy input b p None place = place ≡ null_ptr
 LiesBy input b p (Some content) place =
     (IsInInput p → place ≡ input +ₚ (p.end - length content)) × (IsGathered p → LiesInBuffer b p.event content place)
 
--- C is told of this event, and where its content lies.
-abbrev pub TellsPut : (input : Ptr) → Buffer → CqlpEvent → Put → Type 0
-TellsPut input b c p = (place : Ptr) × LiesBy input b p (content_in p.event) place × (c ≡ told_at p.at p.event place)
+-- C gets this event, and where its content lies.
+abbrev pub WritesPut : (input : Ptr) → Buffer → CqlpEvent → Put → Type 0
+WritesPut input b c p = (place : Ptr) × LiesBy input b p (content_in p.event) place × (c ≡ written_at p.at p.event place)
 
 -- these are the events, as C sees them, one for one
-abbrev pub TellsAll : (input : Ptr) → Buffer → List CqlpEvent → List Put → Type 0
-TellsAll input b [] [] = ⊤
-TellsAll input b (c ∷ cs) (p ∷ ps) = TellsPut input b c p × TellsAll input b cs ps
-TellsAll input b cs ps = ⊥
+abbrev pub WritesAll : (input : Ptr) → Buffer → List CqlpEvent → List Put → Type 0
+WritesAll input b [] [] = ⊤
+WritesAll input b (c ∷ cs) (p ∷ ps) = WritesPut input b c p × WritesAll input b cs ps
+WritesAll input b cs ps = ⊥
 
 -- The same of a step, before the address of a gathered content is put.
 abbrev pub LiesByStep : (input : Ptr) → Put → Option (List ℕ) → Ptr → Type 0
 LiesByStep input p None place = place ≡ null_ptr
 LiesByStep input p (Some content) place = IsInInput p → place ≡ input +ₚ (p.end - length content)
 
-abbrev pub TellsStep : (input : Ptr) → CqlpEvent → Put → Type 0
-TellsStep input c p = (place : Ptr) × LiesByStep input p (content_in p.event) place × (c ≡ told_at p.at p.event place)
+abbrev pub WritesStep : (input : Ptr) → CqlpEvent → Put → Type 0
+WritesStep input c p = (place : Ptr) × LiesByStep input p (content_in p.event) place × (c ≡ written_at p.at p.event place)
 
 -- an event of a step that lends a content in the decoder is put with where it lies there
 abbrev pub PutsGathered : Buffer → (before after : CqlpEvent) → Type 0
 PutsGathered b before after =
-    (input : Ptr) (p : Put) → p.from ≤ p.end → IsGathered p → IsContent p.event b.bytes → TellsStep input before p
-    → TellsPut input b after p
+    (input : Ptr) (p : Put) → p.from ≤ p.end → IsGathered p → IsContent p.event b.bytes → WritesStep input before p
+    → WritesPut input b after p
 
 abbrev pub AllInInput : List Put → Type 0
 AllInInput [] = ⊤
@@ -142,7 +142,7 @@ pub record Fills (gifts : Gifts) (old new : StreamState) (s input : List ℕ) (b
   pub puts : List Put
   pub count : length puts ≡ b.events
   pub put : Puts gifts old.rules s input es 0 puts
-  pub told : TellsAll begins buffer (take b.events events) puts
+  pub written : WritesAll begins buffer (take b.events events) puts
   pub after : AfterGifts gifts new (s ++ take b.used input) (es ++ events_of puts)
   pub stops : StopsBy gifts old new s input es room b.used puts b.stop
 

@@ -1,4 +1,4 @@
--- Laws of one answer of calls that make what a handle has, give it, take it back, and tell of it.
+-- Laws of one answer of calls that make what a handle has, give it, take it back, and describe it.
 use Rattle.std.specs.Prelude.{◌≡◌, ℕ, Bool, List, Option, Some, None, ◌⊎◌, ⊤}
 use Rattle.cqlp_kind.specs.declared.kind.Kind.{Kind}
 use Rattle.cqlp_grammar.specs.Events.{Event}
@@ -38,7 +38,7 @@ IsOneAnswerOfNew =
     → Makes lenient l old a x → Makes lenient l old b y
     → ((a ≡ b) × ((x ≡ y) ⊎ AreAtStart (with_lenient lenient (rules_of l)) x y)) ⊎ LacksMemory a b
 
--- What a decoder holds is told by the same numbers.
+-- What a decoder holds has the same numbers.
 abbrev pub IsOneAnswerOfHeld : Type 0
 IsOneAnswerOfHeld =
     (old x y : Option Decoding) (a b : ℕ) (was t u : CqlpHeld) → Holds old a x was t → Holds old b y was u → (a ≡ b) × (x ≡ y) × (t ≡ u)
@@ -82,7 +82,7 @@ IsOneAnswerOfColumnsNew =
     → columns.Makes l ns old a x → columns.Makes l ns old b y
     → ((a ≡ b) × ((x ≡ y) ⊎ AreMadeAlike (limits_of l) ns x y)) ⊎ LacksMemory a b
 
--- Of one column one place of each array is told, and one length.
+-- Of one column one place of each array is written, and one length.
 abbrev pub IsOneAnswerOfColumnsGet : Type 0
 IsOneAnswerOfColumnsGet =
     (old x y : Option (Option Batch)) (k a b : ℕ) (was t u : CqlpColumn) → Gets old x k a was t → Gets old y k b was u → (a ≡ b) × (x ≡ y) × (t ≡ u)

@@ -33,12 +33,12 @@ abbrev pub HasVerdict : Rules → (stream : List ℕ) → Finish → Type 0
 HasVerdict l stream f =
     (es : List (ℕ × Event)) × (v : Verdict) × Says l start stream es v × EndsBy v stream es f
 
-abbrev pub ChecksBy : Limits → Result Unit BadLimits → (stream : List ℕ) → (code : ℕ) → (was told : CqlpEnd) → Type 0
-ChecksBy l (Err limit) stream code was told = (code ≡ code_of_limit limit) × (told ≡ was)
-ChecksBy l (Ok u) stream code was told =
-    ((code ≡ numbers.NO_MEMORY) × (told ≡ was))
-    ⊎ ((code ≡ numbers.DONE) × (f : Finish) × (told ≡ end_of f) × HasVerdict (rules_of l) stream f)
+abbrev pub ChecksBy : Limits → Result Unit BadLimits → (stream : List ℕ) → (code : ℕ) → (was written : CqlpEnd) → Type 0
+ChecksBy l (Err limit) stream code was written = (code ≡ code_of_limit limit) × (written ≡ was)
+ChecksBy l (Ok u) stream code was written =
+    ((code ≡ numbers.NO_MEMORY) × (written ≡ was))
+    ⊎ ((code ≡ numbers.DONE) × (f : Finish) × (written ≡ end_of f) × HasVerdict (rules_of l) stream f)
 
 -- What `cqlp_check` answers: the verdict of the stream, or the code says why there is none.
-abbrev pub Checks : Limits → (stream : List ℕ) → (code : ℕ) → (was told : CqlpEnd) → Type 0
-Checks l stream code was told = ChecksBy l (first_bad l) stream code was told
+abbrev pub Checks : Limits → (stream : List ℕ) → (code : ℕ) → (was written : CqlpEnd) → Type 0
+Checks l stream code was written = ChecksBy l (first_bad l) stream code was written

@@ -19,32 +19,32 @@ ClientCore = CarryingClient ℕ
 
 -- what a core answers to a request of this kind, if it is one, with which this number is carried
 abbrev pub BeginsKind : (old : ClientCore) → Option RequestKind → (carried code : ℕ) → (new : ClientCore)
-    → (was told : CqlpTicket) → Type 0
-BeginsKind c None carried code new was told = (code ≡ numbers.NO_REQUEST) × (new ≡ c) × (told ≡ was)
-BeginsKind c (Some k) carried code new was told =
+    → (was written : CqlpTicket) → Type 0
+BeginsKind c None carried code new was written = (code ≡ numbers.NO_REQUEST) × (new ≡ c) × (written ≡ was)
+BeginsKind c (Some k) carried code new was written =
     (code ≡ code_of_begin (ticket_for c.core k)) × (new ≡ begun_with c k carried)
-    × (told ≡ ticket_after (ticket_for c.core k) was)
+    × (written ≡ ticket_after (ticket_for c.core k) was)
 
 abbrev pub Begins : (old : Option ClientCore) → Option RequestKind → (carried code : ℕ) → (new : Option ClientCore)
-    → (was told : CqlpTicket) → Type 0
-Begins None k carried code new was told = (code ≡ numbers.NO_CLIENT) × (new ≡ None) × (told ≡ was)
-Begins (Some c) k carried code new was told =
-    (d : ClientCore) × (new ≡ Some d) × BeginsKind c k carried code d was told
+    → (was written : CqlpTicket) → Type 0
+Begins None k carried code new was written = (code ≡ numbers.NO_CLIENT) × (new ≡ None) × (written ≡ was)
+Begins (Some c) k carried code new was written =
+    (d : ClientCore) × (new ≡ Some d) × BeginsKind c k carried code d was written
 
 -- ---- reply
 
--- What a core answers to this signal, if it is one: the number that is told is the one that is carried under its stream id.
+-- What a core answers to this signal, if it is one: the number that is written is the one that is carried under its stream id.
 abbrev pub HearsSignal : (old : ClientCore) → Option Signal → (code : ℕ) → (new : ClientCore)
-    → (was told : CqlpReply) → Type 0
-HearsSignal c None code new was told = (code ≡ numbers.NO_FRAME) × (new ≡ c) × (told ≡ was)
-HearsSignal c (Some s) code new was told =
+    → (was written : CqlpReply) → Type 0
+HearsSignal c None code new was written = (code ≡ numbers.NO_FRAME) × (new ≡ c) × (written ≡ was)
+HearsSignal c (Some s) code new was written =
     (code ≡ code_of_reply (reply_to c.core s)) × (new ≡ replied_with c s)
-    × (told ≡ reply_after (reply_to c.core s) (under c.carried s.stream) was)
+    × (written ≡ reply_after (reply_to c.core s) (under c.carried s.stream) was)
 
 abbrev pub Hears : (old : Option ClientCore) → Option Signal → (code : ℕ) → (new : Option ClientCore)
-    → (was told : CqlpReply) → Type 0
-Hears None s code new was told = (code ≡ numbers.NO_CLIENT) × (new ≡ None) × (told ≡ was)
-Hears (Some c) s code new was told = (d : ClientCore) × (new ≡ Some d) × HearsSignal c s code d was told
+    → (was written : CqlpReply) → Type 0
+Hears None s code new was written = (code ≡ numbers.NO_CLIENT) × (new ≡ None) × (written ≡ was)
+Hears (Some c) s code new was written = (d : ClientCore) × (new ≡ Some d) × HearsSignal c s code d was written
 
 -- ---- cancel, phase and free
 
@@ -54,9 +54,9 @@ Cancels (Some c) t code new =
     (code ≡ (if cancels c.core (given_ticket t) then numbers.DONE else numbers.NOT_CANCELLED))
     × (new ≡ Some (cancelled_with c (given_ticket t)))
 
-abbrev pub Stands : (old : Option ClientCore) → (code : ℕ) → (new : Option ClientCore) → (was told : ℕ) → Type 0
-Stands None code new was told = (code ≡ numbers.NO_CLIENT) × (new ≡ None) × (told ≡ was)
-Stands (Some c) code new was told = (code ≡ numbers.DONE) × (new ≡ Some c) × (told ≡ number_of_phase c.core.phase)
+abbrev pub Stands : (old : Option ClientCore) → (code : ℕ) → (new : Option ClientCore) → (was written : ℕ) → Type 0
+Stands None code new was written = (code ≡ numbers.NO_CLIENT) × (new ≡ None) × (written ≡ was)
+Stands (Some c) code new was written = (code ≡ numbers.DONE) × (new ≡ Some c) × (written ≡ number_of_phase c.core.phase)
 
 abbrev pub code_of_free : Option ClientCore → ℕ
 code_of_free None = numbers.NO_CLIENT

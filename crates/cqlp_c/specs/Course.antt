@@ -6,7 +6,7 @@ use Rattle.cqlp_grammar.specs.Events.{Event, Frame, End}
 use Rattle.cqlp_grammar.specs.declared.event.Finish.{Finish}
 use Rattle.cqlp_grammar.specs.declared.event.Finish.TheVariants as finish
 use Rattle.cqlp_skip.specs.Pieces as pieces
-use Rattle.cqlp_skip.specs.Stretches.{told_at}
+use Rattle.cqlp_skip.specs.Stretches.{stream_offset}
 use Rattle.cqlp_c.specs.declared.batch.Batch.{Batch}
 use Rattle.cqlp_c.specs.declared.batch.Stop.{Stop}
 use Rattle.cqlp_c.specs.declared.batch.Stop.TheVariants as stop
@@ -54,7 +54,7 @@ begun_by f (c ∷ cs) = begun_by (begun_after f c) cs
 
 -- the event of its header, in a stretch that begins at `base`
 abbrev pub event_begun : (base : ℕ) → CqlpBegun → CqlpEvent
-event_begun base f = record (blank (told_at base f.at)) {
+event_begun base f = record (blank (stream_offset base f.at)) {
   number = f.number;
   extra = f.extra;
   opcode = f.opcode;
@@ -90,7 +90,7 @@ gone_on c n = record c { used = min (c.used + n) (2 ^ 64 - 1) }
 -- events at their offsets in the whole stream, in which their stretch begins at `base`
 abbrev pub placed_from : (base : ℕ) → List CqlpEvent → List CqlpEvent
 placed_from base [] = []
-placed_from base (c ∷ cs) = record c { at = told_at base c.at } ∷ placed_from base cs
+placed_from base (c ∷ cs) = record c { at = stream_offset base c.at } ∷ placed_from base cs
 
 -- those of the first stretch are there already
 abbrev pub placed : (base : ℕ) → List CqlpEvent → List CqlpEvent
@@ -114,8 +114,8 @@ batch_from (suc n) passed b =
 -- ---- the end
 
 abbrev pub finish_from : (base : ℕ) → Finish → Finish
-finish_from base (finish.Whole bytes) = finish.Whole (told_at base bytes)
-finish_from base (finish.Cut frame_at bytes) = finish.Cut (told_at base frame_at) (told_at base bytes)
+finish_from base (finish.Whole bytes) = finish.Whole (stream_offset base bytes)
+finish_from base (finish.Cut frame_at bytes) = finish.Cut (stream_offset base frame_at) (stream_offset base bytes)
 finish_from base (finish.Refused r) = finish.Refused (refusal_from base r)
 
 -- The stream ends within the frame that was passed over last, while bytes of that are missing, and else as its present stretch does.
@@ -128,7 +128,7 @@ abbrev pub skip_to : Option ℕ → Refusal → CqlpCourse → Result CqlpSkippe
 skip_to None r c = Err TooFar
 skip_to (Some end) r c = Ok (record {
   frame = event_begun c.base c.frame;
-  at = told_at c.base r.at;
+  at = stream_offset c.base r.at;
   rest = end - c.used;
   reason = number_of_reason r.why;
 })

@@ -9,15 +9,15 @@ use Rattle.cqlp_message.specs.Frames.{IsWithin, frame_bytes}
 use Rattle.cqlp_decode.specs.Reading.{Waits, Says, start}
 use Rattle.cqlp_build.specs.Building.{HaveNoParts, is_inner}
 use Rattle.cqlp_build.specs.Closing.{closed}
-use Rattle.cqlp_build.specs.Laws.{told_all}
+use Rattle.cqlp_build.specs.Laws.{without_offsets}
 use Rattle.cqlp_compose.specs.Composing.{ComposerState, IsWrittenOf, refusal_of, with_next}
 use Rattle.cqlp_c.specs.declared.encode.CqlpEncoded.{CqlpEncoded}
 use Rattle.cqlp_c.specs.declared.encode.Stopped.{Stopped}
 use Rattle.cqlp_c.specs.declared.event.CqlpEvent.{CqlpEvent}
 use Rattle.cqlp_c.specs.declared.numbers.TheConstants as numbers
 use Rattle.cqlp_c.specs.Encoding.{Encodes, IsEncoded, Taken, after_all, on_from, unless}
-use Rattle.cqlp_c.specs.Events.{Tells, content_of}
-use Rattle.cqlp_c.specs.ToldLaws.{EventIsInRange, is_part, kept}
+use Rattle.cqlp_c.specs.Events.{Writes, content_of}
+use Rattle.cqlp_c.specs.FromCLaws.{EventIsInRange, is_part, kept}
 
 -- Of the same events with the same contents, and into the same room, there is one answer, but where memory is refused.
 abbrev pub IsOneAnswerOfEncode : Type 0
@@ -28,27 +28,27 @@ IsOneAnswerOfEncode =
 
 -- ---- events that a decoder said
 
--- these are the events, as C is told of them, one for one, at some offsets
-abbrev pub AreTold : List CqlpEvent → List Event → Type 0
-AreTold [] [] = ⊤
-AreTold (c ∷ cs) (e ∷ es) = ((at : ℕ) × Tells c at e) × AreTold cs es
-AreTold cs es = ⊥
+-- these are the events, as C gets them, one for one, at some offsets
+abbrev pub AreWritten : List CqlpEvent → List Event → Type 0
+AreWritten [] [] = ⊤
+AreWritten (c ∷ cs) (e ∷ es) = ((at : ℕ) × Writes c at e) × AreWritten cs es
+AreWritten cs es = ⊥
 
 -- numbers, arrays and texts are those of Rust values, and no event is a part
-abbrev pub CanBeTold : List Event → Type 0
-CanBeTold [] = ⊤
-CanBeTold (e ∷ es) = EventIsInRange e × (is_part e ≡ false) × CanBeTold es
+abbrev pub CanBeWritten : List Event → Type 0
+CanBeWritten [] = ⊤
+CanBeWritten (e ∷ es) = EventIsInRange e × (is_part e ≡ false) × CanBeWritten es
 
 -- What becomes of a composer's events, one after the other: all are taken, or the n-th is the first that is not.
 abbrev pub after_events : (n : ℕ) → Taken → List Event → Result Taken Stopped
 after_events n t [] = Ok t
 after_events n t (e ∷ es) = on_from n (unless (refusal_of t.0 e) (with_next t.0 e, t.1)) (λ u. after_events (suc n) u es)
 
--- What C is told of events, with their contents one after the other, is taken as a composer takes the events.
-abbrev pub AllAreToldBack : Type 0
-AllAreToldBack =
+-- What C gets of events, with their contents one after the other, is taken as a composer takes the events.
+abbrev pub AllAreReadBack : Type 0
+AllAreReadBack =
     (es : List Event) (cs : List CqlpEvent) (n : ℕ) (s : ComposerState) (others : List ℕ)
-    → CanBeTold es → AreTold cs es
+    → CanBeWritten es → AreWritten cs es
     → after_all n (s, flat_map content_of es ++ others) cs ≡ after_events n (s, others) (map kept es)
 
 -- ---- what is written
@@ -64,18 +64,18 @@ pub record IsReadAs (h : Header) (fields : List Event) (bytes : List ℕ) : Type
   pub frame : FrameValue
   pub are : bytes ≡ frame_bytes frame
   pub said : (l : Rules) → IsWithin l frame
-      → (told : List (ℕ × Event)) × Says l start bytes told Waits × (AreWhole l (told_all told) → told_all told ≡ closed h size fields)
+      → (written : List (ℕ × Event)) × Says l start bytes written Waits × (AreWhole l (without_offsets written) → without_offsets written ≡ closed h size fields)
 
 -- What is written of a header and fields is read as these.
-abbrev pub WrittenIsTold : Type 0
-WrittenIsTold = (h : Header) (fields : List Event) (bytes : List ℕ) → IsWrittenOf (Frame h ∷ fields) bytes → IsReadAs h fields bytes
+abbrev pub WrittenReadsBack : Type 0
+WrittenReadsBack = (h : Header) (fields : List Event) (bytes : List ℕ) → IsWrittenOf (Frame h ∷ fields) bytes → IsReadAs h fields bytes
 
--- Of the events of a frame, as C is told of them, with their contents one after the other, what is written is read as the same header and fields.
+-- Of the events of a frame, as C gets them, with their contents one after the other, what is written is read as the same header and fields.
 abbrev pub HandedBackIsRead : Type 0
 HandedBackIsRead =
     (h : Header) (fields : List Event) (extra : ℕ) (cs : List CqlpEvent) (bytes : List ℕ)
     → AllByRecursion (λ e. is_inner e ≡ true) fields
-    → CanBeTold (Frame h ∷ fields ++ End extra ∷ []) → AreTold cs (Frame h ∷ fields ++ End extra ∷ [])
+    → CanBeWritten (Frame h ∷ fields ++ End extra ∷ []) → AreWritten cs (Frame h ∷ fields ++ End extra ∷ [])
     → IsEncoded cs (flat_map content_of (Frame h ∷ fields ++ End extra ∷ [])) bytes
     → IsReadAs h fields bytes
 

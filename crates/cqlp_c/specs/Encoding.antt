@@ -14,10 +14,10 @@ use Rattle.cqlp_c.specs.declared.encode.Unencoded.{Unencoded}
 use Rattle.cqlp_c.specs.declared.encode.Unencoded.TheVariants as unencoded
 use Rattle.cqlp_c.specs.declared.event.CqlpEvent.{CqlpEvent}
 use Rattle.cqlp_c.specs.declared.numbers.TheConstants as numbers
-use Rattle.cqlp_c.specs.declared.told.NotTold.{NotTold}
-use Rattle.cqlp_c.specs.declared.told.NotTold.TheVariants as not_told
+use Rattle.cqlp_c.specs.declared.from_c.BadEvent.{BadEvent}
+use Rattle.cqlp_c.specs.declared.from_c.BadEvent.TheVariants as bad_event
 use Rattle.cqlp_c.specs.Rooms.{PutsBytes}
-use Rattle.cqlp_c.specs.Told.{content_len, event_told}
+use Rattle.cqlp_c.specs.FromC.{content_len, event_from_c}
 
 -- ---- events one after the other
 
@@ -30,19 +30,19 @@ unless None t = Ok t
 unless (Some why) t = Err (unencoded.Refused why)
 
 -- an event is taken where nothing keeps it from being the next
-abbrev pub with_told : ComposerState → Result Event NotTold → (rest : List ℕ) → Result Taken Unencoded
-with_told s (Err why) rest = Err (unencoded.Untold why)
-with_told s (Ok e) rest = unless (refusal_of s e) (with_next s e, rest)
+abbrev pub with_c_event : ComposerState → Result Event BadEvent → (rest : List ℕ) → Result Taken Unencoded
+with_c_event s (Err why) rest = Err (unencoded.BadEvent why)
+with_c_event s (Ok e) rest = unless (refusal_of s e) (with_next s e, rest)
 
--- What becomes of what C tells as an event.
+-- What becomes of what C passes as an event.
 abbrev pub after_one : Taken → CqlpEvent → Result Taken Unencoded
-after_one t c = with_told t.0 (event_told c t.1) (drop (content_len c) t.1)
+after_one t c = with_c_event t.0 (event_from_c c t.1) (drop (content_len c) t.1)
 
 abbrev pub on_from : (n : ℕ) → Result Taken Unencoded → (Taken → Result Taken Stopped) → Result Taken Stopped
 on_from n (Ok t) f = f t
 on_from n (Err why) f = Err (record { event = n; why = why })
 
--- What becomes of what C tells as events, of which the first is the n-th: all are taken, or this one is the first that is not.
+-- What becomes of what C passes as events, of which the first is the n-th: all are taken, or this one is the first that is not.
 abbrev pub after_all : (n : ℕ) → Taken → List CqlpEvent → Result Taken Stopped
 after_all n t [] = Ok t
 after_all n t (c ∷ cs) = on_from n (after_one t c) (λ u. after_all (suc n) u cs)
@@ -103,11 +103,11 @@ IsUnencodedAt cs contents n why = StopsFor cs contents (record { event = n; why 
 abbrev pub IsUnencoded : List CqlpEvent → (contents : List ℕ) → Stopped → Type 0
 IsUnencoded cs contents r = IsUnencodedAt cs contents r.event r.why
 
--- ---- what C is told
+-- ---- what C gets
 
-abbrev pub code_of_untold : NotTold → ℕ
-code_of_untold not_told.NoEvent = numbers.NO_EVENT
-code_of_untold not_told.Unbuilt = numbers.UNBUILT
+abbrev pub code_of_bad_event : BadEvent → ℕ
+code_of_bad_event bad_event.NoEvent = numbers.NO_EVENT
+code_of_bad_event bad_event.Unbuilt = numbers.UNBUILT
 
 abbrev pub code_of_refused : BuildError → ℕ
 code_of_refused error.Misplaced = numbers.MISPLACED
@@ -119,22 +119,22 @@ code_of_refused error.NoFrame = numbers.NO_SUCH_FRAME
 code_of_refused error.NoMemory = numbers.NO_MEMORY
 
 abbrev pub code_of_unencoded : Unencoded → ℕ
-code_of_unencoded (unencoded.Untold why) = code_of_untold why
+code_of_unencoded (unencoded.BadEvent why) = code_of_bad_event why
 code_of_unencoded (unencoded.Refused why) = code_of_refused why
 code_of_unencoded unencoded.LeftOver = numbers.LEFT_OVER
 
--- The frame's bytes are put, where there is room, and it is told how many they are.
+-- The frame's bytes are put, where there is room, and it gets how many they are.
 abbrev pub PutsFrame : List CqlpEvent → (contents : List ℕ) → (code : ℕ) → (before after : List ℕ) → CqlpEncoded → Type 0
-PutsFrame cs contents code before after told =
-    (bytes : List ℕ) × IsEncoded cs contents bytes × PutsBytes bytes code before after told.length × (told.event ≡ length cs)
+PutsFrame cs contents code before after written =
+    (bytes : List ℕ) × IsEncoded cs contents bytes × PutsBytes bytes code before after written.length × (written.event ≡ length cs)
 
 -- There is no frame: nothing is put, and the code says why.
 abbrev pub PutsNone : List CqlpEvent → (contents : List ℕ) → (code : ℕ) → (before after : List ℕ) → CqlpEncoded → Type 0
-PutsNone cs contents code before after told =
+PutsNone cs contents code before after written =
     (r : Stopped) × IsUnencoded cs contents r × (code ≡ code_of_unencoded r.why) × (after ≡ before)
-    × (told ≡ record { length = 0; event = r.event })
+    × (written ≡ record { length = 0; event = r.event })
 
 -- What `cqlp_encode` answers.
 abbrev pub Encodes : List CqlpEvent → (contents : List ℕ) → (code : ℕ) → (before after : List ℕ) → CqlpEncoded → Type 0
-Encodes cs contents code before after told =
-    PutsFrame cs contents code before after told ⊎ PutsNone cs contents code before after told
+Encodes cs contents code before after written =
+    PutsFrame cs contents code before after written ⊎ PutsNone cs contents code before after written

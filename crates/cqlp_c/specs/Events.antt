@@ -167,12 +167,12 @@ abbrev pub content_after : Event → Option ℕ
 content_after e = option_map (λ content. before_content e) (content_in e)
 
 -- an event at an offset, with its content there
-abbrev pub told_at : (at : ℕ) → Event → Ptr → CqlpEvent
-told_at at e p = with_content (numbers_of at e) (content_of e) p
+abbrev pub written_at : (at : ℕ) → Event → Ptr → CqlpEvent
+written_at at e p = with_content (numbers_of at e) (content_of e) p
 
--- C is told of this event at this offset: its numbers, and where its content begins, with how many bytes.
-abbrev pub Tells : CqlpEvent → (at : ℕ) → Event → Type 0
-Tells c at e = LendsFrom (numbers_of at e) (content_in e) c
+-- C gets this event at this offset: its numbers, and where its content begins, with how many bytes.
+abbrev pub Writes : CqlpEvent → (at : ℕ) → Event → Type 0
+Writes c at e = LendsFrom (numbers_of at e) (content_in e) c
 
 -- ---- where a content lies
 

@@ -18,16 +18,16 @@ table_in (Some held) = held
 -- ---- the types of the metadata that was read last
 
 -- A handle without a table gets one that is equal to this one, where memory is there.
-abbrev pub CopiesFrom : Table → Option Table → (code : ℕ) → (was told : Option (Option Table)) → Type 0
-CopiesFrom types (Some t) code was told = (code ≡ numbers.IN_USE) × (told ≡ was)
-CopiesFrom types None code was told =
-    ((code ≡ numbers.NO_MEMORY) × (told ≡ was))
-    ⊎ ((code ≡ numbers.DONE) × (told ≡ Some (Some types)))
+abbrev pub CopiesFrom : Table → Option Table → (code : ℕ) → (was written : Option (Option Table)) → Type 0
+CopiesFrom types (Some t) code was written = (code ≡ numbers.IN_USE) × (written ≡ was)
+CopiesFrom types None code was written =
+    ((code ≡ numbers.NO_MEMORY) × (written ≡ was))
+    ⊎ ((code ≡ numbers.DONE) × (written ≡ Some (Some types)))
 
-abbrev pub Copies : (old : Option Decoding) → (code : ℕ) → (new : Option Decoding) → (was told : Option (Option Table))
+abbrev pub Copies : (old : Option Decoding) → (code : ℕ) → (new : Option Decoding) → (was written : Option (Option Table))
     → Type 0
-Copies None code new was told = (code ≡ numbers.NO_DECODER) × (new ≡ None) × (told ≡ was)
-Copies (Some d) code new was told = (new ≡ Some d) × CopiesFrom (last_types (state d)) (table_in was) code was told
+Copies None code new was written = (code ≡ numbers.NO_DECODER) × (new ≡ None) × (written ≡ was)
+Copies (Some d) code new was written = (new ≡ Some d) × CopiesFrom (last_types (state d)) (table_in was) code was written
 
 -- ---- give
 
@@ -41,30 +41,30 @@ code_of_reason reason.TooMany = numbers.TOO_MANY
 code_of_reason reason.TooDeep = numbers.TOO_DEEP
 
 -- The decoder has this table from here on, and gives back what it had before.
-pub record HasTaken (d : Decoding) (t : Table) (e : Decoding) (told : Option Table) : Type 0 where
+pub record HasTaken (d : Decoding) (t : Table) (e : Decoding) (written : Option Table) : Type 0 where
   pub given : state e ≡ once_given (state d) t
   pub also : GivesAlso (a_gift (types_of t.nodes)) (state d) (state e)
   pub levels : levels_of e.parts ≡ levels_of d.parts
-  pub back : told ≡ (state d).given
+  pub back : written ≡ (state d).given
 
 -- what giving a table comes to, by what is against it
-abbrev pub GivesBy : Decoding → Table → Option GiveReason → (code : ℕ) → (new : Decoding) → (told : Option Table) → Type 0
-GivesBy d t (Some why) code new told = (code ≡ code_of_reason why) × (new ≡ d) × (told ≡ Some t)
-GivesBy d t None code new told = (code ≡ numbers.DONE) × HasTaken d t new told
+abbrev pub GivesBy : Decoding → Table → Option GiveReason → (code : ℕ) → (new : Decoding) → (written : Option Table) → Type 0
+GivesBy d t (Some why) code new written = (code ≡ code_of_reason why) × (new ≡ d) × (written ≡ Some t)
+GivesBy d t None code new written = (code ≡ numbers.DONE) × HasTaken d t new written
 
-abbrev pub GivesTo : Decoding → Option Table → (code : ℕ) → (new : Decoding) → (told : Option Table) → Type 0
-GivesTo d None code new told = (code ≡ numbers.NO_TYPES) × (new ≡ d) × (told ≡ None)
-GivesTo d (Some t) code new told = GivesBy d t (reason_against (state d) t.nodes) code new told
+abbrev pub GivesTo : Decoding → Option Table → (code : ℕ) → (new : Decoding) → (written : Option Table) → Type 0
+GivesTo d None code new written = (code ≡ numbers.NO_TYPES) × (new ≡ d) × (written ≡ None)
+GivesTo d (Some t) code new written = GivesBy d t (reason_against (state d) t.nodes) code new written
 
 -- what giving what a handle has comes to, by whether it has memory
 abbrev pub GivesHeld : Decoding → (was : Option (Option Table)) → (code : ℕ) → (new : Decoding)
-    → (told : Option (Option Table)) → Type 0
-GivesHeld d None code new told = (code ≡ numbers.NO_TYPES) × (new ≡ d) × (told ≡ None)
-GivesHeld d (Some held) code new told = (left : Option Table) × (told ≡ Some left) × GivesTo d held code new left
+    → (written : Option (Option Table)) → Type 0
+GivesHeld d None code new written = (code ≡ numbers.NO_TYPES) × (new ≡ d) × (written ≡ None)
+GivesHeld d (Some held) code new written = (left : Option Table) × (written ≡ Some left) × GivesTo d held code new left
 
-abbrev pub Gives : (old : Option Decoding) → (code : ℕ) → (new : Option Decoding) → (was told : Option (Option Table)) → Type 0
-Gives None code new was told = (code ≡ numbers.NO_DECODER) × (new ≡ None) × (told ≡ was)
-Gives (Some d) code new was told = (e : Decoding) × (new ≡ Some e) × GivesHeld d was code e told
+abbrev pub Gives : (old : Option Decoding) → (code : ℕ) → (new : Option Decoding) → (was written : Option (Option Table)) → Type 0
+Gives None code new was written = (code ≡ numbers.NO_DECODER) × (new ≡ None) × (written ≡ was)
+Gives (Some d) code new was written = (e : Decoding) × (new ≡ Some e) × GivesHeld d was code e written
 
 -- ---- take back
 
@@ -80,31 +80,31 @@ pub record IsLeft (d e : Decoding) : Type 0 where
   pub levels : levels_of e.parts ≡ levels_of d.parts
 
 -- what taking a table back comes to, by what the decoder has to give back
-abbrev pub TakesBy : Decoding → Option Table → (code : ℕ) → (new : Decoding) → (told : Option Table) → Type 0
-TakesBy d None code new told = (code ≡ numbers.NO_TYPES) × IsLeft d new × (told ≡ None)
-TakesBy d (Some t) code new told = (code ≡ numbers.DONE) × HasGivenBack d t new × (told ≡ Some t)
+abbrev pub TakesBy : Decoding → Option Table → (code : ℕ) → (new : Decoding) → (written : Option Table) → Type 0
+TakesBy d None code new written = (code ≡ numbers.NO_TYPES) × IsLeft d new × (written ≡ None)
+TakesBy d (Some t) code new written = (code ≡ numbers.DONE) × HasGivenBack d t new × (written ≡ Some t)
 
-abbrev pub TakesFrom : Decoding → (was : Option Table) → (code : ℕ) → (new : Decoding) → (told : Option Table) → Type 0
-TakesFrom d (Some t) code new told = (code ≡ numbers.IN_USE) × (new ≡ d) × (told ≡ Some t)
-TakesFrom d None code new told = TakesBy d (free_table (state d)) code new told
+abbrev pub TakesFrom : Decoding → (was : Option Table) → (code : ℕ) → (new : Decoding) → (written : Option Table) → Type 0
+TakesFrom d (Some t) code new written = (code ≡ numbers.IN_USE) × (new ≡ d) × (written ≡ Some t)
+TakesFrom d None code new written = TakesBy d (free_table (state d)) code new written
 
 -- what a handle without memory gets, for which some is asked
-abbrev pub TakesAnew : Decoding → Option Table → (code : ℕ) → (new : Decoding) → (told : Option (Option Table)) → Type 0
-TakesAnew d None code new told =
-    ((code ≡ numbers.NO_MEMORY) ⊎ (code ≡ numbers.NO_TYPES)) × IsLeft d new × (told ≡ None)
-TakesAnew d (Some t) code new told =
-    ((code ≡ numbers.NO_MEMORY) × (new ≡ d) × (told ≡ None))
-    ⊎ ((code ≡ numbers.DONE) × HasGivenBack d t new × (told ≡ Some (Some t)))
+abbrev pub TakesAnew : Decoding → Option Table → (code : ℕ) → (new : Decoding) → (written : Option (Option Table)) → Type 0
+TakesAnew d None code new written =
+    ((code ≡ numbers.NO_MEMORY) ⊎ (code ≡ numbers.NO_TYPES)) × IsLeft d new × (written ≡ None)
+TakesAnew d (Some t) code new written =
+    ((code ≡ numbers.NO_MEMORY) × (new ≡ d) × (written ≡ None))
+    ⊎ ((code ≡ numbers.DONE) × HasGivenBack d t new × (written ≡ Some (Some t)))
 
 abbrev pub TakesHeld : Decoding → (was : Option (Option Table)) → (code : ℕ) → (new : Decoding)
-    → (told : Option (Option Table)) → Type 0
-TakesHeld d None code new told = TakesAnew d (free_table (state d)) code new told
-TakesHeld d (Some held) code new told = (left : Option Table) × (told ≡ Some left) × TakesFrom d held code new left
+    → (written : Option (Option Table)) → Type 0
+TakesHeld d None code new written = TakesAnew d (free_table (state d)) code new written
+TakesHeld d (Some held) code new written = (left : Option Table) × (written ≡ Some left) × TakesFrom d held code new left
 
-abbrev pub TakesBack : (old : Option Decoding) → (code : ℕ) → (new : Option Decoding) → (was told : Option (Option Table))
+abbrev pub TakesBack : (old : Option Decoding) → (code : ℕ) → (new : Option Decoding) → (was written : Option (Option Table))
     → Type 0
-TakesBack None code new was told = (code ≡ numbers.NO_DECODER) × (new ≡ None) × (told ≡ was)
-TakesBack (Some d) code new was told = (e : Decoding) × (new ≡ Some e) × TakesHeld d was code e told
+TakesBack None code new was written = (code ≡ numbers.NO_DECODER) × (new ≡ None) × (written ≡ was)
+TakesBack (Some d) code new was written = (e : Decoding) × (new ≡ Some e) × TakesHeld d was code e written
 
 -- ---- free
 

@@ -81,11 +81,11 @@ pub record PutsOn (old new : Decoding) (from to : CqlpCourse) (input : List ℕ)
   pub course : to ≡ record (gone_on from b.used) { frame = begun_by from.frame (take own.events events) }
 
 abbrev pub Nexts : (old : Option Decoding) → (from : CqlpCourse) → (input : Bor (List ℕ)) → (code : ℕ)
-    → (new : Option Decoding) → (to : CqlpCourse) → (before after : List CqlpEvent) → (was told : CqlpBatch) → Type 0
-Nexts None from input code new to before after was told =
-    (code ≡ numbers.NO_DECODER) × (new ≡ None) × (to ≡ from) × (after ≡ before) × (told ≡ was)
-Nexts (Some d) from input code new to before after was told =
-    (code ≡ numbers.DONE) × (e : Decoding) × (new ≡ Some e) × (b : Batch) × (told ≡ batch_of b)
+    → (new : Option Decoding) → (to : CqlpCourse) → (before after : List CqlpEvent) → (was written : CqlpBatch) → Type 0
+Nexts None from input code new to before after was written =
+    (code ≡ numbers.NO_DECODER) × (new ≡ None) × (to ≡ from) × (after ≡ before) × (written ≡ was)
+Nexts (Some d) from input code new to before after was written =
+    (code ≡ numbers.DONE) × (e : Decoding) × (new ≡ Some e) × (b : Batch) × (written ≡ batch_of b)
     × (begins : Ptr) × BeginsAt input begins × PutsOn d e from to input.now begins b before after
 
 -- ---- skip
@@ -100,21 +100,21 @@ pub record BeginsAgain (d e : Decoding) : Type 0 where
   pub in_place : buffer_of e ≡ buffer_of d
 
 abbrev pub PassesBy : Result CqlpSkipped Unskippable → (d : Decoding) → (from : CqlpCourse) → (code : ℕ) → (e : Decoding)
-    → (to : CqlpCourse) → (was told : CqlpSkipped) → Type 0
-PassesBy (Err why) d from code e to was told =
-    (code ≡ code_of_unskippable why) × (e ≡ d) × (to ≡ from) × (told ≡ was)
-PassesBy (Ok x) d from code e to was told =
-    (code ≡ numbers.DONE) × BeginsAgain d e × (to ≡ skipped_on (Ok x) from) × (told ≡ x)
+    → (to : CqlpCourse) → (was written : CqlpSkipped) → Type 0
+PassesBy (Err why) d from code e to was written =
+    (code ≡ code_of_unskippable why) × (e ≡ d) × (to ≡ from) × (written ≡ was)
+PassesBy (Ok x) d from code e to was written =
+    (code ≡ numbers.DONE) × BeginsAgain d e × (to ≡ skipped_on (Ok x) from) × (written ≡ x)
 
 -- What passing over a frame comes to, by what the decoder refuses and where it is in its stream.
 abbrev pub PassesOver : (d : Decoding) → (from : CqlpCourse) → (code : ℕ) → (e : Decoding) → (to : CqlpCourse)
-    → (was told : CqlpSkipped) → Type 0
-PassesOver d from code e to was told = PassesBy (skip_by (state d).refusal from) d from code e to was told
+    → (was written : CqlpSkipped) → Type 0
+PassesOver d from code e to was written = PassesBy (skip_by (state d).refusal from) d from code e to was written
 
 abbrev pub Skips : (old : Option Decoding) → (from : CqlpCourse) → (code : ℕ) → (new : Option Decoding) → (to : CqlpCourse)
-    → (was told : CqlpSkipped) → Type 0
-Skips None from code new to was told = (code ≡ numbers.NO_DECODER) × (new ≡ None) × (to ≡ from) × (told ≡ was)
-Skips (Some d) from code new to was told = (e : Decoding) × (new ≡ Some e) × PassesOver d from code e to was told
+    → (was written : CqlpSkipped) → Type 0
+Skips None from code new to was written = (code ≡ numbers.NO_DECODER) × (new ≡ None) × (to ≡ from) × (written ≡ was)
+Skips (Some d) from code new to was written = (e : Decoding) × (new ≡ Some e) × PassesOver d from code e to was written
 
 -- ---- finish and held
 
@@ -122,16 +122,16 @@ Skips (Some d) from code new to was told = (e : Decoding) × (new ≡ Some e) ×
 abbrev pub IsFinish : StreamState → Finish → Type 0
 IsFinish d f = EndsAs d f × ((r : Refusal) → d.refusal ≡ Some r → f ≡ finish.Refused r)
 
-abbrev pub Finishes : (old : Option Decoding) → CqlpCourse → (code : ℕ) → (new : Option Decoding) → (was told : CqlpEnd) → Type 0
-Finishes None c code new was told = (code ≡ numbers.NO_DECODER) × (new ≡ None) × (told ≡ was)
-Finishes (Some d) c code new was told =
-    (code ≡ numbers.DONE) × (new ≡ Some d) × (f : Finish) × (told ≡ end_of (finish_on c f)) × IsFinish (state d) f
+abbrev pub Finishes : (old : Option Decoding) → CqlpCourse → (code : ℕ) → (new : Option Decoding) → (was written : CqlpEnd) → Type 0
+Finishes None c code new was written = (code ≡ numbers.NO_DECODER) × (new ≡ None) × (written ≡ was)
+Finishes (Some d) c code new was written =
+    (code ≡ numbers.DONE) × (new ≡ Some d) × (f : Finish) × (written ≡ end_of (finish_on c f)) × IsFinish (state d) f
 
-abbrev pub Holds : (old : Option Decoding) → (code : ℕ) → (new : Option Decoding) → (was told : CqlpHeld) → Type 0
-Holds None code new was told = (code ≡ numbers.NO_DECODER) × (new ≡ None) × (told ≡ was)
-Holds (Some d) code new was told =
+abbrev pub Holds : (old : Option Decoding) → (code : ℕ) → (new : Option Decoding) → (was written : CqlpHeld) → Type 0
+Holds None code new was written = (code ≡ numbers.NO_DECODER) × (new ≡ None) × (written ≡ was)
+Holds (Some d) code new was written =
     (code ≡ numbers.DONE) × (new ≡ Some d)
-    × (h : Held) × (told ≡ held_of h) × IsHeld d h × IsWithin h (state d).rules
+    × (h : Held) × (written ≡ held_of h) × IsHeld d h × IsWithin h (state d).rules
 
 -- ---- free
 

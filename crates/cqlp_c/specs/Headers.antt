@@ -33,6 +33,6 @@ code_of_bad bad.Length = numbers.BAD_LENGTH
 
 -- The bytes are the header's, which is read from them again; or the code says why there is none, and they are as they
 -- were.
-abbrev pub Writes : Result Header BadHeader → (code : ℕ) → (was told : List ℕ) → Type 0
-Writes (Ok h) code was told = (code ≡ numbers.DONE) × (told ≡ header_bytes h) × (heading told ≡ Ok h)
-Writes (Err why) code was told = (code ≡ code_of_bad why) × (told ≡ was)
+abbrev pub Writes : Result Header BadHeader → (code : ℕ) → (was written : List ℕ) → Type 0
+Writes (Ok h) code was written = (code ≡ numbers.DONE) × (written ≡ header_bytes h) × (heading written ≡ Ok h)
+Writes (Err why) code was written = (code ≡ code_of_bad why) × (written ≡ was)

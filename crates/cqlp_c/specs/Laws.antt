@@ -25,11 +25,11 @@ use Rattle.cqlp_c.specs.Headers.{header_in}
 use Rattle.cqlp_c.specs.Servers.{ServerCore, event_fields}
 use Rattle.cqlp_c.specs.Talked.{is_stream, signal_in}
 
--- what C is told by an event, wherever its content lies
+-- what C gets of an event, wherever its content lies
 abbrev pub unplaced : CqlpEvent → CqlpEvent
 unplaced c = record c { content = null_ptr }
 
--- Each of these events was put twice: what C is told is the same, and where the content lies too, if it lies in the input,
+-- Each of these events was put twice: what C gets is the same, and where the content lies too, if it lies in the input,
 -- or in a decoder's memory that begins in one place.
 abbrev pub AreSame : (buffer buffer' : Ptr) → List Put → (events events' : List CqlpEvent) → Type 0
 AreSame buffer buffer' [] [] [] = ⊤

@@ -23,7 +23,7 @@ pub mod Shown
 pub mod Slots
 pub mod Stretched
 pub mod Talked
-pub mod Told
-pub mod ToldCell
-pub mod ToldLaws
+pub mod FromC
+pub mod CellFromC
+pub mod FromCLaws
 pub mod Versions

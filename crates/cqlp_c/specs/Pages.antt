@@ -39,10 +39,10 @@ use Rattle.cqlp_c.specs.declared.page.Unbegun.TheVariants as unbegun
 use Rattle.cqlp_c.specs.declared.page.UnbegunAt.{UnbegunAt}
 use Rattle.cqlp_c.specs.declared.page.Unput.{Unput}
 use Rattle.cqlp_c.specs.declared.page.Unput.TheVariants as unput
-use Rattle.cqlp_c.specs.declared.page.UntoldAt.{UntoldAt}
-use Rattle.cqlp_c.specs.declared.told.NotTold.{NotTold}
-use Rattle.cqlp_c.specs.Encoding.{StopsAt, Taken, after_all, code_of_refused, code_of_unencoded, code_of_untold, longest}
-use Rattle.cqlp_c.specs.Told.{content_len, event_told}
+use Rattle.cqlp_c.specs.declared.page.BadEventAt.{BadEventAt}
+use Rattle.cqlp_c.specs.declared.from_c.BadEvent.{BadEvent}
+use Rattle.cqlp_c.specs.Encoding.{StopsAt, Taken, after_all, code_of_refused, code_of_unencoded, code_of_bad_event, longest}
+use Rattle.cqlp_c.specs.FromC.{content_len, event_from_c}
 
 -- ---- measure
 
@@ -50,18 +50,18 @@ use Rattle.cqlp_c.specs.Told.{content_len, event_told}
 abbrev pub sum_of : (a b : ℕ) → ℕ
 sum_of a b = min (a + b) (2 ^ 64 - 1)
 
-abbrev pub sized_on : (n size : ℕ) → Result Event NotTold → (ℕ → Result ℕ UntoldAt) → Result ℕ UntoldAt
+abbrev pub sized_on : (n size : ℕ) → Result Event BadEvent → (ℕ → Result ℕ BadEventAt) → Result ℕ BadEventAt
 sized_on n size (Ok e) f = f (sum_of size (event_size e))
 sized_on n size (Err why) f = Err (record { event = n; why = why })
 
--- A size and how many bytes these events tell of, of which the first is the n-th; or the first that is none.
-abbrev pub measured : (n size : ℕ) → (contents : List ℕ) → List CqlpEvent → Result ℕ UntoldAt
+-- A size and how many bytes these events cover, of which the first is the n-th; or the first that is none.
+abbrev pub measured : (n size : ℕ) → (contents : List ℕ) → List CqlpEvent → Result ℕ BadEventAt
 measured n size contents [] = Ok size
-measured n size contents (c ∷ cs) = sized_on n size (event_told c contents) (λ s. measured (suc n) s (drop (content_len c) contents) cs)
+measured n size contents (c ∷ cs) = sized_on n size (event_from_c c contents) (λ s. measured (suc n) s (drop (content_len c) contents) cs)
 
-abbrev pub MeasuresAs : Result ℕ UntoldAt → (count : ℕ) → CqlpMeasured → (code : ℕ) → CqlpMeasured → Type 0
+abbrev pub MeasuresAs : Result ℕ BadEventAt → (count : ℕ) → CqlpMeasured → (code : ℕ) → CqlpMeasured → Type 0
 MeasuresAs (Ok size) count was code new = (code ≡ numbers.DONE) × (new ≡ record { size = size; event = count })
-MeasuresAs (Err r) count was code new = (code ≡ code_of_untold r.why) × (new ≡ record { size = was.size; event = r.event })
+MeasuresAs (Err r) count was code new = (code ≡ code_of_bad_event r.why) × (new ≡ record { size = was.size; event = r.event })
 
 -- What `cqlp_page_measure` answers.
 abbrev pub Measures : List CqlpEvent → (contents : List ℕ) → CqlpMeasured → (code : ℕ) → CqlpMeasured → Type 0
@@ -73,20 +73,20 @@ abbrev pub with_all_used : (n : ℕ) → (rest : List ℕ) → Result ℕ Unbegu
 with_all_used n [] = Ok n
 with_all_used n (b ∷ rest) = Err (unbegun.Head unencoded.LeftOver)
 
-abbrev pub rows_in : Result Event NotTold → (rest : List ℕ) → Result ℕ Unbegun
-rows_in (Err why) rest = Err (unbegun.Head (unencoded.Untold why))
+abbrev pub rows_in : Result Event BadEvent → (rest : List ℕ) → Result ℕ Unbegun
+rows_in (Err why) rest = Err (unbegun.Head (unencoded.BadEvent why))
 rows_in (Ok (Holds field.Rows (Count n))) rest = with_all_used n rest
 rows_in (Ok e) rest = Err unbegun.NoRows
 
 -- how many rows an event counts, after which no contents are left
-abbrev pub rows_told : CqlpEvent → (contents : List ℕ) → Result ℕ Unbegun
-rows_told c contents = rows_in (event_told c contents) (drop (content_len c) contents)
+abbrev pub rows_from_c : CqlpEvent → (contents : List ℕ) → Result ℕ Unbegun
+rows_from_c c contents = rows_in (event_from_c c contents) (drop (content_len c) contents)
 
 -- An event before the last is not taken, or the last one counts no rows.
 abbrev pub StopsIn : Taken → (front : List CqlpEvent) → (last : CqlpEvent) → (n : ℕ) → Unbegun → Type 0
 StopsIn t front last n why =
     ((w : Unencoded) × (why ≡ unbegun.Head w) × StopsAt t front n w)
-    ⊎ ((u : Taken) × (after_all 0 t front ≡ Ok u) × (n ≡ length front) × (rows_told last u.1 ≡ Err why))
+    ⊎ ((u : Taken) × (after_all 0 t front ≡ Ok u) × (n ≡ length front) × (rows_from_c last u.1 ≡ Err why))
 
 abbrev pub IsNone : (n : ℕ) → Unbegun → Type 0
 IsNone n why = (n ≡ 0) × (why ≡ unbegun.Head (unencoded.Refused build_error.Misplaced))
@@ -95,7 +95,7 @@ IsNone n why = (n ≡ 0) × (why ≡ unbegun.Head (unencoded.Refused build_error
 abbrev pub ReadsHead : ComposerState → List CqlpEvent → (contents : List ℕ) → Result ℕ UnbegunAt → ComposerState → Type 0
 ReadsHead s cs contents (Ok n) new =
     (front : List CqlpEvent) × (last : CqlpEvent) × (cs ≡ front ++ last ∷ []) × (rest : List ℕ)
-    × (after_all 0 (s, contents) front ≡ Ok (new, rest)) × (rows_told last rest ≡ Ok n)
+    × (after_all 0 (s, contents) front ≡ Ok (new, rest)) × (rows_from_c last rest ≡ Ok n)
 ReadsHead s cs contents (Err r) new =
     ((cs ≡ []) × IsNone r.event r.why)
     ⊎ ((front : List CqlpEvent) × (last : CqlpEvent) × (cs ≡ front ++ last ∷ []) × StopsIn (s, contents) front last r.event r.why)
@@ -136,25 +136,25 @@ abbrev pub IsPutBy : BegunPage → (code : ℕ) → (before after : List ℕ) �
 IsPutBy b code before after new = PutsHead (nat_lt (length before) (length b.head.items)) b code before after new
 
 abbrev pub BeginsOne : List CqlpEvent → (contents : List ℕ) → (size code : ℕ) → (before after : List ℕ) → Option OpenPage → CqlpEncoded → Type 0
-BeginsOne cs contents size code before after new told =
+BeginsOne cs contents size code before after new written =
     (b : BegunPage) × Opens cs contents size (Ok b) × IsPutBy b code before after new
-    × (told ≡ record { length = length b.head.items; event = length cs })
+    × (written ≡ record { length = length b.head.items; event = length cs })
 
 abbrev pub BeginsNone : List CqlpEvent → (contents : List ℕ) → (size code : ℕ) → (before after : List ℕ) → Option OpenPage → CqlpEncoded → Type 0
-BeginsNone cs contents size code before after new told =
+BeginsNone cs contents size code before after new written =
     (r : UnbegunAt) × Opens cs contents size (Err r) × (code ≡ code_of_unbegun r.why) × (after ≡ before) × (new ≡ None)
-    × (told ≡ record { length = 0; event = r.event })
+    × (written ≡ record { length = 0; event = r.event })
 
 abbrev pub BeginsAnew : List CqlpEvent → (contents : List ℕ) → (size code : ℕ) → (before after : List ℕ) → Option OpenPage → CqlpEncoded → Type 0
-BeginsAnew cs contents size code before after new told =
-    BeginsOne cs contents size code before after new told ⊎ BeginsNone cs contents size code before after new told
+BeginsAnew cs contents size code before after new written =
+    BeginsOne cs contents size code before after new written ⊎ BeginsNone cs contents size code before after new written
 
 -- What `cqlp_page_begin` answers: a handle in use is refused, and stays as it is.
 abbrev pub Begins : List CqlpEvent → (contents : List ℕ) → (size : ℕ) → (old : Option OpenPage) → (code : ℕ) → (before after : List ℕ)
-    → (new : Option OpenPage) → (was told : CqlpEncoded) → Type 0
-Begins cs contents size (Some held) code before after new was told =
-    (code ≡ numbers.IN_USE) × (after ≡ before) × (new ≡ Some held) × (told ≡ was)
-Begins cs contents size None code before after new was told = BeginsAnew cs contents size code before after new told
+    → (new : Option OpenPage) → (was written : CqlpEncoded) → Type 0
+Begins cs contents size (Some held) code before after new was written =
+    (code ≡ numbers.IN_USE) × (after ≡ before) × (new ≡ Some held) × (written ≡ was)
+Begins cs contents size None code before after new was written = BeginsAnew cs contents size code before after new written
 
 -- ---- cells
 
@@ -162,29 +162,29 @@ abbrev pub seen_put : Result (Option ℕ × Bor (List ℕ)) Unput → Result (Op
 seen_put (Ok found) = Ok (found.0, found.1.now)
 seen_put (Err why) = Err why
 
--- What becomes of what C tells as an event, where n bytes of room are left, and which bytes are put.
+-- What becomes of what C passes as an event, where n bytes of room are left, and which bytes are put.
 abbrev pub PutsOne : PutterState → CqlpEvent → (contents : List ℕ) → (n : ℕ) → Result (Option ℕ × List ℕ) Unput → (bytes : List ℕ) → PutterState → Type 0
-PutsOne old c contents n (Err (unput.Untold why)) bytes new = (event_told c contents ≡ Err why) × (bytes ≡ []) × (new ≡ old)
+PutsOne old c contents n (Err (unput.BadEvent why)) bytes new = (event_from_c c contents ≡ Err why) × (bytes ≡ []) × (new ≡ old)
 PutsOne old c contents n (Err (unput.Refused why)) bytes new =
-    (e : Event) × (event_told c contents ≡ Ok e) × cells.Puts old e n (Err why) bytes new
+    (e : Event) × (event_from_c c contents ≡ Ok e) × cells.Puts old e n (Err why) bytes new
 PutsOne old c contents n (Ok found) bytes new =
-    (e : Event) × (event_told c contents ≡ Ok e) × cells.Puts old e n (Ok found.0) bytes new × (found.1 ≡ drop (content_len c) contents)
+    (e : Event) × (event_from_c c contents ≡ Ok e) × cells.Puts old e n (Ok found.0) bytes new × (found.1 ≡ drop (content_len c) contents)
 
--- what is told after an event with which a cell of this many bytes ends, or none
+-- what is written after an event with which a cell of this many bytes ends, or none
 abbrev pub gone_on : CqlpPut → (event used : ℕ) → Option ℕ → CqlpPut
 gone_on p event used None = p
 gone_on p event used (Some len) = record { events = event + 1; used = used; length = p.length + len; event = p.event; wanted = p.wanted }
 
--- The cells so far, the contents that are left, the bytes that were put, and what is told of them.
+-- The cells so far, the contents that are left, the bytes that were put, and what is written of them.
 pub record BatchState : Type 0 where
   pub cells : PutterState
   pub rest : List ℕ
   pub out : List ℕ
-  pub told : CqlpPut
+  pub written : CqlpPut
 
 -- after the n-th event, of which the bytes of a cell are put, or none; all contents have `size` bytes
 abbrev pub after_event : (n size : ℕ) → BatchState → Option ℕ → (rest bytes : List ℕ) → PutterState → BatchState
-after_event n size t len rest bytes new = record { cells = new; rest = rest; out = t.out ++ bytes; told = gone_on t.told n (size - length rest) len }
+after_event n size t len rest bytes new = record { cells = new; rest = rest; out = t.out ++ bytes; written = gone_on t.written n (size - length rest) len }
 
 -- An event is taken in a room of this many bytes, and the others after it.
 abbrev pub Goes : (room n size : ℕ) → BatchState → CqlpEvent → (BatchState → Type 0) → Type 0
@@ -208,7 +208,7 @@ abbrev pub nothing_put : (count : ℕ) → CqlpPut
 nothing_put count = record { events = 0; used = 0; length = 0; event = count; wanted = 0 }
 
 abbrev pub at_begin : PutterState → (contents : List ℕ) → (count : ℕ) → BatchState
-at_begin s contents count = record { cells = s; rest = contents; out = []; told = nothing_put count }
+at_begin s contents count = record { cells = s; rest = contents; out = []; written = nothing_put count }
 
 abbrev pub wanted_of : Unput → ℕ
 wanted_of (unput.Refused (put_error.NoRoom n)) = n
@@ -224,7 +224,7 @@ code_of_cell cell_error.NoValue = numbers.NO_VALUE
 code_of_cell cell_error.NoMemory = numbers.NO_MEMORY
 
 abbrev pub code_of_unput : Unput → ℕ
-code_of_unput (unput.Untold why) = code_of_untold why
+code_of_unput (unput.BadEvent why) = code_of_bad_event why
 code_of_unput (unput.Refused (put_error.NoRoom n)) = numbers.NO_ROOM
 code_of_unput (unput.Refused (put_error.Cell (page_error.Cell why))) = code_of_cell why
 code_of_unput (unput.Refused (put_error.Cell page_error.PastLength)) = numbers.PAST_SIZE
@@ -233,19 +233,19 @@ code_of_unput (unput.Refused (put_error.Cell page_error.NotEnded)) = numbers.NOT
 abbrev pub stopped : CqlpPut → (event : ℕ) → Unput → CqlpPut
 stopped p event why = record { events = p.events; used = p.used; length = p.length; event = event; wanted = wanted_of why }
 
--- what is told of a batch, and its code
-abbrev pub told_of : (count : ℕ) → CqlpPut → Option (ℕ × Unput) → CqlpPut × ℕ
-told_of count p None = (p, if p.events == count then numbers.DONE else numbers.NOT_ENDED)
-told_of count p (Some s) = (stopped p s.0 s.1, code_of_unput s.1)
+-- what is written of a batch, and its code
+abbrev pub written_of : (count : ℕ) → CqlpPut → Option (ℕ × Unput) → CqlpPut × ℕ
+written_of count p None = (p, if p.events == count then numbers.DONE else numbers.NOT_ENDED)
+written_of count p (Some s) = (stopped p s.0 s.1, code_of_unput s.1)
 
--- What becomes of a batch: the cells before the first event that is not taken are put, and what is told says how many events and bytes those are.
+-- What becomes of a batch: the cells before the first event that is not taken are put, and what is written says how many events and bytes those are.
 pub record PutsAll (old : PutterState) (cs : List CqlpEvent) (contents before : List ℕ) (answer : CqlpPut × ℕ) (after : List ℕ) (new : PutterState) : Type 0 where
   pub last : BatchState
   pub stop : Option (ℕ × Unput)
   pub puts : PutsFrom (length before) 0 (length contents) (at_begin old contents (length cs)) cs last stop
   pub cells : new ≡ last.cells
   pub bytes : after ≡ last.out ++ drop (length last.out) before
-  pub is : answer ≡ told_of (length cs) last.told stop
+  pub is : answer ≡ written_of (length cs) last.written stop
 
 -- no cell has more events or bytes than a body
 abbrev pub longest_cell : CellLimits
@@ -259,10 +259,10 @@ PutsCells old cs contents before answer after new =
 
 -- What `cqlp_page_put` answers.
 abbrev pub Puts : (old : Option OpenPage) → List CqlpEvent → (contents : List ℕ) → (code : ℕ) → (new : Option OpenPage) → (before after : List ℕ)
-    → (was told : CqlpPut) → Type 0
-Puts None cs contents code new before after was told = (code ≡ numbers.NO_PAGE) × (new ≡ None) × (after ≡ before) × (told ≡ was)
-Puts (Some p) cs contents code new before after was told =
-    (q : OpenPage) × (new ≡ Some q) × PutsCells p cs contents before (told, code) after q
+    → (was written : CqlpPut) → Type 0
+Puts None cs contents code new before after was written = (code ≡ numbers.NO_PAGE) × (new ≡ None) × (after ≡ before) × (written ≡ was)
+Puts (Some p) cs contents code new before after was written =
+    (q : OpenPage) × (new ≡ Some q) × PutsCells p cs contents before (written, code) after q
 
 -- ---- end and free
 

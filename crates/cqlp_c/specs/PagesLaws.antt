@@ -9,10 +9,10 @@ use Rattle.cqlp_c.specs.declared.encode.CqlpEncoded.{CqlpEncoded}
 use Rattle.cqlp_c.specs.declared.event.CqlpEvent.{CqlpEvent}
 use Rattle.cqlp_c.specs.declared.numbers.TheConstants as numbers
 use Rattle.cqlp_c.specs.declared.page.CqlpPut.{CqlpPut}
-use Rattle.cqlp_c.specs.declared.told.NotTold.{NotTold}
+use Rattle.cqlp_c.specs.declared.from_c.BadEvent.{BadEvent}
 use Rattle.cqlp_c.specs.EncodeLaws.{IsReadAs}
 use Rattle.cqlp_c.specs.Pages.{Begins, Puts, code_of_ends}
-use Rattle.cqlp_c.specs.Told.{content_len, event_told}
+use Rattle.cqlp_c.specs.FromC.{content_len, event_from_c}
 
 -- ---- one answer
 
@@ -39,15 +39,15 @@ IsOneAnswerOfPageBegin =
 
 -- ---- what is written
 
-abbrev pub told_then : Result Event NotTold → List Event → List Event
-told_then (Ok e) es = e ∷ es
-told_then (Err why) es = []
+abbrev pub event_then : Result Event BadEvent → List Event → List Event
+event_then (Ok e) es = e ∷ es
+event_then (Err why) es = []
 
--- the first events, this many, that C tells with these contents, one after the other
-abbrev pub told_by : (n : ℕ) → List CqlpEvent → (contents : List ℕ) → List Event
-told_by zero cs contents = []
-told_by (suc n) [] contents = []
-told_by (suc n) (c ∷ cs) contents = told_then (event_told c contents) (told_by n cs (drop (content_len c) contents))
+-- the first events, this many, that C passes with these contents, one after the other
+abbrev pub events_from_c : (n : ℕ) → List CqlpEvent → (contents : List ℕ) → List Event
+events_from_c zero cs contents = []
+events_from_c (suc n) [] contents = []
+events_from_c (suc n) (c ∷ cs) contents = event_then (event_from_c c contents) (events_from_c n cs (drop (content_len c) contents))
 
 -- A call of `cqlp_page_put`, whatever it answers: these are the events of the cells that were put, and the bytes of these.
 pub record IsPut (p : OpenPage) (es : List Event) (bytes : List ℕ) (q : OpenPage) : Type 0 where
@@ -57,10 +57,10 @@ pub record IsPut (p : OpenPage) (es : List Event) (bytes : List ℕ) (q : OpenPa
   pub before : List ℕ
   pub after : List ℕ
   pub was : CqlpPut
-  pub told : CqlpPut
-  pub puts : Puts (Some p) cs contents code (Some q) before after was told
-  pub events : es ≡ told_by told.events cs contents
-  pub are : bytes ≡ take told.length after
+  pub written : CqlpPut
+  pub puts : Puts (Some p) cs contents code (Some q) before after was written
+  pub events : es ≡ events_from_c written.events cs contents
+  pub are : bytes ≡ take written.length after
 
 -- Calls one after the other, each with its events and its bytes.
 abbrev pub ArePuts : OpenPage → List (List Event × List ℕ) → OpenPage → Type 0
@@ -77,8 +77,8 @@ bytes_of bs = flat_map (λ b. b.1) bs
 -- after the other, is read as the events of the head and of the cells that were put.
 abbrev pub PutPagesAreRead : Type 0
 PutPagesAreRead =
-    (cs : List CqlpEvent) (contents before after : List ℕ) (size : ℕ) (was told : CqlpEncoded) (p q : OpenPage) (calls : List (List Event × List ℕ))
-    → Begins cs contents size None numbers.DONE before after (Some p) was told
+    (cs : List CqlpEvent) (contents before after : List ℕ) (size : ℕ) (was written : CqlpEncoded) (p q : OpenPage) (calls : List (List Event × List ℕ))
+    → Begins cs contents size None numbers.DONE before after (Some p) was written
     → ArePuts p calls q → code_of_ends (Some q) ≡ numbers.DONE
-    → (h : Header) × (fields : List Event) × (told_by (length cs) cs contents ≡ Frame h ∷ fields)
-    × IsReadAs h (fields ++ events_of calls) (take told.length after ++ bytes_of calls)
+    → (h : Header) × (fields : List Event) × (events_from_c (length cs) cs contents ≡ Frame h ∷ fields)
+    × IsReadAs h (fields ++ events_of calls) (take written.length after ++ bytes_of calls)

@@ -1,4 +1,4 @@
--- The numbers by which C is told, one by one. Programs that were compiled with them keep them, so none ever changes.
+-- The numbers that C gets, one by one. Programs that were compiled with them keep them, so none ever changes.
 use Rattle.std.specs.Prelude.{◌≡◌, ℕ, zero, suc, List, [], ◌∷◌}
 use Rattle.cqlp_c.specs.declared.numbers.TheConstants as n
 

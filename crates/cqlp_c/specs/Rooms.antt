@@ -8,7 +8,7 @@ abbrev pub PutsWhere : (short : Bool) → (bytes : List ℕ) → (code : ℕ) �
 PutsWhere true bytes code before after = (code ≡ numbers.NO_ROOM) × (after ≡ before)
 PutsWhere false bytes code before after = (code ≡ numbers.DONE) × (after ≡ bytes ++ drop (length bytes) before)
 
--- Bytes are put into a room, if it has room for them, and in both cases it is told how many they are.
-abbrev pub PutsBytes : (bytes : List ℕ) → (code : ℕ) → (before after : List ℕ) → (told : ℕ) → Type 0
-PutsBytes bytes code before after told =
-    PutsWhere (nat_lt (length before) (length bytes)) bytes code before after × (told ≡ length bytes)
+-- Bytes are put into a room, if it has room for them, and in both cases it gets how many they are.
+abbrev pub PutsBytes : (bytes : List ℕ) → (code : ℕ) → (before after : List ℕ) → (written : ℕ) → Type 0
+PutsBytes bytes code before after written =
+    PutsWhere (nat_lt (length before) (length bytes)) bytes code before after × (written ≡ length bytes)

@@ -30,18 +30,18 @@ Accepts (Some c) s carried code new = (d : ServerCore) × (new ≡ Some d) × Ac
 -- ---- answer
 
 -- What a core answers to a response with this opcode, if it is one, to the request under a stream id: the number that is
--- told is the one that is carried there.
+-- written is the one that is carried there.
 abbrev pub AnswersBy : (old : ServerCore) → (id : ℤ) → Option Opcode → (code : ℕ) → (new : ServerCore)
-    → (was told : CqlpAnswered) → Type 0
-AnswersBy c id None code new was told = (code ≡ numbers.BAD_OPCODE) × (new ≡ c) × (told ≡ was)
-AnswersBy c id (Some o) code new was told =
+    → (was written : CqlpAnswered) → Type 0
+AnswersBy c id None code new was written = (code ≡ numbers.BAD_OPCODE) × (new ≡ c) × (written ≡ was)
+AnswersBy c id (Some o) code new was written =
     (code ≡ code_of_answer (answer_of c.core id o)) × (new ≡ answered_with c id o)
-    × (told ≡ answered_after (answer_of c.core id o) (under c.carried id) was)
+    × (written ≡ answered_after (answer_of c.core id o) (under c.carried id) was)
 
 abbrev pub Answers : (old : Option ServerCore) → (id : ℤ) → Option Opcode → (code : ℕ) → (new : Option ServerCore)
-    → (was told : CqlpAnswered) → Type 0
-Answers None id o code new was told = (code ≡ numbers.NO_SERVER) × (new ≡ None) × (told ≡ was)
-Answers (Some c) id o code new was told = (d : ServerCore) × (new ≡ Some d) × AnswersBy c id o code d was told
+    → (was written : CqlpAnswered) → Type 0
+Answers None id o code new was written = (code ≡ numbers.NO_SERVER) × (new ≡ None) × (written ≡ was)
+Answers (Some c) id o code new was written = (d : ServerCore) × (new ≡ Some d) × AnswersBy c id o code d was written
 
 -- ---- event
 
@@ -52,9 +52,9 @@ event_fields length flags =
 
 -- ---- phase and free
 
-abbrev pub Stands : (old : Option ServerCore) → (code : ℕ) → (new : Option ServerCore) → (was told : ℕ) → Type 0
-Stands None code new was told = (code ≡ numbers.NO_SERVER) × (new ≡ None) × (told ≡ was)
-Stands (Some c) code new was told = (code ≡ numbers.DONE) × (new ≡ Some c) × (told ≡ number_of_phase c.core.phase)
+abbrev pub Stands : (old : Option ServerCore) → (code : ℕ) → (new : Option ServerCore) → (was written : ℕ) → Type 0
+Stands None code new was written = (code ≡ numbers.NO_SERVER) × (new ≡ None) × (written ≡ was)
+Stands (Some c) code new was written = (code ≡ numbers.DONE) × (new ≡ Some c) × (written ≡ number_of_phase c.core.phase)
 
 abbrev pub code_of_free : Option ServerCore → ℕ
 code_of_free None = numbers.NO_SERVER

@@ -12,7 +12,7 @@ use Rattle.cqlp_skip.specs.declared.fed.Skipped.{Skipped}
 use Rattle.cqlp_skip.specs.declared.fed.NotSkippable.{NotSkippable}
 use Rattle.cqlp_skip.specs.declared.fed.NotSkippable.TheVariants as why
 use Rattle.cqlp_skip.specs.declared.frame.OpenFrame.{OpenFrame}
-use Rattle.cqlp_skip.specs.Stretches.{Stretch, frame_under_way, told_at}
+use Rattle.cqlp_skip.specs.Stretches.{Stretch, frame_under_way, stream_offset}
 use Rattle.cqlp_skip.specs.Skipping.{Skipping, AfterSkips, FinishesAs, skip_of, stretch_given_up}
 use Rattle.cqlp_c.specs.declared.batch.Batch.{Batch}
 use Rattle.cqlp_c.specs.declared.batch.Stop.{Stop}
@@ -25,7 +25,7 @@ use Rattle.cqlp_c.specs.declared.numbers.TheConstants as numbers
 use Rattle.cqlp_c.specs.Batches.{Put, events_of}
 use Rattle.cqlp_c.specs.Course.{at_start, finish_on, frame_in, no_frame, refusal_from}
 use Rattle.cqlp_c.specs.Events.{of_frame}
-use Rattle.cqlp_c.specs.Events as told
+use Rattle.cqlp_c.specs.Events as model
 use Rattle.cqlp_c.specs.Handle.{IsFinish, PassesOver, PutsOn}
 use Rattle.cqlp_c.specs.Numbers.{number_of_reason}
 
@@ -49,18 +49,18 @@ pub record AfterCalls (xs : List ℕ) (d : Decoding) (c : CqlpCourse) (s : List 
 -- the offset in the whole stream of what lies at an offset of a stretch that begins at `base`: those of the first stretch are the same
 abbrev pub offset_in : (base at : ℕ) → ℕ
 offset_in zero at = at
-offset_in (suc n) at = told_at (suc n) at
+offset_in (suc n) at = stream_offset (suc n) at
 
 abbrev pub refusal_in : (base : ℕ) → Refusal → Refusal
 refusal_in zero r = r
 refusal_in (suc n) r = refusal_from (suc n) r
 
 -- these are the events, as C sees them, one for one, at their offsets in the whole stream
-abbrev pub AreTold : (base : ℕ) → List CqlpEvent → List Put → Type 0
-AreTold base [] [] = ⊤
-AreTold base (c ∷ cs) (p ∷ ps) =
-    ((place : Ptr) × (c ≡ told.told_at (offset_in base p.at) p.event place)) × AreTold base cs ps
-AreTold base cs ps = ⊥
+abbrev pub AreWritten : (base : ℕ) → List CqlpEvent → List Put → Type 0
+AreWritten base [] [] = ⊤
+AreWritten base (c ∷ cs) (p ∷ ps) =
+    ((place : Ptr) × (c ≡ model.stream_offset (offset_in base p.at) p.event place)) × AreWritten base cs ps
+AreWritten base cs ps = ⊥
 
 -- Where the bytes of the stretch say no more events, or what is refused: `AfterSkips` has that the stream is refused so.
 abbrev pub EndsBy : Stop → (new : Decoding) → (base : ℕ) → (s input : List ℕ) → Gifts → List (ℕ × Event) → Type 0
@@ -76,7 +76,7 @@ pub record ReadsOn (xs : List ℕ) (new : Decoding) (from to : CqlpCourse) (s in
   pub puts : List Put
   pub count : length puts ≡ b.events
   pub stands : AfterCalls xs new to (s ++ take b.used input) stretches gifts (events ++ events_of puts)
-  pub told : AreTold from.base (take b.events after) puts
+  pub written : AreWritten from.base (take b.events after) puts
   pub ends : EndsBy b.stop new from.base s input gifts (events ++ events_of puts)
 
 -- ---- a skip
@@ -87,8 +87,8 @@ code_of_why why.InHeader = numbers.IN_HEADER
 code_of_why why.TooFar = numbers.TOO_FAR
 
 -- a frame that was passed over, as C sees it
-abbrev pub told_skipped : Skipped → CqlpSkipped
-told_skipped x = record {
+abbrev pub written_skipped : Skipped → CqlpSkipped
+written_skipped x = record {
   frame = of_frame x.at x.header;
   at = x.refusal.at;
   rest = x.rest;
@@ -98,11 +98,11 @@ told_skipped x = record {
 -- What passing over a frame comes to, by what cqlp_skip answers: the present stretch is given up, and another one begins, in which nothing is given; or nothing
 -- changes.
 abbrev pub SkipsBy : Result Skipped NotSkippable → (xs : List ℕ) → (old new : Decoding) → (from to : CqlpCourse) → (s : List ℕ)
-    → List Stretch → Gifts → List (ℕ × Event) → (code : ℕ) → (was told : CqlpSkipped) → Type 0
-SkipsBy (Err w) xs old new from to s stretches gifts events code was told =
-    (code ≡ code_of_why w) × (new ≡ old) × (to ≡ from) × (told ≡ was)
-SkipsBy (Ok x) xs old new from to s stretches gifts events code was told =
-    (code ≡ numbers.DONE) × (told ≡ told_skipped x)
+    → List Stretch → Gifts → List (ℕ × Event) → (code : ℕ) → (was written : CqlpSkipped) → Type 0
+SkipsBy (Err w) xs old new from to s stretches gifts events code was written =
+    (code ≡ code_of_why w) × (new ≡ old) × (to ≡ from) × (written ≡ was)
+SkipsBy (Ok x) xs old new from to s stretches gifts events code was written =
+    (code ≡ numbers.DONE) × (written ≡ written_skipped x)
     × (f : OpenFrame) × (r : Refusal) × (frame_under_way events ≡ Some f) × ((state old).refusal ≡ Some r)
     × AfterCalls xs new to s (stretch_given_up (skipping_of old from (Some f)) gifts events f r ∷ stretches) [] []
 
@@ -126,16 +126,16 @@ NextReadsOn =
 abbrev pub SkipGivesUp : Type 0
 SkipGivesUp =
     (xs s : List ℕ) (old new : Decoding) (from to : CqlpCourse) (stretches : List Stretch) (gifts : Gifts) (events : List (ℕ × Event)) (code : ℕ)
-    (was told : CqlpSkipped)
-    → AfterCalls xs old from s stretches gifts events → PassesOver old from code new to was told
-    → SkipsBy (skip_of (skipping_of old from (frame_under_way events))) xs old new from to s stretches gifts events code was told
+    (was written : CqlpSkipped)
+    → AfterCalls xs old from s stretches gifts events → PassesOver old from code new to was written
+    → SkipsBy (skip_of (skipping_of old from (frame_under_way events))) xs old new from to s stretches gifts events code was written
 
 -- Of one decoder, where it is in its stream, a skip has one answer, and leaves one course: the decoder as it was, or one at the start of a stream within its rules.
 abbrev pub IsOneAnswerOfSkip : Type 0
 IsOneAnswerOfSkip =
-    (d e e' : Decoding) (from to to' : CqlpCourse) (code code' : ℕ) (was told told' : CqlpSkipped)
-    → PassesOver d from code e to was told → PassesOver d from code' e' to' was told'
-    → (code' ≡ code) × (to' ≡ to) × (told' ≡ told) × ((e' ≡ e) ⊎ (IsAtStart (state d).rules e × IsAtStart (state d).rules e'))
+    (d e e' : Decoding) (from to to' : CqlpCourse) (code code' : ℕ) (was written written' : CqlpSkipped)
+    → PassesOver d from code e to was written → PassesOver d from code' e' to' was written'
+    → (code' ≡ code) × (to' ≡ to) × (written' ≡ written) × ((e' ≡ e) ⊎ (IsAtStart (state d).rules e × IsAtStart (state d).rules e'))
 
 -- a stream ends over skips as cqlp_skip says
 abbrev pub FinishEndsThere : Type 0

@@ -5,14 +5,14 @@ ghost use Rattle.std.specs.Ptr.{Ptr, as_ptr};
 ghost use Rattle.cqlp_note.specs.declared.refusal.Refusal.{Refusal as Refused};
 ghost use Rattle.cqlp_grammar.specs.Events.{event_of};
 ghost use Rattle.cqlp_decode.specs.Streams.{state};
-ghost use Rattle.cqlp_c.specs.declared.event.CqlpEvent.{CqlpEvent as Told};
+ghost use Rattle.cqlp_c.specs.declared.event.CqlpEvent.{CqlpEvent as FromC};
 ghost use Rattle.cqlp_c.specs.Events.{content_span};
-ghost use Rattle.cqlp_c.specs.Batches.{BeginsAt, Buffer, FillsOn, GoesOn, PutsGathered, RepeatsRefusal, TellsStep, buffer_in, put_of};
+ghost use Rattle.cqlp_c.specs.Batches.{BeginsAt, Buffer, FillsOn, GoesOn, PutsGathered, RepeatsRefusal, WritesStep, buffer_in, put_of};
 ghost use Rattle.cqlp_c.specs.Batches.{stop_without_room};
 ghost use Rattle.cqlp_c.specs.Course.{begun_by};
 
 use crate::course::CqlpBegun;
-use crate::event::{CqlpEvent, address_of, before_content, tell};
+use crate::event::{CqlpEvent, address_of, before_content, write};
 use crate::slots::put_whole;
 use cqlp_decode::{Decoder, Event, Finish, Step};
 use cqlp_note::Refusal;
@@ -89,7 +89,7 @@ fn stop_without_room(finish: &Finish) -> Stop
 /// A batch that has no room: it says nothing but a refusal that was made before.
 #[inline(never)]
 fn without_room(decoder: &Decoder<Global>) -> Batch
-    ensures fills { (input : List ℕ) (begins : Ptr) (buffer : Buffer) (events : List Told) →
+    ensures fills { (input : List ℕ) (begins : Ptr) (buffer : Buffer) (events : List FromC) →
         FillsOn (state decoder.now) (state decoder.now) input begins buffer 0 result events }
     ensures refused { (r : Refused) → (state decoder.now).refusal ≡ Some r →
         RepeatsRefusal r (state decoder.now) (state decoder.now) result }
@@ -109,9 +109,9 @@ fn without_room(decoder: &Decoder<Global>) -> Batch
 fn put_step(slot: &mut CqlpEvent, at: u64, event: &Event<'_>, bytes: &[u8], taken: usize) -> bool
     requires { taken ≤ length bytes.now }
     ensures gathered { result ≡ nat_lt taken (content_span (event_of event.now)) }
-    ensures tells { TellsStep (as_ptr bytes.entry) slot.new (put_of at (event_of event.now) (length bytes.now) taken) }
+    ensures writes { WritesStep (as_ptr bytes.entry) slot.new (put_of at (event_of event.now) (length bytes.now) taken) }
 {
-    tell(slot, at, event);
+    write(slot, at, event);
     let gathered = slot.is_gathered(taken);
     if !gathered && before_content(event).is_some() {
         slot.content = address_of(&bytes[bytes.len() - slot.length..]);

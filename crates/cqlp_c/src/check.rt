@@ -31,7 +31,7 @@ fn drain(decoder: &mut Decoder<Global>, stream: &[u8])
     }
 }
 
-/// Tells how a stream ends that is there whole. Where it has no bytes, its pointer may be null.
+/// Says how a stream ends that is there whole. Where it has no bytes, its pointer may be null.
 #[unsafe(no_mangle)]
 pub extern "C" fn cqlp_check(
     alloc: Global,

@@ -10,14 +10,14 @@ ghost use Rattle.cqlp_columns.specs.Batches.{Batch as Arrays, refusal_of_kinds};
 ghost use Rattle.cqlp_columns.specs.contracts.columns.Columns as arrays;
 ghost use Rattle.cqlp_c.specs.Columns.{Clears, ClearsHeld, FillsColumns, Gets, Makes, MakesBy, MakesNumbered, Nexts, PutsBeside};
 ghost use Rattle.cqlp_c.specs.Columns.{ReadsHeld, ReadsInto, ReadsOn, Shows, ShowsHeld, batch_in, code_of_free, code_of_make};
-ghost use Rattle.cqlp_c.specs.Columns.{kinds_numbered, limits_of, placed_told};
+ghost use Rattle.cqlp_c.specs.Columns.{kinds_numbered, limits_of, placed_written};
 ghost use Rattle.cqlp_c.specs.Course.{batch_from};
 ghost use Rattle.cqlp_c.specs.Batches.{buffer_in};
 ghost use Rattle.cqlp_c.specs.Handle.{flag_of, owned_in};
 
 use crate::batch::{Batch, Stop, or_none, put_gathered};
 use crate::course::{CqlpBegun, CqlpCourse};
-use crate::event::{CqlpEvent, address_of, before_content, tell};
+use crate::event::{CqlpEvent, address_of, before_content, write};
 use crate::handle::{self, CqlpDecoder};
 use crate::loose::Loose;
 use crate::numbers::*;
@@ -244,12 +244,12 @@ pub extern "C" fn cqlp_columns_new(
 /// An event that the columns do not take, as C sees it, and whether it lends a content.
 #[derive(Clone, Copy)]
 struct Beside {
-    told: CqlpEvent,
+    written: CqlpEvent,
     lends: bool,
 }
 
 impl Sink for Beside {
-    ghost use Rattle.cqlp_c.specs.Columns.{TellsBeside};
+    ghost use Rattle.cqlp_c.specs.Columns.{WritesBeside};
 
     ghost View = { Unit {0} };
 
@@ -259,11 +259,11 @@ impl Sink for Beside {
 
     ghost faulted = { λ _ _ _ _. ⊥ };
 
-    ghost also = { λ _ at e new. TellsBeside new.told new.lends at e };
+    ghost also = { λ _ at e new. WritesBeside new.written new.lends at e };
 
     #[inline]
     fn take(&mut self, at: u64, event: &Event<'_>) -> Result<(), SinkFault> {
-        tell(&mut self.told, at, event);
+        write(&mut self.written, at, event);
         self.lends = before_content(event).is_some();
         Ok(())
     }
@@ -271,9 +271,9 @@ impl Sink for Beside {
 
 /// Puts an event that the columns do not take: its content is the last of the bytes used, or lies in the decoder.
 fn put_beside(slot: &mut CqlpEvent, beside: Beside, decoder: &Decoder<Global>, bytes: &[u8])
-    ensures { PutsBeside beside.told beside.lends (as_ptr bytes.entry) (buffer_in decoder.now) bytes.now slot.new }
+    ensures { PutsBeside beside.written beside.lends (as_ptr bytes.entry) (buffer_in decoder.now) bytes.now slot.new }
 {
-    *slot = beside.told;
+    *slot = beside.written;
     if slot.is_gathered(bytes.len()) {
         put_gathered(slot, decoder);
     } else if beside.lends {
@@ -309,11 +309,11 @@ fn fill_columns(
 ) -> (Batch, Columns<Global>)
     ensures { FillsColumns decoder.old decoder.new input.now (as_ptr input.entry) columns result.1 event.old event.new frame.old frame.new result.0 }
 {
-    let told = Beside {
-        told: CqlpEvent::blank(0),
+    let written = Beside {
+        written: CqlpEvent::blank(0),
         lends: false,
     };
-    let mut page = PageColumns::new(columns, told);
+    let mut page = PageColumns::new(columns, written);
     let filled = page.read(decoder, input);
     let PageColumns {
         columns,
@@ -329,8 +329,8 @@ fn fill_columns(
 }
 
 /// Puts the event of a batch, if it has one, at its offset in the whole stream, in which its stretch begins at `base`.
-fn place_told(base: u64, batch: &Batch, event: &mut CqlpEvent)
-    ensures { event.new ≡ placed_told batch.now.events base event.old }
+fn place_written(base: u64, batch: &Batch, event: &mut CqlpEvent)
+    ensures { event.new ≡ placed_written batch.now.events base event.old }
 {
     if base > 0 && batch.events > 0 {
         event.at = base.saturating_add(event.at);
@@ -367,7 +367,7 @@ fn read_columns(
         event,
         &mut course.frame,
     );
-    place_told(course.base, &batch, event);
+    place_written(course.base, &batch, event);
     course.add_used(passed + batch.used);
     (batch_behind(course, passed, batch), columns)
 }
@@ -387,8 +387,8 @@ fn read_held(
     let Some(columns) = held.take() else {
         return NO_COLUMNS;
     };
-    let (told, columns) = read_columns(decoder, course, input, columns, event);
-    *batch = batch_of(&told);
+    let (written, columns) = read_columns(decoder, course, input, columns, event);
+    *batch = batch_of(&written);
     *held = Some(columns);
     DONE
 }
@@ -483,7 +483,7 @@ fn show(held: &Option<Columns<Global>>, column: usize, view: &mut CqlpColumn) ->
     }
 }
 
-/// Tells where the arrays of the column of a number lie, from 0.
+/// Says where the arrays of the column of a number lie, from 0.
 #[unsafe(no_mangle)]
 pub extern "C" fn cqlp_columns_get(
     alloc: Global,

@@ -4,7 +4,7 @@ ghost use Rattle.std.specs.Prelude.{◌≡◌, ℕ, ◌+◌, ◌-◌, ◌<◌, �
 ghost use Rattle.std.specs.Ptr.{Ptr};
 ghost use Rattle.cqlp_grammar.specs.Events.{event_of};
 ghost use Rattle.cqlp_c.specs.Course as specs;
-ghost use Rattle.cqlp_c.specs.Events.{told_at};
+ghost use Rattle.cqlp_c.specs.Events.{written_at};
 
 use crate::batch::{Batch, Stop};
 use crate::event::CqlpEvent;
@@ -89,22 +89,22 @@ impl CqlpBegun {
         }
     }
 
-    /// Goes on to the frame under way after an event, which C is told so.
+    /// Goes on to the frame under way after an event, which C gets so.
     #[inline(always)]
-    pub fn note(&mut self, event: &Event<'_>, told: &CqlpEvent)
-        ensures { (at : ℕ) (place : Ptr) → told.now ≡ told_at at (event_of event.now) place →
-            self.new ≡ specs.begun_after self.old told.now }
+    pub fn note(&mut self, event: &Event<'_>, c_event: &CqlpEvent)
+        ensures { (at : ℕ) (place : Ptr) → c_event.now ≡ written_at at (event_of event.now) place →
+            self.new ≡ specs.begun_after self.old c_event.now }
     {
         if is_edge(event) {
-            *self = self.after(told);
+            *self = self.after(c_event);
         }
     }
 
-    /// Goes on to the frame under way after an event that C was told.
-    pub fn pass_event(&mut self, told: &CqlpEvent)
-        ensures { self.new ≡ specs.begun_after self.old told.now }
+    /// Goes on to the frame under way after an event that C got.
+    pub fn pass_event(&mut self, c_event: &CqlpEvent)
+        ensures { self.new ≡ specs.begun_after self.old c_event.now }
     {
-        *self = self.after(told);
+        *self = self.after(c_event);
     }
 
     /// The frame under way after an event.

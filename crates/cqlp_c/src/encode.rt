@@ -2,15 +2,15 @@
 
 ghost use Rattle.std.specs.Prelude.{◌≡◌, length, MatchResult};
 ghost use Rattle.cqlp_compose.specs.Composing.{composed};
-ghost use Rattle.cqlp_c.specs.Encoding as told_of;
+ghost use Rattle.cqlp_c.specs.Encoding as model;
 ghost use Rattle.cqlp_c.specs.Encoding.{Encodes, IsEncoded, IsUnencoded, TakesAll, TakesOne, code_of_refused};
-ghost use Rattle.cqlp_c.specs.Encoding.{code_of_unencoded, code_of_untold, seen};
+ghost use Rattle.cqlp_c.specs.Encoding.{code_of_unencoded, code_of_bad_event, seen};
 ghost use Rattle.cqlp_c.specs.Rooms.{PutsBytes};
 
 use crate::batch::or_none;
 use crate::event::CqlpEvent;
+use crate::from_c::{BadEvent, event_from_c};
 use crate::numbers::*;
-use crate::told::{NotTold, event_told};
 use crate::versions::put;
 use cqlp_build::{BuildError, BuildLimits};
 use cqlp_compose::Composer;
@@ -30,8 +30,8 @@ pub struct CqlpEncoded {
 /// Why no frame has the events.
 #[derive(Clone, Copy)]
 pub enum Unencoded {
-    /// What is told is no event.
-    Untold(NotTold),
+    /// What C passes is no event.
+    BadEvent(BadEvent),
     /// An event is not taken, or no frame has all of them.
     Refused(BuildError),
     /// There are contents after those of the last event.
@@ -45,18 +45,18 @@ pub struct Stopped {
     pub why: Unencoded,
 }
 
-/// Takes the event that C tells, and answers the contents after its own.
-#[tactic(auto, using(crate::proofs::Encoded::one_taken, crate::proofs::Encoded::one_not_taken, crate::proofs::Encoded::one_untold))]
-fn take_told<'a>(
+/// Takes the event that C passes, and answers the contents after its own.
+#[tactic(auto, using(crate::proofs::Encoded::one_taken, crate::proofs::Encoded::one_not_taken, crate::proofs::Encoded::one_bad_event))]
+fn take_from_c<'a>(
     composer: &mut Composer,
-    told: &CqlpEvent,
+    c_event: &CqlpEvent,
     contents: &'a [u8],
 ) -> Result<&'a [u8], Unencoded>
-    ensures { TakesOne (composed composer.old, contents.now) told.now (seen result) (composed composer.new) }
+    ensures { TakesOne (composed composer.old, contents.now) c_event.now (seen result) (composed composer.new) }
 {
-    let (event, rest) = match event_told(told, contents) {
+    let (event, rest) = match event_from_c(c_event, contents) {
         Ok(found) => found,
-        Err(why) => return Err(Unencoded::Untold(why)),
+        Err(why) => return Err(Unencoded::BadEvent(why)),
     };
     match composer.take(&event) {
         Ok(()) => Ok(rest),
@@ -73,8 +73,8 @@ pub(crate) fn take_all<'a>(
     ensures { TakesAll (composed composer.old, contents.now) events.now (seen result) (composed composer.new) }
 {
     let mut rest = contents;
-    for (event, told) in events.iter().enumerate() {
-        match take_told(composer, told, rest) {
+    for (event, c_event) in events.iter().enumerate() {
+        match take_from_c(composer, c_event, rest) {
             Ok(behind) => rest = behind,
             Err(why) => return Err(Stopped { event, why }),
         }
@@ -85,7 +85,7 @@ pub(crate) fn take_all<'a>(
 /// What is held of a frame. None has more fields, type options and events of cells, nor more bytes of texts and contents, than its body has
 /// bytes. No decoder reads types that are nested deeper than this.
 pub(crate) fn longest() -> BuildLimits
-    ensures { result ≡ told_of.longest }
+    ensures { result ≡ model.longest }
 {
     BuildLimits {
         fields: Header::LONGEST_BODY,
@@ -121,12 +121,12 @@ fn frame_bytes(alloc: Global, events: &[CqlpEvent], contents: &[u8]) -> Result<V
 }
 
 /// The code for what is no event.
-pub(crate) fn untold_code(why: NotTold) -> u32
-    ensures { result ≡ code_of_untold why }
+pub(crate) fn bad_event_code(why: BadEvent) -> u32
+    ensures { result ≡ code_of_bad_event why }
 {
     match why {
-        NotTold::NoEvent => NO_EVENT,
-        NotTold::Unbuilt => UNBUILT,
+        BadEvent::NoEvent => NO_EVENT,
+        BadEvent::Unbuilt => UNBUILT,
     }
 }
 
@@ -150,7 +150,7 @@ pub(crate) fn unencoded_code(why: Unencoded) -> u32
     ensures { result ≡ code_of_unencoded why }
 {
     match why {
-        Unencoded::Untold(why) => untold_code(why),
+        Unencoded::BadEvent(why) => bad_event_code(why),
         Unencoded::Refused(why) => refused_code(why),
         Unencoded::LeftOver => LEFT_OVER,
     }
@@ -167,7 +167,7 @@ fn put_front(room: &mut [u8], bytes: &[u8]) -> u32
     DONE
 }
 
-/// Writes the frame that has these events, whose contents lie one after the other, and tells how many bytes it has. Where there is no
+/// Writes the frame that has these events, whose contents lie one after the other, and says how many bytes it has. Where there is no
 /// event, no content or no room, its pointer may be null.
 #[unsafe(no_mangle)]
 pub extern "C" fn cqlp_encode(

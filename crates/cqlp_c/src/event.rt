@@ -8,7 +8,7 @@ ghost use Rattle.cqlp_note.specs.Field as value;
 ghost use Rattle.cqlp_note.specs.Head.{value_of as value_of_primitive};
 ghost use Rattle.cqlp_note.specs.declared.prim.Primitive.TheVariants as primitive;
 ghost use Rattle.cqlp_grammar.specs.Events.{Cell_at, Holds, event_of};
-ghost use Rattle.cqlp_c.specs.Events.{LendsFrom, Tells, content_after, has_address, scalar_after, zeros};
+ghost use Rattle.cqlp_c.specs.Events.{LendsFrom, Writes, content_after, has_address, scalar_after, zeros};
 
 use crate::numbers::*;
 use cqlp_decode::Event;
@@ -25,7 +25,7 @@ pub struct CqlpEvent {
     pub content: *const u8,
     /// How many bytes the content has.
     pub length: usize,
-    /// The number that the event tells: a value, a count, how many items, the offset of a part, the bytes of a body, or
+    /// The number of the event: a value, a count, how many items, the offset of a part, the bytes of a body, or
     /// those after the last field.
     pub number: i64,
     /// The row of a cell, from 0.
@@ -277,7 +277,7 @@ impl CqlpEvent {
 
 /// A scalar of a cell.
 #[inline(always)]
-fn tell_scalar(
+fn write_scalar(
     slot: &mut CqlpEvent,
     at: u64,
     row: u32,
@@ -285,7 +285,7 @@ fn tell_scalar(
     level: u32,
     scalar: &Scalar<'_>,
 )
-    ensures { Tells slot.new at (Cell_at row column (cell.Leaf level (value_of scalar.now))) }
+    ensures { Writes slot.new at (Cell_at row column (cell.Leaf level (value_of scalar.now))) }
 {
     slot.begin_value(at, TAG_LEAF, row, column, level);
     match *scalar {
@@ -367,8 +367,8 @@ fn before_scalar(scalar: &Scalar<'_>) -> Option<u64>
 /// Puts the event at an offset, as C sees it. Those of cells are put in line, so that the code for one kind of cell is as short as it
 /// can be.
 #[inline(always)]
-pub fn tell(slot: &mut CqlpEvent, at: u64, event: &Event<'_>)
-    ensures { Tells slot.new at (event_of event.now) }
+pub fn write(slot: &mut CqlpEvent, at: u64, event: &Event<'_>)
+    ensures { Writes slot.new at (event_of event.now) }
 {
     match event {
         Event::Leaf {
@@ -376,7 +376,7 @@ pub fn tell(slot: &mut CqlpEvent, at: u64, event: &Event<'_>)
             column,
             level,
             scalar,
-        } => tell_scalar(slot, at, *row, *column, *level, scalar),
+        } => write_scalar(slot, at, *row, *column, *level, scalar),
         Event::Null { row, column, level } => {
             slot.begin_value(at, TAG_NULL, *row, *column, *level);
         }
@@ -394,29 +394,29 @@ pub fn tell(slot: &mut CqlpEvent, at: u64, event: &Event<'_>)
             slot.put_number(*kind, i64::from(*items));
         }
         Event::Leave { level, items } => slot.put_leave(at, *level, *items),
-        _ => tell_any(slot, at, event),
+        _ => write_any(slot, at, event),
     }
 }
 
 /// Puts a field that is a \[uuid\].
-fn tell_uuid(slot: &mut CqlpEvent, at: u64, field: Field, uuid: [u8; 16])
-    ensures { Tells slot.new at (Holds field (value.Uuid uuid)) }
+fn write_uuid(slot: &mut CqlpEvent, at: u64, field: Field, uuid: [u8; 16])
+    ensures { Writes slot.new at (Holds field (value.Uuid uuid)) }
 {
     slot.begin_field(at, TAG_UUID, field);
     slot.put_bytes(uuid, 16);
 }
 
 /// Puts a field that is text with these bytes.
-fn tell_text(slot: &mut CqlpEvent, at: u64, field: Field, text: &[u8])
-    ensures { Tells slot.new at (Holds field (value.Text text.now)) }
+fn write_text(slot: &mut CqlpEvent, at: u64, field: Field, text: &[u8])
+    ensures { Writes slot.new at (Holds field (value.Text text.now)) }
 {
     slot.begin_field(at, TAG_TEXT, field);
     slot.lend(text);
 }
 
 /// Puts a field that is \[bytes\].
-fn tell_bytes(slot: &mut CqlpEvent, at: u64, field: Field, bytes: Option<&[u8]>)
-    ensures { Tells slot.new at (Holds field (value_of_primitive (primitive.Bytes bytes.entry))) }
+fn write_bytes(slot: &mut CqlpEvent, at: u64, field: Field, bytes: Option<&[u8]>)
+    ensures { Writes slot.new at (Holds field (value_of_primitive (primitive.Bytes bytes.entry))) }
 {
     slot.begin_field(at, TAG_BYTES, field);
     match bytes {
@@ -426,8 +426,8 @@ fn tell_bytes(slot: &mut CqlpEvent, at: u64, field: Field, bytes: Option<&[u8]>)
 }
 
 /// Puts a field that is a \[value\] of a request.
-fn tell_bound(slot: &mut CqlpEvent, at: u64, field: Field, value: BoundValue<'_>)
-    ensures { Tells slot.new at (Holds field (value_of_primitive (primitive.Bound value.entry))) }
+fn write_bound(slot: &mut CqlpEvent, at: u64, field: Field, value: BoundValue<'_>)
+    ensures { Writes slot.new at (Holds field (value_of_primitive (primitive.Bound value.entry))) }
 {
     slot.begin_field(at, TAG_BOUND, field);
     match value {
@@ -438,8 +438,8 @@ fn tell_bound(slot: &mut CqlpEvent, at: u64, field: Field, value: BoundValue<'_>
 }
 
 /// Puts a field that is an \[inet\].
-fn tell_inet(slot: &mut CqlpEvent, at: u64, field: Field, address: Address, port: i32)
-    ensures { Tells slot.new at (Holds field (value_of_primitive (primitive.Inet address port))) }
+fn write_inet(slot: &mut CqlpEvent, at: u64, field: Field, address: Address, port: i32)
+    ensures { Writes slot.new at (Holds field (value_of_primitive (primitive.Inet address port))) }
 {
     slot.begin_field(at, TAG_INET, field);
     slot.extra = port;
@@ -448,8 +448,8 @@ fn tell_inet(slot: &mut CqlpEvent, at: u64, field: Field, address: Address, port
 
 /// Puts any event.
 #[inline(never)]
-fn tell_any(slot: &mut CqlpEvent, at: u64, event: &Event<'_>)
-    ensures { Tells slot.new at (event_of event.now) }
+fn write_any(slot: &mut CqlpEvent, at: u64, event: &Event<'_>)
+    ensures { Writes slot.new at (event_of event.now) }
 {
     match *event {
         Event::Frame(header) => slot.put_frame(at, &header),
@@ -459,7 +459,7 @@ fn tell_any(slot: &mut CqlpEvent, at: u64, event: &Event<'_>)
             column,
             level,
             scalar,
-        } => tell_scalar(slot, at, row, column, level, &scalar),
+        } => write_scalar(slot, at, row, column, level, &scalar),
         Event::Null { row, column, level } => slot.begin_value(at, TAG_NULL, row, column, level),
         Event::Empty { row, column, level } => slot.begin_value(at, TAG_EMPTY, row, column, level),
         Event::Enter {
@@ -491,15 +491,15 @@ fn tell_any(slot: &mut CqlpEvent, at: u64, event: &Event<'_>)
         Event::Short { field, value } => slot.put_field(at, TAG_SHORT, field, i64::from(value)),
         Event::Int { field, value } => slot.put_field(at, TAG_INT, field, i64::from(value)),
         Event::Long { field, value } => slot.put_field(at, TAG_LONG, field, value),
-        Event::Uuid { field, value } => tell_uuid(slot, at, field, value),
+        Event::Uuid { field, value } => write_uuid(slot, at, field, value),
         Event::Count { field, count } => slot.put_field(at, TAG_COUNT, field, i64::from(count)),
-        Event::Text { field, text } => tell_text(slot, at, field, text.as_bytes()),
-        Event::Bytes { field, bytes } => tell_bytes(slot, at, field, bytes),
-        Event::Bound { field, value } => tell_bound(slot, at, field, value),
+        Event::Text { field, text } => write_text(slot, at, field, text.as_bytes()),
+        Event::Bytes { field, bytes } => write_bytes(slot, at, field, bytes),
+        Event::Bound { field, value } => write_bound(slot, at, field, value),
         Event::Inet {
             field,
             address,
             port,
-        } => tell_inet(slot, at, field, address, port),
+        } => write_inet(slot, at, field, address, port),
     }
 }

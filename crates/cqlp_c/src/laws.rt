@@ -6,7 +6,7 @@ ghost use Rattle.cqlp_c.specs.Laws.{IsOneAnswerOfClientNew, IsOneAnswerOfNext, I
 ghost use Rattle.cqlp_c.specs.CallsLaws.{IsOneAnswerOfColumnsClear, IsOneAnswerOfColumnsGet, IsOneAnswerOfColumnsNew, IsOneAnswerOfGive};
 ghost use Rattle.cqlp_c.specs.CallsLaws.{IsOneAnswerOfHeld, IsOneAnswerOfNew, IsOneAnswerOfTakeGiven, IsOneAnswerOfTypesOf};
 ghost use Rattle.cqlp_c.specs.ColumnsLaws.{IsOneAnswerOfColumns};
-ghost use Rattle.cqlp_c.specs.EncodeLaws.{IsOneAnswerOfEncode, WrittenHasHeader, WrittenIsTold};
+ghost use Rattle.cqlp_c.specs.EncodeLaws.{IsOneAnswerOfEncode, WrittenHasHeader, WrittenReadsBack};
 ghost use Rattle.cqlp_c.specs.PagesLaws.{IsOneAnswerOfPageBegin, IsOneAnswerOfPagePut, PutPagesAreRead};
 ghost use Rattle.cqlp_c.specs.PromisedNumbers.{ArePromised};
 ghost use Rattle.cqlp_c.specs.Stretched.{FinishEndsThere, IsOneAnswerOfSkip, IsOneAnswerOverSkips, NewBegins, NextReadsOn, SkipGivesUp};
@@ -89,7 +89,7 @@ pub fn one_answer_of_encode()
 /// header with their length, the fields and an end, and nothing else.
 pub fn written_events_are_read()
     ensures header { WrittenHasHeader }
-    ensures told { WrittenIsTold }
+    ensures written { WrittenReadsBack }
 {}
 
 /// Of the same events, with the same contents and room, `cqlp_page_begin` and, from one page, `cqlp_page_put` have one answer, but where memory
@@ -117,7 +117,7 @@ pub fn one_answer_of_new()
     ensures { IsOneAnswerOfNew }
 {}
 
-/// `cqlp_held` tells the same numbers of one decoder, which stays as it is.
+/// `cqlp_held` gives the same numbers of one decoder, which stays as it is.
 pub fn one_answer_of_held()
     ensures { IsOneAnswerOfHeld }
 {}
@@ -142,7 +142,7 @@ pub fn one_answer_of_columns_new()
     ensures { IsOneAnswerOfColumnsNew }
 {}
 
-/// Of one column `cqlp_columns_get` tells one place of each array, and one length.
+/// Of one column `cqlp_columns_get` gives one place of each array, and one length.
 pub fn one_answer_of_columns_get()
     ensures { IsOneAnswerOfColumnsGet }
 {}

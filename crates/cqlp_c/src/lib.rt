@@ -2,12 +2,15 @@
 #![tactic(auto)]
 
 mod batch;
+mod cell_from_c;
 mod check;
 mod client;
 mod columns;
 mod course;
 mod encode;
 mod event;
+mod from_c;
+mod from_c_laws;
 mod handle;
 mod header;
 mod laws;
@@ -18,9 +21,6 @@ mod server;
 mod shown;
 mod slots;
 mod talked;
-mod told;
-mod told_cell;
-mod told_laws;
 mod types;
 mod versions;
 
@@ -36,6 +36,7 @@ pub use columns::{
 pub use course::{CqlpBegun, CqlpCourse, CqlpSkipped};
 pub use encode::{CqlpEncoded, cqlp_encode};
 pub use event::CqlpEvent;
+pub use from_c_laws::{all_read_back, events_are_in_range, handed_back_is_read, read_back};
 pub use handle::{
     CqlpDecoder, CqlpHeldDecoder, CqlpPlace, cqlp_finish, cqlp_free, cqlp_held, cqlp_new,
     cqlp_new_lenient, cqlp_next, cqlp_skip,
@@ -60,6 +61,5 @@ pub use server::{
 };
 pub use shown::{CqlpBatch, CqlpEnd, CqlpHeld, CqlpLimits};
 pub use talked::{CqlpAnswered, CqlpReply, CqlpTicket};
-pub use told_laws::{all_told_back, events_are_in_range, handed_back_is_read, told_back};
 pub use types::{CqlpTable, CqlpTypes, cqlp_give, cqlp_take_given, cqlp_types_free, cqlp_types_of};
 pub use versions::cqlp_version_error;

@@ -1,4 +1,4 @@
-//! The numbers by which C is told of codes, tags, marks, opcodes, fields, kinds, reasons, phases and replies. They never
+//! The numbers that C gets for codes, tags, marks, opcodes, fields, kinds, reasons, phases and replies. They never
 //! change; new ones are added at the end of their group. `include/cqlp.h` has the same, with `CQLP_` before each name.
 
 ghost use Rattle.std.specs.Prelude.{◌≡◌};

@@ -11,17 +11,18 @@ ghost use Rattle.cqlp_compose.specs.Put.{putter};
 ghost use Rattle.cqlp_compose.specs.declared.page.OpenPage.{OpenPage as Held};
 ghost use Rattle.cqlp_compose.specs.contracts.page.OpenPage as page_of;
 ghost use Rattle.cqlp_c.specs.Handle.{flag_of, owned_in};
-ghost use Rattle.cqlp_c.specs.Pages as told_of;
+ghost use Rattle.cqlp_c.specs.Pages as model;
 ghost use Rattle.cqlp_c.specs.Pages.{Begins, BeginsAnew, IsPutBy, Measures, Opens, Puts, PutsAll, PutsCells, PutsOne, ReadsHead};
 
 use crate::batch::or_none;
 use crate::encode::{
-    CqlpEncoded, Stopped, Unencoded, longest, refused_code, take_all, unencoded_code, untold_code,
+    CqlpEncoded, Stopped, Unencoded, bad_event_code, longest, refused_code, take_all,
+    unencoded_code,
 };
 use crate::event::CqlpEvent;
+use crate::from_c::{BadEvent, event_from_c};
 use crate::loose::Loose;
 use crate::numbers::*;
-use crate::told::{NotTold, event_told};
 use crate::versions::put;
 use cqlp_build::BuildError;
 use cqlp_build_cells::{CellError, CellLimits};
@@ -145,30 +146,30 @@ fn taken(page: CqlpPage, alloc: Global) -> Option<Box<OpenPage>>
 
 /// What is no event, and how many events came before it.
 #[derive(Clone, Copy)]
-pub struct UntoldAt {
+pub struct BadEventAt {
     pub event: usize,
-    pub why: NotTold,
+    pub why: BadEvent,
 }
 
-/// Adds how many bytes the events tell of to a sum, which is 2^64 - 1 where it would be more.
-fn measure_all(events: &[CqlpEvent], contents: &[u8], size: u64) -> Result<u64, UntoldAt>
-    ensures { result ≡ told_of.measured 0 size contents.now events.now }
+/// Adds how many bytes the events cover to a sum, which is 2^64 - 1 where it would be more.
+fn measure_all(events: &[CqlpEvent], contents: &[u8], size: u64) -> Result<u64, BadEventAt>
+    ensures { result ≡ model.measured 0 size contents.now events.now }
 {
     let mut rest = contents;
     let mut sum = size;
-    for (event, told) in events.iter().enumerate() {
-        match event_told(told, rest) {
+    for (event, c_event) in events.iter().enumerate() {
+        match event_from_c(c_event, rest) {
             Ok((found, behind)) => {
                 sum = sum.saturating_add(event_size(&found));
                 rest = behind;
             }
-            Err(why) => return Err(UntoldAt { event, why }),
+            Err(why) => return Err(BadEventAt { event, why }),
         }
     }
     Ok(sum)
 }
 
-/// Adds how many bytes of a page the events tell of to `size`. Where there is no event or no content, its pointer may be null.
+/// Adds how many bytes of a page the events cover to `size`. Where there is no event or no content, its pointer may be null.
 #[unsafe(no_mangle)]
 pub extern "C" fn cqlp_page_measure(
     events: &[CqlpEvent],
@@ -185,9 +186,9 @@ pub extern "C" fn cqlp_page_measure(
             };
             DONE
         }
-        Err(untold) => {
-            measured.event = untold.event;
-            untold_code(untold.why)
+        Err(bad_event) => {
+            measured.event = bad_event.event;
+            bad_event_code(bad_event.why)
         }
     }
 }
@@ -213,7 +214,7 @@ pub struct UnbegunAt {
 /// As many rows, where no contents are left.
 #[tactic(auto, using(crate::proofs::PagesPut::all_used, crate::proofs::PagesPut::some_left))]
 fn with_all_used(rows: u32, rest: &[u8]) -> Result<u32, Unbegun>
-    ensures { result ≡ told_of.with_all_used rows rest.now }
+    ensures { result ≡ model.with_all_used rows rest.now }
 {
     if rest.is_empty() {
         Ok(rows)
@@ -223,12 +224,12 @@ fn with_all_used(rows: u32, rest: &[u8]) -> Result<u32, Unbegun>
 }
 
 /// How many rows the last event of a head counts, whose content is all that is left of the contents.
-fn rows_told(told: &CqlpEvent, contents: &[u8]) -> Result<u32, Unbegun>
-    ensures { result ≡ told_of.rows_told told.now contents.now }
+fn rows_from_c(c_event: &CqlpEvent, contents: &[u8]) -> Result<u32, Unbegun>
+    ensures { result ≡ model.rows_from_c c_event.now contents.now }
 {
-    let (event, rest) = match event_told(told, contents) {
+    let (event, rest) = match event_from_c(c_event, contents) {
         Ok(found) => found,
-        Err(why) => return Err(Unbegun::Head(Unencoded::Untold(why))),
+        Err(why) => return Err(Unbegun::Head(Unencoded::BadEvent(why))),
     };
     match event {
         Event::Count {
@@ -254,7 +255,7 @@ fn read_head(
         });
     };
     match take_all(composer, front, contents) {
-        Ok(rest) => match rows_told(last, rest) {
+        Ok(rest) => match rows_from_c(last, rest) {
             Ok(rows) => Ok(rows),
             Err(why) => Err(UnbegunAt {
                 event: front.len(),
@@ -293,7 +294,7 @@ fn open(
 
 /// The code for a page that nothing spells.
 fn unfit_code(why: Unfit) -> u32
-    ensures { result ≡ told_of.code_of_unfit why }
+    ensures { result ≡ model.code_of_unfit why }
 {
     match why {
         Unfit::RowShape => BAD_SIZE,
@@ -305,7 +306,7 @@ fn unfit_code(why: Unfit) -> u32
 
 /// The code for a page that is not begun.
 fn unbegun_code(why: Unbegun) -> u32
-    ensures { result ≡ told_of.code_of_unbegun why }
+    ensures { result ≡ model.code_of_unbegun why }
 {
     match why {
         Unbegun::Head(why) => unencoded_code(why),
@@ -335,7 +336,7 @@ fn begin_page(alloc: Global, begun: BegunPage, bytes: &mut [u8], page: &mut Cqlp
     }
 }
 
-/// Begins a page in a handle that has none, and tells how many bytes its head has.
+/// Begins a page in a handle that has none, and says how many bytes its head has.
 fn begin_anew(
     alloc: Global,
     events: &[CqlpEvent],
@@ -366,7 +367,7 @@ fn begin_anew(
     }
 }
 
-/// Begins a page in a handle that has none: puts all of it that comes before its first cell, and tells how many bytes that is. Its cells
+/// Begins a page in a handle that has none: puts all of it that comes before its first cell, and says how many bytes that is. Its cells
 /// are to have `size` bytes. Where there is no event, no content or no room, its pointer may be null.
 #[unsafe(no_mangle)]
 pub extern "C" fn cqlp_page_begin(
@@ -389,26 +390,26 @@ pub extern "C" fn cqlp_page_begin(
 /// Why a batch is not put whole.
 #[derive(Clone, Copy)]
 pub enum Unput {
-    /// What is told is no event.
-    Untold(NotTold),
+    /// What C passes is no event.
+    BadEvent(BadEvent),
     /// The event is not taken, or its cell is not put.
     Refused(PutError),
 }
 
-/// Takes the event that C tells, of which the content is the first of the contents; answers how many bytes were put at the front of the room,
+/// Takes the event that C passes, of which the content is the first of the contents; answers how many bytes were put at the front of the room,
 /// where a cell ends with it, and the contents after its own.
-fn put_told<'a>(
+fn put_from_c<'a>(
     cells: &mut PutCells<'_>,
-    told: &CqlpEvent,
+    c_event: &CqlpEvent,
     contents: &'a [u8],
     room: &mut [u8],
 ) -> Result<(Option<usize>, &'a [u8]), Unput>
-    ensures { (bytes : List ℕ) × PutsOne (putter cells.old) told.now contents.now (length room.old) (told_of.seen_put result) bytes (putter cells.new)
+    ensures { (bytes : List ℕ) × PutsOne (putter cells.old) c_event.now contents.now (length room.old) (model.seen_put result) bytes (putter cells.new)
         × (room.new ≡ bytes ++ drop (length bytes) room.old) }
 {
-    let (event, rest) = match event_told(told, contents) {
+    let (event, rest) = match event_from_c(c_event, contents) {
         Ok(found) => found,
-        Err(why) => return Err(Unput::Untold(why)),
+        Err(why) => return Err(Unput::BadEvent(why)),
     };
     match cells.take(&event, room) {
         Ok(len) => Ok((len, rest)),
@@ -421,7 +422,7 @@ impl CqlpPut {
     fn gone_on(self, event: usize, used: usize, len: Option<usize>) -> CqlpPut
         requires next { event + 1 < 2 ^ 64 }
         requires long { IfSome len (λ n. self.length + n < 2 ^ 64) }
-        ensures { result ≡ told_of.gone_on self event used len }
+        ensures { result ≡ model.gone_on self event used len }
     {
         match len {
             Some(len) => CqlpPut {
@@ -436,7 +437,7 @@ impl CqlpPut {
 
     /// It stops at this event.
     fn stopped(self, event: usize, why: Unput) -> CqlpPut
-        ensures { result ≡ told_of.stopped self event why }
+        ensures { result ≡ model.stopped self event why }
     {
         CqlpPut {
             event,
@@ -448,11 +449,11 @@ impl CqlpPut {
 
 /// How many bytes the next cell has, where there is no room for as many.
 fn wanted_of(why: Unput) -> usize
-    ensures { result ≡ told_of.wanted_of why }
+    ensures { result ≡ model.wanted_of why }
 {
     match why {
         Unput::Refused(PutError::NoRoom(wanted)) => wanted,
-        Unput::Refused(PutError::Cell(_)) | Unput::Untold(_) => 0,
+        Unput::Refused(PutError::Cell(_)) | Unput::BadEvent(_) => 0,
     }
 }
 
@@ -473,8 +474,8 @@ fn put_all(
         wanted: 0,
     };
     let mut rest = contents;
-    for (event, told) in events.iter().enumerate() {
-        match put_told(cells, told, rest, &mut room[put.length..]) {
+    for (event, c_event) in events.iter().enumerate() {
+        match put_from_c(cells, c_event, rest, &mut room[put.length..]) {
             Ok((len, behind)) => {
                 rest = behind;
                 put = put.gone_on(event, contents.len() - rest.len(), len);
@@ -491,7 +492,7 @@ fn put_all(
 
 /// The code for an event of a cell that is not taken, or for a cell that has no value.
 fn cell_code(why: CellError) -> u32
-    ensures { result ≡ told_of.code_of_cell why }
+    ensures { result ≡ model.code_of_cell why }
 {
     match why {
         CellError::Misplaced => MISPLACED,
@@ -506,10 +507,10 @@ fn cell_code(why: CellError) -> u32
 
 /// The code for a batch that is not put whole.
 fn unput_code(why: Unput) -> u32
-    ensures { result ≡ told_of.code_of_unput why }
+    ensures { result ≡ model.code_of_unput why }
 {
     match why {
-        Unput::Untold(why) => untold_code(why),
+        Unput::BadEvent(why) => bad_event_code(why),
         Unput::Refused(PutError::NoRoom(_)) => NO_ROOM,
         Unput::Refused(PutError::Cell(PageCellError::Cell(why))) => cell_code(why),
         Unput::Refused(PutError::Cell(PageCellError::PastLength)) => PAST_SIZE,
@@ -540,7 +541,7 @@ fn put_cells(
     put
 }
 
-/// Puts the next cells of a page, whose events these are, and tells how many were put. Where there is no event, no content or no room, its
+/// Puts the next cells of a page, whose events these are, and says how many were put. Where there is no event, no content or no room, its
 /// pointer may be null.
 #[unsafe(no_mangle)]
 pub extern "C" fn cqlp_page_put(
@@ -549,14 +550,14 @@ pub extern "C" fn cqlp_page_put(
     events: &[CqlpEvent],
     contents: &[u8],
     bytes: &mut [u8],
-    told: &mut CqlpPut,
+    written: &mut CqlpPut,
 ) -> u32
-    ensures { Puts page.old.place.value events.now contents.now result page.new.place.value bytes.old bytes.new told.old told.new }
+    ensures { Puts page.old.place.value events.now contents.now result page.new.place.value bytes.old bytes.new written.old written.new }
 {
     match taken(std::mem::replace(page, none(alloc)), alloc) {
         Some(mut boxed) => {
             let (put, code) = put_cells(alloc, &mut boxed, events, or_none(contents), bytes);
-            *told = put;
+            *written = put;
             *page = holding(boxed);
             code
         }
@@ -566,7 +567,7 @@ pub extern "C" fn cqlp_page_put(
 
 /// The code for a page that has ended, or for what it still wants.
 fn end_code(ended: Result<(), Unended>) -> u32
-    ensures { result ≡ told_of.code_of_end ended }
+    ensures { result ≡ model.code_of_end ended }
 {
     match ended {
         Ok(()) => DONE,
@@ -578,7 +579,7 @@ fn end_code(ended: Result<(), Unended>) -> u32
 /// Says whether all cells of a page have come, and all bytes that they were to have.
 #[unsafe(no_mangle)]
 pub extern "C" fn cqlp_page_end(alloc: Global, page: &mut CqlpPage) -> u32
-    ensures code { result ≡ told_of.code_of_ends page.old.place.value }
+    ensures code { result ≡ model.code_of_ends page.old.place.value }
     ensures same { page.new.place.value ≡ page.old.place.value }
 {
     match taken(std::mem::replace(page, none(alloc)), alloc) {
@@ -594,7 +595,7 @@ pub extern "C" fn cqlp_page_end(alloc: Global, page: &mut CqlpPage) -> u32
 /// Frees a page, whether or not it has ended, and leaves a handle that has none.
 #[unsafe(no_mangle)]
 pub extern "C" fn cqlp_page_free(alloc: Global, page: &mut CqlpPage) -> u32
-    ensures code { result ≡ told_of.code_of_free page.old.place.value }
+    ensures code { result ≡ model.code_of_free page.old.place.value }
     ensures none { page.new.place.value ≡ None }
 {
     match taken(std::mem::replace(page, none(alloc)), alloc) {

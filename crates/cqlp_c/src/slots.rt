@@ -6,10 +6,10 @@ ghost use denote.RawPtr.{◌+ₚ◌};
 ghost use Rattle.cqlp_grammar.specs.Events.{event_of};
 ghost use Rattle.cqlp_decode.specs.Streams.{state};
 ghost use Rattle.cqlp_c.specs.Batches.{HasUsed};
-ghost use Rattle.cqlp_c.specs.Slots.{PutsWhole, TellsIn};
+ghost use Rattle.cqlp_c.specs.Slots.{PutsWhole, WritesIn};
 
 use crate::course::CqlpBegun;
-use crate::event::{CqlpEvent, address_of, before_content, tell};
+use crate::event::{CqlpEvent, address_of, before_content, write};
 use cqlp_decode::{Decoder, Event, Finish, Sink, SinkFault};
 use std::alloc::Global;
 
@@ -38,10 +38,10 @@ impl Origin<'_> {
 
 /// Puts the event at an offset, with the place of its content in the input.
 #[inline(always)]
-fn tell_in(origin: Origin<'_>, slot: &mut CqlpEvent, at: u64, event: &Event<'_>)
-    ensures { TellsIn origin.entry slot.new at (event_of event.now) }
+fn write_in(origin: Origin<'_>, slot: &mut CqlpEvent, at: u64, event: &Event<'_>)
+    ensures { WritesIn origin.entry slot.new at (event_of event.now) }
 {
-    tell(slot, at, event);
+    write(slot, at, event);
     if let Some(before) = before_content(event) {
         slot.content = origin.address(at, before, slot.content);
     }
@@ -64,7 +64,7 @@ impl Sink for Slots<'_> {
 
     ghost view = { λ _. tt };
 
-    ghost tells = { HasRoom };
+    ghost reports = { HasRoom };
 
     ghost after = { λ _ _ _. tt };
 
@@ -79,7 +79,7 @@ impl Sink for Slots<'_> {
             return Err(SinkFault);
         }
         let slot = &mut events[self.count];
-        tell_in(self.origin, slot, at, event);
+        write_in(self.origin, slot, at, event);
         self.frame.note(event, slot);
         self.count += 1;
         if self.count < events.len() {

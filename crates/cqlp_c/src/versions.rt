@@ -41,7 +41,7 @@ pub fn put(room: &mut [u8], at: usize, bytes: &[u8]) -> usize
     end
 }
 
-/// Writes the answer to a request whose header is of another version, an ERROR of version 4, and tells how many bytes it has. Where
+/// Writes the answer to a request whose header is of another version, an ERROR of version 4, and says how many bytes it has. Where
 /// there is no room, its pointer may be null.
 #[unsafe(no_mangle)]
 pub extern "C" fn cqlp_version_error(header: &[u8; 9], bytes: &mut [u8], length: &mut usize) -> u32

@@ -5,7 +5,7 @@ use Rattle.std.proofs.lemmas.List.{drop_all, length-append, length-take-le}
 use Rattle.cqlp_note.proofs.Yields.{says_exact}
 use Rattle.cqlp_capture.specs.declared.block.Block.{Block}
 use Rattle.cqlp_capture.specs.declared.event.EventOutline.{EventOutline}
-use Rattle.cqlp_capture.specs.declared.event.Told.{Told}
+use Rattle.cqlp_capture.specs.declared.event.Emission.{Emission}
 use Rattle.cqlp_capture.specs.declared.gathered.FoundBytes.{FoundBytes}
 use Rattle.cqlp_capture.specs.declared.limits.CaptureLimits.{CaptureLimits}
 use Rattle.cqlp_capture.specs.declared.place.Place.{Place}
@@ -19,12 +19,12 @@ use Rattle.cqlp_capture.specs.Gathering.{Gathered, Finds, begun, bytes_at}
 use Rattle.cqlp_capture.specs.Interfaces.{Interfaces, changed, interfaces}
 use Rattle.cqlp_capture.specs.Places.{IsNear, IsKnownAt, IsPassing, ComesAfterHead}
 use Rattle.cqlp_note.specs.Reader.{Got, says}
-use Rattle.cqlp_capture.specs.Reading.{Event, Spot, after_told, event_if, event_with, heard_first, wanted, told_at, step}
+use Rattle.cqlp_capture.specs.Reading.{Event, Spot, after_emission, event_if, event_with, heard_first, wanted, read_at, step}
 use Rattle.cqlp_capture.specs.Progress.{IsLawful, Moves, TakesStep, progress, spot_of}
 use Rattle.cqlp_capture.proofs.Tests.{Fits, in_range}
 use Rattle.cqlp_capture.proofs.Insides.{Inside, passing_inside}
 use Rattle.cqlp_capture.proofs.Steps.{said_of, step_said, step_waits}
-use Rattle.cqlp_capture.proofs.Leading.{Leads, told_leads}
+use Rattle.cqlp_capture.proofs.Leading.{Leads, read_leads}
 use Rattle.cqlp_capture.proofs.Moving.{nothing, pass_moves}
 
 known_few : (l : CaptureLimits) → Fits l → (s : Stage) (known : List KnownInterface) → IsKnownAt l s known → length known ≤ l.interfaces
@@ -59,15 +59,15 @@ module _ (l : CaptureLimits) (p : Place) (t : Interfaces) (g g' : Gathered) (inp
   long : length b ≡ wanted p.stage
   long = ap length (are ∙ found.is) ∙ omega (arith, length-append g.pending (take f.used input), length-take-le f.used input found.within, found.count)
 
-  module _ (u : Told) (is : told_at l t.known p.offset p.stage b ≡ Ok u) where
+  module _ (u : Emission) (is : read_at l t.known p.offset p.stage b ≡ Ok u) where
     leads : Leads l t.known p.offset p.stage b u
-    leads = told_leads l (in_range l lawful.range) (spot_of p t) b u lawful.spot long is
+    leads = read_leads l (in_range l lawful.range) (spot_of p t) b u lawful.spot long is
 
     pub change_fits : length (changed u.change t.known) ≤ t.room
     change_fits = subst (λ (n : ℕ). length (changed u.change t.known) ≤ n) (sym lawful.places) (known_few l (in_range l lawful.range) u.place.stage (changed u.change t.known) leads.near.known)
 
-    pub told_lawful : IsLawful l u.place (interfaces (changed u.change t.known) t.room) g'
-    told_lawful = record {
+    pub read_lawful : IsLawful l u.place (interfaces (changed u.change t.known) t.room) g'
+    read_lawful = record {
       room = found.room ∙ lawful.room;
       places = lawful.places;
       range = lawful.range;
@@ -76,10 +76,10 @@ module _ (l : CaptureLimits) (p : Place) (t : Interfaces) (g g' : Gathered) (inp
     }
 
     -- what is said of all of the input, and of the bytes that were used
-    said : says (step l (spot_of p t)) 0 (g.pending ++ input) ≡ Got (record { at = u.at; event = event_if u.what b; after = after_told t.known u }) (length g.pending + f.used)
+    said : says (step l (spot_of p t)) 0 (g.pending ++ input) ≡ Got (record { at = u.at; event = event_if u.what b; after = after_emission t.known u }) (length g.pending + f.used)
     said = step_said l (spot_of p t) g.pending input b f.used found.count found.within (are ∙ found.is) ∙ ap (said_of t.known (length g.pending + f.used) b) is
 
-    silent_moves : u.what ≡ None → Moves l (spot_of p t) g.pending input f.used (after_told t.known u) g'.pending
+    silent_moves : u.what ≡ None → Moves l (spot_of p t) g.pending input f.used (after_emission t.known u) g'.pending
     silent_moves none =
         let event : event_if u.what b ≡ None = ap (λ (o : Option EventOutline). event_if o b) none in
         let k = length g.pending + f.used in
@@ -89,13 +89,13 @@ module _ (l : CaptureLimits) (p : Place) (t : Interfaces) (g g' : Gathered) (inp
           within = found.within;
           steps = (u.at, event_if u.what b) ∷ [];
           silent = ap (λ (o : Option Event). heard_first u.at o []) event;
-          reads = (k, after_told t.known u, exact, (refl, found.none ∙ sym over));
+          reads = (k, after_emission t.known u, exact, (refl, found.none ∙ sym over));
           first = λ no. absurd (let n : 1 ≡ 0 = ap length no in omega arith);
           later = λ _. found.none;
         }
 
-    pub told_passes : (o : Option CaptureRefusal) → o ≡ None → u.what ≡ None → TakesStep (progress l p t g o) input (taken.Passed f.used) (progress l u.place (interfaces (changed u.change t.known) t.room) g' o)
-    told_passes o unrefused none = record {
+    pub read_passes : (o : Option CaptureRefusal) → o ≡ None → u.what ≡ None → TakesStep (progress l p t g o) input (taken.Passed f.used) (progress l u.place (interfaces (changed u.change t.known) t.room) g' o)
+    read_passes o unrefused none = record {
       moves = silent_moves none;
       none = found.none;
       paid = omega (arith, leads.pays, found.count, found.within);
@@ -103,21 +103,21 @@ module _ (l : CaptureLimits) (p : Place) (t : Interfaces) (g g' : Gathered) (inp
       unrefused = unrefused;
     }
 
-    pub told_hands : (o : Option CaptureRefusal) (w : EventOutline) → o ≡ None → u.what ≡ Some w → TakesStep (progress l p t g o) input (taken.Event u.at f.used w f.lies) (progress l u.place (interfaces (changed u.change t.known) t.room) g' o)
-    told_hands o w unrefused some =
+    pub read_hands : (o : Option CaptureRefusal) (w : EventOutline) → o ≡ None → u.what ≡ Some w → TakesStep (progress l p t g o) input (taken.Event u.at f.used w f.lies) (progress l u.place (interfaces (changed u.change t.known) t.room) g' o)
+    read_hands o w unrefused some =
         let event : event_if u.what b ≡ Some (event_with w (bytes_at f.lies input g'.held)) = ap (λ (x : Option EventOutline). event_if x b) some ∙ ap (λ (z : List ℕ). Some (event_with w z)) are in (
           record {
             within = found.within;
-            is = said ∙ ap (λ (x : Option Event). Got (record { at = u.at; event = x; after = after_told t.known u }) (length g.pending + f.used)) event;
-            left = λ i. record { limits = l; spot = after_told t.known u; pending = found.none i; held = g'.held; refusal = unrefused i };
+            is = said ∙ ap (λ (x : Option Event). Got (record { at = u.at; event = x; after = after_emission t.known u }) (length g.pending + f.used)) event;
+            left = λ i. record { limits = l; spot = after_emission t.known u; pending = found.none i; held = g'.held; refusal = unrefused i };
             lent = found.lent;
             kept = found.kept;
           },
           found.there,
         )
 
-  pub told_fails : (r : CaptureRefusal) (room : ℕ) → told_at l t.known p.offset p.stage b ≡ Err r → (o : Option CaptureRefusal) → TakesStep (progress l p t g o) input (taken.Refused r) (progress l p t (begun [] room) (Some r))
-  told_fails r room is o = record {
+  pub read_fails : (r : CaptureRefusal) (room : ℕ) → read_at l t.known p.offset p.stage b ≡ Err r → (o : Option CaptureRefusal) → TakesStep (progress l p t g o) input (taken.Refused r) (progress l p t (begun [] room) (Some r))
+  read_fails r room is o = record {
     is = step_said l (spot_of p t) g.pending input b f.used found.count found.within (are ∙ found.is) ∙ ap (said_of t.known (length g.pending + f.used) b) is;
     left = refl;
   }

@@ -9,11 +9,11 @@ use Rattle.cqlp_capture.specs.declared.event.CaptureEnd.TheVariants as end
 use Rattle.cqlp_capture.specs.declared.limits.CaptureLimits.{CaptureLimits}
 use Rattle.cqlp_capture.specs.declared.refusal.CaptureRefusal.{CaptureRefusal}
 use Rattle.cqlp_capture.specs.Places.{IsSpot, is_between, began}
-use Rattle.cqlp_capture.specs.Reading.{Event, Emitted, Spot, after_told, wanted, step, start, heard, Reads}
+use Rattle.cqlp_capture.specs.Reading.{Event, Emitted, Spot, after_emission, wanted, step, start, heard, Reads}
 use Rattle.cqlp_capture.specs.Progress.{CaptureState, AfterBy, After, IsWhole, ending, ending_by, is_empty}
 use Rattle.cqlp_capture.proofs.Tests.{Fits}
-use Rattle.cqlp_capture.proofs.Leading.{told_leads}
-use Rattle.cqlp_capture.proofs.Runs.{got_tells, reads_stay, reads_then}
+use Rattle.cqlp_capture.proofs.Leading.{read_leads}
+use Rattle.cqlp_capture.proofs.Runs.{got_yields, reads_stay, reads_then}
 use Rattle.cqlp_capture.proofs.Calls.{began_before}
 use Rattle.cqlp_capture.proofs.Moving.{take_whole}
 use Rattle.cqlp_capture.proofs.Whole.{at_start}
@@ -40,11 +40,11 @@ module _ (l : CaptureLimits) (fits : Fits l) where
   begun_on (e ∷ steps) p q c bytes rest past here long run before r =
       let n = r.0 in
       let b = take n bytes in
-      let t = got_tells l p bytes _ n r.2 in
+      let t = got_yields l p bytes _ n r.2 in
       let size : length b ≡ n = length-take-le n bytes t.within in
       let within : wanted p.place.stage ≤ length bytes = let x = t.count in let y = t.within in omega arith in
-      let to = told_leads l fits p (take (wanted p.place.stage) bytes) t.told_is here (length-take-le (wanted p.place.stage) bytes within) t.is in
-      let after : r.1 ≡ after_told p.known t.told_is = ap (λ (x : Emitted). x.after) t.emits in
+      let to = read_leads l fits p (take (wanted p.place.stage) bytes) t.emission_is here (length-take-le (wanted p.place.stage) bytes within) t.is in
+      let after : r.1 ≡ after_emission p.known t.emission_is = ap (λ (x : Emitted). x.after) t.emits in
       let near : IsSpot l r.1 = subst (IsSpot l) (sym after) to.near in
       let offset : r.1.place.offset ≡ p.place.offset + wanted p.place.stage = ap (λ (x : Spot). x.place.offset) after ∙ to.offset_is in
       let none : 0 + n ≡ n = omega arith in

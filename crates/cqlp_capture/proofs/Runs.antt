@@ -6,15 +6,15 @@ use Rattle.std.proofs.lemmas.List.{drop-drop, drop-append-le, length-drop, lengt
 use Rattle.cqlp_note.specs.Reader.{Said, More, Got, says}
 use Rattle.cqlp_note.proofs.Readers.{says_stays}
 use Rattle.cqlp_note.proofs.Runs.{stays_got, same_got}
-use Rattle.cqlp_capture.specs.declared.event.Told.{Told}
+use Rattle.cqlp_capture.specs.declared.event.Emission.{Emission}
 use Rattle.cqlp_capture.specs.declared.limits.CaptureLimits.{CaptureLimits}
 use Rattle.cqlp_capture.specs.declared.refusal.CaptureRefusal.{CaptureRefusal}
 use Rattle.cqlp_capture.specs.Places.{IsSpot, due}
 use Rattle.cqlp_capture.specs.Laws.{count_from}
-use Rattle.cqlp_capture.specs.Reading.{Event, Emitted, Spot, after_told, event_if, wanted, told, step, heard, heard_first, Reads, Hears}
+use Rattle.cqlp_capture.specs.Reading.{Event, Emitted, Spot, after_emission, event_if, wanted, emission, step, heard, heard_first, Reads, Hears}
 use Rattle.cqlp_capture.proofs.Tests.{Fits}
 use Rattle.cqlp_capture.proofs.Steps.{said_of, step_waits, step_says}
-use Rattle.cqlp_capture.proofs.Leading.{told_leads, counted_if}
+use Rattle.cqlp_capture.proofs.Leading.{read_leads, counted_if}
 
 same_cons : {X : Type 0} (x y : X) (xs ys : List X) → x ≡ y → xs ≡ ys → x ∷ xs ≡ y ∷ ys
 same_cons x y xs ys a b = cc
@@ -86,24 +86,24 @@ module _ (l : CaptureLimits) where
 
 -- ---- how far a reading is
 
--- what was told where a step was got
-pub record Tells (l : CaptureLimits) (p : Spot) (bytes : List ℕ) (x : Emitted) (used : ℕ) : Type 0 where
-  pub told_is : Told
-  pub is : told l p (take (wanted p.place.stage) bytes) ≡ Ok told_is
-  pub emits : x ≡ record { at = told_is.at; event = event_if told_is.what (take (wanted p.place.stage) bytes); after = after_told p.known told_is }
+-- what was emitted where a step was got
+pub record Yields (l : CaptureLimits) (p : Spot) (bytes : List ℕ) (x : Emitted) (used : ℕ) : Type 0 where
+  pub emission_is : Emission
+  pub is : emission l p (take (wanted p.place.stage) bytes) ≡ Ok emission_is
+  pub emits : x ≡ record { at = emission_is.at; event = event_if emission_is.what (take (wanted p.place.stage) bytes); after = after_emission p.known emission_is }
   pub count : used ≡ wanted p.place.stage
   pub within : used ≤ length bytes
 
-tells_by : (l : CaptureLimits) (p : Spot) (bytes : List ℕ) (x : Emitted) (used : ℕ) → wanted p.place.stage ≤ length bytes → (d : Result Told CaptureRefusal) → told l p (take (wanted p.place.stage) bytes) ≡ d → said_of p.known (wanted p.place.stage) (take (wanted p.place.stage) bytes) d ≡ Got x used → Tells l p bytes x used
-tells_by l p bytes x used le (Err r) is said = absurd cc
-tells_by l p bytes x used le (Ok t) is said =
+yields_by : (l : CaptureLimits) (p : Spot) (bytes : List ℕ) (x : Emitted) (used : ℕ) → wanted p.place.stage ≤ length bytes → (d : Result Emission CaptureRefusal) → emission l p (take (wanted p.place.stage) bytes) ≡ d → said_of p.known (wanted p.place.stage) (take (wanted p.place.stage) bytes) d ≡ Got x used → Yields l p bytes x used
+yields_by l p bytes x used le (Err r) is said = absurd cc
+yields_by l p bytes x used le (Ok t) is said =
     let same = same_got _ _ _ _ said in
-    record { told_is = t; is = is; emits = sym same.0; count = sym same.1; within = let n = same.1 in omega arith }
+    record { emission_is = t; is = is; emits = sym same.0; count = sym same.1; within = let n = same.1 in omega arith }
 
-pub got_tells : (l : CaptureLimits) (p : Spot) (bytes : List ℕ) (x : Emitted) (used : ℕ) → says (step l p) 0 bytes ≡ Got x used → Tells l p bytes x used
-got_tells l p bytes x used said = elim (cases_lt (length bytes) (wanted p.place.stage)) [
+pub got_yields : (l : CaptureLimits) (p : Spot) (bytes : List ℕ) (x : Emitted) (used : ℕ) → says (step l p) 0 bytes ≡ Got x used → Yields l p bytes x used
+got_yields l p bytes x used said = elim (cases_lt (length bytes) (wanted p.place.stage)) [
   | inl lt ↦ let no : ◌≡◌ {A = Said Emitted CaptureRefusal} More (Got x used) = sym (step_waits l p bytes lt) ∙ said in absurd cc
-  | inr le ↦ tells_by l p bytes x used le (told l p (take (wanted p.place.stage) bytes)) refl (sym (step_says l p bytes le) ∙ said)
+  | inr le ↦ yields_by l p bytes x used le (emission l p (take (wanted p.place.stage) bytes)) refl (sym (step_says l p bytes le) ∙ said)
 ]
 
 -- The place that a reading comes to is as far as the bytes that were read, its interfaces are as many as the events say, and
@@ -120,12 +120,12 @@ pub reads_at : (l : CaptureLimits) → Fits l → (p q : Spot) (bytes rest : Lis
 reads_at l fits p q bytes rest [] here r = rw (r.0, r.1) (record { near = here; count = refl; forward = omega arith; is = (let none : p.place.offset - p.place.offset ≡ 0 = omega arith in rw none refl); paid = omega arith; counted = refl })
 reads_at l fits p q bytes rest (e ∷ es) here r =
     let n = wanted p.place.stage in
-    let t = got_tells l p bytes _ r.0 r.2 in
+    let t = got_yields l p bytes _ r.0 r.2 in
     let b = take n bytes in
     let long : length b ≡ n = length-take-le n bytes (let c = t.count in let w = t.within in omega arith) in
-    let to = told_leads l fits p b t.told_is here long t.is in
-    let after : r.1 ≡ after_told p.known t.told_is = ap (λ (x : Emitted). x.after) t.emits in
-    let event : e.1 ≡ event_if t.told_is.what b = ap (λ (x : Emitted). x.event) t.emits in
+    let to = read_leads l fits p b t.emission_is here long t.is in
+    let after : r.1 ≡ after_emission p.known t.emission_is = ap (λ (x : Emitted). x.after) t.emits in
+    let event : e.1 ≡ event_if t.emission_is.what b = ap (λ (x : Emitted). x.event) t.emits in
     let later = reads_at l fits r.1 q (drop r.0 bytes) rest es (rw after to.near) r.3 in
     let offset : r.1.place.offset ≡ p.place.offset + n = ap (λ (x : Spot). x.place.offset) after ∙ to.offset_is in
     let counts : length r.1.known ≡ counted_if (length p.known) e.1 = ap (λ (x : Spot). length x.known) after ∙ to.counts ∙ ap (counted_if (length p.known)) (sym event) in

@@ -1,7 +1,7 @@
 -- What tests and refusals say.
 use Rattle.std.proofs.Common.{◌≡◌, ℕ, ◌≤◌, ◌<◌, Bool, true, false, cond, Result, Ok, Err, refl}
 use Rattle.std.proofs.lemmas.Bool.{leb-true, ltb-true, and_parts}
-use Rattle.cqlp_capture.specs.declared.event.Told.{Told}
+use Rattle.cqlp_capture.specs.declared.event.Emission.{Emission}
 use Rattle.cqlp_capture.specs.declared.limits.CaptureLimits.{CaptureLimits}
 use Rattle.cqlp_capture.specs.declared.refusal.CaptureRefusal.{CaptureRefusal}
 use Rattle.cqlp_capture.specs.Limits.{is_in_range}
@@ -27,13 +27,13 @@ length_is least n is =
     let b = and_parts _ _ a.0 in
     (leb-true _ _ b.1, ltb-true _ _ a.1)
 
-pub ok_same : (t u : Told) → ◌≡◌ {A = Result Told CaptureRefusal} (Ok u) (Ok t) → u ≡ t
+pub ok_same : (t u : Emission) → ◌≡◌ {A = Result Emission CaptureRefusal} (Ok u) (Ok t) → u ≡ t
 ok_same t u h = cc
 
-pub not_refused : (c : Bool) (r : CaptureRefusal) (d : Result Told CaptureRefusal) (t : Told) → cond c (Err r) d ≡ Ok t → (c ≡ false) × (d ≡ Ok t)
-not_refused true r d t h = absurd (let e : ◌≡◌ {A = Result Told CaptureRefusal} (Err r) (Ok t) = h in cc)
+pub not_refused : (c : Bool) (r : CaptureRefusal) (d : Result Emission CaptureRefusal) (t : Emission) → cond c (Err r) d ≡ Ok t → (c ≡ false) × (d ≡ Ok t)
+not_refused true r d t h = absurd (let e : ◌≡◌ {A = Result Emission CaptureRefusal} (Err r) (Ok t) = h in cc)
 not_refused false r d t h = (refl, h)
 
-pub allowed : (c : Bool) (r : CaptureRefusal) (d : Result Told CaptureRefusal) (t : Told) → cond c d (Err r) ≡ Ok t → (c ≡ true) × (d ≡ Ok t)
+pub allowed : (c : Bool) (r : CaptureRefusal) (d : Result Emission CaptureRefusal) (t : Emission) → cond c d (Err r) ≡ Ok t → (c ≡ true) × (d ≡ Ok t)
 allowed true r d t h = (refl, h)
-allowed false r d t h = absurd (let e : ◌≡◌ {A = Result Told CaptureRefusal} (Err r) (Ok t) = h in cc)
+allowed false r d t h = absurd (let e : ◌≡◌ {A = Result Emission CaptureRefusal} (Err r) (Ok t) = h in cc)

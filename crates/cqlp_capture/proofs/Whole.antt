@@ -9,11 +9,11 @@ use Rattle.cqlp_note.proofs.Runs.{stays_bad}
 use Rattle.cqlp_capture.specs.declared.limits.CaptureLimits.{CaptureLimits}
 use Rattle.cqlp_capture.specs.declared.refusal.CaptureRefusal.{CaptureRefusal}
 use Rattle.cqlp_capture.specs.Places.{IsSpot, due}
-use Rattle.cqlp_capture.specs.Reading.{Event, Emitted, Spot, after_told, wanted, step, start, heard, heard_first, Reads, Hears, Verdict, Waits, Refused, Ends, Says}
+use Rattle.cqlp_capture.specs.Reading.{Event, Emitted, Spot, after_emission, wanted, step, start, heard, heard_first, Reads, Hears, Verdict, Waits, Refused, Ends, Says}
 use Rattle.cqlp_capture.specs.Progress.{CaptureState, AfterBy, After}
 use Rattle.cqlp_capture.proofs.Tests.{Fits}
-use Rattle.cqlp_capture.proofs.Leading.{told_leads}
-use Rattle.cqlp_capture.proofs.Runs.{reads_stay, reads_compare, reads_at, got_tells, heard-append, heard-length}
+use Rattle.cqlp_capture.proofs.Leading.{read_leads}
+use Rattle.cqlp_capture.proofs.Runs.{reads_stay, reads_compare, reads_at, got_yields, heard-append, heard-length}
 
 -- the place where a file begins
 pub at_start : (l : CaptureLimits) → IsSpot l start
@@ -97,11 +97,11 @@ module _ (l : CaptureLimits) (fits : Fits l) where
   said_then p bytes later here More is = ([], Waits, (p, bytes, record { steps = []; events = refl; reads = (refl, refl) }, rw is tt))
   said_then p bytes later here (Bad r) is = ([], Refused r, (p, bytes, record { steps = []; events = refl; reads = (refl, refl) }, rw is refl))
   said_then p bytes later here (Got x used) is =
-      let t = got_tells l p bytes x used is in
+      let t = got_yields l p bytes x used is in
       let b = take (wanted p.place.stage) bytes in
       let long : length b ≡ wanted p.place.stage = length-take-le (wanted p.place.stage) bytes (let c = t.count in let w = t.within in omega arith) in
-      let to = told_leads l fits p b t.told_is here long t.is in
-      let after : x.after ≡ after_told p.known t.told_is = ap (λ (y : Emitted). y.after) t.emits in
+      let to = read_leads l fits p b t.emission_is here long t.is in
+      let after : x.after ≡ after_emission p.known t.emission_is = ap (λ (y : Emitted). y.after) t.emits in
       let more = later x.after (drop used bytes) (rw after to.near) (omega (arith, to.pays, ap (λ (y : Spot). due y.place.stage) after, t.count, t.within, length-drop used bytes)) in
       let said = more.2 in (
         heard_first x.at x.event more.0,

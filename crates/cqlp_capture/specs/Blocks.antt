@@ -12,7 +12,7 @@ use Rattle.cqlp_capture.specs.declared.event.PacketHead.{PacketHead}
 use Rattle.cqlp_capture.specs.declared.event.EventOutline.TheVariants as outline
 use Rattle.cqlp_capture.specs.declared.event.SkipReason.{SkipReason}
 use Rattle.cqlp_capture.specs.declared.event.SkipReason.TheVariants.{ShortBlock, BadOptionLength, UnknownTimeUnit, NegativeTimeOffset, TooManyInterfaces, UnknownInterface, UnreadInterface, TimeTooLarge, PacketBeyondBlock, PacketTooLong}
-use Rattle.cqlp_capture.specs.declared.event.Told.{Told}
+use Rattle.cqlp_capture.specs.declared.event.Emission.{Emission}
 use Rattle.cqlp_capture.specs.declared.interfaces.KnownInterface.{KnownInterface}
 use Rattle.cqlp_capture.specs.declared.interfaces.TableChange.TheVariants.{Keep, Forget, Add}
 use Rattle.cqlp_capture.specs.declared.place.Stage.{Stage}
@@ -20,7 +20,7 @@ use Rattle.cqlp_capture.specs.declared.place.Stage.TheVariants.{SectionBody, Blo
 use Rattle.cqlp_capture.specs.declared.refusal.CaptureReason.TheVariants.{UnknownVersion, FileTooLong, UnknownByteOrder, BadBlockLength, UnequalBlockLengths}
 use Rattle.cqlp_capture.specs.declared.refusal.CaptureRefusal.{CaptureRefusal}
 use Rattle.cqlp_capture.specs.Numbers.{is_section, is_block_length, number_16, number_32, number_64, order_of, padded, unit_of}
-use Rattle.cqlp_capture.specs.Telling.{goes_on, refused}
+use Rattle.cqlp_capture.specs.Emission.{goes_on, refused}
 
 -- ---- a block (section 3.1): type, length, what it says, and the length again
 
@@ -81,7 +81,7 @@ abbrev pub passing : Block → (offset until : ℕ) → Stage
 passing b offset until = if offset == until then at_option b until else Pass b until
 
 -- A block, an interface or a packet cannot be read for this reason: what is left of the block, from this offset on, is passed over.
-abbrev pub skipped : (offset : ℕ) → Block → SkipReason → Result Told CaptureRefusal
+abbrev pub skipped : (offset : ℕ) → Block → SkipReason → Result Emission CaptureRefusal
 skipped offset b why =
     Ok (record {
       at = b.start;
@@ -100,12 +100,12 @@ abbrev pub length_in : ByteOrder → EitherLength → ℕ
 length_in BigEndian l = l.big_endian
 length_in LittleEndian l = l.little_endian
 
-abbrev pub told_section_length : List ℕ → Result Told CaptureRefusal
-told_section_length b = goes_on 8 (SectionBody (either_length 0 b))
+abbrev pub read_section_length : List ℕ → Result Emission CaptureRefusal
+read_section_length b = goes_on 8 (SectionBody (either_length 0 b))
 
 -- a section begins, in which no interface is known
-abbrev pub told_section : Block → Result Told CaptureRefusal
-told_section b =
+abbrev pub read_section : Block → Result Emission CaptureRefusal
+read_section b =
     Ok (record {
       at = b.start;
       what = Some (outline.Section (form.Pcapng b.order));
@@ -120,16 +120,16 @@ is_known_version o b = (number_16 o 4 b == 1) && ((number_16 o 6 b == 0) || (num
 abbrev pub section_at : (offset : ℕ) → EitherLength → ByteOrder → Block
 section_at offset l o = record { order = o; start = offset - 8; length = length_in o l; interface = None }
 
-abbrev pub told_section_in : (offset : ℕ) → EitherLength → List ℕ → Option ByteOrder → Result Told CaptureRefusal
-told_section_in offset l b None = refused offset UnknownByteOrder
-told_section_in offset l b (Some o) =
+abbrev pub read_section_in : (offset : ℕ) → EitherLength → List ℕ → Option ByteOrder → Result Emission CaptureRefusal
+read_section_in offset l b None = refused offset UnknownByteOrder
+read_section_in offset l b (Some o) =
     if is_block_length 28 (length_in o l)
-    then (if is_known_version o b then told_section (section_at offset l o) else refused (offset + 4) UnknownVersion)
+    then (if is_known_version o b then read_section (section_at offset l o) else refused (offset + 4) UnknownVersion)
     else refused (offset - 4) BadBlockLength
 
 -- the byte-order magic, the version, and the length of the section, which is not looked at
-abbrev pub told_section_body : (offset : ℕ) → EitherLength → List ℕ → Result Told CaptureRefusal
-told_section_body offset l b = told_section_in offset l b (order_of (number_32 BigEndian 0 b))
+abbrev pub read_section_body : (offset : ℕ) → EitherLength → List ℕ → Result Emission CaptureRefusal
+read_section_body offset l b = read_section_in offset l b (order_of (number_32 BigEndian 0 b))
 
 -- ---- the head of any block
 
@@ -145,20 +145,20 @@ body_of kind.SimplePacket b = SimpleBody b
 body_of kind.Section b = passing b (b.start + 8) (block_end b)
 body_of kind.Other b = passing b (b.start + 8) (block_end b)
 
-abbrev pub told_block : BlockKind → Block → Result Told CaptureRefusal
-told_block k b = goes_on (b.start + 8) (body_of k b)
+abbrev pub read_block : BlockKind → Block → Result Emission CaptureRefusal
+read_block k b = goes_on (b.start + 8) (body_of k b)
 
-abbrev pub told_block_of : BlockKind → Block → Result Told CaptureRefusal
-told_block_of k b =
+abbrev pub read_block_of : BlockKind → Block → Result Emission CaptureRefusal
+read_block_of k b =
     if is_block_length (lawful_length k) b.length
-    then (if nat_lt b.length (least_length k) then skipped (b.start + 8) b ShortBlock else told_block k b)
+    then (if nat_lt b.length (least_length k) then skipped (b.start + 8) b ShortBlock else read_block k b)
     else refused (b.start + 4) BadBlockLength
 
-abbrev pub told_block_head : (offset : ℕ) → ByteOrder → List ℕ → Result Told CaptureRefusal
-told_block_head offset o b =
+abbrev pub read_block_head : (offset : ℕ) → ByteOrder → List ℕ → Result Emission CaptureRefusal
+read_block_head offset o b =
     if nat_lt (2 ^ 63) offset then refused offset FileTooLong
     else if is_section (number_32 o 0 b) then goes_on (offset + 8) (SectionBody (either_length 4 b))
-    else told_block_of (kind_of (number_32 o 0 b)) (block_at offset o b)
+    else read_block_of (kind_of (number_32 o 0 b)) (block_at offset o b)
 
 -- ---- the interface description block (section 4.2)
 
@@ -167,13 +167,13 @@ abbrev pub describing : Block → KnownInterface → Block
 describing b i = record { order = b.order; start = b.start; length = b.length; interface = Some i }
 
 -- this is known up to this offset
-abbrev pub described : (offset : ℕ) → Block → KnownInterface → Result Told CaptureRefusal
+abbrev pub described : (offset : ℕ) → Block → KnownInterface → Result Emission CaptureRefusal
 described offset b i = goes_on offset (at_option (describing b i) offset)
 
 -- the link type, two bytes that are not used, and how many bytes of a packet were captured at most; times are in
 -- microseconds since 1970, where no option says otherwise
-abbrev pub told_interface_body : (offset : ℕ) → Block → List ℕ → Result Told CaptureRefusal
-told_interface_body offset b bytes =
+abbrev pub read_interface_body : (offset : ℕ) → Block → List ℕ → Result Emission CaptureRefusal
+read_interface_body offset b bytes =
     described (offset + 8) b
     (record { link = number_16 b.order 0 bytes; snap_length = number_32 b.order 4 bytes; unit = Some 1000; offset = 0 })
 
@@ -185,12 +185,12 @@ abbrev pub untimed_block : Block → Block
 untimed_block b = record { order = b.order; start = b.start; length = b.length; interface = option_map untimed b.interface }
 
 -- An option of the interface cannot be read.
-abbrev pub skipped_option : (offset : ℕ) → Block → SkipReason → Result Told CaptureRefusal
+abbrev pub skipped_option : (offset : ℕ) → Block → SkipReason → Result Emission CaptureRefusal
 skipped_option offset b why = skipped offset (untimed_block b) why
 
 -- An option (section 3.5) has a code and the length of its value. if_tsresol, 9, has one byte, and if_tsoffset, 14, eight.
-abbrev pub told_option : (offset : ℕ) → Block → (code size : ℕ) → Result Told CaptureRefusal
-told_option offset b code size =
+abbrev pub read_option : (offset : ℕ) → Block → (code size : ℕ) → Result Emission CaptureRefusal
+read_option offset b code size =
     if code == 9
     then (if size == 1 then goes_on (offset + 4) (TimeUnit b) else skipped_option (offset + 4) b BadOptionLength)
     else if code == 14
@@ -198,11 +198,11 @@ told_option offset b code size =
     else goes_on (offset + 4) (passing b (offset + 4) (offset + 4 + padded size))
 
 -- opt_endofopt, 0, is the last
-abbrev pub told_option_head : (offset : ℕ) → Block → List ℕ → Result Told CaptureRefusal
-told_option_head offset b bytes =
+abbrev pub read_option_head : (offset : ℕ) → Block → List ℕ → Result Emission CaptureRefusal
+read_option_head offset b bytes =
     if number_16 b.order 0 bytes == 0 then goes_on (offset + 4) (passing b (offset + 4) (block_end b))
     else if nat_lt (block_end b) (offset + 4 + padded (number_16 b.order 2 bytes)) then skipped_option (offset + 4) b BadOptionLength
-    else told_option offset b (number_16 b.order 0 bytes) (number_16 b.order 2 bytes)
+    else read_option offset b (number_16 b.order 0 bytes) (number_16 b.order 2 bytes)
 
 abbrev pub with_unit : (unit : ℕ) → KnownInterface → KnownInterface
 with_unit unit i = record { link = i.link; snap_length = i.snap_length; unit = Some unit; offset = i.offset }
@@ -211,28 +211,28 @@ abbrev pub with_offset : (seconds : ℕ) → KnownInterface → KnownInterface
 with_offset seconds i = record { link = i.link; snap_length = i.snap_length; unit = i.unit; offset = seconds }
 
 -- what an option says of the block's interface
-abbrev pub redescribed : (offset : ℕ) → Block → Option KnownInterface → (KnownInterface → KnownInterface) → Result Told CaptureRefusal
+abbrev pub redescribed : (offset : ℕ) → Block → Option KnownInterface → (KnownInterface → KnownInterface) → Result Emission CaptureRefusal
 redescribed offset b None f = goes_on offset (at_option b offset)
 redescribed offset b (Some i) f = described offset b (f i)
 
-abbrev pub told_unit : (offset : ℕ) → Block → Option ℕ → Result Told CaptureRefusal
-told_unit offset b None = skipped_option (offset + 4) b UnknownTimeUnit
-told_unit offset b (Some unit) = redescribed (offset + 4) b b.interface (with_unit unit)
+abbrev pub read_unit : (offset : ℕ) → Block → Option ℕ → Result Emission CaptureRefusal
+read_unit offset b None = skipped_option (offset + 4) b UnknownTimeUnit
+read_unit offset b (Some unit) = redescribed (offset + 4) b b.interface (with_unit unit)
 
 -- if_tsresol
-abbrev pub told_time_unit : (offset : ℕ) → Block → List ℕ → Result Told CaptureRefusal
-told_time_unit offset b bytes = told_unit offset b (unit_of (slice_index bytes 0))
+abbrev pub read_time_unit : (offset : ℕ) → Block → List ℕ → Result Emission CaptureRefusal
+read_time_unit offset b bytes = read_unit offset b (unit_of (slice_index bytes 0))
 
 -- if_tsoffset: a signed number of seconds
-abbrev pub told_time_offset : (offset : ℕ) → Block → List ℕ → Result Told CaptureRefusal
-told_time_offset offset b bytes =
+abbrev pub read_time_offset : (offset : ℕ) → Block → List ℕ → Result Emission CaptureRefusal
+read_time_offset offset b bytes =
     if nat_le (2 ^ 63) (number_64 b.order 0 bytes) then skipped_option (offset + 8) b NegativeTimeOffset
     else redescribed (offset + 8) b b.interface (with_offset (number_64 b.order 0 bytes))
 
 -- ---- the bytes of a packet, and the end of a block
 
-abbrev pub told_packet : (offset : ℕ) → Block → PacketHead → Result Told CaptureRefusal
-told_packet offset b h =
+abbrev pub read_packet : (offset : ℕ) → Block → PacketHead → Result Emission CaptureRefusal
+read_packet offset b h =
     Ok (record {
       at = b.start;
       what = Some (outline.Packet h);
@@ -241,20 +241,20 @@ told_packet offset b h =
     })
 
 -- a packet whose bytes are at this offset, if they lie in the block and the limit allows as many
-abbrev pub told_within : (limit offset : ℕ) → Block → PacketHead → Result Told CaptureRefusal
-told_within limit offset b h =
+abbrev pub read_within : (limit offset : ℕ) → Block → PacketHead → Result Emission CaptureRefusal
+read_within limit offset b h =
     if nat_lt (room_of b offset) h.captured then skipped offset b PacketBeyondBlock
     else if nat_lt limit h.captured then skipped offset b PacketTooLong
-    else told_packet offset b h
+    else read_packet offset b h
 
 -- these bytes, up to this offset, are all of a packet
-abbrev pub told_data : (end offset : ℕ) → Stage → Result Told CaptureRefusal
-told_data end offset s =
+abbrev pub read_data : (end offset : ℕ) → Stage → Result Emission CaptureRefusal
+read_data end offset s =
     Ok (record { at = offset; what = Some outline.Data; place = record { offset = end; stage = s }; change = Keep })
 
-abbrev pub told_known : (limit : ℕ) → List KnownInterface → (offset : ℕ) → Block → Option KnownInterface → Result Told CaptureRefusal
-told_known limit known offset b None = goes_on (offset + 4) (BlockHead b.order)
-told_known limit known offset b (Some i) =
+abbrev pub read_known : (limit : ℕ) → List KnownInterface → (offset : ℕ) → Block → Option KnownInterface → Result Emission CaptureRefusal
+read_known limit known offset b None = goes_on (offset + 4) (BlockHead b.order)
+read_known limit known offset b (Some i) =
     if nat_lt (length known) limit
     then Ok (record {
       at = b.start;
@@ -270,9 +270,9 @@ told_known limit known offset b (Some i) =
     })
 
 -- Both lengths are the same, and where the block was about an interface, that is known from here on.
-abbrev pub told_block_end : (limit : ℕ) → List KnownInterface → (offset : ℕ) → Block → List ℕ → Result Told CaptureRefusal
-told_block_end limit known offset b bytes =
-    if number_32 b.order 0 bytes == b.length then told_known limit known offset b b.interface
+abbrev pub read_block_end : (limit : ℕ) → List KnownInterface → (offset : ℕ) → Block → List ℕ → Result Emission CaptureRefusal
+read_block_end limit known offset b bytes =
+    if number_32 b.order 0 bytes == b.length then read_known limit known offset b b.interface
     else refused offset UnequalBlockLengths
 
 -- ---- the enhanced packet block (section 4.3), and the packet block before it (appendix A)
@@ -298,23 +298,23 @@ enhanced_of number o i time b = record {
   original = number_32 o 16 b;
 }
 
-abbrev pub told_timed : (limit number offset : ℕ) → Block → List ℕ → KnownInterface → Option ℕ → Result Told CaptureRefusal
-told_timed limit number offset b bytes i None = skipped (offset + 20) b TimeTooLarge
-told_timed limit number offset b bytes i (Some time) =
-    told_within limit (offset + 20) b (enhanced_of number b.order i time bytes)
+abbrev pub read_timed : (limit number offset : ℕ) → Block → List ℕ → KnownInterface → Option ℕ → Result Emission CaptureRefusal
+read_timed limit number offset b bytes i None = skipped (offset + 20) b TimeTooLarge
+read_timed limit number offset b bytes i (Some time) =
+    read_within limit (offset + 20) b (enhanced_of number b.order i time bytes)
 
-abbrev pub told_by_unit : (limit number offset : ℕ) → Block → List ℕ → KnownInterface → Option ℕ → Result Told CaptureRefusal
-told_by_unit limit number offset b bytes i None = skipped (offset + 20) b UnreadInterface
-told_by_unit limit number offset b bytes i (Some unit) =
-    told_timed limit number offset b bytes i (time_of unit i.offset (units_of b.order bytes))
+abbrev pub read_by_unit : (limit number offset : ℕ) → Block → List ℕ → KnownInterface → Option ℕ → Result Emission CaptureRefusal
+read_by_unit limit number offset b bytes i None = skipped (offset + 20) b UnreadInterface
+read_by_unit limit number offset b bytes i (Some unit) =
+    read_timed limit number offset b bytes i (time_of unit i.offset (units_of b.order bytes))
 
-abbrev pub told_enhanced : (limit number offset : ℕ) → Block → List ℕ → Option KnownInterface → Result Told CaptureRefusal
-told_enhanced limit number offset b bytes None = skipped (offset + 20) b UnknownInterface
-told_enhanced limit number offset b bytes (Some i) = told_by_unit limit number offset b bytes i i.unit
+abbrev pub read_enhanced : (limit number offset : ℕ) → Block → List ℕ → Option KnownInterface → Result Emission CaptureRefusal
+read_enhanced limit number offset b bytes None = skipped (offset + 20) b UnknownInterface
+read_enhanced limit number offset b bytes (Some i) = read_by_unit limit number offset b bytes i i.unit
 
 -- the number of its interface, its time, how many of its bytes were captured, and how many it had
-abbrev pub told_enhanced_body : (limit : ℕ) → List KnownInterface → (number offset : ℕ) → Block → List ℕ → Result Told CaptureRefusal
-told_enhanced_body limit known number offset b bytes = told_enhanced limit number offset b bytes (slice_get known number)
+abbrev pub read_enhanced_body : (limit : ℕ) → List KnownInterface → (number offset : ℕ) → Block → List ℕ → Result Emission CaptureRefusal
+read_enhanced_body limit known number offset b bytes = read_enhanced limit number offset b bytes (slice_get known number)
 
 -- ---- the simple packet block (section 4.4)
 
@@ -331,11 +331,11 @@ abbrev pub simple_of : KnownInterface → (original captured : ℕ) → PacketHe
 simple_of i original captured =
     record { interface = 0; link = i.link; time = None; captured = captured; original = original }
 
-abbrev pub told_simple : (limit offset : ℕ) → Block → (original : ℕ) → Option KnownInterface → Result Told CaptureRefusal
-told_simple limit offset b original None = skipped (offset + 4) b UnknownInterface
-told_simple limit offset b original (Some i) =
-    told_within limit (offset + 4) b (simple_of i original (captured_of i original (room_of b (offset + 4))))
+abbrev pub read_simple : (limit offset : ℕ) → Block → (original : ℕ) → Option KnownInterface → Result Emission CaptureRefusal
+read_simple limit offset b original None = skipped (offset + 4) b UnknownInterface
+read_simple limit offset b original (Some i) =
+    read_within limit (offset + 4) b (simple_of i original (captured_of i original (room_of b (offset + 4))))
 
 -- how many bytes it had; it is one of the section's first interface
-abbrev pub told_simple_body : (limit : ℕ) → List KnownInterface → (offset : ℕ) → Block → List ℕ → Result Told CaptureRefusal
-told_simple_body limit known offset b bytes = told_simple limit offset b (number_32 b.order 0 bytes) (slice_get known 0)
+abbrev pub read_simple_body : (limit : ℕ) → List KnownInterface → (offset : ℕ) → Block → List ℕ → Result Emission CaptureRefusal
+read_simple_body limit known offset b bytes = read_simple limit offset b (number_32 b.order 0 bytes) (slice_get known 0)

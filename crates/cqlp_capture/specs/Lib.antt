@@ -1,7 +1,7 @@
 pub mod Limits
 pub mod Numbers
 pub mod Interfaces
-pub mod Telling
+pub mod Emission
 pub mod Records
 pub mod Blocks
 pub mod Reading

@@ -7,7 +7,7 @@ use Rattle.cqlp_capture.specs.declared.event.PacketHead.{PacketHead}
 use Rattle.cqlp_capture.specs.declared.event.SkipReason.{SkipReason}
 use Rattle.cqlp_capture.specs.declared.event.EventOutline.{EventOutline}
 use Rattle.cqlp_capture.specs.declared.event.EventOutline.TheVariants as outline
-use Rattle.cqlp_capture.specs.declared.event.Told.{Told}
+use Rattle.cqlp_capture.specs.declared.event.Emission.{Emission}
 use Rattle.cqlp_capture.specs.declared.interfaces.KnownInterface.{KnownInterface}
 use Rattle.cqlp_capture.specs.declared.limits.CaptureLimits.{CaptureLimits}
 use Rattle.cqlp_capture.specs.declared.place.Stage.{Stage}
@@ -15,10 +15,10 @@ use Rattle.cqlp_capture.specs.declared.place.Stage.TheVariants.{Magic, FileHead,
 use Rattle.cqlp_capture.specs.declared.place.Place.{Place}
 use Rattle.cqlp_capture.specs.declared.refusal.CaptureRefusal.{CaptureRefusal}
 use Rattle.cqlp_capture.specs.Interfaces.{changed}
-use Rattle.cqlp_capture.specs.Telling.{goes_on}
+use Rattle.cqlp_capture.specs.Emission.{goes_on}
 use Rattle.cqlp_capture.specs.Numbers.{number_16, number_32}
-use Rattle.cqlp_capture.specs.Records.{rest_of, told_magic, told_file_head, told_record_head}
-use Rattle.cqlp_capture.specs.Blocks.{block_end, passing, told_data, told_section_length, told_section_body, told_block_head, told_interface_body, told_option_head, told_time_unit, told_time_offset, told_enhanced_body, told_simple_body, told_block_end}
+use Rattle.cqlp_capture.specs.Records.{rest_of, read_magic, read_file_head, read_record_head}
+use Rattle.cqlp_capture.specs.Blocks.{block_end, passing, read_data, read_section_length, read_section_body, read_block_head, read_interface_body, read_option_head, read_time_unit, read_time_offset, read_enhanced_body, read_simple_body, read_block_end}
 
 -- An event: a section of this form begins, an interface, a packet, the bytes that were captured of it, and what cannot be read and
 -- is passed over.
@@ -68,25 +68,25 @@ wanted (BlockEnd b) = 4
 -- What the bytes say that are read next, under these limits, where these are the section's interfaces so far. After a
 -- packet of a block what is left of the block is passed over. A packet block has the number of its interface in two bytes, and
 -- then two that are not used; else it is as an enhanced packet block.
-abbrev pub told_at : CaptureLimits → List KnownInterface → (offset : ℕ) → Stage → List ℕ → Result Told CaptureRefusal
-told_at l known offset Magic bytes = told_magic bytes
-told_at l known offset (FileHead f) bytes = told_file_head f bytes
-told_at l known offset (RecordHead r) bytes = told_record_head l.packet offset r bytes
-told_at l known offset (Data r n) bytes = told_data (offset + n) offset (RecordHead r)
-told_at l known offset (Rest r start left) bytes = goes_on (offset + min left 64) (rest_of r start (left - min left 64))
-told_at l known offset SectionLength bytes = told_section_length bytes
-told_at l known offset (SectionBody e) bytes = told_section_body offset e bytes
-told_at l known offset (BlockHead o) bytes = told_block_head offset o bytes
-told_at l known offset (InterfaceBody b) bytes = told_interface_body offset b bytes
-told_at l known offset (OptionHead b) bytes = told_option_head offset b bytes
-told_at l known offset (TimeUnit b) bytes = told_time_unit offset b bytes
-told_at l known offset (TimeOffset b) bytes = told_time_offset offset b bytes
-told_at l known offset (EnhancedBody b) bytes = told_enhanced_body l.packet known (number_32 b.order 0 bytes) offset b bytes
-told_at l known offset (PacketBody b) bytes = told_enhanced_body l.packet known (number_16 b.order 0 bytes) offset b bytes
-told_at l known offset (SimpleBody b) bytes = told_simple_body l.packet known offset b bytes
-told_at l known offset (BlockData b n) bytes = told_data (offset + n) offset (passing b (offset + n) (block_end b))
-told_at l known offset (Pass b until) bytes = goes_on (offset + 1) (passing b (offset + 1) until)
-told_at l known offset (BlockEnd b) bytes = told_block_end l.interfaces known offset b bytes
+abbrev pub read_at : CaptureLimits → List KnownInterface → (offset : ℕ) → Stage → List ℕ → Result Emission CaptureRefusal
+read_at l known offset Magic bytes = read_magic bytes
+read_at l known offset (FileHead f) bytes = read_file_head f bytes
+read_at l known offset (RecordHead r) bytes = read_record_head l.packet offset r bytes
+read_at l known offset (Data r n) bytes = read_data (offset + n) offset (RecordHead r)
+read_at l known offset (Rest r start left) bytes = goes_on (offset + min left 64) (rest_of r start (left - min left 64))
+read_at l known offset SectionLength bytes = read_section_length bytes
+read_at l known offset (SectionBody e) bytes = read_section_body offset e bytes
+read_at l known offset (BlockHead o) bytes = read_block_head offset o bytes
+read_at l known offset (InterfaceBody b) bytes = read_interface_body offset b bytes
+read_at l known offset (OptionHead b) bytes = read_option_head offset b bytes
+read_at l known offset (TimeUnit b) bytes = read_time_unit offset b bytes
+read_at l known offset (TimeOffset b) bytes = read_time_offset offset b bytes
+read_at l known offset (EnhancedBody b) bytes = read_enhanced_body l.packet known (number_32 b.order 0 bytes) offset b bytes
+read_at l known offset (PacketBody b) bytes = read_enhanced_body l.packet known (number_16 b.order 0 bytes) offset b bytes
+read_at l known offset (SimpleBody b) bytes = read_simple_body l.packet known offset b bytes
+read_at l known offset (BlockData b n) bytes = read_data (offset + n) offset (passing b (offset + n) (block_end b))
+read_at l known offset (Pass b until) bytes = goes_on (offset + 1) (passing b (offset + 1) until)
+read_at l known offset (BlockEnd b) bytes = read_block_end l.interfaces known offset b bytes
 
 -- ---- steps
 
@@ -101,18 +101,18 @@ pub record Emitted : Type 0 where
   pub event : Option Event
   pub after : Spot
 
-abbrev pub told : CaptureLimits → Spot → List ℕ → Result Told CaptureRefusal
-told l p b = told_at l p.known p.place.offset p.place.stage b
+abbrev pub emission : CaptureLimits → Spot → List ℕ → Result Emission CaptureRefusal
+emission l p b = read_at l p.known p.place.offset p.place.stage b
 
-abbrev pub after_told : List KnownInterface → Told → Spot
-after_told known t = record { place = t.place; known = changed t.change known }
+abbrev pub after_emission : List KnownInterface → Emission → Spot
+after_emission known t = record { place = t.place; known = changed t.change known }
 
-abbrev pub emitted : List KnownInterface → List ℕ → Result Told CaptureRefusal → Reader Emitted CaptureRefusal
-emitted known b (Ok t) = Gives (record { at = t.at; event = event_if t.what b; after = after_told known t })
+abbrev pub emitted : List KnownInterface → List ℕ → Result Emission CaptureRefusal → Reader Emitted CaptureRefusal
+emitted known b (Ok t) = Gives (record { at = t.at; event = event_if t.what b; after = after_emission known t })
 emitted known b (Err r) = Refuses r
 
 abbrev pub step : CaptureLimits → Spot → Reader Emitted CaptureRefusal
-step l p = Takes (wanted p.place.stage) (λ b. emitted p.known b (told l p b))
+step l p = Takes (wanted p.place.stage) (λ b. emitted p.known b (emission l p b))
 
 -- where a file begins
 abbrev pub start : Spot

@@ -7,7 +7,7 @@ use Rattle.cqlp_capture.specs.declared.event.InterfaceHead.{InterfaceHead}
 use Rattle.cqlp_capture.specs.declared.event.PacketHead.{PacketHead}
 use Rattle.cqlp_capture.specs.declared.event.EventOutline.TheVariants as outline
 use Rattle.cqlp_capture.specs.declared.event.SkipReason.TheVariants.{PacketTooLong}
-use Rattle.cqlp_capture.specs.declared.event.Told.{Told}
+use Rattle.cqlp_capture.specs.declared.event.Emission.{Emission}
 use Rattle.cqlp_capture.specs.declared.interfaces.KnownInterface.{KnownInterface}
 use Rattle.cqlp_capture.specs.declared.interfaces.TableChange.TheVariants.{Keep, Add}
 use Rattle.cqlp_capture.specs.declared.place.RecordForm.{RecordForm}
@@ -16,11 +16,11 @@ use Rattle.cqlp_capture.specs.declared.place.Stage.{Stage}
 use Rattle.cqlp_capture.specs.declared.refusal.CaptureReason.TheVariants.{Gzip, UnknownMagic, UnknownVersion, FileTooLong}
 use Rattle.cqlp_capture.specs.declared.refusal.CaptureRefusal.{CaptureRefusal}
 use Rattle.cqlp_capture.specs.Numbers.{form_of, is_gzip, is_section, nanoseconds, number_16, number_32, unit_of_fraction}
-use Rattle.cqlp_capture.specs.Telling.{goes_on, refused}
+use Rattle.cqlp_capture.specs.Emission.{goes_on, refused}
 
-abbrev pub told_form : Option FileForm → Result Told CaptureRefusal
-told_form None = refused 0 UnknownMagic
-told_form (Some f) =
+abbrev pub read_form : Option FileForm → Result Emission CaptureRefusal
+read_form None = refused 0 UnknownMagic
+read_form (Some f) =
     Ok (record {
       at = 0;
       what = Some (outline.Section (form.Pcap f));
@@ -30,11 +30,11 @@ told_form (Some f) =
 
 -- The first four bytes are the magic number of a pcap file's header (section 4), or the type of a section header block,
 -- with which a pcapng file begins (section 4.1 of draft-ietf-opsawg-pcapng). What gzip compresses begins otherwise.
-abbrev pub told_magic : List ℕ → Result Told CaptureRefusal
-told_magic b =
+abbrev pub read_magic : List ℕ → Result Emission CaptureRefusal
+read_magic b =
     if is_gzip (number_32 BigEndian 0 b) then refused 0 Gzip
     else if is_section (number_32 BigEndian 0 b) then goes_on 4 SectionLength
-    else told_form (form_of (number_32 BigEndian 0 b))
+    else read_form (form_of (number_32 BigEndian 0 b))
 
 -- Then come the version, which is 2.4, eight bytes that are not used, how many bytes of a packet were captured at most, and
 -- the link type, whose upper half is about frame check sequences.
@@ -59,8 +59,8 @@ known_of f b = record {
 abbrev pub records_of : FileForm → List ℕ → RecordForm
 records_of f b = record { form = f; link = number_32 f.order 16 b % 65536 }
 
-abbrev pub told_file_head : FileForm → List ℕ → Result Told CaptureRefusal
-told_file_head f b =
+abbrev pub read_file_head : FileForm → List ℕ → Result Emission CaptureRefusal
+read_file_head f b =
     if is_known_version f b
     then Ok (record {
       at = 4;
@@ -86,7 +86,7 @@ abbrev pub rest_of : RecordForm → (start left : ℕ) → Stage
 rest_of r start left = if left == 0 then RecordHead r else Rest r start left
 
 -- A length is a number of 32 bits.
-abbrev pub skipped_record : (offset captured : ℕ) → RecordForm → Result Told CaptureRefusal
+abbrev pub skipped_record : (offset captured : ℕ) → RecordForm → Result Emission CaptureRefusal
 skipped_record offset captured r =
     Ok (record {
       at = offset;
@@ -95,8 +95,8 @@ skipped_record offset captured r =
       change = Keep;
     })
 
-abbrev pub told_record_head : (limit offset : ℕ) → RecordForm → List ℕ → Result Told CaptureRefusal
-told_record_head limit offset r b =
+abbrev pub read_record_head : (limit offset : ℕ) → RecordForm → List ℕ → Result Emission CaptureRefusal
+read_record_head limit offset r b =
     if nat_lt (2 ^ 63) offset then refused offset FileTooLong
     else if nat_lt limit (number_32 r.form.order 8 b) then skipped_record offset (number_32 r.form.order 8 b) r
     else Ok (record {

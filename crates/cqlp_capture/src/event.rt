@@ -1,4 +1,4 @@
-//! What calls of a reader tell of a capture.
+//! What calls of a reader return of a capture.
 
 use crate::file::SectionForm;
 use crate::interfaces::TableChange;
@@ -87,7 +87,7 @@ pub(crate) enum EventOutline {
 /// What the bytes that were wanted say: an event at an offset, or none; where the reading stands after it, and what becomes
 /// of the section's interfaces.
 #[derive(Clone, Copy)]
-pub(crate) struct Told {
+pub(crate) struct Emission {
     pub at: u64,
     pub what: Option<EventOutline>,
     pub place: Place,

@@ -2,6 +2,7 @@
 #![tactic(auto)]
 
 mod block;
+mod emission;
 mod event;
 mod file;
 mod gathered;
@@ -13,7 +14,6 @@ mod pcapng;
 mod place;
 mod reader;
 mod refusal;
-mod telling;
 
 pub use event::{CaptureEnd, CaptureEvent, CaptureStep, InterfaceHead, PacketHead, SkipReason};
 pub use file::{ByteOrder, FileForm, Fraction, SectionForm};

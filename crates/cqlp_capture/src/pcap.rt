@@ -2,21 +2,21 @@
 
 ghost use Rattle.std.specs.Prelude.{◌≡◌, ◌+◌, ◌-◌, ◌≤◌, ◌^◌, length, min};
 ghost use Rattle.cqlp_capture.specs.Numbers.{nanoseconds, unit_of_fraction};
-ghost use Rattle.cqlp_capture.specs.Records.{rest_of, skipped_record, told_file_head, told_magic, told_record_head};
-ghost use Rattle.cqlp_capture.specs.Telling.{goes_on};
+ghost use Rattle.cqlp_capture.specs.Records.{rest_of, skipped_record, read_file_head, read_magic, read_record_head};
+ghost use Rattle.cqlp_capture.specs.Emission.{goes_on};
 
-use crate::event::{EventOutline, InterfaceHead, PacketHead, SkipReason, Told};
+use crate::emission::{read_next, refuse};
+use crate::event::{Emission, EventOutline, InterfaceHead, PacketHead, SkipReason};
 use crate::file::{ByteOrder, FileForm, Fraction, SectionForm};
 use crate::interfaces::{KnownInterface, TableChange};
 use crate::place::{FARTHEST, Place, RecordForm, Stage};
 use crate::refusal::{CaptureReason, CaptureRefusal};
-use crate::telling::{read_next, refuse};
 
 /// What the first four bytes of a file say. Section 4 of draft-ietf-opsawg-pcap, and section 4.1 of
 /// draft-ietf-opsawg-pcapng.
-pub(crate) fn tell_magic(bytes: &[u8]) -> Result<Told, CaptureRefusal>
+pub(crate) fn read_magic(bytes: &[u8]) -> Result<Emission, CaptureRefusal>
     requires { length bytes.now ≡ 4 }
-    ensures { result ≡ told_magic bytes.now }
+    ensures { result ≡ read_magic bytes.now }
 {
     let magic = ByteOrder::BigEndian.read_u32(bytes, 0);
     if magic >> 16 == 0x1F8B {
@@ -26,7 +26,7 @@ pub(crate) fn tell_magic(bytes: &[u8]) -> Result<Told, CaptureRefusal>
         return read_next(4, Stage::SectionLength);
     }
     match FileForm::of_magic(magic) {
-        Some(form) => Ok(Told {
+        Some(form) => Ok(Emission {
             at: 0,
             what: Some(EventOutline::Section(SectionForm::Pcap(form))),
             place: Place {
@@ -40,9 +40,9 @@ pub(crate) fn tell_magic(bytes: &[u8]) -> Result<Told, CaptureRefusal>
 }
 
 /// What the rest of the file's header says. Section 4 of draft-ietf-opsawg-pcap.
-pub(crate) fn tell_file_head(form: FileForm, bytes: &[u8]) -> Result<Told, CaptureRefusal>
+pub(crate) fn read_file_head(form: FileForm, bytes: &[u8]) -> Result<Emission, CaptureRefusal>
     requires { length bytes.now ≡ 20 }
-    ensures { result ≡ told_file_head form bytes.now }
+    ensures { result ≡ read_file_head form bytes.now }
 {
     let order = form.order;
     if order.read_u16(bytes, 0) != 2 || order.read_u16(bytes, 2) != 4 {
@@ -50,7 +50,7 @@ pub(crate) fn tell_file_head(form: FileForm, bytes: &[u8]) -> Result<Told, Captu
     }
     let link = (order.read_u32(bytes, 16) % 65_536) as u16;
     let snap_length = order.read_u32(bytes, 12);
-    Ok(Told {
+    Ok(Emission {
         at: 4,
         what: Some(EventOutline::Interface(InterfaceHead {
             number: 0,
@@ -72,15 +72,15 @@ pub(crate) fn tell_file_head(form: FileForm, bytes: &[u8]) -> Result<Told, Captu
 
 /// What the header of a record says that begins at this offset. Section 5 of draft-ietf-opsawg-pcap.
 #[inline(always)]
-pub(crate) fn tell_record_head(
+pub(crate) fn read_record_head(
     limit: u32,
     offset: u64,
     record_form: RecordForm,
     bytes: &[u8],
-) -> Result<Told, CaptureRefusal>
+) -> Result<Emission, CaptureRefusal>
     requires place { offset ≤ 2 ^ 63 + 2 ^ 33 }
     requires size { length bytes.now ≡ 16 }
-    ensures { result ≡ told_record_head limit offset record_form bytes.now }
+    ensures { result ≡ read_record_head limit offset record_form bytes.now }
 {
     if offset > FARTHEST {
         return refuse(offset, CaptureReason::FileTooLong);
@@ -98,7 +98,7 @@ pub(crate) fn tell_record_head(
         captured,
         original: order.read_u32(bytes, 12),
     };
-    Ok(Told {
+    Ok(Emission {
         at: offset,
         what: Some(EventOutline::Packet(packet)),
         place: Place {
@@ -110,11 +110,15 @@ pub(crate) fn tell_record_head(
 }
 
 /// That a packet is too long, of which so many bytes were captured.
-fn skip_record(offset: u64, captured: u32, record_form: RecordForm) -> Result<Told, CaptureRefusal>
+fn skip_record(
+    offset: u64,
+    captured: u32,
+    record_form: RecordForm,
+) -> Result<Emission, CaptureRefusal>
     requires { offset ≤ 2 ^ 63 }
     ensures { result ≡ skipped_record offset captured record_form }
 {
-    Ok(Told {
+    Ok(Emission {
         at: offset,
         what: Some(EventOutline::Skipped(SkipReason::PacketTooLong)),
         place: Place {
@@ -126,12 +130,12 @@ fn skip_record(offset: u64, captured: u32, record_form: RecordForm) -> Result<To
 }
 
 /// What is read after the next bytes, at this offset, of a packet that is passed over.
-pub(crate) fn tell_rest(
+pub(crate) fn read_rest(
     offset: u64,
     record_form: RecordForm,
     start: u64,
     left: u32,
-) -> Result<Told, CaptureRefusal>
+) -> Result<Emission, CaptureRefusal>
     requires { offset + left ≤ 2 ^ 63 + 2 ^ 33 }
     ensures { result ≡ goes_on (offset + min left 64) (rest_of record_form start (left - min left 64)) }
 {

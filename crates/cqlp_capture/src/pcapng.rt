@@ -3,24 +3,24 @@
 ghost use Rattle.std.specs.Prelude.{◌≡◌, ◌+◌, ◌≤◌, ◌<◌, ◌^◌, length};
 ghost use Rattle.cqlp_capture.specs.Numbers.{padded, unit_of};
 ghost use Rattle.cqlp_capture.specs.Blocks.{IsInBlock, captured_of, described, either_length, room_of, skipped_option, time_of};
-ghost use Rattle.cqlp_capture.specs.Blocks.{told_block, told_block_end, told_block_head, told_data, told_enhanced_body};
-ghost use Rattle.cqlp_capture.specs.Blocks.{told_interface_body, told_option, told_option_head, told_packet, told_section};
-ghost use Rattle.cqlp_capture.specs.Blocks.{told_section_body, told_section_length, told_simple_body, told_time_offset, told_time_unit, told_within};
+ghost use Rattle.cqlp_capture.specs.Blocks.{read_block, read_block_end, read_block_head, read_data, read_enhanced_body};
+ghost use Rattle.cqlp_capture.specs.Blocks.{read_interface_body, read_option, read_option_head, read_packet, read_section};
+ghost use Rattle.cqlp_capture.specs.Blocks.{read_section_body, read_section_length, read_simple_body, read_time_offset, read_time_unit, read_within};
 
 use crate::block::{Block, BlockKind, EitherLength, may_have_length};
-use crate::event::{EventOutline, InterfaceHead, PacketHead, SkipReason, Told};
+use crate::emission::{read_next, refuse, skip};
+use crate::event::{Emission, EventOutline, InterfaceHead, PacketHead, SkipReason};
 use crate::file::{ByteOrder, SectionForm};
 use crate::interfaces::{KnownInterface, TableChange};
 use crate::place::{FARTHEST, Place, Stage};
 use crate::refusal::{CaptureReason, CaptureRefusal};
-use crate::telling::{read_next, refuse, skip};
 
 /// That these bytes, up to this offset, are all of a packet.
 #[inline(always)]
-pub(crate) fn tell_data(end: u64, offset: u64, stage: Stage) -> Result<Told, CaptureRefusal>
-    ensures { result ≡ told_data end offset stage }
+pub(crate) fn read_data(end: u64, offset: u64, stage: Stage) -> Result<Emission, CaptureRefusal>
+    ensures { result ≡ read_data end offset stage }
 {
-    Ok(Told {
+    Ok(Emission {
         at: offset,
         what: Some(EventOutline::Data),
         place: Place { offset: end, stage },
@@ -29,9 +29,9 @@ pub(crate) fn tell_data(end: u64, offset: u64, stage: Stage) -> Result<Told, Cap
 }
 
 /// What the length of the first block says. Section 4.1 of draft-ietf-opsawg-pcapng.
-pub(crate) fn tell_section_length(bytes: &[u8]) -> Result<Told, CaptureRefusal>
+pub(crate) fn read_section_length(bytes: &[u8]) -> Result<Emission, CaptureRefusal>
     requires { length bytes.now ≡ 4 }
-    ensures { result ≡ told_section_length bytes.now }
+    ensures { result ≡ read_section_length bytes.now }
 {
     read_next(8, Stage::SectionBody(read_either_length(bytes, 0)))
 }
@@ -48,15 +48,15 @@ fn read_either_length(bytes: &[u8], index: usize) -> EitherLength
 }
 
 /// What the numbers of a section's header say, the first of which is at this offset. Section 4.1.
-pub(crate) fn tell_section_body(
+pub(crate) fn read_section_body(
     offset: u64,
     lengths: EitherLength,
     bytes: &[u8],
-) -> Result<Told, CaptureRefusal>
+) -> Result<Emission, CaptureRefusal>
     requires begun { 8 ≤ offset }
     requires far { offset ≤ 2 ^ 63 + 8 }
     requires size { length bytes.now ≡ 16 }
-    ensures { result ≡ told_section_body offset lengths bytes.now }
+    ensures { result ≡ read_section_body offset lengths bytes.now }
 {
     let Some(order) = ByteOrder::of_magic(ByteOrder::BigEndian.read_u32(bytes, 0)) else {
         return refuse(offset, CaptureReason::UnknownByteOrder);
@@ -74,17 +74,17 @@ pub(crate) fn tell_section_body(
     if order.read_u16(bytes, 4) != 1 || (minor != 0 && minor != 2) {
         return refuse(offset + 4, CaptureReason::UnknownVersion);
     }
-    tell_section(block)
+    read_section(block)
 }
 
 /// That a section begins with this block.
-fn tell_section(block: Block) -> Result<Told, CaptureRefusal>
+fn read_section(block: Block) -> Result<Emission, CaptureRefusal>
     requires far { block.start ≤ 2 ^ 63 }
     requires least { 28 ≤ block.length }
-    ensures { result ≡ told_section block }
+    ensures { result ≡ read_section block }
 {
     let offset = block.start + 24;
-    Ok(Told {
+    Ok(Emission {
         at: block.start,
         what: Some(EventOutline::Section(SectionForm::Pcapng(block.order))),
         place: Place {
@@ -97,14 +97,14 @@ fn tell_section(block: Block) -> Result<Told, CaptureRefusal>
 
 /// What the type and the length of a block say that begins at this offset. Section 3.1.
 #[inline]
-pub(crate) fn tell_block_head(
+pub(crate) fn read_block_head(
     offset: u64,
     order: ByteOrder,
     bytes: &[u8],
-) -> Result<Told, CaptureRefusal>
+) -> Result<Emission, CaptureRefusal>
     requires place { offset ≤ 2 ^ 63 + 2 ^ 33 }
     requires size { length bytes.now ≡ 8 }
-    ensures { result ≡ told_block_head offset order bytes.now }
+    ensures { result ≡ read_block_head offset order bytes.now }
 {
     if offset > FARTHEST {
         return refuse(offset, CaptureReason::FileTooLong);
@@ -125,15 +125,15 @@ pub(crate) fn tell_block_head(
     if block.length < kind.least_length() {
         return skip(offset + 8, block, SkipReason::ShortBlock);
     }
-    tell_block(kind, block)
+    read_block(kind, block)
 }
 
 /// What is read in a block of this kind.
 #[inline]
-fn tell_block(kind: BlockKind, block: Block) -> Result<Told, CaptureRefusal>
+fn read_block(kind: BlockKind, block: Block) -> Result<Emission, CaptureRefusal>
     requires far { block.start ≤ 2 ^ 63 }
     requires least { 12 ≤ block.length }
-    ensures { result ≡ told_block kind block }
+    ensures { result ≡ read_block kind block }
 {
     let offset = block.start + 8;
     let stage = match kind {
@@ -147,14 +147,14 @@ fn tell_block(kind: BlockKind, block: Block) -> Result<Told, CaptureRefusal>
 }
 
 /// What the numbers of an interface say. Section 4.2.
-pub(crate) fn tell_interface_body(
+pub(crate) fn read_interface_body(
     offset: u64,
     block: Block,
     bytes: &[u8],
-) -> Result<Told, CaptureRefusal>
+) -> Result<Emission, CaptureRefusal>
     requires place { IsInBlock block offset 8 }
     requires size { length bytes.now ≡ 8 }
-    ensures { result ≡ told_interface_body offset block bytes.now }
+    ensures { result ≡ read_interface_body offset block bytes.now }
 {
     let order = block.order;
     let interface = KnownInterface {
@@ -163,15 +163,15 @@ pub(crate) fn tell_interface_body(
         unit: Some(1_000),
         offset: 0,
     };
-    tell_description(offset + 8, block, interface)
+    read_description(offset + 8, block, interface)
 }
 
 /// That this is what is known of an interface, up to this offset.
-fn tell_description(
+fn read_description(
     offset: u64,
     block: Block,
     interface: KnownInterface,
-) -> Result<Told, CaptureRefusal>
+) -> Result<Emission, CaptureRefusal>
     requires { IsInBlock block offset 0 }
     ensures { result ≡ described offset block interface }
 {
@@ -185,14 +185,14 @@ fn tell_description(
 }
 
 /// What the code and the length of an option say. Sections 3.5 and 4.2.
-pub(crate) fn tell_option_head(
+pub(crate) fn read_option_head(
     offset: u64,
     block: Block,
     bytes: &[u8],
-) -> Result<Told, CaptureRefusal>
+) -> Result<Emission, CaptureRefusal>
     requires place { IsInBlock block offset 4 }
     requires size { length bytes.now ≡ 4 }
-    ensures { result ≡ told_option_head offset block bytes.now }
+    ensures { result ≡ read_option_head offset block bytes.now }
 {
     let code = block.order.read_u16(bytes, 0);
     let size = block.order.read_u16(bytes, 2);
@@ -203,13 +203,13 @@ pub(crate) fn tell_option_head(
     if offset + 4 + filled_up(size) > end {
         return skip_option(offset + 4, block, SkipReason::BadOptionLength);
     }
-    tell_option(offset, block, code, size)
+    read_option(offset, block, code, size)
 }
 
 /// What an option of this code and this length says, which lies in its block.
-fn tell_option(offset: u64, block: Block, code: u16, size: u16) -> Result<Told, CaptureRefusal>
+fn read_option(offset: u64, block: Block, code: u16, size: u16) -> Result<Emission, CaptureRefusal>
     requires { IsInBlock block offset (4 + padded size) }
-    ensures { result ≡ told_option offset block code size }
+    ensures { result ≡ read_option offset block code size }
 {
     match (code, size) {
         (9, 1) => read_next(offset + 4, Stage::TimeUnit(block)),
@@ -224,7 +224,7 @@ fn tell_option(offset: u64, block: Block, code: u16, size: u16) -> Result<Told, 
 
 /// That an option of this block's interface cannot be read, so that no time of its packets can be; what is left from this offset on
 /// is passed over.
-fn skip_option(offset: u64, block: Block, why: SkipReason) -> Result<Told, CaptureRefusal>
+fn skip_option(offset: u64, block: Block, why: SkipReason) -> Result<Emission, CaptureRefusal>
     requires { IsInBlock block offset 0 }
     ensures { result ≡ skipped_option offset block why }
 {
@@ -239,20 +239,20 @@ fn filled_up(size: u16) -> u64
 }
 
 /// What the value of if_tsresol says. Section 4.2.
-pub(crate) fn tell_time_unit(
+pub(crate) fn read_time_unit(
     offset: u64,
     block: Block,
     bytes: &[u8],
-) -> Result<Told, CaptureRefusal>
+) -> Result<Emission, CaptureRefusal>
     requires place { IsInBlock block offset 4 }
     requires size { length bytes.now ≡ 4 }
-    ensures { result ≡ told_time_unit offset block bytes.now }
+    ensures { result ≡ read_time_unit offset block bytes.now }
 {
     let Some(unit) = read_unit(bytes[0]) else {
         return skip_option(offset + 4, block, SkipReason::UnknownTimeUnit);
     };
     match block.interface {
-        Some(interface) => tell_description(
+        Some(interface) => read_description(
             offset + 4,
             block,
             KnownInterface {
@@ -286,21 +286,21 @@ fn read_unit(exponent: u8) -> Option<u32>
 }
 
 /// What the value of if_tsoffset says. Section 4.2.
-pub(crate) fn tell_time_offset(
+pub(crate) fn read_time_offset(
     offset: u64,
     block: Block,
     bytes: &[u8],
-) -> Result<Told, CaptureRefusal>
+) -> Result<Emission, CaptureRefusal>
     requires place { IsInBlock block offset 8 }
     requires size { length bytes.now ≡ 8 }
-    ensures { result ≡ told_time_offset offset block bytes.now }
+    ensures { result ≡ read_time_offset offset block bytes.now }
 {
     let seconds = block.order.read_u64(bytes, 0);
     if seconds >= 0x8000_0000_0000_0000 {
         return skip_option(offset + 8, block, SkipReason::NegativeTimeOffset);
     }
     match block.interface {
-        Some(interface) => tell_description(
+        Some(interface) => read_description(
             offset + 8,
             block,
             KnownInterface {
@@ -316,17 +316,17 @@ pub(crate) fn tell_time_offset(
 
 /// What the numbers of a packet say, whose interface has this number. Section 4.3 and appendix A.
 #[inline]
-pub(crate) fn tell_enhanced_body(
+pub(crate) fn read_enhanced_body(
     limit: u32,
     known: &[KnownInterface],
     number: u32,
     offset: u64,
     block: Block,
     bytes: &[u8],
-) -> Result<Told, CaptureRefusal>
+) -> Result<Emission, CaptureRefusal>
     requires place { IsInBlock block offset 20 }
     requires size { length bytes.now ≡ 20 }
-    ensures { result ≡ told_enhanced_body limit known.now number offset block bytes.now }
+    ensures { result ≡ read_enhanced_body limit known.now number offset block bytes.now }
 {
     let order = block.order;
     let Some(interface) = known.get(number as usize).copied() else {
@@ -346,19 +346,19 @@ pub(crate) fn tell_enhanced_body(
         captured: order.read_u32(bytes, 12),
         original: order.read_u32(bytes, 16),
     };
-    tell_within(limit, offset + 20, block, packet)
+    read_within(limit, offset + 20, block, packet)
 }
 
 /// That a packet begins, whose bytes are at this offset, if they lie in the block and the limit allows as many.
 #[inline]
-fn tell_within(
+fn read_within(
     limit: u32,
     offset: u64,
     block: Block,
     packet: PacketHead,
-) -> Result<Told, CaptureRefusal>
+) -> Result<Emission, CaptureRefusal>
     requires { IsInBlock block offset 0 }
-    ensures { result ≡ told_within limit offset block packet }
+    ensures { result ≡ read_within limit offset block packet }
 {
     if packet.captured as u64 > room_after(block, offset) {
         return skip(offset, block, SkipReason::PacketBeyondBlock);
@@ -366,7 +366,7 @@ fn tell_within(
     if packet.captured > limit {
         return skip(offset, block, SkipReason::PacketTooLong);
     }
-    tell_packet(offset, block, packet)
+    read_packet(offset, block, packet)
 }
 
 /// How many bytes a block has from this offset on to its second length.
@@ -390,10 +390,10 @@ fn captured_time(unit: u32, seconds: u64, units: u64) -> Option<u64>
 
 /// That a packet begins, whose bytes are at this offset.
 #[inline]
-fn tell_packet(offset: u64, block: Block, packet: PacketHead) -> Result<Told, CaptureRefusal>
-    ensures { result ≡ told_packet offset block packet }
+fn read_packet(offset: u64, block: Block, packet: PacketHead) -> Result<Emission, CaptureRefusal>
+    ensures { result ≡ read_packet offset block packet }
 {
-    Ok(Told {
+    Ok(Emission {
         at: block.start,
         what: Some(EventOutline::Packet(packet)),
         place: Place {
@@ -405,16 +405,16 @@ fn tell_packet(offset: u64, block: Block, packet: PacketHead) -> Result<Told, Ca
 }
 
 /// What the number of a simple packet says. Section 4.4.
-pub(crate) fn tell_simple_body(
+pub(crate) fn read_simple_body(
     limit: u32,
     known: &[KnownInterface],
     offset: u64,
     block: Block,
     bytes: &[u8],
-) -> Result<Told, CaptureRefusal>
+) -> Result<Emission, CaptureRefusal>
     requires place { IsInBlock block offset 4 }
     requires size { length bytes.now ≡ 4 }
-    ensures { result ≡ told_simple_body limit known.now offset block bytes.now }
+    ensures { result ≡ read_simple_body limit known.now offset block bytes.now }
 {
     let Some(interface) = known.get(0).copied() else {
         return skip(offset + 4, block, SkipReason::UnknownInterface);
@@ -428,7 +428,7 @@ pub(crate) fn tell_simple_body(
         captured,
         original,
     };
-    tell_within(limit, offset + 4, block, packet)
+    read_within(limit, offset + 4, block, packet)
 }
 
 /// How many bytes of a simple packet were captured that had so many, where its block has room for so many.
@@ -449,17 +449,17 @@ fn captured_size(interface: KnownInterface, original: u32, room: u64) -> u32
 
 /// What the second length of a block says, and that an interface is known once its block was read. Section 3.1.
 #[inline]
-pub(crate) fn tell_block_end(
+pub(crate) fn read_block_end(
     limit: u32,
     known: &[KnownInterface],
     offset: u64,
     block: Block,
     bytes: &[u8],
-) -> Result<Told, CaptureRefusal>
+) -> Result<Emission, CaptureRefusal>
     requires place { IsInBlock block offset 0 }
     requires size { length bytes.now ≡ 4 }
     requires few { length known.now < 2 ^ 32 }
-    ensures { result ≡ told_block_end limit known.now offset block bytes.now }
+    ensures { result ≡ read_block_end limit known.now offset block bytes.now }
 {
     if block.order.read_u32(bytes, 0) != block.length {
         return refuse(offset, CaptureReason::UnequalBlockLengths);
@@ -474,14 +474,14 @@ pub(crate) fn tell_block_end(
         stage,
     };
     if number >= limit {
-        return Ok(Told {
+        return Ok(Emission {
             at: block.start,
             what: Some(EventOutline::Skipped(SkipReason::TooManyInterfaces)),
             place,
             change: TableChange::Keep,
         });
     }
-    Ok(Told {
+    Ok(Emission {
         at: block.start,
         what: Some(EventOutline::Interface(InterfaceHead {
             number,

@@ -1,16 +1,16 @@
 //! Where the reading of a capture stands.
 
 ghost use Rattle.std.specs.Prelude.{◌≡◌, ◌<◌, ◌^◌, length};
-ghost use Rattle.cqlp_capture.specs.Reading.{told_at, wanted};
+ghost use Rattle.cqlp_capture.specs.Reading.{read_at, wanted};
 ghost use Rattle.cqlp_capture.specs.Places.{IsPlace};
 
 use crate::block::{Block, EitherLength};
-use crate::event::{EventOutline, Told};
+use crate::emission::read_next;
+use crate::event::{Emission, EventOutline};
 use crate::file::{ByteOrder, FileForm};
 use crate::interfaces::{KnownInterface, TableChange};
 use crate::limits::CaptureLimits;
 use crate::refusal::CaptureRefusal;
-use crate::telling::read_next;
 use crate::{pcap, pcapng};
 
 /// How the records of a pcap file are written.
@@ -100,51 +100,51 @@ impl Place {
 
     /// What the bytes say that are read next, under these limits, where these are the interfaces so far.
     #[inline(always)]
-    pub fn tell(
+    pub fn read(
         &self,
         limits: &CaptureLimits,
         known: &[KnownInterface],
         bytes: &[u8],
-    ) -> Result<Told, CaptureRefusal>
+    ) -> Result<Emission, CaptureRefusal>
         requires place { IsPlace limits.now self.now }
         requires size { length bytes.now ≡ wanted self.now.stage }
         requires few { length known.now < 2 ^ 32 }
-        ensures { result ≡ told_at limits.now known.now self.now.offset self.now.stage bytes.now }
+        ensures { result ≡ read_at limits.now known.now self.now.offset self.now.stage bytes.now }
     {
         let offset = self.offset;
         match self.stage {
-            Stage::Magic => pcap::tell_magic(bytes),
-            Stage::FileHead(form) => pcap::tell_file_head(form, bytes),
-            Stage::RecordHead(form) => pcap::tell_record_head(limits.packet, offset, form, bytes),
+            Stage::Magic => pcap::read_magic(bytes),
+            Stage::FileHead(form) => pcap::read_file_head(form, bytes),
+            Stage::RecordHead(form) => pcap::read_record_head(limits.packet, offset, form, bytes),
             Stage::Data(form, size) => {
-                pcapng::tell_data(offset + size as u64, offset, Stage::RecordHead(form))
+                pcapng::read_data(offset + size as u64, offset, Stage::RecordHead(form))
             }
-            Stage::Rest(form, start, left) => pcap::tell_rest(offset, form, start, left),
-            Stage::SectionLength => pcapng::tell_section_length(bytes),
-            Stage::SectionBody(lengths) => pcapng::tell_section_body(offset, lengths, bytes),
-            Stage::BlockHead(order) => pcapng::tell_block_head(offset, order, bytes),
-            Stage::InterfaceBody(block) => pcapng::tell_interface_body(offset, block, bytes),
-            Stage::OptionHead(block) => pcapng::tell_option_head(offset, block, bytes),
-            Stage::TimeUnit(block) => pcapng::tell_time_unit(offset, block, bytes),
-            Stage::TimeOffset(block) => pcapng::tell_time_offset(offset, block, bytes),
+            Stage::Rest(form, start, left) => pcap::read_rest(offset, form, start, left),
+            Stage::SectionLength => pcapng::read_section_length(bytes),
+            Stage::SectionBody(lengths) => pcapng::read_section_body(offset, lengths, bytes),
+            Stage::BlockHead(order) => pcapng::read_block_head(offset, order, bytes),
+            Stage::InterfaceBody(block) => pcapng::read_interface_body(offset, block, bytes),
+            Stage::OptionHead(block) => pcapng::read_option_head(offset, block, bytes),
+            Stage::TimeUnit(block) => pcapng::read_time_unit(offset, block, bytes),
+            Stage::TimeOffset(block) => pcapng::read_time_offset(offset, block, bytes),
             Stage::EnhancedBody(block) => {
                 let number = block.order.read_u32(bytes, 0);
-                pcapng::tell_enhanced_body(limits.packet, known, number, offset, block, bytes)
+                pcapng::read_enhanced_body(limits.packet, known, number, offset, block, bytes)
             }
             Stage::PacketBody(block) => {
                 let number = block.order.read_u16(bytes, 0) as u32;
-                pcapng::tell_enhanced_body(limits.packet, known, number, offset, block, bytes)
+                pcapng::read_enhanced_body(limits.packet, known, number, offset, block, bytes)
             }
             Stage::SimpleBody(block) => {
-                pcapng::tell_simple_body(limits.packet, known, offset, block, bytes)
+                pcapng::read_simple_body(limits.packet, known, offset, block, bytes)
             }
             Stage::BlockData(block, size) => {
                 let end = offset + size as u64;
-                pcapng::tell_data(end, offset, block.passing(end, block.end()))
+                pcapng::read_data(end, offset, block.passing(end, block.end()))
             }
             Stage::Pass(block, until) => read_next(offset + 1, block.passing(offset + 1, until)),
             Stage::BlockEnd(block) => {
-                pcapng::tell_block_end(limits.interfaces, known, offset, block, bytes)
+                pcapng::read_block_end(limits.interfaces, known, offset, block, bytes)
             }
         }
     }

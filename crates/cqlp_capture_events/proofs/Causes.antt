@@ -5,27 +5,27 @@ use Rattle.cqlp_capture_streams.specs.declared.capturing.CaptureRead.{CaptureRea
 use Rattle.cqlp_capture_streams.specs.declared.fault.StreamsFault.{StreamsFault}
 use Rattle.cqlp_capture_streams.specs.declared.fault.StreamsFault.TheVariants as fault
 use Rattle.cqlp_capture_streams.specs.Captures.{ReadsMade}
-use Rattle.cqlp_capture_streams.specs.Sayings.{Saying}
+use Rattle.cqlp_capture_streams.specs.ConnectionEvents.{ConnectionEvent}
 use Rattle.cqlp_capture_streams.specs.Streams.{ReadsCapture}
 use Rattle.cqlp_capture_streams.proofs.Causes.{EndedIfFault, FailsSo, ended_noted, fault_cause}
 use Rattle.cqlp_capture_streams.specs.declared.limits.StreamsLimits.{StreamsLimits}
 use Rattle.cqlp_capture_events.specs.Words.{events_note, events_words}
-use Rattle.cqlp_capture_events.specs.Listening.{Listening, StopsAt, new_listening, with_saying}
+use Rattle.cqlp_capture_events.specs.Listening.{Listening, StopsAt, new_listening, with_connection_event}
 use Rattle.cqlp_capture_events.specs.Capturing.{FaultsHaveCauses}
 
 abbrev failures_of : Listening → ℕ
 failures_of w = w.output.failures
 
-stops : (v w : Listening) (s : Saying) (e : StreamsFault) → StopsAt v s e w → FailsSo e (failures_of v) (failures_of w)
+stops : (v w : Listening) (s : ConnectionEvent) (e : StreamsFault) → StopsAt v s e w → FailsSo e (failures_of v) (failures_of w)
 stops v w s fault.Write a = a.failures
 stops v w s fault.Read a = absurd a
 stops v w s fault.NoMemory a = tt
 stops v w s fault.TooManyTurns a = absurd a
 stops v w s (fault.File f) a = absurd a
 
-ended : (l : StreamsLimits) (asked : Option ℕ) (ports xs : List ℕ) (m : ReadsMade) (left : Option (List ℕ)) (out : Output) (w : Listening) (r : Result CaptureRead StreamsFault) → ReadsCapture with_saying StopsAt l ports xs m r left (new_listening asked out) w → EndedIfFault m r out.failures w.output.failures
+ended : (l : StreamsLimits) (asked : Option ℕ) (ports xs : List ℕ) (m : ReadsMade) (left : Option (List ℕ)) (out : Output) (w : Listening) (r : Result CaptureRead StreamsFault) → ReadsCapture with_connection_event StopsAt l ports xs m r left (new_listening asked out) w → EndedIfFault m r out.failures w.output.failures
 ended l asked ports xs m left out w (Ok x) a = tt
-ended l asked ports xs m left out w (Err e) a = fault_cause with_saying StopsAt failures_of (λ v s. refl) stops l ports xs m e left (new_listening asked out) w a
+ended l asked ports xs m left out w (Err e) a = fault_cause with_connection_event StopsAt failures_of (λ v s. refl) stops l ports xs m e left (new_listening asked out) w a
 
 pub events_causes : FaultsHaveCauses
 events_causes l asked ports xs m left out err out' err' (r, unread, (w, reads, count, is), ends) =

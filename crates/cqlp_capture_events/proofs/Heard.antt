@@ -1,29 +1,29 @@
--- What is known after a saying.
+-- What is known after an event of a connection.
 use Rattle.std.proofs.Common.{◌≡◌, ◌∙◌, ◌++◌, [], ℕ, IsSome, List, Option, Some, None, OnOk, Result, Ok, Err, ap, append-nil, sym, subst, refl}
 use Rattle.std.specs.Io.KnownBytes.{append_known}
 use Rattle.cqlp_text.specs.Outputs.{output, with_text}
 use Rattle.cqlp_text.specs.Written.{Receives, Written}
-use Rattle.cqlp_tcp_connections.specs.declared.told.Told.{Told}
+use Rattle.cqlp_tcp_connections.specs.declared.delivery.Delivery.{Delivery}
 use Rattle.cqlp_capture_streams.specs.declared.fault.StreamsFault.{StreamsFault}
-use Rattle.cqlp_capture_streams.specs.Sayings.{Saying}
-use Rattle.cqlp_capture_frames.specs.declared.fault.TellFault.{TellFault}
-use Rattle.cqlp_capture_frames.specs.declared.fault.TellFault.TheVariants as fault
+use Rattle.cqlp_capture_streams.specs.ConnectionEvents.{ConnectionEvent}
+use Rattle.cqlp_capture_frames.specs.declared.fault.ReportFault.{ReportFault}
+use Rattle.cqlp_capture_frames.specs.declared.fault.ReportFault.TheVariants as fault
 use Rattle.cqlp_capture_frames.specs.Faults.{Takes}
-use Rattle.cqlp_capture_frames.specs.Tellings.{is_memory}
-use Rattle.cqlp_capture_events.specs.Tables.{Table, tells}
-use Rattle.cqlp_capture_events.specs.Listening.{Hears, Listening, Tells, change_of, listening, with_saying}
+use Rattle.cqlp_capture_frames.specs.Reportings.{is_memory}
+use Rattle.cqlp_capture_events.specs.Tables.{Table, reports}
+use Rattle.cqlp_capture_events.specs.Listening.{Hears, Listening, Reports, change_of, listening, with_connection_event}
 
 -- it is still known what the output was given
 still_known : (given : Option (List ℕ)) (text : List ℕ) → IsSome given → IsSome (append_known given text)
 still_known None text k = cc
 still_known (Some t) text k = refl
 
-heard_known : (old new : Listening) (s : Saying) → new ≡ with_saying old s → IsSome old.output.given → IsSome new.output.given
+heard_known : (old new : Listening) (s : ConnectionEvent) → new ≡ with_connection_event old s → IsSome old.output.given → IsSome new.output.given
 heard_known old new s e k = subst (λ (w : Listening). IsSome w.output.given) (sym e) (still_known old.output.given (change_of s old).text k)
 
-pub tells_what_it_heard : (old new : Listening) (s : Saying) (r : Result (Unit {0}) StreamsFault) → (IsSome old.output.given → Hears old s r new) → OnOk r (IsSome old.output.given → IsSome new.output.given × (new ≡ with_saying old s))
-tells_what_it_heard old new s (Ok u) h = λ k. (heard_known old new s (h k) k, h k)
-tells_what_it_heard old new s (Err e) h = tt
+pub reports_what_it_heard : (old new : Listening) (s : ConnectionEvent) (r : Result (Unit {0}) StreamsFault) → (IsSome old.output.given → Hears old s r new) → OnOk r (IsSome old.output.given → IsSome new.output.given × (new ≡ with_connection_event old s))
+reports_what_it_heard old new s (Ok u) h = λ k. (heard_known old new s (h k) k, h k)
+reports_what_it_heard old new s (Err e) h = tt
 
 -- ---- lines that were passed on
 
@@ -40,11 +40,11 @@ passed_on w v text none none' known takes =
     let given : v.given ≡ append_known w.given text = p.1 ∙ ap (λ (z : List ℕ). Some (t.0 ++ z)) all ∙ sym (ap (λ (g : Option (List ℕ)). append_known g text) t.1) in
     λ i. output (given i) (takes.failures i)
 
-pub tells_told : (asked : Option ℕ) (table table' : Table) (w v : Written) (told : Told) (bytes : List ℕ) (r : Result (Unit {0}) TellFault) → w.waiting ≡ [] → v.waiting ≡ [] → IsSome w.given → Takes is_memory w (tells told bytes table).text r v → OnOk r (table' ≡ (tells told bytes table).table)
-    → Tells (listening asked table (output w.given w.failures)) told bytes r (listening asked table' (output v.given v.failures))
-tells_told asked table table' w v told bytes (Ok u) none none' known takes after = λ i. listening asked (after i) (passed_on w v (tells told bytes table).text none none' known takes i)
-tells_told asked table table' w v told bytes (Err fault.Write) none none' known breaks after =
-    let text = (tells told bytes table).text in
+pub reports_delivery : (asked : Option ℕ) (table table' : Table) (w v : Written) (delivered : Delivery) (bytes : List ℕ) (r : Result (Unit {0}) ReportFault) → w.waiting ≡ [] → v.waiting ≡ [] → IsSome w.given → Takes is_memory w (reports delivered bytes table).text r v → OnOk r (table' ≡ (reports delivered bytes table).table)
+    → Reports (listening asked table (output w.given w.failures)) delivered bytes r (listening asked table' (output v.given v.failures))
+reports_delivery asked table table' w v delivered bytes (Ok u) none none' known takes after = λ i. listening asked (after i) (passed_on w v (reports delivered bytes table).text none none' known takes i)
+reports_delivery asked table table' w v delivered bytes (Err fault.Write) none none' known breaks after =
+    let text = (reports delivered bytes table).text in
     let t = known_at w.given known in
     let p = breaks.passed t.0 t.1 in
     record {
@@ -55,4 +55,4 @@ tells_told asked table table' w v told bytes (Err fault.Write) none none' known 
       given = p.1 ∙ sym (ap (λ (g : Option (List ℕ)). append_known g p.0) t.1);
       failures = breaks.failures;
     }
-tells_told asked table table' w v told bytes (Err fault.NoMemory) none none' known (front, later, split, takes) after = (front, later, split, passed_on w v front none none' known takes)
+reports_delivery asked table table' w v delivered bytes (Err fault.NoMemory) none none' known (front, later, split, takes) after = (front, later, split, passed_on w v front none none' known takes)

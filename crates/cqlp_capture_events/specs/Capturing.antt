@@ -9,13 +9,13 @@ use Rattle.cqlp_capture_streams.specs.Streams.{ReadsCapture}
 use Rattle.cqlp_capture_streams.specs.Endings.{ConcludesNoted}
 use Rattle.cqlp_capture_streams.specs.Causes.{HasCause}
 use Rattle.cqlp_capture_events.specs.Words.{events_note, events_words}
-use Rattle.cqlp_capture_events.specs.Listening.{Listening, StopsAt, new_listening, with_saying}
+use Rattle.cqlp_capture_events.specs.Listening.{Listening, StopsAt, new_listening, with_connection_event}
 
 -- What was heard of an input with the bytes xs by so many reads, what that was, the lines that were written, and how many frames were not read.
 abbrev pub Listens : StreamsLimits → (asked : Option ℕ) → (ports : List ℕ) → (xs : List ℕ) → ReadsMade → Result CaptureRead StreamsFault
     → (left : Option (List ℕ)) → (out : Output) → (unread : ℕ) → (out' : Output) → Type 0
 Listens l asked ports xs m r left out unread out' =
-    (w : Listening) × ReadsCapture with_saying StopsAt l ports xs m r left (new_listening asked out) w
+    (w : Listening) × ReadsCapture with_connection_event StopsAt l ports xs m r left (new_listening asked out) w
     × (unread ≡ w.table.unread) × (out' ≡ w.output)
 
 -- The lines of its frames were written, and then the line of how it ended, with its status.

@@ -6,8 +6,8 @@ use Rattle.std.specs.Ordering.{nat_cmp}
 use Rattle.cqlp_note.specs.Streams.{counted_up}
 use Rattle.cqlp_tcp_connections.specs.declared.ends.Way.{Way}
 use Rattle.cqlp_tcp_connections.specs.declared.ends.Way.TheVariants.{Requests, Responses}
-use Rattle.cqlp_tcp_connections.specs.declared.told.Told.{Told}
-use Rattle.cqlp_capture_frames.specs.Directions.{Direction, Telling, begun, step_told}
+use Rattle.cqlp_tcp_connections.specs.declared.delivery.Delivery.{Delivery}
+use Rattle.cqlp_capture_frames.specs.Directions.{Direction, Reporting, begun, step_reported}
 use Rattle.cqlp_capture_events.specs.declared.limits.TheConstants.{OPEN_FRAMES}
 use Rattle.cqlp_capture_events.specs.declared.lines.Lines.{Lines}
 use Rattle.cqlp_capture_events.specs.Lines.{line_manner, lines_of, rules}
@@ -39,26 +39,26 @@ one_if b = if b then 1 else 0
 abbrev pub open_in : Slot → ℕ
 open_in s = one_if (is_some s.requests.frame) + one_if (is_some s.responses.frame)
 
--- what one direction of a connection tells
+-- what one direction of a connection delivers
 pub record Heard : Type 0 where
   pub text : List ℕ
   pub slot : Slot
   pub unread : ℕ
 
-abbrev pub of_requests : Telling Lines → Slot → Heard
+abbrev pub of_requests : Reporting Lines → Slot → Heard
 of_requests t s = record { text = t.text; slot = slot t.after s.responses; unread = t.known.unread }
 
-abbrev pub of_responses : Telling Lines → Slot → Heard
+abbrev pub of_responses : Reporting Lines → Slot → Heard
 of_responses t s = record { text = t.text; slot = slot s.requests t.after; unread = t.known.unread }
 
 -- Where there is no room for one more decoder, only a direction that reads a frame reads others.
-abbrev pub heard_of : Way → (room : Bool) → Told → List ℕ → (unread : ℕ) → Slot → Heard
+abbrev pub heard_of : Way → (room : Bool) → Delivery → List ℕ → (unread : ℕ) → Slot → Heard
 heard_of Requests room t b unread s =
-    of_requests (step_told line_manner (room || is_some s.requests.frame) t.step t.at b (lines_of t.number false unread) s.requests) s
+    of_requests (step_reported line_manner (room || is_some s.requests.frame) t.step t.at b (lines_of t.number false unread) s.requests) s
 heard_of Responses room t b unread s =
-    of_responses (step_told line_manner (room || is_some s.responses.frame) t.step t.at b (lines_of t.number true unread) s.responses) s
+    of_responses (step_reported line_manner (room || is_some s.responses.frame) t.step t.at b (lines_of t.number true unread) s.responses) s
 
-abbrev pub heard : (room : Bool) → Told → List ℕ → (unread : ℕ) → Slot → Heard
+abbrev pub heard : (room : Bool) → Delivery → List ℕ → (unread : ℕ) → Slot → Heard
 heard room t b unread s = heard_of t.way room t b unread s
 
 -- ---- all of them: the connections, the one with the least number first; how many directions read a frame; and how many frames were not read
@@ -81,7 +81,7 @@ slot_of n w = lookup (is_at (nat_cmp n)) w.slots
 abbrev pub reading_after : (before now : ℕ) → (reading : ℕ) → ℕ
 reading_after before now reading = counted_up now (reading - before)
 
--- the lines of what is told, and the table after it
+-- the lines of an event, and the table after it
 pub record Change : Type 0 where
   pub text : List ℕ
   pub table : Table
@@ -93,17 +93,17 @@ change text w = record { text = text; table = w }
 abbrev pub begins : (number : ℕ) → Table → Table
 begins n w = table (insert_entry nat_cmp w.slots n fresh) w.reading w.unread
 
--- its streams tell something; where it is not watched, there is no line
+-- its streams deliver something; where it is not watched, there is no line
 abbrev pub becomes : (number : ℕ) → Slot → Heard → Table → Change
 becomes n s h w =
     change h.text (table (set_value (is_at (nat_cmp n)) w.slots h.slot) (reading_after (open_in s) (open_in h.slot) w.reading) h.unread)
 
-abbrev pub tells_at : Option Slot → Told → List ℕ → Table → Change
-tells_at None t b w = change [] w
-tells_at (Some s) t b w = becomes t.number s (heard (nat_lt w.reading OPEN_FRAMES) t b w.unread s) w
+abbrev pub reports_at : Option Slot → Delivery → List ℕ → Table → Change
+reports_at None t b w = change [] w
+reports_at (Some s) t b w = becomes t.number s (heard (nat_lt w.reading OPEN_FRAMES) t b w.unread s) w
 
-abbrev pub tells : Told → List ℕ → Table → Change
-tells t b w = tells_at (slot_of t.number w) t b w
+abbrev pub reports : Delivery → List ℕ → Table → Change
+reports t b w = reports_at (slot_of t.number w) t b w
 
 -- it leaves
 abbrev pub leaves_at : Option Slot → (number : ℕ) → Table → Table

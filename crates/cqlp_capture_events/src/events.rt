@@ -3,14 +3,14 @@
 ghost use Rattle.std.specs.Prelude.{◌≡◌, ◌≤◌, [], IfErr, IfOk, IsSome, OnOk, vec_len};
 ghost use Rattle.cqlp_text.specs.Outputs.{written};
 ghost use Rattle.cqlp_capture_frames.specs.Faults.{Takes};
-ghost use Rattle.cqlp_capture_frames.specs.Tellings.{is_memory};
-ghost use Rattle.cqlp_capture_events.specs.Tables.{new_table, tells};
+ghost use Rattle.cqlp_capture_frames.specs.Reportings.{is_memory};
+ghost use Rattle.cqlp_capture_events.specs.Tables.{new_table, reports};
 
 use crate::table::Table;
-use cqlp_capture_frames::TellFault;
-use cqlp_capture_streams::{Listener, Saying, StreamsFault};
+use cqlp_capture_frames::ReportFault;
+use cqlp_capture_streams::{ConnectionEvent, Listener, StreamsFault};
 use cqlp_note::Target;
-use cqlp_tcp_connections::Told;
+use cqlp_tcp_connections::Delivery;
 use cqlp_text::{Buffered, TextWriter};
 use std::alloc::{AllocError, Allocator, Global};
 use std::marker::Model;
@@ -42,8 +42,8 @@ impl<O: Target, A: Allocator> Model for Events<O, A> {
 }
 
 impl<O: Target, A: Allocator + Clone> Events<O, A> {
-    ghost use Rattle.cqlp_capture_streams.specs.Sayings.{New, Of, saying_of};
-    ghost use Rattle.cqlp_capture_events.specs.Listening.{Hears, Tells, is_asked, new_listening};
+    ghost use Rattle.cqlp_capture_streams.specs.ConnectionEvents.{New, Of, connection_event_of};
+    ghost use Rattle.cqlp_capture_events.specs.Listening.{Hears, Reports, is_asked, new_listening};
 
     /// Nothing is watched, and lines go to this output: those of the connection with this number, or of all. Takes memory for lines; where it is
     /// not granted, the output is given back.
@@ -84,15 +84,15 @@ impl<O: Target, A: Allocator + Clone> Events<O, A> {
         }
     }
 
-    /// Takes what is told next of the connections.
-    fn take(&mut self, saying: &Saying<'_>) -> Result<(), StreamsFault>
-        ensures { IsSome self.old.output.given → Hears self.old (saying_of saying.now) result self.new }
+    /// Takes the next event of the connections.
+    fn take(&mut self, event: &ConnectionEvent<'_>) -> Result<(), StreamsFault>
+        ensures { IsSome self.old.output.given → Hears self.old (connection_event_of event.now) result self.new }
     {
-        match saying {
-            Saying::Packet { .. } => Ok(()),
-            Saying::New { number } => self.begin(*number),
-            Saying::Of { told, bytes } => self.hear_told(told, bytes),
-            Saying::Left(totals) => {
+        match event {
+            ConnectionEvent::Packet { .. } => Ok(()),
+            ConnectionEvent::New { number } => self.begin(*number),
+            ConnectionEvent::Of { delivered, bytes } => self.hear_delivery(delivered, bytes),
+            ConnectionEvent::Left(totals) => {
                 self.table.leave(totals.number);
                 Ok(())
             }
@@ -111,42 +111,42 @@ impl<O: Target, A: Allocator + Clone> Events<O, A> {
         }
     }
 
-    fn hear_told(&mut self, told: &Told, bytes: &[u8]) -> Result<(), StreamsFault>
-        ensures { IsSome self.old.output.given → Hears self.old (Of told.now bytes.now) result self.new }
+    fn hear_delivery(&mut self, delivered: &Delivery, bytes: &[u8]) -> Result<(), StreamsFault>
+        ensures { IsSome self.old.output.given → Hears self.old (Of delivered.now bytes.now) result self.new }
     {
-        match self.tell(told, bytes) {
+        match self.report(delivered, bytes) {
             Ok(()) => Ok(()),
-            Err(TellFault::Write) => Err(StreamsFault::Write),
-            Err(TellFault::NoMemory) => Err(StreamsFault::NoMemory),
+            Err(ReportFault::Write) => Err(StreamsFault::Write),
+            Err(ReportFault::NoMemory) => Err(StreamsFault::NoMemory),
         }
     }
 
-    /// Writes the lines of what is told.
-    fn tell(&mut self, told: &Told, bytes: &[u8]) -> Result<(), TellFault>
-        ensures { IsSome self.old.output.given → Tells self.old told.now bytes.now result self.new }
+    /// Writes the lines of an event.
+    fn report(&mut self, delivered: &Delivery, bytes: &[u8]) -> Result<(), ReportFault>
+        ensures { IsSome self.old.output.given → Reports self.old delivered.now bytes.now result self.new }
     {
-        put_told(&mut self.table, told, bytes, &mut self.writer)
+        put_delivery(&mut self.table, delivered, bytes, &mut self.writer)
     }
 }
 
-/// Takes the lines of what is told, and passes them on, also where memory was refused.
-#[tactic(auto, using(cqlp_capture_frames::proofs::Tellings::passing_fails, cqlp_capture_frames::proofs::Tellings::passing_front_fails))]
-fn put_told<W: Target, A: Allocator + Clone, B: Allocator>(
+/// Takes the lines of an event, and passes them on, also where memory was refused.
+#[tactic(auto, using(cqlp_capture_frames::proofs::Reportings::passing_fails, cqlp_capture_frames::proofs::Reportings::passing_front_fails))]
+fn put_delivery<W: Target, A: Allocator + Clone, B: Allocator>(
     table: &mut Table<A>,
-    told: &Told,
+    delivered: &Delivery,
     bytes: &[u8],
     writer: &mut TextWriter<Buffered<W, B>>,
-) -> Result<(), TellFault>
-    ensures text { Takes is_memory writer.old (tells told.now bytes.now table.old).text result writer.new }
+) -> Result<(), ReportFault>
+    ensures text { Takes is_memory writer.old (reports delivered.now bytes.now table.old).text result writer.new }
     ensures passed { writer.new.waiting ≡ [] }
-    ensures after { OnOk result (table.new ≡ (tells told.now bytes.now table.old).table) }
+    ensures after { OnOk result (table.new ≡ (reports delivered.now bytes.now table.old).table) }
 {
-    match table.hear(told, bytes, writer) {
+    match table.hear(delivered, bytes, writer) {
         Ok(()) => Ok(writer.pass_on()?),
-        Err(TellFault::Write) => Err(TellFault::Write),
-        Err(TellFault::NoMemory) => {
+        Err(ReportFault::Write) => Err(ReportFault::Write),
+        Err(ReportFault::NoMemory) => {
             writer.pass_on()?;
-            Err(TellFault::NoMemory)
+            Err(ReportFault::NoMemory)
         }
     }
 }
@@ -162,19 +162,19 @@ fn take_memory<A: Allocator + Clone>(alloc: A) -> Result<(Table<A>, Vec<u8, A>),
 }
 
 impl<O: Target, A: Allocator + Clone> Listener for Events<O, A> {
-    ghost use Rattle.cqlp_capture_events.specs.Listening.{Listening, StopsAt, with_saying};
+    ghost use Rattle.cqlp_capture_events.specs.Listening.{Listening, StopsAt, with_connection_event};
 
     ghost View = { Listening };
 
     ghost view = { λ e. e };
 
-    ghost tells = { λ e. IsSome e.output.given };
+    ghost reports = { λ e. IsSome e.output.given };
 
-    ghost after = { with_saying };
+    ghost after = { with_connection_event };
 
     ghost faulted = { StopsAt };
 
-    fn hear(&mut self, saying: &Saying<'_>) -> Result<(), StreamsFault> {
-        self.take(saying)
+    fn hear(&mut self, event: &ConnectionEvent<'_>) -> Result<(), StreamsFault> {
+        self.take(event)
     }
 }

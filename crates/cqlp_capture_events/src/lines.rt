@@ -6,7 +6,7 @@ ghost use Rattle.cqlp_text.specs.Written.{Writes};
 ghost use Rattle.cqlp_capture_events.specs.Lines.{event_line};
 
 use cqlp_capture_frames::{
-    LinePlace, TellFault, Transcript, put_compressed, put_gap, put_place, put_refused, put_unread,
+    LinePlace, ReportFault, Transcript, put_compressed, put_gap, put_place, put_refused, put_unread,
 };
 use cqlp_grammar::{Event, SinkFault};
 use cqlp_note::{Header, Reason};
@@ -37,11 +37,11 @@ fn put_event<P: Pen>(
 }
 
 impl<A: Allocator> Transcript<A> for Lines {
-    ghost use Rattle.cqlp_capture_frames.specs.Tellings.{is_memory};
+    ghost use Rattle.cqlp_capture_frames.specs.Reportings.{is_memory};
     ghost use Rattle.cqlp_capture_events.specs.declared.lines.Lines.{Lines};
     ghost use Rattle.cqlp_capture_events.specs.Lines.{line_manner};
 
-    type Fault = TellFault;
+    type Fault = ReportFault;
 
     ghost refuses = { is_memory };
 
@@ -51,8 +51,8 @@ impl<A: Allocator> Transcript<A> for Lines {
 
     ghost manner = { line_manner };
 
-    fn no_memory() -> TellFault {
-        TellFault::NoMemory
+    fn no_memory() -> ReportFault {
+        ReportFault::NoMemory
     }
 
     fn begin<P: Pen>(
@@ -60,59 +60,59 @@ impl<A: Allocator> Transcript<A> for Lines {
         _at: u64,
         _header: &Header,
         _writer: &mut TextWriter<P>,
-    ) -> Result<Option<TypeTable<A>>, TellFault> {
+    ) -> Result<Option<TypeTable<A>>, ReportFault> {
         Ok(None)
     }
 
-    #[tactic(auto, using(cqlp_capture_frames::proofs::Tellings::breaks_here))]
+    #[tactic(auto, using(cqlp_capture_frames::proofs::Reportings::breaks_here))]
     fn event<P: Pen>(
         &mut self,
         at: u64,
         event: &Event<'_>,
         writer: &mut TextWriter<P>,
-    ) -> Result<(), TellFault> {
+    ) -> Result<(), ReportFault> {
         Ok(put_event(writer, self.place, at, event)?)
     }
 
-    #[tactic(auto, using(cqlp_capture_frames::proofs::Tellings::breaks_here))]
+    #[tactic(auto, using(cqlp_capture_frames::proofs::Reportings::breaks_here))]
     fn refusal<P: Pen>(
         &mut self,
         at: u64,
         why: Reason,
         writer: &mut TextWriter<P>,
-    ) -> Result<(), TellFault> {
+    ) -> Result<(), ReportFault> {
         Ok(put_refused(writer, self.place, at, why)?)
     }
 
-    #[tactic(auto, using(cqlp_capture_frames::proofs::Tellings::breaks_here))]
+    #[tactic(auto, using(cqlp_capture_frames::proofs::Reportings::breaks_here))]
     fn compressed<P: Pen>(
         &mut self,
         at: u64,
         _header: &Header,
         writer: &mut TextWriter<P>,
-    ) -> Result<(), TellFault> {
+    ) -> Result<(), ReportFault> {
         Ok(put_compressed(writer, self.place, at)?)
     }
 
-    #[tactic(auto, using(cqlp_capture_frames::proofs::Tellings::breaks_here))]
+    #[tactic(auto, using(cqlp_capture_frames::proofs::Reportings::breaks_here))]
     fn unread<P: Pen>(
         &mut self,
         at: u64,
         _header: &Header,
         writer: &mut TextWriter<P>,
-    ) -> Result<(), TellFault> {
+    ) -> Result<(), ReportFault> {
         self.unread = self.unread.saturating_add(1);
         Ok(put_unread(writer, self.place, at)?)
     }
 
-    #[tactic(auto, using(cqlp_capture_frames::proofs::Tellings::breaks_here))]
+    #[tactic(auto, using(cqlp_capture_frames::proofs::Reportings::breaks_here))]
     fn gap<P: Pen>(
         &mut self,
         at: u64,
         length: u64,
         cause: GapCause,
         writer: &mut TextWriter<P>,
-    ) -> Result<(), TellFault> {
+    ) -> Result<(), ReportFault> {
         Ok(put_gap(writer, self.place, at, length, cause)?)
     }
 
@@ -120,11 +120,11 @@ impl<A: Allocator> Transcript<A> for Lines {
         &mut self,
         _types: &TypeTable<A>,
         _writer: &mut TextWriter<P>,
-    ) -> Result<(), TellFault> {
+    ) -> Result<(), ReportFault> {
         Ok(())
     }
 
-    fn close<P: Pen>(&mut self, _writer: &mut TextWriter<P>) -> Result<(), TellFault> {
+    fn close<P: Pen>(&mut self, _writer: &mut TextWriter<P>) -> Result<(), ReportFault> {
         Ok(())
     }
 }

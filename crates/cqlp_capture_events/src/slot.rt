@@ -2,13 +2,13 @@
 
 ghost use Rattle.std.specs.Prelude.{◌≡◌, ◌||◌, is_some, false, IfOk, OnOk};
 ghost use Rattle.cqlp_capture_frames.specs.Faults.{Takes};
-ghost use Rattle.cqlp_capture_frames.specs.Tellings.{is_memory};
+ghost use Rattle.cqlp_capture_frames.specs.Reportings.{is_memory};
 ghost use Rattle.cqlp_capture_events.specs.Lines.{lines_of, rules};
 
 use crate::limits::LIMITS;
 use crate::lines::Lines;
-use cqlp_capture_frames::{Direction, LinePlace, TellFault};
-use cqlp_tcp_connections::{Told, Way};
+use cqlp_capture_frames::{Direction, LinePlace, ReportFault};
+use cqlp_tcp_connections::{Delivery, Way};
 use cqlp_text::{Pen, TextWriter};
 use std::alloc::{AllocError, Allocator, Global};
 use std::marker::Model;
@@ -50,27 +50,27 @@ impl<A: Allocator + Clone> Slot<A> {
         usize::from(self.requests.is_open()) + usize::from(self.responses.is_open())
     }
 
-    /// Takes what is told of one of its directions, with its bytes, and counts the frames that are not read. Where there is no room for one
+    /// Takes what one of its directions delivers, with its bytes, and counts the frames that are not read. Where there is no room for one
     /// more decoder, only a direction that reads a frame reads others.
     pub(crate) fn hear<P: Pen>(
         &mut self,
         has_room: bool,
-        told: &Told,
+        delivered: &Delivery,
         bytes: &[u8],
         unread: &mut u64,
         writer: &mut TextWriter<P>,
-    ) -> Result<(), TellFault>
-        ensures text { Takes is_memory writer.old (heard has_room told.now bytes.now unread.old self.old).text result writer.new }
-        ensures slot { OnOk result (self.new ≡ (heard has_room told.now bytes.now unread.old self.old).slot) }
-        ensures unread { OnOk result (unread.new ≡ (heard has_room told.now bytes.now unread.old self.old).unread) }
+    ) -> Result<(), ReportFault>
+        ensures text { Takes is_memory writer.old (heard has_room delivered.now bytes.now unread.old self.old).text result writer.new }
+        ensures slot { OnOk result (self.new ≡ (heard has_room delivered.now bytes.now unread.old self.old).slot) }
+        ensures unread { OnOk result (unread.new ≡ (heard has_room delivered.now bytes.now unread.old self.old).unread) }
     {
-        match told.way {
+        match delivered.way {
             Way::Requests => {
-                let mut lines = lines_of(told.number, false, *unread);
+                let mut lines = lines_of(delivered.number, false, *unread);
                 hear_in(
                     &mut self.requests,
                     has_room,
-                    told,
+                    delivered,
                     bytes,
                     &mut lines,
                     writer,
@@ -79,11 +79,11 @@ impl<A: Allocator + Clone> Slot<A> {
                 Ok(())
             }
             Way::Responses => {
-                let mut lines = lines_of(told.number, true, *unread);
+                let mut lines = lines_of(delivered.number, true, *unread);
                 hear_in(
                     &mut self.responses,
                     has_room,
-                    told,
+                    delivered,
                     bytes,
                     &mut lines,
                     writer,
@@ -95,25 +95,25 @@ impl<A: Allocator + Clone> Slot<A> {
     }
 }
 
-ghost use Rattle.cqlp_capture_frames.specs.Directions.{IsSame, IsTold, step_told};
+ghost use Rattle.cqlp_capture_frames.specs.Directions.{IsSame, IsReported, step_reported};
 ghost use Rattle.cqlp_capture_events.specs.Lines.{line_manner};
 
-/// Takes what is told of this direction.
+/// Takes what this direction delivers.
 fn hear_in<A: Allocator + Clone, P: Pen>(
     direction: &mut Direction<A>,
     has_room: bool,
-    told: &Told,
+    delivered: &Delivery,
     bytes: &[u8],
     lines: &mut Lines,
     writer: &mut TextWriter<P>,
-) -> Result<(), TellFault>
-    ensures told { IsTold is_memory
-        (step_told line_manner (has_room || is_some direction.old.frame) told.now.step told.now.at bytes.now lines.old direction.old)
+) -> Result<(), ReportFault>
+    ensures reported { IsReported is_memory
+        (step_reported line_manner (has_room || is_some direction.old.frame) delivered.now.step delivered.now.at bytes.now lines.old direction.old)
         result writer.old writer.new direction.new lines.new }
     ensures same { IsSame direction.old direction.new }
 {
     let has_room = has_room || direction.is_open();
-    direction.hear(has_room, told.step, told.at, bytes, lines, writer)
+    direction.hear(has_room, delivered.step, delivered.at, bytes, lines, writer)
 }
 
 /// The lines of a direction of the connection with this number, where so many frames were not read so far.

@@ -2,12 +2,12 @@
 
 ghost use Rattle.std.specs.Prelude.{◌≡◌, nat_lt, IfOk, OnErr, OnOk};
 ghost use Rattle.cqlp_capture_frames.specs.Faults.{Takes};
-ghost use Rattle.cqlp_capture_frames.specs.Tellings.{is_memory};
+ghost use Rattle.cqlp_capture_frames.specs.Reportings.{is_memory};
 
 use crate::limits::OPEN_FRAMES;
 use crate::slot::Slot;
-use cqlp_capture_frames::TellFault;
-use cqlp_tcp_connections::Told;
+use cqlp_capture_frames::ReportFault;
+use cqlp_tcp_connections::Delivery;
 use cqlp_text::{Pen, TextWriter};
 use std::alloc::{AllocError, Allocator, Global};
 use std::collections::BTreeMap;
@@ -34,7 +34,7 @@ impl<A: Allocator> Model for Table<A> {
 }
 
 impl<A: Allocator + Clone> Table<A> {
-    ghost use Rattle.cqlp_capture_events.specs.Tables.{begins, leaves, new_table, tells};
+    ghost use Rattle.cqlp_capture_events.specs.Tables.{begins, leaves, new_table, reports};
 
     /// No connections.
     pub(crate) fn new(alloc: A) -> Result<Self, AllocError>
@@ -68,22 +68,22 @@ impl<A: Allocator + Clone> Table<A> {
         }
     }
 
-    /// Takes what is told of the streams of a connection, with its bytes.
+    /// Takes what the streams of a connection deliver, with its bytes.
     pub(crate) fn hear<P: Pen>(
         &mut self,
-        told: &Told,
+        delivered: &Delivery,
         bytes: &[u8],
         writer: &mut TextWriter<P>,
-    ) -> Result<(), TellFault>
-        ensures text { Takes is_memory writer.old (tells told.now bytes.now self.old).text result writer.new }
-        ensures after { OnOk result (self.new ≡ (tells told.now bytes.now self.old).table) }
+    ) -> Result<(), ReportFault>
+        ensures text { Takes is_memory writer.old (reports delivered.now bytes.now self.old).text result writer.new }
+        ensures after { OnOk result (self.new ≡ (reports delivered.now bytes.now self.old).table) }
     {
-        match self.slots.get_mut(&told.number) {
+        match self.slots.get_mut(&delivered.number) {
             Some(slot) => hear_in(
                 slot,
                 &mut self.reading,
                 &mut self.unread,
-                told,
+                delivered,
                 bytes,
                 writer,
             ),
@@ -104,23 +104,23 @@ impl<A: Allocator + Clone> Table<A> {
 ghost use Rattle.cqlp_capture_events.specs.declared.limits.TheConstants.{OPEN_FRAMES};
 ghost use Rattle.cqlp_capture_events.specs.Tables.{heard, open_in, reading_after};
 
-/// Takes what is told of the streams of this connection.
+/// Takes what the streams of this connection deliver.
 fn hear_in<A: Allocator + Clone, P: Pen>(
     slot: &mut Slot<A>,
     reading: &mut usize,
     unread: &mut u64,
-    told: &Told,
+    delivered: &Delivery,
     bytes: &[u8],
     writer: &mut TextWriter<P>,
-) -> Result<(), TellFault>
-    ensures text { Takes is_memory writer.old (heard (nat_lt reading.old OPEN_FRAMES) told.now bytes.now unread.old slot.old).text result writer.new }
-    ensures slot { OnOk result (slot.new ≡ (heard (nat_lt reading.old OPEN_FRAMES) told.now bytes.now unread.old slot.old).slot) }
+) -> Result<(), ReportFault>
+    ensures text { Takes is_memory writer.old (heard (nat_lt reading.old OPEN_FRAMES) delivered.now bytes.now unread.old slot.old).text result writer.new }
+    ensures slot { OnOk result (slot.new ≡ (heard (nat_lt reading.old OPEN_FRAMES) delivered.now bytes.now unread.old slot.old).slot) }
     ensures reading { OnOk result (reading.new ≡ reading_after (open_in slot.old) (open_in slot.new) reading.old) }
-    ensures unread { OnOk result (unread.new ≡ (heard (nat_lt reading.old OPEN_FRAMES) told.now bytes.now unread.old slot.old).unread) }
+    ensures unread { OnOk result (unread.new ≡ (heard (nat_lt reading.old OPEN_FRAMES) delivered.now bytes.now unread.old slot.old).unread) }
 {
     let before = slot.open();
     let has_room = *reading < OPEN_FRAMES;
-    slot.hear(has_room, told, bytes, unread, writer)?;
+    slot.hear(has_room, delivered, bytes, unread, writer)?;
     *reading = reading_after(*reading, before, slot.open());
     Ok(())
 }

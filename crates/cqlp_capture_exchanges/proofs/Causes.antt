@@ -7,48 +7,48 @@ use Rattle.cqlp_capture_streams.specs.declared.capturing.CaptureRead.{CaptureRea
 use Rattle.cqlp_capture_streams.specs.declared.fault.StreamsFault.{StreamsFault}
 use Rattle.cqlp_capture_streams.specs.declared.fault.StreamsFault.TheVariants as fault
 use Rattle.cqlp_capture_streams.specs.Captures.{ReadsMade}
-use Rattle.cqlp_capture_streams.specs.Sayings.{Saying, Packet, New, Of, Left}
+use Rattle.cqlp_capture_streams.specs.ConnectionEvents.{ConnectionEvent, Packet, New, Of, Left}
 use Rattle.cqlp_capture_streams.specs.Streams.{ReadsCapture}
 use Rattle.cqlp_capture_streams.proofs.Causes.{EndedBy, EndedIfFault, FailsSo, ended_noted, fault_cause, none_failed}
 use Rattle.cqlp_capture_exchanges.specs.declared.filter.ExchangeFilter.{ExchangeFilter}
 use Rattle.cqlp_capture_exchanges.specs.declared.form.ExchangeForm.{ExchangeForm}
 use Rattle.cqlp_capture_exchanges.specs.declared.pool.ExchangeLimits.{ExchangeLimits}
 use Rattle.cqlp_capture_exchanges.specs.Reports.{Report}
-use Rattle.cqlp_capture_exchanges.specs.Accounts.{Account, StopsAmong, with_all, with_count, with_told}
+use Rattle.cqlp_capture_exchanges.specs.Accounts.{Account, StopsAmong, with_all, with_count, with_reported}
 use Rattle.cqlp_capture_exchanges.specs.Filters.{shows}
-use Rattle.cqlp_capture_exchanges.specs.Listening.{Listening, StopsAt, account_at, change_of, new_listening, number_of, with_saying}
+use Rattle.cqlp_capture_exchanges.specs.Listening.{Listening, StopsAt, account_at, change_of, new_listening, number_of, with_connection_event}
 use Rattle.cqlp_capture_exchanges.specs.Losses.{losses_of, note_text}
 use Rattle.cqlp_capture_exchanges.specs.Capturing.{Closes, FaultsHaveCauses, last_words}
 
--- ---- what is told does not make the output fail
+-- ---- what is reported does not make the output fail
 
 either : (b : Bool) (x y : Account) (n : ℕ) → x.output.failures ≡ n → y.output.failures ≡ n → (if b then x else y).output.failures ≡ n
 either true x y n p q = p
 either false x y n p q = q
 
-told_keeps : (n : ℕ) (t : Report) (a : Account) → (with_told n t a).output.failures ≡ a.output.failures
-told_keeps n t a = either (shows a.filter n t) _ (with_count t a) a.output.failures refl refl
+reported_keeps : (n : ℕ) (t : Report) (a : Account) → (with_reported n t a).output.failures ≡ a.output.failures
+reported_keeps n t a = either (shows a.filter n t) _ (with_count t a) a.output.failures refl refl
 
 all_keeps : (n : ℕ) (ts : List Report) (a : Account) → (with_all n ts a).output.failures ≡ a.output.failures
 all_keeps n [] a = refl
-all_keeps n (t ∷ ts) a = all_keeps n ts (with_told n t a) ∙ told_keeps n t a
+all_keeps n (t ∷ ts) a = all_keeps n ts (with_reported n t a) ∙ reported_keeps n t a
 
-at_keeps : (s : Saying) (a : Account) → (account_at s a).output.failures ≡ a.output.failures
+at_keeps : (s : ConnectionEvent) (a : Account) → (account_at s a).output.failures ≡ a.output.failures
 at_keeps (Packet time) a = refl
 at_keeps (New n) a = refl
-at_keeps (Of told bytes) a = refl
+at_keeps (Of delivered bytes) a = refl
 at_keeps (Left totals) a = refl
 
 abbrev failures_of : Listening → ℕ
 failures_of w = w.account.output.failures
 
-keeps : (v : Listening) (s : Saying) → failures_of (with_saying v s) ≡ failures_of v
+keeps : (v : Listening) (s : ConnectionEvent) → failures_of (with_connection_event v s) ≡ failures_of v
 keeps v s = all_keeps (number_of s) (change_of s v).reports (account_at s v.account) ∙ at_keeps s v.account
 
 among : (n : ℕ) (ts : List Report) (a b : Account) → StopsAmong n ts a b → b.output.failures ≡ counted true a.output.failures
 among n ts a b x = x.stops.within.failures ∙ ap (λ k. counted true k) (all_keeps n x.front a)
 
-stops : (v w : Listening) (s : Saying) (e : StreamsFault) → StopsAt v s e w → FailsSo e (failures_of v) (failures_of w)
+stops : (v w : Listening) (s : ConnectionEvent) (e : StreamsFault) → StopsAt v s e w → FailsSo e (failures_of v) (failures_of w)
 stops v w s fault.Write a = among (number_of s) (change_of s v).reports v.account w.account a
 stops v w s fault.Read a = absurd a
 stops v w s fault.NoMemory a = tt
@@ -61,13 +61,13 @@ module _ (limits : StreamsLimits) (most : ExchangeLimits) (filter : ExchangeFilt
   abbrev first : Listening
   first = new_listening most filter form out
 
-  closed : (read r : Result CaptureRead StreamsFault) (out' : Output) → ReadsCapture with_saying StopsAt limits ports xs m read left first w → Closes w.account read r out' → EndedIfFault m r out.failures out'.failures
+  closed : (read r : Result CaptureRead StreamsFault) (out' : Output) → ReadsCapture with_connection_event StopsAt limits ports xs m read left first w → Closes w.account read r out' → EndedIfFault m r out.failures out'.failures
   closed (Err f) r out' a (is, same) =
-      let there : EndedIfFault m (Err f) out.failures w.account.output.failures = fault_cause with_saying StopsAt failures_of keeps stops limits ports xs m f left first w a in
+      let there : EndedIfFault m (Err f) out.failures w.account.output.failures = fault_cause with_connection_event StopsAt failures_of keeps stops limits ports xs m f left first w a in
       subst (λ (z : Result CaptureRead StreamsFault). EndedIfFault m z out.failures out'.failures) (sym is) (subst (λ (o : Output). EndedIfFault m (Err f) out.failures o.failures) (sym same) there)
   closed (Ok x) (Ok y) out' a c = tt
   closed (Ok x) (Err f) out' a (is, within) =
-      let none = none_failed with_saying StopsAt failures_of keeps stops limits ports xs m x left first w a in
+      let none = none_failed with_connection_event StopsAt failures_of keeps stops limits ports xs m x left first w a in
       let one : EndedBy m fault.Write out.failures out'.failures = within.failures ∙ ap (λ k. counted true k) none in
       subst (λ (z : StreamsFault). EndedBy m z out.failures out'.failures) (sym is) one
 

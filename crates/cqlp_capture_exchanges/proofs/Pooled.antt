@@ -14,7 +14,7 @@ use Rattle.std.proofs.lemmas.List.Sums.{sum_by-cons}
 use Rattle.std.proofs.lemmas.Map.{keys-set_value}
 use Rattle.cqlp_tcp_reassembly.specs.declared.step.StreamStep.{StreamStep}
 use Rattle.cqlp_tcp_reassembly.specs.declared.step.StreamStep.TheVariants as step
-use Rattle.cqlp_tcp_connections.specs.declared.told.Told.{Told}
+use Rattle.cqlp_tcp_connections.specs.declared.delivery.Delivery.{Delivery}
 use Rattle.cqlp_tcp_connections.specs.declared.totals.ConnectionTotals.{ConnectionTotals}
 use Rattle.cqlp_observer.specs.declared.room.WatchRoom.{WatchRoom}
 use Rattle.cqlp_observer.specs.Rooms.{IsCounted, StaysWithin, all_text}
@@ -24,9 +24,9 @@ use Rattle.cqlp_observer.proofs.Entries.{cases_Option, cases_Ordering, sorted_wi
 use Rattle.cqlp_capture_exchanges.specs.declared.pool.ExchangeLimits.{ExchangeLimits}
 use Rattle.cqlp_capture_exchanges.specs.Pooled.{AreNumbers, GetsWhatIsLeft, IsPooled, KeepsPools, messages_on, others, text_on}
 use Rattle.cqlp_capture_exchanges.specs.Pools.{amount, held_in, room_for}
-use Rattle.cqlp_capture_exchanges.specs.Tables.{Table, becomes, begins, gone, leaves, leaves_at, new_table, slot_of, tells, tells_at}
+use Rattle.cqlp_capture_exchanges.specs.Tables.{Table, becomes, begins, gone, leaves, leaves_at, new_table, slot_of, takes_delivery, takes_delivery_at}
 use Rattle.cqlp_capture_exchanges.specs.Reports.{end_of}
-use Rattle.cqlp_capture_exchanges.specs.Talks.{Slot, Talk, all_heard, bytes_heard, is_responses, left, new_slot, step_heard, steps_for, stepped, told_heard}
+use Rattle.cqlp_capture_exchanges.specs.Talks.{Slot, Talk, all_heard, bytes_heard, is_responses, left, new_slot, step_heard, steps_for, stepped, delivery_heard}
 
 -- ---- a sum over the values of a map
 
@@ -219,16 +219,16 @@ gone_pooled n s t w some k =
       little = omega (arith, k.little, much);
     }
 
-tells_pooled : (present : Option ℕ) (told : Told) (b : List ℕ) (w : Table) → IsPooled w → IsPooled (tells present told b w).table
-tells_pooled present told b w k = elim (cases_Option (slot_of told.number w)) [
+reports_pooled : (present : Option ℕ) (delivered : Delivery) (b : List ℕ) (w : Table) → IsPooled w → IsPooled (takes_delivery present delivered b w).table
+reports_pooled present delivered b w k = elim (cases_Option (slot_of delivered.number w)) [
   | inl none ↦ rw none k
   | inr some ↦
       let s = some.0 in
       let room = room_for (held_in s) w.pool in
-      let own = each_at (is_at (nat_cmp told.number)) s w.slots some.1 k.counted in
-      let t = told_heard present told room b s in
-      subst (λ (o : Option Slot). IsPooled (tells_at o present told b w).table) (sym some.1)
-      (becomes_pooled told.number s t w some.1 (step_within told.step (is_responses told.way) present room b s own) k)
+      let own = each_at (is_at (nat_cmp delivered.number)) s w.slots some.1 k.counted in
+      let t = delivery_heard present delivered room b s in
+      subst (λ (o : Option Slot). IsPooled (takes_delivery_at o present delivered b w).table) (sym some.1)
+      (becomes_pooled delivered.number s t w some.1 (step_within delivered.step (is_responses delivered.way) present room b s own) k)
 ]
 
 leaves_pooled : (totals : ConnectionTotals) (w : Table) → IsPooled w → IsPooled (leaves totals w).table
@@ -250,4 +250,4 @@ gets_left w k n s some =
     λ i. amount (w.pool.limits.open - messages i) (w.pool.limits.text - text i)
 
 pub keeps_pools : KeepsPools
-keeps_pools = (new_pooled, begins_pooled, tells_pooled, leaves_pooled, gets_left)
+keeps_pools = (new_pooled, begins_pooled, reports_pooled, leaves_pooled, gets_left)

@@ -10,7 +10,7 @@ use Rattle.cqlp_capture_exchanges.specs.declared.pool.ExchangeLimits.{ExchangeLi
 use Rattle.cqlp_capture_streams.proofs.OneAnswer.{concluded, runs_noted, well_read}
 use Rattle.cqlp_capture_exchanges.specs.declared.sums.ExchangeSums.{ExchangeSums}
 use Rattle.cqlp_capture_exchanges.specs.Accounts.{Account, ending}
-use Rattle.cqlp_capture_exchanges.specs.Listening.{Listening, StopsAt, new_listening, with_saying}
+use Rattle.cqlp_capture_exchanges.specs.Listening.{Listening, StopsAt, new_listening, with_connection_event}
 use Rattle.cqlp_capture_exchanges.specs.Losses.{losses_of, note_text}
 use Rattle.cqlp_capture_exchanges.specs.Capturing.{Closes, ConcludesSums, OneAnswerOfWriteExchanges, last_words}
 
@@ -32,9 +32,9 @@ sums_of w = w.account.sums
 abbrev missed_of : Listening → Missed
 missed_of w = w.table.missed
 
--- what was told and missed is what was heard
-told_of : (c : StreamsLimits) (l : ExchangeLimits) (ports : List ℕ) (w : Listening) (sums : ExchangeSums) (missed : Missed) (read r : Result CaptureRead StreamsFault) (err err' : Output) (status : ℕ) → sums ≡ sums_of w → missed ≡ missed_of w → r ≡ read → ConcludesSums c l ports sums missed r err status err' → ConcludesSums c l ports (sums_of w) (missed_of w) read err status err'
-told_of c l ports w sums missed read r err err' status s m is ends =
+-- what was reported and missed is what was heard
+reported_of : (c : StreamsLimits) (l : ExchangeLimits) (ports : List ℕ) (w : Listening) (sums : ExchangeSums) (missed : Missed) (read r : Result CaptureRead StreamsFault) (err err' : Output) (status : ℕ) → sums ≡ sums_of w → missed ≡ missed_of w → r ≡ read → ConcludesSums c l ports sums missed r err status err' → ConcludesSums c l ports (sums_of w) (missed_of w) read err status err'
+reported_of c l ports w sums missed read r err err' status s m is ends =
     subst (λ (z : ExchangeSums). ConcludesSums c l ports z (missed_of w) read err status err') s
     (subst (λ (z : Missed). ConcludesSums c l ports sums z read err status err') m
     (subst (λ (z : Result CaptureRead StreamsFault). ConcludesSums c l ports sums missed z err status err') is ends))
@@ -49,7 +49,7 @@ pub exchanges_once : OneAnswerOfWriteExchanges
 exchanges_once limits most filter form ports xs out err made made' left left' status status' out' out'' err' err'' (r, sums, missed, (w, read, reads, are, miss, closes), ends) well (r', sums', missed', (w', read', reads', are', miss', closes'), ends') well' =
     let c = ended ports w.account read r out' err err' status (note_text (losses_of limits most r sums missed)) (last_words limits most sums missed r) ends well closes in
     let c' = ended ports w'.account read' r' out'' err err'' status' (note_text (losses_of limits most r' sums' missed')) (last_words limits most sums' missed' r') ends' well' closes' in
-    let e = told_of limits most ports w sums missed read r err err' status are miss c.0 ends in
-    let e' = told_of limits most ports w' sums' missed' read' r' err err'' status' are' miss' c'.0 ends' in
-    let one = runs_noted with_saying StopsAt (note_of limits most) (words_of limits most) limits ports xs (new_listening most filter form out) w w' made made' left left' read read' err err' err'' status status' reads e well reads' e' well' in
+    let e = reported_of limits most ports w sums missed read r err err' status are miss c.0 ends in
+    let e' = reported_of limits most ports w' sums' missed' read' r' err err'' status' are' miss' c'.0 ends' in
+    let one = runs_noted with_connection_event StopsAt (note_of limits most) (words_of limits most) limits ports xs (new_listening most filter form out) w w' made made' left left' read read' err err' err'' status status' reads e well reads' e' well' in
     (one.0, c'.1 ∙ ap (λ (z : Listening). with_text z.account.output (ending z.account)) one.1 ∙ sym c.1, one.2)

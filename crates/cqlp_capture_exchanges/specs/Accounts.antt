@@ -83,13 +83,13 @@ with_shown n t a = with_line n t (with_count t a)
 abbrev pub learned : Report → Account → Account
 learned t a = account a.filter a.form a.first (known_after t a.known) a.summary a.sums a.output
 
-abbrev pub with_told : (number : ℕ) → Report → Account → Account
-with_told n t a = learned t (with_shown n t a)
+abbrev pub with_reported : (number : ℕ) → Report → Account → Account
+with_reported n t a = learned t (with_shown n t a)
 
 -- all of it, in order
 abbrev pub with_all : (number : ℕ) → List Report → Account → Account
 with_all n [] a = a
-with_all n (t ∷ ts) a = with_all n ts (with_told n t a)
+with_all n (t ∷ ts) a = with_all n ts (with_reported n t a)
 
 -- ---- a fault
 
@@ -99,9 +99,9 @@ pub record Stops (n : ℕ) (t : Report) (old new : Account) : Type 0 where
   pub rest : new ≡ with_output new.output (with_note t (with_count t old))
   pub within : StopsWithin old.output (text_of old.form old.known old.first n t) new.output
 
-abbrev pub Tells : (number : ℕ) → Report → Account → Result (Unit {0}) SinkFault → Account → Type 0
-Tells n t old (Ok u) new = new ≡ with_shown n t old
-Tells n t old (Err e) new = Stops n t old new
+abbrev pub ReportsOne : (number : ℕ) → Report → Account → Result (Unit {0}) SinkFault → Account → Type 0
+ReportsOne n t old (Ok u) new = new ≡ with_shown n t old
+ReportsOne n t old (Err e) new = Stops n t old new
 
 -- The output failed within the text of one of these, after all before it.
 pub record StopsAmong (n : ℕ) (ts : List Report) (old new : Account) : Type 0 where
@@ -116,7 +116,7 @@ pub record EndsAmong (n : ℕ) (ts : List Report) (old new : Account) : Type 0 w
   pub front : List Report
   pub rest : List Report
   pub parts : ts ≡ front ++ rest
-  pub told : new ≡ with_all n front old
+  pub accounted : new ≡ with_all n front old
 
 abbrev pub FailsAmong : StreamsFault → (number : ℕ) → List Report → Account → Account → Type 0
 FailsAmong fault.Write n ts old new = StopsAmong n ts old new
@@ -124,13 +124,13 @@ FailsAmong fault.NoMemory n ts old new = EndsAmong n ts old new
 FailsAmong e n ts old new = ⊥
 
 -- All were reported, or not for one of these reasons.
-abbrev pub TellsAll : (number : ℕ) → List Report → Account → Result (Unit {0}) StreamsFault → Account → Type 0
-TellsAll n ts old (Ok u) new = new ≡ with_all n ts old
-TellsAll n ts old (Err e) new = FailsAmong e n ts old new
+abbrev pub ReportsAll : (number : ℕ) → List Report → Account → Result (Unit {0}) StreamsFault → Account → Type 0
+ReportsAll n ts old (Ok u) new = new ≡ with_all n ts old
+ReportsAll n ts old (Err e) new = FailsAmong e n ts old new
 
 -- Where it is known what the output was given.
-abbrev pub ToldAll : (number : ℕ) → List Report → Account → Result (Unit {0}) StreamsFault → Account → Type 0
-ToldAll n ts old r new = IsSome old.output.given → TellsAll n ts old r new
+abbrev pub ReportedAll : (number : ℕ) → List Report → Account → Result (Unit {0}) StreamsFault → Account → Type 0
+ReportedAll n ts old r new = IsSome old.output.given → ReportsAll n ts old r new
 
 -- ---- the end: what is written then, or the output failed within it
 

@@ -18,9 +18,9 @@ use Rattle.cqlp_capture_exchanges.specs.Accounts.{Account, ending}
 use Rattle.cqlp_capture_exchanges.specs.declared.losses.Losses.{Losses}
 use Rattle.cqlp_capture_exchanges.specs.Times.{joined}
 use Rattle.cqlp_capture_exchanges.specs.Losses.{loss_words, losses_of, note_text}
-use Rattle.cqlp_capture_exchanges.specs.Listening.{Listening, StopsAt, new_listening, with_saying}
+use Rattle.cqlp_capture_exchanges.specs.Listening.{Listening, StopsAt, new_listening, with_connection_event}
 
--- what was told of requests and responses, in the last line
+-- what was reported of requests and responses, in the last line
 abbrev pub sums_words : ExchangeSums → List ℕ
 sums_words s =
     joined (codes "exchanges " ∷ decimal s.exchanges ∷ codes " unanswered " ∷ decimal s.unanswered ∷ codes " unasked " ∷ decimal s.unasked
@@ -33,7 +33,7 @@ words_of s l = joined (sums_words s ∷ loss_words l ∷ [])
 abbrev pub last_words : StreamsLimits → ExchangeLimits → ExchangeSums → Missed → Result CaptureRead StreamsFault → List ℕ
 last_words c l s m r = words_of s (losses_of c l r s m)
 
--- So ends what was told: before the last line is the reason not to trust its numbers, where something was missed.
+-- So ends what was reported: before the last line is the reason not to trust its numbers, where something was missed.
 abbrev pub ConcludesSums : StreamsLimits → ExchangeLimits → (ports : List ℕ) → ExchangeSums → Missed → Result CaptureRead StreamsFault
     → (before : Output) → (status : ℕ) → (after : Output) → Type 0
 ConcludesSums c l ports s m r before status after =
@@ -50,7 +50,7 @@ abbrev pub Listens : StreamsLimits → ExchangeLimits → ExchangeFilter → Exc
     → Result CaptureRead StreamsFault → (left : Option (List ℕ)) → (out : Output) → ExchangeSums → Missed → (out' : Output) → Type 0
 Listens c l filter form ports xs m r left out sums missed out' =
     (w : Listening) × (read : Result CaptureRead StreamsFault)
-    × ReadsCapture with_saying StopsAt c ports xs m read left (new_listening l filter form out) w
+    × ReadsCapture with_connection_event StopsAt c ports xs m read left (new_listening l filter form out) w
     × (sums ≡ w.account.sums) × (missed ≡ w.table.missed) × Closes w.account read r out'
 
 -- Its exchanges were written, and then the lines of how it ended, with its status.

@@ -16,7 +16,7 @@ text_of form.Lines known first n r = line known first n r
 text_of form.Json known first n r = json_line known first n r
 text_of (form.Summary naming) known first n r = []
 
--- what is counted, how many statements are told apart, and what is written at the end
+-- what is counted, how many statements are distinguished, and what is written at the end
 abbrev pub noted_in : ExchangeForm → (known : List Preparation) → Report → Summary → Summary
 noted_in form.Lines known r s = s
 noted_in form.Json known r s = s

@@ -2,7 +2,7 @@
 use Rattle.std.specs.Prelude.{◌≡◌, ℕ, List, Option, option_map, Ok}
 use Rattle.cqlp_note.specs.declared.header.Header.{Header}
 use Rattle.cqlp_text.specs.Outputs.{Output}
-use Rattle.cqlp_capture_streams.specs.Sayings.{Saying}
+use Rattle.cqlp_capture_streams.specs.ConnectionEvents.{ConnectionEvent}
 use Rattle.cqlp_capture_exchanges.specs.declared.pool.ExchangeLimits.{ExchangeLimits}
 use Rattle.cqlp_capture_exchanges.specs.declared.filter.ExchangeFilter.{ExchangeFilter}
 use Rattle.cqlp_capture_exchanges.specs.declared.form.ExchangeForm.{ExchangeForm}
@@ -18,7 +18,7 @@ OneAnswerOfNew =
 -- where the output does not fail
 abbrev pub OneAnswerOfHear : Type 0
 OneAnswerOfHear =
-    (before e f : Listening) (s : Saying) (u v : Unit {0}) → Hears before s (Ok u) e → Hears before s (Ok v) f → f ≡ e
+    (before e f : Listening) (s : ConnectionEvent) (u v : Unit {0}) → Hears before s (Ok u) e → Hears before s (Ok v) f → f ≡ e
 
 -- wherever the bytes lie
 abbrev pub OneAnswerOfStatement : Type 0

@@ -1,4 +1,4 @@
--- The line of what is told of a request, a response, or both.
+-- The line of what is reported of a request, a response, or both.
 use Rattle.std.specs.Prelude.{ℕ, ℤ, ◌+◌, Bool, true, false, List, [], ◌∷◌, codes, decimal, Option, Some, None}
 use Rattle.std.specs.Fmt.{signed_decimal}
 use Rattle.std.specs.Int.{w16, w32, to_be_bytes}

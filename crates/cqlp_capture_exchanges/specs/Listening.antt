@@ -1,15 +1,15 @@
--- What listens to what is told of the connections of a capture, and writes their exchanges.
+-- What listens to the events of the connections of a capture, and writes their exchanges.
 use Rattle.std.specs.Prelude.{◌≡◌, ℕ, List, [], Option, Some, None, Result, Ok, Err}
 use Rattle.cqlp_text.specs.Outputs.{Output}
 use Rattle.cqlp_capture_summary.specs.Summaries.{new_summary}
 use Rattle.cqlp_capture_streams.specs.declared.fault.StreamsFault.{StreamsFault}
-use Rattle.cqlp_capture_streams.specs.Sayings.{Saying, Packet, New, Of, Left}
+use Rattle.cqlp_capture_streams.specs.ConnectionEvents.{ConnectionEvent, Packet, New, Of, Left}
 use Rattle.cqlp_capture_exchanges.specs.declared.filter.ExchangeFilter.{ExchangeFilter}
 use Rattle.cqlp_capture_exchanges.specs.declared.form.ExchangeForm.{ExchangeForm}
 use Rattle.cqlp_capture_exchanges.specs.declared.pool.ExchangeLimits.{ExchangeLimits}
 use Rattle.cqlp_capture_exchanges.specs.Accounts.{Account, FailsAmong, account, no_sums, since, with_all}
 use Rattle.cqlp_capture_exchanges.specs.Forms.{statements_in}
-use Rattle.cqlp_capture_exchanges.specs.Tables.{Change, Table, begins, change, leaves, new_table, tells}
+use Rattle.cqlp_capture_exchanges.specs.Tables.{Change, Table, begins, change, leaves, new_table, takes_delivery}
 
 -- the connections that are watched, when the present packet came, and what was reported
 pub record Listening : Type 0 where
@@ -24,39 +24,39 @@ abbrev pub new_listening : ExchangeLimits → ExchangeFilter → ExchangeForm �
 new_listening limits filter form out =
     listening (new_table limits) None (account filter form None [] (new_summary (statements_in form)) no_sums out)
 
--- ---- what a saying does: which connection it is of, what is reported of that, and the time
+-- ---- what an event of a connection does: which connection it is of, what is reported of that, and the time
 
-abbrev pub change_of : Saying → Listening → Change
+abbrev pub change_of : ConnectionEvent → Listening → Change
 change_of (Packet time) w = change [] w.table
 change_of (New n) w = begins n w.table
-change_of (Of told bytes) w = tells w.present told bytes w.table
+change_of (Of delivered bytes) w = takes_delivery w.present delivered bytes w.table
 change_of (Left totals) w = leaves totals w.table
 
-abbrev pub number_of : Saying → ℕ
+abbrev pub number_of : ConnectionEvent → ℕ
 number_of (Packet time) = 0
 number_of (New n) = n
-number_of (Of told bytes) = told.number
+number_of (Of delivered bytes) = delivered.number
 number_of (Left totals) = totals.number
 
-abbrev pub present_after : Saying → (before : Option ℕ) → Option ℕ
+abbrev pub present_after : ConnectionEvent → (before : Option ℕ) → Option ℕ
 present_after (Packet time) before = time
 present_after s before = before
 
-abbrev pub account_at : Saying → Account → Account
+abbrev pub account_at : ConnectionEvent → Account → Account
 account_at (Packet time) a = since time a
 account_at s a = a
 
-abbrev pub after_change : Change → Saying → Listening → Listening
+abbrev pub after_change : Change → ConnectionEvent → Listening → Listening
 after_change x s w = listening x.table (present_after s w.present) (with_all (number_of s) x.reports (account_at s w.account))
 
-abbrev pub with_saying : Listening → Saying → Listening
-with_saying w s = after_change (change_of s w) s w
+abbrev pub with_connection_event : Listening → ConnectionEvent → Listening
+with_connection_event w s = after_change (change_of s w) s w
 
 -- ---- a fault: the output failed within the text of a report, or memory was refused, after all reports before
 
-abbrev pub StopsAt : Listening → Saying → StreamsFault → Listening → Type 0
+abbrev pub StopsAt : Listening → ConnectionEvent → StreamsFault → Listening → Type 0
 StopsAt old s e new = FailsAmong e (number_of s) (change_of s old).reports old.account new.account
 
-abbrev pub Hears : Listening → Saying → Result (Unit {0}) StreamsFault → Listening → Type 0
-Hears old s (Ok u) new = new ≡ with_saying old s
+abbrev pub Hears : Listening → ConnectionEvent → Result (Unit {0}) StreamsFault → Listening → Type 0
+Hears old s (Ok u) new = new ≡ with_connection_event old s
 Hears old s (Err e) new = StopsAt old s e new

@@ -1,4 +1,4 @@
--- The JSON object of what is told of a request, a response, or both, in a line of its own: its keys and their values.
+-- The JSON object of what is reported of a request, a response, or both, in a line of its own: its keys and their values.
 use Prim.Native.String.{String}
 use Rattle.std.specs.Prelude.{ℕ, ◌+◌, Bool, true, false, List, [], ◌∷◌, ◌++◌, codes, Option, Some, None}
 use Rattle.std.specs.Fmt.{signed_decimal}
@@ -28,14 +28,14 @@ use Rattle.cqlp_capture_exchanges.specs.Spans.{is_whole, time_between, took}
 use Rattle.cqlp_capture_exchanges.specs.Statements.{Said, Text, Id, statement, statements}
 use Rattle.cqlp_capture_exchanges.specs.Times.{joined}
 
--- ---- what is told, when its first byte came, in seconds since the first packet, and where
+-- ---- what is reported, when its first byte came, in seconds since the first packet, and where
 
 abbrev pub first_member : (name : String) → (value : List ℕ) → List ℕ
 first_member name value = codes "{\"" ++ codes name ++ codes "\":" ++ value
 
-abbrev pub place_members : (told : List ℕ) → (first : Option ℕ) → (connection : ℕ) → Frame → Members
-place_members told first connection f =
-    first_member "told" (word told) ∷ member "time" (seconds_or_null (time_between first f.begun))
+abbrev pub place_members : (reported : List ℕ) → (first : Option ℕ) → (connection : ℕ) → Frame → Members
+place_members reported first connection f =
+    first_member "told" (word reported) ∷ member "time" (seconds_or_null (time_between first f.begun))
     ∷ member "connection" (number connection) ∷ member "stream" (signed_decimal f.header.stream) ∷ []
 
 -- ---- a request
@@ -131,9 +131,9 @@ abbrev pub unanswered_object : (known : List Preparation) → (first : Option �
 unanswered_object known first n end q =
     joined (texts (place_members (codes "unanswered") first n q.frame) ∷ request_members known q ∷ texts (last_members None end) ∷ codes "}\n" ∷ [])
 
-abbrev pub alone_object : (told : List ℕ) → (first : Option ℕ) → (connection : ℕ) → (response : Message Kept) → List ℕ
-alone_object told first n r =
-    joined (texts (place_members told first n r.frame) ∷ response_members r ∷ texts (last_members None None) ∷ codes "}\n" ∷ [])
+abbrev pub alone_object : (reported : List ℕ) → (first : Option ℕ) → (connection : ℕ) → (response : Message Kept) → List ℕ
+alone_object reported first n r =
+    joined (texts (place_members reported first n r.frame) ∷ response_members r ∷ texts (last_members None None) ∷ codes "}\n" ∷ [])
 
 abbrev pub paired_object : (known : List Preparation) → (first : Option ℕ) → (connection : ℕ) → (end : Option ConnectionEnd) → Paired Kept → List ℕ
 paired_object known first n end (Exchange q r) = exchange_object known first n q r

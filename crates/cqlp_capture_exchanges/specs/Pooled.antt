@@ -5,12 +5,12 @@ use Rattle.std.specs.List.Sorted.{IsStrictlySortedBy}
 use Rattle.std.specs.BTreeMap.{is_at}
 use Rattle.std.specs.Map.{keys_of, remove_entry, values_of}
 use Rattle.std.specs.Ordering.{nat_cmp}
-use Rattle.cqlp_tcp_connections.specs.declared.told.Told.{Told}
+use Rattle.cqlp_tcp_connections.specs.declared.delivery.Delivery.{Delivery}
 use Rattle.cqlp_tcp_connections.specs.declared.totals.ConnectionTotals.{ConnectionTotals}
 use Rattle.cqlp_observer.specs.Rooms.{IsCounted}
 use Rattle.cqlp_capture_exchanges.specs.declared.pool.ExchangeLimits.{ExchangeLimits}
 use Rattle.cqlp_capture_exchanges.specs.Pools.{amount, held_in, room_for}
-use Rattle.cqlp_capture_exchanges.specs.Tables.{Table, begins, leaves, new_table, slot_of, tells}
+use Rattle.cqlp_capture_exchanges.specs.Tables.{Table, begins, leaves, new_table, slot_of, takes_delivery}
 use Rattle.cqlp_capture_exchanges.specs.Talks.{Slot}
 
 -- on several connections: messages that wait, and the room that texts take
@@ -51,6 +51,6 @@ abbrev pub KeepsPools : Type 0
 KeepsPools =
     ((limits : ExchangeLimits) → AreNumbers limits → IsPooled (new_table limits))
     × ((n : ℕ) (w : Table) → slot_of n w ≡ None → IsPooled w → IsPooled (begins n w).table)
-    × ((present : Option ℕ) (told : Told) (b : List ℕ) (w : Table) → IsPooled w → IsPooled (tells present told b w).table)
+    × ((present : Option ℕ) (delivered : Delivery) (b : List ℕ) (w : Table) → IsPooled w → IsPooled (takes_delivery present delivered b w).table)
     × ((totals : ConnectionTotals) (w : Table) → IsPooled w → IsPooled (leaves totals w).table)
     × ((w : Table) → IsPooled w → GetsWhatIsLeft w)

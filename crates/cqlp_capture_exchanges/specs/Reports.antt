@@ -60,4 +60,4 @@ unread time false o = if is_unread o then Unread time o ∷ [] else []
 -- ---- a step of bytes that came at this time
 
 abbrev pub of_step : (time : Option ℕ) → (was_reported : Bool) → Steps → List Report
-of_step time was_reported x = unread time was_reported x.opening ++ messages None x.told
+of_step time was_reported x = unread time was_reported x.opening ++ messages None x.reported

@@ -3,14 +3,14 @@ use Rattle.std.specs.Prelude.{ℕ, List, [], Option, Some, None}
 use Rattle.std.specs.BTreeMap.{insert_entry, is_at}
 use Rattle.std.specs.Map.{lookup, remove_entry, set_value}
 use Rattle.std.specs.Ordering.{nat_cmp}
-use Rattle.cqlp_tcp_connections.specs.declared.told.Told.{Told}
+use Rattle.cqlp_tcp_connections.specs.declared.delivery.Delivery.{Delivery}
 use Rattle.cqlp_tcp_connections.specs.declared.totals.ConnectionTotals.{ConnectionTotals}
 use Rattle.cqlp_observer.specs.declared.missed.Missed.{Missed}
 use Rattle.cqlp_observer.specs.Misses.{added, none_missed}
 use Rattle.cqlp_capture_exchanges.specs.declared.pool.ExchangeLimits.{ExchangeLimits}
 use Rattle.cqlp_capture_exchanges.specs.Pools.{Pool, amount, exchanged, held_in, new_pool, room_for}
 use Rattle.cqlp_capture_exchanges.specs.Reports.{Report, end_of}
-use Rattle.cqlp_capture_exchanges.specs.Talks.{Slot, Talk, left, new_slot, told_heard}
+use Rattle.cqlp_capture_exchanges.specs.Talks.{Slot, Talk, left, new_slot, delivery_heard}
 
 -- the connections, the one with the least number first; how much of them waits; and what was missed of those that have left
 pub record Table : Type 0 where
@@ -40,18 +40,18 @@ change reports w = record { reports = reports; table = w }
 abbrev pub begins : (number : ℕ) → Table → Change
 begins n w = change [] (table (insert_entry nat_cmp w.slots n new_slot) w.pool w.missed)
 
--- ---- its streams tell something; where there is no such connection, nothing is reported
+-- ---- its streams deliver something; where there is no such connection, nothing is reported
 
 abbrev pub becomes : (number : ℕ) → Slot → Talk → Table → Change
 becomes n s t w =
     change t.reports (table (set_value (is_at (nat_cmp n)) w.slots t.after) (exchanged (held_in s) (held_in t.after) w.pool) w.missed)
 
-abbrev pub tells_at : Option Slot → (present : Option ℕ) → Told → List ℕ → Table → Change
-tells_at None present t b w = change [] w
-tells_at (Some s) present t b w = becomes t.number s (told_heard present t (room_for (held_in s) w.pool) b s) w
+abbrev pub takes_delivery_at : Option Slot → (present : Option ℕ) → Delivery → List ℕ → Table → Change
+takes_delivery_at None present t b w = change [] w
+takes_delivery_at (Some s) present t b w = becomes t.number s (delivery_heard present t (room_for (held_in s) w.pool) b s) w
 
-abbrev pub tells : (present : Option ℕ) → Told → List ℕ → Table → Change
-tells present t b w = tells_at (slot_of t.number w) present t b w
+abbrev pub takes_delivery : (present : Option ℕ) → Delivery → List ℕ → Table → Change
+takes_delivery present t b w = takes_delivery_at (slot_of t.number w) present t b w
 
 -- ---- it leaves
 

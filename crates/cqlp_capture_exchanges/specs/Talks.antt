@@ -1,14 +1,14 @@
--- What is reported of a connection, by what its streams tell.
+-- What is reported of a connection, by what its streams deliver.
 use Rattle.std.specs.Prelude.{ℕ, zero, suc, ◌+◌, ◌*◌, ◌==◌, ◌&&◌, ◌||◌, Bool, true, false, List, [], ◌∷◌, ◌++◌, map, length, drop, Option, Some, None, if◌then◌else◌}
 use Rattle.cqlp_tcp_reassembly.specs.declared.step.StreamStep.{StreamStep}
 use Rattle.cqlp_tcp_reassembly.specs.declared.step.StreamStep.TheVariants as step
 use Rattle.cqlp_tcp_connections.specs.declared.ends.Way.{Way}
 use Rattle.cqlp_tcp_connections.specs.declared.ends.Way.TheVariants.{Requests, Responses}
-use Rattle.cqlp_tcp_connections.specs.declared.told.Told.{Told}
+use Rattle.cqlp_tcp_connections.specs.declared.delivery.Delivery.{Delivery}
 use Rattle.cqlp_observer.specs.declared.room.WatchRoom.{WatchRoom}
 use Rattle.cqlp_observer.specs.Keeping.{Kept}
 use Rattle.cqlp_observer.specs.Pairings.{Waiting, alone}
-use Rattle.cqlp_observer.specs.Watches.{Steps, Tells, Watched, after_end, after_gap, begun, heard, new_watched}
+use Rattle.cqlp_observer.specs.Watches.{Steps, Reporting, Watched, after_end, after_gap, begun, heard, new_watched}
 use Rattle.cqlp_capture_exchanges.specs.declared.report.ConnectionEnd.{ConnectionEnd}
 use Rattle.cqlp_capture_exchanges.specs.Reports.{Report, Messages, is_unread, messages, of_step}
 
@@ -35,8 +35,8 @@ talk reports s = record { reports = reports; after = s }
 abbrev pub before : List Report → Talk → Talk
 before reports t = talk (reports ++ t.reports) t.after
 
-abbrev pub talk_of : Tells → Slot → Talk
-talk_of t s = talk (messages None t.told) (slot t.after s.is_reported)
+abbrev pub talk_of : Reporting → Slot → Talk
+talk_of t s = talk (messages None t.reported) (slot t.after s.is_reported)
 
 -- ---- bytes, step by step, where so much may wait. Their first one begins a segment or not.
 
@@ -58,7 +58,7 @@ steps_for b = 2 * length b + 2
 abbrev pub bytes_heard : (responses : Bool) → (time : Option ℕ) → (begins : Bool) → WatchRoom → List ℕ → Slot → Talk
 bytes_heard responses time begins room b s = all_heard (steps_for b) responses time begins room b s
 
--- ---- what a stream tells while the present packet came at a time: the first bytes of a segment's payload begin it. Bytes that came early and gaps
+-- ---- what a stream delivers while the present packet came at a time: the first bytes of a segment's payload begin it. Bytes that came early and gaps
 -- have their own times.
 
 abbrev pub is_responses : Way → Bool
@@ -75,8 +75,8 @@ step_heard step.Ended responses present room b s = talk_of (after_end responses 
 step_heard step.Reset responses present room b s = talk_of (after_end responses room s.watch) s
 step_heard step.Done responses present room b s = talk [] s
 
-abbrev pub told_heard : (present : Option ℕ) → Told → WatchRoom → List ℕ → Slot → Talk
-told_heard present t room b s = step_heard t.step (is_responses t.way) present room b s
+abbrev pub delivery_heard : (present : Option ℕ) → Delivery → WatchRoom → List ℕ → Slot → Talk
+delivery_heard present t room b s = step_heard t.step (is_responses t.way) present room b s
 
 -- ---- the end of a connection
 

@@ -53,7 +53,7 @@ pub fn write_exchanges<R: Source, O: Target, E: Target>(
     (status, out, err)
 }
 
-/// What was told of a capture's connections, and what was missed.
+/// What was reported of a capture's connections, and what was missed.
 #[derive(Clone, Copy, Debug, PartialEq, Eq)]
 struct Counts {
     sums: ExchangeSums,
@@ -73,7 +73,7 @@ impl Counts {
     }
 }
 
-/// Reads the capture, and writes the lines. Answers what it was, what was told, and the output.
+/// Reads the capture, and writes the lines. Answers what it was, what was reported, and the output.
 fn listen<R: Source, O: Target>(
     alloc: Global,
     streams: StreamsLimits,

@@ -10,15 +10,15 @@ use crate::filter::ExchangeFilter;
 use crate::form::ExchangeForm;
 use crate::pool::ExchangeLimits;
 use crate::prepared::{MOST, Preparation};
+use crate::reporter::Reporter;
 use crate::sums::ExchangeSums;
 use crate::table::Table;
-use crate::teller::Teller;
-use cqlp_capture_streams::{Listener, Saying, StreamsFault};
+use cqlp_capture_streams::{ConnectionEvent, Listener, StreamsFault};
 use cqlp_capture_summary::Summary;
 use cqlp_grammar::SinkFault;
 use cqlp_note::Target;
 use cqlp_observer::Missed;
-use cqlp_tcp_connections::{ConnectionTotals, Told};
+use cqlp_tcp_connections::{ConnectionTotals, Delivery};
 use std::alloc::{AllocError, Allocator, Global};
 use std::marker::Model;
 
@@ -32,7 +32,7 @@ pub struct Exchanges<O: Target, A: Allocator = Global> {
     table: Table<A>,
     /// When the present packet was captured, in nanoseconds since 1970-01-01 00:00:00 UTC.
     present: Option<u64>,
-    teller: Teller<O, A>,
+    reporter: Reporter<O, A>,
 }
 
 impl<O: Target, A: Allocator> Model for Exchanges<O, A> {
@@ -40,13 +40,13 @@ impl<O: Target, A: Allocator> Model for Exchanges<O, A> {
 
     ghost Value = { Listening };
 
-    ghost view = { λ e. listening e.table e.present e.teller };
+    ghost view = { λ e. listening e.table e.present e.reporter };
 }
 
 impl<O: Target, A: Allocator + Clone> Exchanges<O, A> {
-    ghost use Rattle.cqlp_capture_streams.specs.Sayings.{Left, New, Of, Packet, saying_of};
+    ghost use Rattle.cqlp_capture_streams.specs.ConnectionEvents.{Left, New, Of, Packet, connection_event_of};
     ghost use Rattle.cqlp_capture_exchanges.specs.Accounts.{Finishes};
-    ghost use Rattle.cqlp_capture_exchanges.specs.Listening.{Hears, new_listening, with_saying};
+    ghost use Rattle.cqlp_capture_exchanges.specs.Listening.{Hears, new_listening, with_connection_event};
 
     /// Nothing is watched, and exchanges go to this output in this form. Takes memory for a line, for 256 statements and for a summary; where it is not
     /// granted, the output is given back.
@@ -71,7 +71,7 @@ impl<O: Target, A: Allocator + Clone> Exchanges<O, A> {
             ) => Ok(Exchanges {
                 table,
                 present: None,
-                teller: Teller::new(filter, form, out, buffer, known, summary),
+                reporter: Reporter::new(filter, form, out, buffer, known, summary),
             }),
             Err(AllocError) => Err(out),
         }
@@ -82,7 +82,7 @@ impl<O: Target, A: Allocator + Clone> Exchanges<O, A> {
         ensures ends { IsSome self.old.account.output.given → Finishes self.old.account result self.new.account }
         ensures table { self.new.table ≡ self.old.table }
     {
-        self.teller.finish()
+        self.reporter.finish()
     }
 
     /// The output, and what was reported.
@@ -93,9 +93,9 @@ impl<O: Target, A: Allocator + Clone> Exchanges<O, A> {
         let Exchanges {
             table: _,
             present: _,
-            teller,
+            reporter,
         } = self;
-        teller.into_parts()
+        reporter.into_parts()
     }
 
     /// What was missed of the connections that have left.
@@ -105,26 +105,26 @@ impl<O: Target, A: Allocator + Clone> Exchanges<O, A> {
         self.table.missed()
     }
 
-    /// Takes what is told next of the connections.
-    fn take(&mut self, saying: &Saying<'_>) -> Result<(), StreamsFault>
-        ensures { IsSome self.old.account.output.given → Hears self.old (saying_of saying.now) result self.new }
+    /// Takes the next event of the connections.
+    fn take(&mut self, event: &ConnectionEvent<'_>) -> Result<(), StreamsFault>
+        ensures { IsSome self.old.account.output.given → Hears self.old (connection_event_of event.now) result self.new }
     {
-        match saying {
-            Saying::Packet { time } => {
+        match event {
+            ConnectionEvent::Packet { time } => {
                 self.note_time(*time);
                 Ok(())
             }
-            Saying::New { number } => self.begin(*number),
-            Saying::Of { told, bytes } => self.hear_told(told, bytes),
-            Saying::Left(totals) => self.let_leave(totals),
+            ConnectionEvent::New { number } => self.begin(*number),
+            ConnectionEvent::Of { delivered, bytes } => self.hear_delivery(delivered, bytes),
+            ConnectionEvent::Left(totals) => self.let_leave(totals),
         }
     }
 
     fn note_time(&mut self, time: Option<u64>)
-        ensures { self.new ≡ with_saying self.old (Packet time) }
+        ensures { self.new ≡ with_connection_event self.old (Packet time) }
     {
         self.present = time;
-        self.teller.note_time(time);
+        self.reporter.note_time(time);
     }
 
     fn begin(&mut self, number: u64) -> Result<(), StreamsFault>
@@ -136,16 +136,16 @@ impl<O: Target, A: Allocator + Clone> Exchanges<O, A> {
         }
     }
 
-    fn hear_told(&mut self, told: &Told, bytes: &[u8]) -> Result<(), StreamsFault>
-        ensures { IsSome self.old.account.output.given → Hears self.old (Of told.now bytes.now) result self.new }
+    fn hear_delivery(&mut self, delivered: &Delivery, bytes: &[u8]) -> Result<(), StreamsFault>
+        ensures { IsSome self.old.account.output.given → Hears self.old (Of delivered.now bytes.now) result self.new }
     {
-        (self.table).hear(self.present, told, bytes, &mut self.teller)
+        (self.table).hear(self.present, delivered, bytes, &mut self.reporter)
     }
 
     fn let_leave(&mut self, totals: &ConnectionTotals) -> Result<(), StreamsFault>
         ensures { IsSome self.old.account.output.given → Hears self.old (Left totals.now) result self.new }
     {
-        self.table.leave(totals, &mut self.teller)
+        self.table.leave(totals, &mut self.reporter)
     }
 }
 
@@ -181,19 +181,19 @@ fn take_memory<A: Allocator + Clone>(
 }
 
 impl<O: Target, A: Allocator + Clone> Listener for Exchanges<O, A> {
-    ghost use Rattle.cqlp_capture_exchanges.specs.Listening.{Listening, StopsAt, with_saying};
+    ghost use Rattle.cqlp_capture_exchanges.specs.Listening.{Listening, StopsAt, with_connection_event};
 
     ghost View = { Listening };
 
     ghost view = { λ e. e };
 
-    ghost tells = { λ e. IsSome e.account.output.given };
+    ghost reports = { λ e. IsSome e.account.output.given };
 
-    ghost after = { with_saying };
+    ghost after = { with_connection_event };
 
     ghost faulted = { StopsAt };
 
-    fn hear(&mut self, saying: &Saying<'_>) -> Result<(), StreamsFault> {
-        self.take(saying)
+    fn hear(&mut self, event: &ConnectionEvent<'_>) -> Result<(), StreamsFault> {
+        self.take(event)
     }
 }

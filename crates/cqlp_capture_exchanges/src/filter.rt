@@ -70,10 +70,10 @@ fn reported_slow<A: Allocator>(least: u64, report: &Report<A>) -> bool
     }
 }
 
-fn took_at_least<A: Allocator>(least: u64, told: &Paired<Kept<A>>) -> bool
-    ensures { result ≡ took_at_least least told.now }
+fn took_at_least<A: Allocator>(least: u64, exchange: &Paired<Kept<A>>) -> bool
+    ensures { result ≡ took_at_least least exchange.now }
 {
-    match told {
+    match exchange {
         Paired::Exchange { request, response } => {
             is_at_least(least, took(&request.frame, &response.frame))
         }
@@ -100,10 +100,10 @@ fn is_trouble<A: Allocator>(report: &Report<A>) -> bool
     }
 }
 
-fn has_failed<A: Allocator>(told: &Paired<Kept<A>>) -> bool
-    ensures { result ≡ has_failed told.now }
+fn has_failed<A: Allocator>(exchange: &Paired<Kept<A>>) -> bool
+    ensures { result ≡ has_failed exchange.now }
 {
-    match told {
+    match exchange {
         Paired::Exchange { response, .. } => is_failure(&response.frame),
         Paired::Unanswered { .. } => true,
         Paired::Unasked { .. } | Paired::Event { .. } => false,

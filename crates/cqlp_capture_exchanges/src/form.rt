@@ -17,7 +17,7 @@ pub enum ExchangeForm {
 }
 
 impl ExchangeForm {
-    /// How many statements a summary tells apart.
+    /// How many statements a summary distinguishes.
     pub(crate) fn statements(self) -> usize
         ensures { result ≡ statements_in self }
     {

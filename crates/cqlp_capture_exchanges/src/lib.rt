@@ -17,12 +17,12 @@ mod pool;
 mod prepared;
 mod reply;
 mod report;
+mod reporter;
 mod slot;
 mod span;
 mod statement;
 mod sums;
 mod table;
-mod teller;
 
 pub use capturing::write_exchanges;
 pub use exchanges::Exchanges;

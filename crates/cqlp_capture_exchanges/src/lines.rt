@@ -1,4 +1,4 @@
-//! The line of what is told of a request, a response, or both.
+//! The line of what is reported of a request, a response, or both.
 
 ghost use Rattle.std.specs.Prelude.{◌≡◌, [], None, Some};
 ghost use Rattle.cqlp_capture_exchanges.specs.Reports.{report_of};
@@ -64,11 +64,11 @@ fn put_paired<P: Pen, A: Allocator>(
     first: Option<u64>,
     number: u64,
     end: Option<ConnectionEnd>,
-    told: &Paired<Kept<A>>,
+    exchange: &Paired<Kept<A>>,
 ) -> Result<(), SinkFault>
-    ensures { Writes writer.old (paired_line known.now first number end told.now) result writer.new }
+    ensures { Writes writer.old (paired_line known.now first number end exchange.now) result writer.new }
 {
-    match told {
+    match exchange {
         Paired::Exchange { request, response } => {
             put_exchange(writer, known, first, number, request, response)
         }

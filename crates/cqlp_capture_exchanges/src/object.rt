@@ -1,4 +1,4 @@
-//! The JSON object of what is told of a request, a response, or both.
+//! The JSON object of what is reported of a request, a response, or both.
 
 ghost use Rattle.std.specs.Prelude.{◌≡◌, [], None, option_map};
 ghost use Rattle.cqlp_capture_exchanges.specs.Reports.{report_of};
@@ -125,12 +125,12 @@ fn put_paired<P: Pen, A: Allocator>(
     first: Option<u64>,
     number: u64,
     end: Option<ConnectionEnd>,
-    told: &Paired<Kept<A>>,
+    reported: &Paired<Kept<A>>,
 ) -> Result<(), SinkFault>
-    ensures { Writes writer.old (paired_object known.now first number end told.now) result writer.new }
+    ensures { Writes writer.old (paired_object known.now first number end reported.now) result writer.new }
 {
     let place = Place { first, number };
-    match told {
+    match reported {
         Paired::Exchange { request, response } => {
             put_exchange(writer, known, place, request, response)
         }
@@ -215,33 +215,33 @@ fn put_unanswered<P: Pen, A: Allocator>(
 /// Takes the object of a response without a request, or of an event.
 fn put_alone<P: Pen, A: Allocator>(
     writer: &mut TextWriter<P>,
-    told: &str,
+    reported: &str,
     place: Place,
     response: &Message<Kept<A>>,
 ) -> Result<(), SinkFault>
-    ensures { Writes writer.old (alone_object told.now place.first place.number response.now) result writer.new }
+    ensures { Writes writer.old (alone_object reported.now place.first place.number response.now) result writer.new }
 {
-    put_place(writer, told, place.first, place.number, &response.frame)?;
+    put_place(writer, reported, place.first, place.number, &response.frame)?;
     put_response(writer, response)?;
     put_last(writer, Last::NONE)?;
     writer.put(b"}\n")
 }
 
-/// Takes what is told, when its frame began, and where.
+/// Takes what is reported, when its frame began, and where.
 fn put_place<P: Pen>(
     writer: &mut TextWriter<P>,
-    told: &str,
+    reported: &str,
     first: Option<u64>,
     number: u64,
     frame: &Frame,
 ) -> Result<(), SinkFault>
-    ensures { Writes writer.old (texts (place_members told.now first number frame.now)) result writer.new }
+    ensures { Writes writer.old (texts (place_members reported.now first number frame.now)) result writer.new }
 {
     let since = time_between(first, frame.begun);
     put_members(
         writer,
         &[
-            Member("{\"told\":", Value::Name(told)),
+            Member("{\"told\":", Value::Name(reported)),
             Member(",\"time\":", seconds_or_null(since)),
             Member(",\"connection\":", Value::Number(number)),
             Member(

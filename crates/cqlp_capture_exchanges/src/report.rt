@@ -33,7 +33,7 @@ pub enum Report<A: Allocator = Global> {
     },
 }
 
-/// How a connection ended, of which this was told.
+/// How a connection ended, of which this was reported.
 pub(crate) fn end_of(totals: &ConnectionTotals) -> ConnectionEnd
     ensures { result ≡ end_of totals.now }
 {

@@ -1,17 +1,17 @@
 //! One connection that is watched.
 
 ghost use Rattle.std.specs.Prelude.{◌≡◌, ◌||◌, ◌++◌, IfOk, IsSome, None, OnOk, false};
-ghost use Rattle.cqlp_capture_exchanges.specs.Accounts.{ToldAll};
+ghost use Rattle.cqlp_capture_exchanges.specs.Accounts.{ReportedAll};
 ghost use Rattle.cqlp_capture_exchanges.specs.Reports.{is_unread, messages, unread};
-ghost use Rattle.cqlp_capture_exchanges.specs.Talks.{bytes_heard, ended, is_responses, remaining, slot, told_heard};
+ghost use Rattle.cqlp_capture_exchanges.specs.Talks.{bytes_heard, ended, is_responses, remaining, slot, delivery_heard};
 ghost use Rattle.cqlp_observer.specs.Watches.{after_end, after_gap};
 
 use crate::report::{ConnectionEnd, is_unread};
-use crate::teller::Teller;
+use crate::reporter::Reporter;
 use cqlp_capture_streams::StreamsFault;
 use cqlp_note::Target;
 use cqlp_observer::{Kept, Missed, Opening, Paired, Unread, Watch, WatchRoom, WatchStep};
-use cqlp_tcp_connections::{Told, Way};
+use cqlp_tcp_connections::{Delivery, Way};
 use cqlp_tcp_reassembly::StreamStep;
 use std::alloc::{AllocError, Allocator, Global};
 use std::marker::Model;
@@ -67,40 +67,41 @@ impl<A: Allocator + Clone> Slot<A> {
         self.watch.missed()
     }
 
-    /// Takes what is told of its streams while the present packet came at this time, with its bytes; so much may wait.
+    /// Takes what its streams deliver while the present packet came at this time, with its bytes; so much may wait.
     pub(crate) fn hear<O: Target>(
         &mut self,
         present: Option<u64>,
-        told: &Told,
+        delivered: &Delivery,
         room: WatchRoom,
         bytes: &[u8],
-        teller: &mut Teller<O, A>,
+        reporter: &mut Reporter<O, A>,
     ) -> Result<(), StreamsFault>
-        ensures reports { ToldAll told.now.number (told_heard present told.now room bytes.now self.old).reports teller.old result teller.new }
-        ensures after { IsSome teller.old.output.given → OnOk result (self.new ≡ (told_heard present told.now room bytes.now self.old).after) }
+        ensures reports { ReportedAll delivered.now.number (delivery_heard present delivered.now room bytes.now self.old).reports reporter.old
+            result reporter.new }
+        ensures after { IsSome reporter.old.output.given → OnOk result (self.new ≡ (delivery_heard present delivered.now room bytes.now self.old).after) }
     {
-        hear_told(
+        hear_delivery(
             &mut self.watch,
             &mut self.is_reported,
             present,
-            told,
+            delivered,
             room,
             bytes,
-            teller,
+            reporter,
         )
     }
 
-    /// The streams of the connection end: reports what that tells.
+    /// The streams of the connection end: reports what that delivers.
     pub(crate) fn end<O: Target>(
         &mut self,
         number: u64,
         room: WatchRoom,
-        teller: &mut Teller<O, A>,
+        reporter: &mut Reporter<O, A>,
     ) -> Result<(), StreamsFault>
-        ensures reports { ToldAll number (ended room self.old).reports teller.old result teller.new }
-        ensures after { IsSome teller.old.output.given → OnOk result (self.new ≡ (ended room self.old).after) }
+        ensures reports { ReportedAll number (ended room self.old).reports reporter.old result reporter.new }
+        ensures after { IsSome reporter.old.output.given → OnOk result (self.new ≡ (ended room self.old).after) }
     {
-        end_watch(&mut self.watch, number, room, teller)
+        end_watch(&mut self.watch, number, room, reporter)
     }
 
     /// Reports the messages that wait, of a connection that ended so.
@@ -108,32 +109,32 @@ impl<A: Allocator + Clone> Slot<A> {
         &mut self,
         number: u64,
         end: ConnectionEnd,
-        teller: &mut Teller<O, A>,
+        reporter: &mut Reporter<O, A>,
     ) -> Result<(), StreamsFault>
-        ensures { ToldAll number (remaining end self.old.watch.waiting) teller.old result teller.new }
+        ensures { ReportedAll number (remaining end self.old.watch.waiting) reporter.old result reporter.new }
     {
-        let_go(&mut self.watch, number, end, teller)
+        let_go(&mut self.watch, number, end, reporter)
     }
 }
 
-/// Takes what is told of the streams of a connection while the present packet came at this time, with its bytes.
-fn hear_told<O: Target, A: Allocator + Clone>(
+/// Takes what the streams of a connection deliver while the present packet came at this time, with its bytes.
+fn hear_delivery<O: Target, A: Allocator + Clone>(
     watch: &mut Watch<A>,
     is_reported: &mut bool,
     present: Option<u64>,
-    told: &Told,
+    delivered: &Delivery,
     room: WatchRoom,
     bytes: &[u8],
-    teller: &mut Teller<O, A>,
+    reporter: &mut Reporter<O, A>,
 ) -> Result<(), StreamsFault>
-    ensures reports { let t = told_heard present told.now room bytes.now (slot watch.old is_reported.old) in
-        ToldAll told.now.number t.reports teller.old result teller.new }
-    ensures after { let t = told_heard present told.now room bytes.now (slot watch.old is_reported.old) in
-        IsSome teller.old.output.given → OnOk result (slot watch.new is_reported.new ≡ t.after) }
+    ensures reports { let t = delivery_heard present delivered.now room bytes.now (slot watch.old is_reported.old) in
+        ReportedAll delivered.now.number t.reports reporter.old result reporter.new }
+    ensures after { let t = delivery_heard present delivered.now room bytes.now (slot watch.old is_reported.old) in
+        IsSome reporter.old.output.given → OnOk result (slot watch.new is_reported.new ≡ t.after) }
 {
-    let responses = is_responses(told.way);
-    let number = told.number;
-    match told.step {
+    let responses = is_responses(delivered.way);
+    let number = delivered.number;
+    match delivered.step {
         StreamStep::Began { syn } => {
             watch.begin(responses, syn);
             Ok(())
@@ -145,7 +146,7 @@ fn hear_told<O: Target, A: Allocator + Clone>(
                 begins: from == 0,
                 bytes,
             };
-            hear_bytes(watch, is_reported, number, piece, room, teller)
+            hear_bytes(watch, is_reported, number, piece, room, reporter)
         }
         StreamStep::Held { time, begins } => {
             let piece = Piece {
@@ -154,13 +155,13 @@ fn hear_told<O: Target, A: Allocator + Clone>(
                 begins,
                 bytes,
             };
-            hear_bytes(watch, is_reported, number, piece, room, teller)
+            hear_bytes(watch, is_reported, number, piece, room, reporter)
         }
         StreamStep::Gap { length, time, .. } => {
-            hear_gap(watch, number, responses, length, time, room, teller)
+            hear_gap(watch, number, responses, length, time, room, reporter)
         }
         StreamStep::Ended | StreamStep::Reset => {
-            end_direction(watch, number, responses, room, teller)
+            end_direction(watch, number, responses, room, reporter)
         }
         StreamStep::Kept | StreamStep::Done => Ok(()),
     }
@@ -192,14 +193,14 @@ fn hear_bytes<O: Target, A: Allocator + Clone>(
     number: u64,
     piece: Piece<'_>,
     room: WatchRoom,
-    teller: &mut Teller<O, A>,
+    reporter: &mut Reporter<O, A>,
 ) -> Result<(), StreamsFault>
     ensures reports { let p = piece.entry in
         let t = bytes_heard p.responses p.time p.begins room p.bytes.now (slot watch.old is_reported.old) in
-        ToldAll number t.reports teller.old result teller.new }
+        ReportedAll number t.reports reporter.old result reporter.new }
     ensures after { let p = piece.entry in
         let t = bytes_heard p.responses p.time p.begins room p.bytes.now (slot watch.old is_reported.old) in
-        IsSome teller.old.output.given → OnOk result (slot watch.new is_reported.new ≡ t.after) }
+        IsSome reporter.old.output.given → OnOk result (slot watch.new is_reported.new ≡ t.after) }
 {
     let Piece {
         responses,
@@ -216,9 +217,9 @@ fn hear_bytes<O: Target, A: Allocator + Clone>(
             used,
             is_done,
             opening,
-            told,
+            reported,
         } = step;
-        report_step(teller, number, time, *is_reported, opening, told)?;
+        report_step(reporter, number, time, *is_reported, opening, reported)?;
         *is_reported = is_reported_after(*is_reported, opening);
         if is_done {
             return Ok(());
@@ -228,19 +229,19 @@ fn hear_bytes<O: Target, A: Allocator + Clone>(
     Ok(())
 }
 
-/// Reports what a step of bytes tells that were captured at this time.
+/// Reports what a step of bytes holds that were captured at this time.
 fn report_step<O: Target, A: Allocator>(
-    teller: &mut Teller<O, A>,
+    reporter: &mut Reporter<O, A>,
     number: u64,
     time: Option<u64>,
     was_reported: bool,
     opening: Opening,
-    told: Option<Paired<Kept<A>>>,
+    exchange: Option<Paired<Kept<A>>>,
 ) -> Result<(), StreamsFault>
-    ensures { ToldAll number (unread time was_reported opening ++ messages None told) teller.old result teller.new }
+    ensures { ReportedAll number (unread time was_reported opening ++ messages None exchange) reporter.old result reporter.new }
 {
-    match teller.report_opening(number, time, was_reported, opening) {
-        Ok(()) => teller.report_messages(number, None, told),
+    match reporter.report_opening(number, time, was_reported, opening) {
+        Ok(()) => reporter.report_messages(number, None, exchange),
         Err(fault) => Err(fault),
     }
 }
@@ -260,13 +261,13 @@ fn hear_gap<O: Target, A: Allocator + Clone>(
     length: u64,
     time: Option<u64>,
     room: WatchRoom,
-    teller: &mut Teller<O, A>,
+    reporter: &mut Reporter<O, A>,
 ) -> Result<(), StreamsFault>
-    ensures reports { ToldAll number (messages None (after_gap responses length time room watch.old).told) teller.old result teller.new }
-    ensures after { IsSome teller.old.output.given → OnOk result (watch.new ≡ (after_gap responses length time room watch.old).after) }
+    ensures reports { ReportedAll number (messages None (after_gap responses length time room watch.old).reported) reporter.old result reporter.new }
+    ensures after { IsSome reporter.old.output.given → OnOk result (watch.new ≡ (after_gap responses length time room watch.old).after) }
 {
     match watch.gap(responses, length, time, room) {
-        Ok(told) => teller.report_messages(number, None, told),
+        Ok(exchange) => reporter.report_messages(number, None, exchange),
         Err(AllocError) => Err(StreamsFault::NoMemory),
     }
 }
@@ -276,13 +277,13 @@ fn end_watch<O: Target, A: Allocator + Clone>(
     watch: &mut Watch<A>,
     number: u64,
     room: WatchRoom,
-    teller: &mut Teller<O, A>,
+    reporter: &mut Reporter<O, A>,
 ) -> Result<(), StreamsFault>
-    ensures reports { ToldAll number (ended room (slot watch.old false)).reports teller.old result teller.new }
-    ensures after { IsSome teller.old.output.given → OnOk result (watch.new ≡ (ended room (slot watch.old false)).after.watch) }
+    ensures reports { ReportedAll number (ended room (slot watch.old false)).reports reporter.old result reporter.new }
+    ensures after { IsSome reporter.old.output.given → OnOk result (watch.new ≡ (ended room (slot watch.old false)).after.watch) }
 {
-    match end_direction(watch, number, false, room, teller) {
-        Ok(()) => end_direction(watch, number, true, room, teller),
+    match end_direction(watch, number, false, room, reporter) {
+        Ok(()) => end_direction(watch, number, true, room, reporter),
         Err(fault) => Err(fault),
     }
 }
@@ -293,13 +294,13 @@ fn end_direction<O: Target, A: Allocator + Clone>(
     number: u64,
     responses: bool,
     room: WatchRoom,
-    teller: &mut Teller<O, A>,
+    reporter: &mut Reporter<O, A>,
 ) -> Result<(), StreamsFault>
-    ensures reports { ToldAll number (messages None (after_end responses room watch.old).told) teller.old result teller.new }
-    ensures after { IsSome teller.old.output.given → OnOk result (watch.new ≡ (after_end responses room watch.old).after) }
+    ensures reports { ReportedAll number (messages None (after_end responses room watch.old).reported) reporter.old result reporter.new }
+    ensures after { IsSome reporter.old.output.given → OnOk result (watch.new ≡ (after_end responses room watch.old).after) }
 {
     match watch.end(responses, room) {
-        Ok(told) => teller.report_messages(number, None, told),
+        Ok(exchange) => reporter.report_messages(number, None, exchange),
         Err(AllocError) => Err(StreamsFault::NoMemory),
     }
 }
@@ -309,12 +310,12 @@ fn let_go<O: Target, A: Allocator + Clone>(
     watch: &mut Watch<A>,
     number: u64,
     end: ConnectionEnd,
-    teller: &mut Teller<O, A>,
+    reporter: &mut Reporter<O, A>,
 ) -> Result<(), StreamsFault>
-    ensures { ToldAll number (remaining end watch.old.waiting) teller.old result teller.new }
+    ensures { ReportedAll number (remaining end watch.old.waiting) reporter.old result reporter.new }
 {
-    while let Some(told) = watch.finish() {
-        teller.report_messages(number, Some(end), Some(told))?;
+    while let Some(exchange) = watch.finish() {
+        reporter.report_messages(number, Some(end), Some(exchange))?;
     }
     Ok(())
 }

@@ -1,4 +1,4 @@
-//! What was told of requests and responses, in numbers.
+//! What was reported of requests and responses, in numbers.
 
 ghost use Rattle.std.specs.Prelude.{◌≡◌};
 ghost use Rattle.cqlp_capture_exchanges.specs.Reports.{report_of};
@@ -8,7 +8,7 @@ use crate::span::is_whole;
 use cqlp_observer::{Kept, Message, Paired};
 use std::alloc::Allocator;
 
-/// What was told of requests and responses, whether it was shown or not. A number stays at 2^64 - 1 once it is there.
+/// What was reported of requests and responses, whether it was shown or not. A number stays at 2^64 - 1 once it is there.
 #[derive(Clone, Copy, Debug, PartialEq, Eq)]
 pub struct ExchangeSums {
     /// Requests with their responses.
@@ -25,7 +25,7 @@ pub struct ExchangeSums {
 impl ExchangeSums {
     ghost use Rattle.cqlp_capture_exchanges.specs.Accounts.{no_sums, with_message, with_one, with_report};
 
-    /// Nothing was told.
+    /// Nothing was reported.
     pub(crate) fn none() -> Self
         ensures { result ≡ no_sums }
     {
@@ -48,10 +48,10 @@ impl ExchangeSums {
         }
     }
 
-    fn count_paired<A: Allocator>(&mut self, told: &Paired<Kept<A>>)
-        ensures { self.new ≡ with_one told.now self.old }
+    fn count_paired<A: Allocator>(&mut self, exchange: &Paired<Kept<A>>)
+        ensures { self.new ≡ with_one exchange.now self.old }
     {
-        match told {
+        match exchange {
             Paired::Exchange { request, response } => {
                 self.exchanges = self.exchanges.saturating_add(1);
                 self.count_message(request);

@@ -1,16 +1,16 @@
 //! The connections that are watched.
 
 ghost use Rattle.std.specs.Prelude.{◌≡◌, IfOk, IsSome, OnOk};
-ghost use Rattle.cqlp_capture_exchanges.specs.Accounts.{ToldAll};
+ghost use Rattle.cqlp_capture_exchanges.specs.Accounts.{ReportedAll};
 
 use crate::pool::{ExchangeLimits, Pool};
 use crate::report::end_of;
+use crate::reporter::Reporter;
 use crate::slot::Slot;
-use crate::teller::Teller;
 use cqlp_capture_streams::StreamsFault;
 use cqlp_note::Target;
 use cqlp_observer::{Missed, WatchRoom};
-use cqlp_tcp_connections::{ConnectionTotals, Told};
+use cqlp_tcp_connections::{ConnectionTotals, Delivery};
 use std::alloc::{AllocError, Allocator, Global};
 use std::collections::BTreeMap;
 use std::marker::Model;
@@ -36,7 +36,7 @@ impl<A: Allocator> Model for Table<A> {
 
 impl<A: Allocator + Clone> Table<A> {
     ghost use Rattle.std.specs.Prelude.{OnErr};
-    ghost use Rattle.cqlp_capture_exchanges.specs.Tables.{begins, leaves, new_table, tells};
+    ghost use Rattle.cqlp_capture_exchanges.specs.Tables.{begins, leaves, new_table, takes_delivery};
 
     /// No connections.
     pub(crate) fn new(alloc: A, limits: ExchangeLimits) -> Result<Self, AllocError>
@@ -70,34 +70,34 @@ impl<A: Allocator + Clone> Table<A> {
         }
     }
 
-    /// Takes what is told of the streams of a connection while the present packet came at this time, with its bytes.
+    /// Takes what the streams of a connection deliver while the present packet came at this time, with its bytes.
     pub(crate) fn hear<O: Target>(
         &mut self,
         present: Option<u64>,
-        told: &Told,
+        delivered: &Delivery,
         bytes: &[u8],
-        teller: &mut Teller<O, A>,
+        reporter: &mut Reporter<O, A>,
     ) -> Result<(), StreamsFault>
-        ensures reports { ToldAll told.now.number (tells present told.now bytes.now self.old).reports teller.old result teller.new }
-        ensures after { IsSome teller.old.output.given → OnOk result (self.new ≡ (tells present told.now bytes.now self.old).table) }
+        ensures reports { ReportedAll delivered.now.number (takes_delivery present delivered.now bytes.now self.old).reports reporter.old result reporter.new }
+        ensures after { IsSome reporter.old.output.given → OnOk result (self.new ≡ (takes_delivery present delivered.now bytes.now self.old).table) }
     {
-        match self.slots.get_mut(&told.number) {
-            Some(slot) => hear_in(slot, &mut self.pool, present, told, bytes, teller),
+        match self.slots.get_mut(&delivered.number) {
+            Some(slot) => hear_in(slot, &mut self.pool, present, delivered, bytes, reporter),
             None => Ok(()),
         }
     }
 
-    /// A connection leaves, of which this was told.
+    /// A connection leaves, of which this was reported.
     pub(crate) fn leave<O: Target>(
         &mut self,
         totals: &ConnectionTotals,
-        teller: &mut Teller<O, A>,
+        reporter: &mut Reporter<O, A>,
     ) -> Result<(), StreamsFault>
-        ensures reports { ToldAll totals.now.number (leaves totals.now self.old).reports teller.old result teller.new }
-        ensures after { IsSome teller.old.output.given → OnOk result (self.new ≡ (leaves totals.now self.old).table) }
+        ensures reports { ReportedAll totals.now.number (leaves totals.now self.old).reports reporter.old result reporter.new }
+        ensures after { IsSome reporter.old.output.given → OnOk result (self.new ≡ (leaves totals.now self.old).table) }
     {
         match self.slots.remove(&totals.number) {
-            Some(slot) => let_leave(slot, &mut self.pool, &mut self.missed, totals, teller),
+            Some(slot) => let_leave(slot, &mut self.pool, &mut self.missed, totals, reporter),
             None => Ok(()),
         }
     }
@@ -106,27 +106,27 @@ impl<A: Allocator + Clone> Table<A> {
 ghost use Rattle.cqlp_observer.specs.Misses.{added};
 ghost use Rattle.cqlp_capture_exchanges.specs.Pools.{amount, exchanged, held_in, room_for};
 ghost use Rattle.cqlp_capture_exchanges.specs.Reports.{end_of};
-ghost use Rattle.cqlp_capture_exchanges.specs.Talks.{left, told_heard};
+ghost use Rattle.cqlp_capture_exchanges.specs.Talks.{left, delivery_heard};
 
-/// Takes what is told of the streams of this connection.
+/// Takes what the streams of this connection deliver.
 fn hear_in<O: Target, A: Allocator + Clone>(
     slot: &mut Slot<A>,
     pool: &mut Pool,
     present: Option<u64>,
-    told: &Told,
+    delivered: &Delivery,
     bytes: &[u8],
-    teller: &mut Teller<O, A>,
+    reporter: &mut Reporter<O, A>,
 ) -> Result<(), StreamsFault>
-    ensures reports { let t = told_heard present told.now (room_for (held_in slot.old) pool.old) bytes.now slot.old in
-        ToldAll told.now.number t.reports teller.old result teller.new }
-    ensures slot { let t = told_heard present told.now (room_for (held_in slot.old) pool.old) bytes.now slot.old in
-        IsSome teller.old.output.given → OnOk result (slot.new ≡ t.after) }
-    ensures pool { let t = told_heard present told.now (room_for (held_in slot.old) pool.old) bytes.now slot.old in
-        IsSome teller.old.output.given → OnOk result (pool.new ≡ exchanged (held_in slot.old) (held_in t.after) pool.old) }
+    ensures reports { let t = delivery_heard present delivered.now (room_for (held_in slot.old) pool.old) bytes.now slot.old in
+        ReportedAll delivered.now.number t.reports reporter.old result reporter.new }
+    ensures slot { let t = delivery_heard present delivered.now (room_for (held_in slot.old) pool.old) bytes.now slot.old in
+        IsSome reporter.old.output.given → OnOk result (slot.new ≡ t.after) }
+    ensures pool { let t = delivery_heard present delivered.now (room_for (held_in slot.old) pool.old) bytes.now slot.old in
+        IsSome reporter.old.output.given → OnOk result (pool.new ≡ exchanged (held_in slot.old) (held_in t.after) pool.old) }
 {
     let old = slot.held();
     let room = pool.room_for(old);
-    let heard = slot.hear(present, told, room, bytes, teller);
+    let heard = slot.hear(present, delivered, room, bytes, reporter);
     pool.exchange(old, slot.held());
     heard
 }
@@ -137,21 +137,21 @@ fn let_leave<O: Target, A: Allocator + Clone>(
     pool: &mut Pool,
     missed: &mut Missed,
     totals: &ConnectionTotals,
-    teller: &mut Teller<O, A>,
+    reporter: &mut Reporter<O, A>,
 ) -> Result<(), StreamsFault>
     ensures reports { let t = left (end_of totals.now) (room_for (held_in slot) pool.old) slot in
-        ToldAll totals.now.number t.reports teller.old result teller.new }
+        ReportedAll totals.now.number t.reports reporter.old result reporter.new }
     ensures pool { pool.new ≡ exchanged (held_in slot) (amount 0 0) pool.old }
     ensures missed { let t = left (end_of totals.now) (room_for (held_in slot) pool.old) slot in
-        IsSome teller.old.output.given → OnOk result (missed.new ≡ added missed.old t.after.watch.missed) }
+        IsSome reporter.old.output.given → OnOk result (missed.new ≡ added missed.old t.after.watch.missed) }
 {
     let old = slot.held();
     let room = pool.room_for(old);
     pool.exchange(old, NONE);
-    match slot.end(totals.number, room, teller) {
+    match slot.end(totals.number, room, reporter) {
         Ok(()) => {
             missed.add(&slot.missed());
-            slot.let_go(totals.number, end_of(totals), teller)
+            slot.let_go(totals.number, end_of(totals), reporter)
         }
         Err(fault) => Err(fault),
     }

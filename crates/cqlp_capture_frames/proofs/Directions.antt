@@ -1,4 +1,4 @@
--- What bytes tell, step by step.
+-- What bytes hold, step by step.
 use Rattle.std.proofs.Common.{◌≡◌, ◌∙◌, ◌-◌, ◌<◌, ◌≤◌, ◌&&◌, ◌==◌, ℕ, zero, suc, Bool, true, false, List, [], ◌∷◌, ◌++◌, take, drop, if◌then◌else◌, Option, None, Some, Result, Ok, Err, IsErr, IsErrAnd, OnOk, refl, sym, ap, subst, append-nil, arith}
 use Rattle.cqlp_note.specs.declared.refusal.Refusal.{Refusal}
 use Rattle.cqlp_note.specs.Limits.{Rules}
@@ -18,40 +18,40 @@ use Rattle.cqlp_capture_frames.specs.Happenings.{Happening, Manner, after_all, t
 use Rattle.cqlp_capture_frames.specs.Happenings as happening
 use Rattle.cqlp_capture_frames.specs.Frames.{Open, behind, fails, more_events, more_of, nodes_of, open_by, opened, read, says}
 use Rattle.cqlp_capture_frames.specs.Reading.{Drains}
-use Rattle.cqlp_capture_frames.specs.Directions.{Direction, IsTold, Telling, all_told, before, direction, gap_told, goes_on, is_done, telling, tells, with_heads}
+use Rattle.cqlp_capture_frames.specs.Directions.{Direction, IsReported, Reporting, all_reported, before, direction, gap_reported, goes_on, is_done, reporting, reports, with_heads}
 use Rattle.cqlp_capture_frames.proofs.Faults.{progress_stops_by, stops_in_more, takes_then_stops}
 use Rattle.cqlp_capture_frames.proofs.Reading.{after_more, texts_and_one, texts_more}
 
--- what a step tells, and those after it
-abbrev pub next : {S : Type 0} → Heard → Telling S → Telling S → Telling S
+-- what a step reports, and those after it
+abbrev pub next : {S : Type 0} → Heard → Reporting S → Reporting S → Reporting S
 next h t k = if is_done h then t else before t.text k
 
 module _ {S : Type 0} (m : Manner S) (room : Bool) where
   -- the bytes that are used, and those after them
   pub step_is : (left at : ℕ) (begins : Bool) (b : List ℕ) (s : S) (d : Direction) (x : HeardStep) (v : Heads) (end : ℕ) → 0 < left → end ≡ behind at x.used → stepping x v ≡ watch.heard None begins b d.heads
-      → all_told m room left at begins b s d ≡ next x.heard (tells m room end (take x.used b) x.heard s (with_heads v d))
-      (all_told m room (left - 1) end (begins && x.used == 0) (drop x.used b) (tells m room end (take x.used b) x.heard s (with_heads v d)).known (tells m room end (take x.used b) x.heard s (with_heads v d)).after)
+      → all_reported m room left at begins b s d ≡ next x.heard (reports m room end (take x.used b) x.heard s (with_heads v d))
+      (all_reported m room (left - 1) end (begins && x.used == 0) (drop x.used b) (reports m room end (take x.used b) x.heard s (with_heads v d)).known (reports m room end (take x.used b) x.heard s (with_heads v d)).after)
   step_is zero at begins b s d x v end some es e = absurd (omega arith)
   step_is (suc n) at begins b s d x v end some es e =
       let less : suc n - 1 ≡ n = omega arith in
-      rw (less, es) (ap (λ (z : Steps). next z.step.heard (tells m room (behind at z.step.used) (take z.step.used b) z.step.heard s (with_heads z.after d))
-      (all_told m room n (behind at z.step.used) (begins && z.step.used == 0) (drop z.step.used b) (tells m room (behind at z.step.used) (take z.step.used b) z.step.heard s (with_heads z.after d)).known (tells m room (behind at z.step.used) (take z.step.used b) z.step.heard s (with_heads z.after d)).after)) (sym e))
+      rw (less, es) (ap (λ (z : Steps). next z.step.heard (reports m room (behind at z.step.used) (take z.step.used b) z.step.heard s (with_heads z.after d))
+      (all_reported m room n (behind at z.step.used) (begins && z.step.used == 0) (drop z.step.used b) (reports m room (behind at z.step.used) (take z.step.used b) z.step.heard s (with_heads z.after d)).known (reports m room (behind at z.step.used) (take z.step.used b) z.step.heard s (with_heads z.after d)).after)) (sym e))
 
-  pub told_none : (left at : ℕ) (begins : Bool) (b : List ℕ) (s : S) (d : Direction) → left ≤ 0 → all_told m room left at begins b s d ≡ telling [] d s
-  told_none zero at begins b s d none = refl
-  told_none (suc n) at begins b s d none = absurd (omega arith)
+  pub reported_none : (left at : ℕ) (begins : Bool) (b : List ℕ) (s : S) (d : Direction) → left ≤ 0 → all_reported m room left at begins b s d ≡ reporting [] d s
+  reported_none zero at begins b s d none = refl
+  reported_none (suc n) at begins b s d none = absurd (omega arith)
 
 module _ {S : Type 0} where
-  next_done : (d : Bool) (t k : Telling S) → d ≡ true → (if d then t else before t.text k) ≡ t
+  next_done : (d : Bool) (t k : Reporting S) → d ≡ true → (if d then t else before t.text k) ≡ t
   next_done true t k e = refl
   next_done false t k e = absurd cc
 
-  next_more : (d : Bool) (t k : Telling S) → d ≡ false → (if d then t else before t.text k) ≡ before t.text k
+  next_more : (d : Bool) (t k : Reporting S) → d ≡ false → (if d then t else before t.text k) ≡ before t.text k
   next_more true t k e = absurd cc
   next_more false t k e = refl
 
   -- whatever comes next, it begins with the text of this
-  next_begins : (h : Heard) (t k : Telling S) → (later : List ℕ) × ((next h t k).text ≡ t.text ++ later)
+  next_begins : (h : Heard) (t k : Reporting S) → (later : List ℕ) × ((next h t k).text ≡ t.text ++ later)
   next_begins h t k = by (is_done h)
     where
       by : (d : Bool) → (later : List ℕ) × ((if d then t else before t.text k).text ≡ t.text ++ later)
@@ -60,79 +60,79 @@ module _ {S : Type 0} where
 
   -- ---- how far it is: the text that is left is that of the rest, which ends as the whole does
 
-  pub record Goes (whole rest : Telling S) (old now : Written) : Type 0 where
+  pub record Goes (whole rest : Reporting S) (old now : Written) : Type 0 where
     pub here : Progress old whole.text rest.text now
     pub after : rest.after ≡ whole.after
     pub known : rest.known ≡ whole.known
 
-  pub goes_first : (whole : Telling S) (w : Written) → Goes whole whole w w
+  pub goes_first : (whole : Reporting S) (w : Written) → Goes whole whole w w
   goes_first whole w = record { here = progress_starts w whole.text; after = refl; known = refl }
 
 module _ {S F : Type 0} (refuses : F → Bool) where
-  module _ (w u new : Written) (whole rest k t : Telling S) (h : Heard) (here : Goes whole rest w u) (is : rest ≡ next h t k) (d : Direction) (s : S) where
-    pub step_stops : (r : Result (Unit {0}) F) (e : F) → IsErr r × IsErrAnd r (λ f. f ≡ e) → Stops (refuses e) u t.text new → IsTold refuses whole r w new d s
+  module _ (w u new : Written) (whole rest k t : Reporting S) (h : Heard) (here : Goes whole rest w u) (is : rest ≡ next h t k) (d : Direction) (s : S) where
+    pub step_stops : (r : Result (Unit {0}) F) (e : F) → IsErr r × IsErrAnd r (λ f. f ≡ e) → Stops (refuses e) u t.text new → IsReported refuses whole r w new d s
     step_stops (Ok x) e stops breaks = cc
     step_stops (Err f) e stops breaks =
         let b = next_begins h t k in
-        progress_stops_by (refuses f) w u new whole.text rest.text t.text b.0 here.here (ap (λ (z : Telling S). z.text) is ∙ b.1) (subst (λ (z : F). Stops (refuses z) u t.text new) (sym stops.1) breaks)
+        progress_stops_by (refuses f) w u new whole.text rest.text t.text b.0 here.here (ap (λ (z : Reporting S). z.text) is ∙ b.1) (subst (λ (z : F). Stops (refuses z) u t.text new) (sym stops.1) breaks)
 
-    pub step_ends : (x : Unit {0}) → is_done h ≡ true → IsTold refuses t (Ok x) u new d s → IsTold refuses whole (Ok x) w new d s
-    step_ends x done told =
+    pub step_ends : (x : Unit {0}) → is_done h ≡ true → IsReported refuses t (Ok x) u new d s → IsReported refuses whole (Ok x) w new d s
+    step_ends x done reported =
         let e = is ∙ next_done (is_done h) t k done in (
-          progress_ends (progress_goes_on [] here.here (ap (λ (z : Telling S). z.text) e ∙ sym (append-nil t.text)) told.0) refl,
-          told.1 ∙ sym (ap (λ (z : Telling S). z.after) e) ∙ here.after,
-          told.2 ∙ sym (ap (λ (z : Telling S). z.known) e) ∙ here.known,
+          progress_ends (progress_goes_on [] here.here (ap (λ (z : Reporting S). z.text) e ∙ sym (append-nil t.text)) reported.0) refl,
+          reported.1 ∙ sym (ap (λ (z : Reporting S). z.after) e) ∙ here.after,
+          reported.2 ∙ sym (ap (λ (z : Reporting S). z.known) e) ∙ here.known,
         )
 
     pub step_goes_on : is_done h ≡ false → Receives u t.text new → Goes whole k w new
     step_goes_on more takes =
         let e = is ∙ next_more (is_done h) t k more in
         record {
-          here = progress_goes_on k.text here.here (ap (λ (z : Telling S). z.text) e) takes;
-          after = sym (ap (λ (z : Telling S). z.after) e) ∙ here.after;
-          known = sym (ap (λ (z : Telling S). z.known) e) ∙ here.known;
+          here = progress_goes_on k.text here.here (ap (λ (z : Reporting S). z.text) e) takes;
+          after = sym (ap (λ (z : Reporting S). z.after) e) ∙ here.after;
+          known = sym (ap (λ (z : Reporting S). z.known) e) ∙ here.known;
         }
 
-  pub none_left : (x : Unit {0}) (w u : Written) (whole rest : Telling S) (d : Direction) (s : S) → Goes whole rest w u → rest ≡ telling [] d s → IsTold refuses whole (Ok x) w u d s
+  pub none_left : (x : Unit {0}) (w u : Written) (whole rest : Reporting S) (d : Direction) (s : S) → Goes whole rest w u → rest ≡ reporting [] d s → IsReported refuses whole (Ok x) w u d s
   none_left x w u whole rest d s here is = (
-    progress_ends here.here (ap (λ (z : Telling S). z.text) is),
-    sym (ap (λ (z : Telling S). z.after) is) ∙ here.after,
-    sym (ap (λ (z : Telling S). z.known) is) ∙ here.known,
+    progress_ends here.here (ap (λ (z : Reporting S). z.text) is),
+    sym (ap (λ (z : Reporting S). z.after) is) ∙ here.after,
+    sym (ap (λ (z : Reporting S). z.known) is) ∙ here.known,
   )
 
   -- ---- one thing, and then another
 
-  module _ (w u new : Written) (first : List ℕ) (t : Telling S) (d : Direction) (s : S) where
-    pub first_stops : (r : Result (Unit {0}) F) (e : F) → IsErr r × IsErrAnd r (λ f. f ≡ e) → Stops (refuses e) w first new → IsTold refuses (before first t) r w new d s
+  module _ (w u new : Written) (first : List ℕ) (t : Reporting S) (d : Direction) (s : S) where
+    pub first_stops : (r : Result (Unit {0}) F) (e : F) → IsErr r × IsErrAnd r (λ f. f ≡ e) → Stops (refuses e) w first new → IsReported refuses (before first t) r w new d s
     first_stops (Ok x) e stops breaks = cc
     first_stops (Err f) e stops breaks = stops_in_more (refuses f) w new first t.text (subst (λ (z : F). Stops (refuses z) w first new) (sym stops.1) breaks)
 
-    pub then_told : (r : Result (Unit {0}) F) → Receives w first u → IsTold refuses t r u new d s → IsTold refuses (before first t) r w new d s
-    then_told (Ok x) takes told = (takes_then_takes w u new first t.text takes told.0, told.1, told.2)
-    then_told (Err e) takes told = takes_then_stops (refuses e) w u new first t.text takes told
+    pub then_reported : (r : Result (Unit {0}) F) → Receives w first u → IsReported refuses t r u new d s → IsReported refuses (before first t) r w new d s
+    then_reported (Ok x) takes reported = (takes_then_takes w u new first t.text takes reported.0, reported.1, reported.2)
+    then_reported (Err e) takes reported = takes_then_stops (refuses e) w u new first t.text takes reported
 
   -- one thing that is written
-  pub one_told : (r : Result (Unit {0}) F) (old new : Written) (t : Telling S) (d : Direction) (s : S) → Takes refuses old t.text r new → OnOk r (d ≡ t.after) → OnOk r (s ≡ t.known) → IsTold refuses t r old new d s
-  one_told (Ok x) old new t d s writes after known = (writes, after, known)
-  one_told (Err e) old new t d s writes after known = writes
+  pub one_reported : (r : Result (Unit {0}) F) (old new : Written) (t : Reporting S) (d : Direction) (s : S) → Takes refuses old t.text r new → OnOk r (d ≡ t.after) → OnOk r (s ≡ t.known) → IsReported refuses t r old new d s
+  one_reported (Ok x) old new t d s writes after known = (writes, after, known)
+  one_reported (Err e) old new t d s writes after known = writes
 
   -- and that leaves this direction
-  pub one_leaves : (r : Result (Unit {0}) F) (old new : Written) (text : List ℕ) (d : Direction) (k s : S) → Takes refuses old text r new → OnOk r (s ≡ k) → IsTold refuses (telling text d k) r old new d s
+  pub one_leaves : (r : Result (Unit {0}) F) (old new : Written) (text : List ℕ) (d : Direction) (k s : S) → Takes refuses old text r new → OnOk r (s ≡ k) → IsReported refuses (reporting text d k) r old new d s
   one_leaves (Ok x) old new text d k s writes known = (writes, refl, known)
   one_leaves (Err e) old new text d k s writes known = writes
 
   -- what a caller learns
-  pub told_takes : (r : Result (Unit {0}) F) (old new : Written) (t : Telling S) (d : Direction) (s : S) → IsTold refuses t r old new d s → Takes refuses old t.text r new
-  told_takes (Ok x) old new t d s told = told.0
-  told_takes (Err e) old new t d s told = told
+  pub reported_takes : (r : Result (Unit {0}) F) (old new : Written) (t : Reporting S) (d : Direction) (s : S) → IsReported refuses t r old new d s → Takes refuses old t.text r new
+  reported_takes (Ok x) old new t d s reported = reported.0
+  reported_takes (Err e) old new t d s reported = reported
 
-  pub told_leaves : (r : Result (Unit {0}) F) (old new : Written) (t : Telling S) (d : Direction) (s : S) → IsTold refuses t r old new d s → OnOk r (d ≡ t.after)
-  told_leaves (Ok x) old new t d s told = told.1
-  told_leaves (Err e) old new t d s told = tt
+  pub reported_leaves : (r : Result (Unit {0}) F) (old new : Written) (t : Reporting S) (d : Direction) (s : S) → IsReported refuses t r old new d s → OnOk r (d ≡ t.after)
+  reported_leaves (Ok x) old new t d s reported = reported.1
+  reported_leaves (Err e) old new t d s reported = tt
 
-  pub told_knows : (r : Result (Unit {0}) F) (old new : Written) (t : Telling S) (d : Direction) (s : S) → IsTold refuses t r old new d s → OnOk r (s ≡ t.known)
-  told_knows (Ok x) old new t d s told = told.2
-  told_knows (Err e) old new t d s told = tt
+  pub reported_knows : (r : Result (Unit {0}) F) (old new : Written) (t : Reporting S) (d : Direction) (s : S) → IsReported refuses t r old new d s → OnOk r (s ≡ t.known)
+  reported_knows (Ok x) old new t d s reported = reported.2
+  reported_knows (Err e) old new t d s reported = tt
 
 -- ---- more bytes of a frame: their events, and its refusal
 
@@ -150,17 +150,17 @@ module _ {S F : Type 0} (refuses : F → Bool) (m : Manner S) (first : StreamSta
   waits_is is = ap (λ (v : Verdict). events ++ fails at v) is ∙ append-nil events
 
   module _ (responses : Bool) (heads : Heads) (frame : Option Open) where
-    abbrev pub whole : Telling S
+    abbrev pub whole : Reporting S
     whole = goes_on m input (opened at (nodes_of first.given) bytes) s (direction first.rules responses heads frame)
 
-    pub body_stops : (r : Result (Unit {0}) F) (e : F) (old new : Written) (d : Direction) (t : S) → IsErr r × IsErrAnd r (λ f. f ≡ e) → Stops (refuses e) old (texts m s events) new → IsTold refuses whole r old new d t
+    pub body_stops : (r : Result (Unit {0}) F) (e : F) (old new : Written) (d : Direction) (t : S) → IsErr r × IsErrAnd r (λ f. f ≡ e) → Stops (refuses e) old (texts m s events) new → IsReported refuses whole r old new d t
     body_stops (Ok x) e old new d t stops breaks = cc
     body_stops (Err f) e old new d t stops breaks =
         rw (texts_more m s events (fails at verdict)) (stops_in_more (refuses f) old new (texts m s events) (texts m (after_all m s events) (fails at verdict)) (subst (λ (z : F). Stops (refuses z) old (texts m s events) new) (sym stops.1) breaks))
 
     -- it goes on
     pub body_waits : (x : Unit {0}) (new : StreamState) (t : S) (old now : Written) → new.rules ≡ first.rules → nodes_of new.given ≡ nodes_of first.given → Drains refuses m at bytes input first s (Ok None) new t old now
-        → IsTold refuses whole (Ok x) old now (direction new.rules responses heads (Some (opened at (nodes_of new.given) (bytes ++ input)))) t
+        → IsReported refuses whole (Ok x) old now (direction new.rules responses heads (Some (opened at (nodes_of new.given) (bytes ++ input)))) t
     body_waits x new t old now are held (reads, known, takes) =
         let here : (read first.rules (nodes_of new.given) (bytes ++ input)).1 ≡ Waits = subst (λ (l : Rules). (read l (nodes_of new.given) (bytes ++ input)).1 ≡ Waits) are reads.waits in
         let is : verdict ≡ Waits = subst (λ (g : Option (List Node)). (read first.rules g (bytes ++ input)).1 ≡ Waits) held here in (
@@ -186,7 +186,7 @@ module _ {S F : Type 0} (refuses : F → Bool) (m : Manner S) (first : StreamSta
           ap (λ (l : Rules). direction l responses heads None) are
           ∙ ap (λ (v : Verdict). direction first.rules responses heads (open_by v (opened at (nodes_of first.given) (bytes ++ input)))) (sym drains.0)
 
-      pub body_refused : (r : Result (Unit {0}) F) → Takes refuses mid (m.text t said) r now → OnOk r (u ≡ m.after t said) → IsTold refuses whole r old now (direction new.rules responses heads None) u
+      pub body_refused : (r : Result (Unit {0}) F) → Takes refuses mid (m.text t said) r now → OnOk r (u ≡ m.after t said) → IsReported refuses whole r old now (direction new.rules responses heads None) u
       body_refused (Ok x) writes known = (
         rw text_is (takes_then_takes old mid now (texts m s events) (m.text t said) drains.2 writes),
         closed,
@@ -196,15 +196,15 @@ module _ {S F : Type 0} (refuses : F → Bool) (m : Manner S) (first : StreamSta
 
 -- ---- a gap, after the end of the frame that is read
 
-module _ {S F : Type 0} (refuses : F → Bool) (m : Manner S) (at n : ℕ) (cause : GapCause) (closed : Telling S) (d : Direction) (w u new : Written) where
-  pub gap_stops : (s : S) (r : Result (Unit {0}) F) (e : F) → IsErr r × IsErrAnd r (λ f. f ≡ e) → Stops (refuses e) w closed.text new → IsTold refuses (gap_told m at n cause closed) r w new d s
+module _ {S F : Type 0} (refuses : F → Bool) (m : Manner S) (at n : ℕ) (cause : GapCause) (closed : Reporting S) (d : Direction) (w u new : Written) where
+  pub gap_stops : (s : S) (r : Result (Unit {0}) F) (e : F) → IsErr r × IsErrAnd r (λ f. f ≡ e) → Stops (refuses e) w closed.text new → IsReported refuses (gap_reported m at n cause closed) r w new d s
   gap_stops s (Ok x) e stops breaks = cc
   gap_stops s (Err f) e stops breaks = stops_in_more (refuses f) w new closed.text (m.text closed.known (happening.Gap at n cause)) (subst (λ (z : F). Stops (refuses z) w closed.text new) (sym stops.1) breaks)
 
-  pub gap_writes : (s t : S) (r : Result (Unit {0}) F) → IsTold refuses closed (Ok tt) w u d s → Takes refuses u (m.text s (happening.Gap at n cause)) r new → OnOk r (t ≡ m.after s (happening.Gap at n cause)) → IsTold refuses (gap_told m at n cause closed) r w new d t
-  gap_writes s t (Ok x) told writes after = (
-    takes_then_takes w u new closed.text (m.text closed.known (happening.Gap at n cause)) told.0 (subst (λ (z : S). Receives u (m.text z (happening.Gap at n cause)) new) told.2 writes),
-    told.1,
-    after ∙ ap (λ (z : S). m.after z (happening.Gap at n cause)) told.2,
+  pub gap_writes : (s t : S) (r : Result (Unit {0}) F) → IsReported refuses closed (Ok tt) w u d s → Takes refuses u (m.text s (happening.Gap at n cause)) r new → OnOk r (t ≡ m.after s (happening.Gap at n cause)) → IsReported refuses (gap_reported m at n cause closed) r w new d t
+  gap_writes s t (Ok x) reported writes after = (
+    takes_then_takes w u new closed.text (m.text closed.known (happening.Gap at n cause)) reported.0 (subst (λ (z : S). Receives u (m.text z (happening.Gap at n cause)) new) reported.2 writes),
+    reported.1,
+    after ∙ ap (λ (z : S). m.after z (happening.Gap at n cause)) reported.2,
   )
-  gap_writes s t (Err e) told writes after = takes_then_stops (refuses e) w u new closed.text (m.text closed.known (happening.Gap at n cause)) told.0 (subst (λ (z : S). Stops (refuses e) u (m.text z (happening.Gap at n cause)) new) told.2 writes)
+  gap_writes s t (Err e) reported writes after = takes_then_stops (refuses e) w u new closed.text (m.text closed.known (happening.Gap at n cause)) reported.0 (subst (λ (z : S). Stops (refuses e) u (m.text z (happening.Gap at n cause)) new) reported.2 writes)

@@ -1,6 +1,6 @@
 pub mod Faults
 pub mod Parts
-pub mod Tellings
+pub mod Reportings
 pub mod Reading
 pub mod Given
 pub mod Directions

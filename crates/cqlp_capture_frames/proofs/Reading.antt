@@ -5,7 +5,7 @@ use lib.Seq.{take-add}
 use Rattle.cqlp_note.specs.declared.refusal.Reason.{Reason}
 use Rattle.cqlp_note.specs.declared.refusal.Refusal.{Refusal}
 use Rattle.cqlp_note.specs.Limits.{Rules}
-use Rattle.cqlp_note.specs.Reader.{Said, More, Got, Bad, says as told}
+use Rattle.cqlp_note.specs.Reader.{Said, More, Got, Bad, says as reported}
 use Rattle.cqlp_note.specs.Step.{Emitted}
 use Rattle.cqlp_note.proofs.Runs.{runs_stay}
 use Rattle.cqlp_kind.specs.declared.node.Node.{Node}
@@ -43,7 +43,7 @@ module _ (l : Rules) where
   said_all : (n m : ℕ) (p : Place) (bytes : List ℕ) (es : List (ℕ × Event)) (v : Verdict) (s : Says l p bytes es v) → length es < n → m + length es ≡ n → reading l n p bytes ≡ (es ++ (reading l m s.0 s.1).0, (reading l m s.0 s.1).1) → reading l n p bytes ≡ (es, v)
   said_all n zero p bytes es v s lt parts is = absurd (omega arith)
   said_all n (suc k) p bytes es v s lt parts is =
-      is ∙ ap (λ (x : Read). (es ++ x.0, x.1)) (ends_by (reading l k) s.1 (told (step l s.0) 0 s.1) v s.3) ∙ ap (λ (x : List (ℕ × Event)). (x, v)) (append-nil es)
+      is ∙ ap (λ (x : Read). (es ++ x.0, x.1)) (ends_by (reading l k) s.1 (reported (step l s.0) 0 s.1) v s.3) ∙ ap (λ (x : List (ℕ × Event)). (x, v)) (append-nil es)
 
   says_reading : (n : ℕ) (p : Place) (bytes : List ℕ) (es : List (ℕ × Event)) (v : Verdict) → Says l p bytes es v → length es < n → reading l n p bytes ≡ (es, v)
   says_reading n p bytes es v s lt =
@@ -86,7 +86,7 @@ module _ (l : Rules) where
   -- where no event comes, the reading stays
   stays_there : (m : ℕ) (q : Place) (rest : List ℕ) → (reading l m q rest).0 ≡ [] → place_behind l m q rest ≡ q
   stays_there zero q rest none = refl
-  stays_there (suc k) q rest none = by (told (step l q) 0 rest) none
+  stays_there (suc k) q rest none = by (reported (step l q) 0 rest) none
     where
       by : (d : Said (Emitted Event Place) (ℕ × Reason)) → (then_read (reading l k) rest d).0 ≡ [] → place_on (place_behind l k) q rest d ≡ q
       by More none = refl
@@ -111,7 +111,7 @@ types_are d bytes some r =
     let none : (reading d.rules there.0 s.place s.bytes).0 ≡ [] = subst (λ (m : ℕ). (reading d.rules m s.place s.bytes).0 ≡ []) same (none_more es (reading d.rules on.0 s.place s.bytes).0 (ap (λ (x : Read). x.0) on.2)) in
     ap (λ (p : Place). p.nodes) s.here ∙ sym (ap (λ (p : Place). p.nodes) (there.2 ∙ stays_there d.rules there.0 s.place s.bytes none))
 
--- ---- what events are told as
+-- ---- what events are reported as
 
 says_more : (at : ℕ) (xs ys : List (ℕ × Event)) → says at (xs ++ ys) ≡ says at xs ++ says at ys
 says_more at [] ys = refl

@@ -1,4 +1,4 @@
--- What is told of one direction of a connection.
+-- What is reported of one direction of a connection.
 use Rattle.std.specs.Prelude.{◌≡◌, ℕ, zero, suc, ◌+◌, ◌-◌, ◌*◌, ◌==◌, ◌&&◌, Bool, true, false, not, nat_le, if◌then◌else◌}
 use Rattle.std.specs.Prelude.{List, [], ◌++◌, length, take, drop, Option, Some, None, Result, Ok, Err}
 use Rattle.cqlp_note.specs.declared.header.Header.{Header}
@@ -43,22 +43,22 @@ with_frame frame d = direction d.rules d.responses d.heads frame
 abbrev pub IsSame : (old new : Direction) → Type 0
 IsSame old new = (new.rules ≡ old.rules) × (new.responses ≡ old.responses)
 
--- the text of what is told, the direction after it, and what is known of what happened
-pub record Telling (S : Type 0) : Type 0 where
+-- the text of what is reported, the direction after it, and what is known of what happened
+pub record Reporting (S : Type 0) : Type 0 where
   pub text : List ℕ
   pub after : Direction
   pub known : S
 
-abbrev pub telling : {S : Type 0} → List ℕ → Direction → S → Telling S
-telling text after known = record { text = text; after = after; known = known }
+abbrev pub reporting : {S : Type 0} → List ℕ → Direction → S → Reporting S
+reporting text after known = record { text = text; after = after; known = known }
 
-abbrev pub before : {S : Type 0} → List ℕ → Telling S → Telling S
-before text t = telling (text ++ t.text) t.after t.known
+abbrev pub before : {S : Type 0} → List ℕ → Reporting S → Reporting S
+before text t = reporting (text ++ t.text) t.after t.known
 
 -- The text was taken, and this is left; or a fault came within the text.
-abbrev pub IsTold : {S F : Type 0} → (refuses : F → Bool) → Telling S → Result (Unit {0}) F → (old new : Written) → Direction → S → Type 0
-IsTold refuses t (Ok u) old new d s = Receives old t.text new × (d ≡ t.after) × (s ≡ t.known)
-IsTold refuses t (Err e) old new d s = Stops (refuses e) old t.text new
+abbrev pub IsReported : {S F : Type 0} → (refuses : F → Bool) → Reporting S → Result (Unit {0}) F → (old new : Written) → Direction → S → Type 0
+IsReported refuses t (Ok u) old new d s = Receives old t.text new × (d ≡ t.after) × (s ≡ t.known)
+IsReported refuses t (Err e) old new d s = Stops (refuses e) old t.text new
 
 -- It is not compressed, goes in its opcode's direction, and is not too long (section 2).
 abbrev pub is_plain : Header → Bool
@@ -70,72 +70,72 @@ is_done h = false
 
 module _ {S : Type 0} (m : Manner S) where
   -- this happens, and leaves this direction
-  abbrev pub happens : Happening → S → Direction → Telling S
-  happens h s d = telling (m.text s h) d (m.after s h)
+  abbrev pub happens : Happening → S → Direction → Reporting S
+  happens h s d = reporting (m.text s h) d (m.after s h)
 
   -- no more is read of the frame, if one is open
-  abbrev pub closes : Option Open → S → Direction → Telling S
-  closes None s d = telling [] (with_frame None d) s
+  abbrev pub closes : Option Open → S → Direction → Reporting S
+  closes None s d = reporting [] (with_frame None d) s
   closes (Some f) s d = happens Closes s (with_frame None d)
 
   -- the frame came whole, if one is open
-  abbrev pub ends : Option Open → S → Direction → Telling S
-  ends None s d = telling [] (with_frame None d) s
+  abbrev pub ends : Option Open → S → Direction → Reporting S
+  ends None s d = reporting [] (with_frame None d) s
   ends (Some f) s d = happens (Ends (types_read d.rules f.given f.bytes)) s (with_frame None d)
 
   -- ---- a frame: its header and its body, as far as they come one after the other
 
-  abbrev pub goes_on : List ℕ → Open → S → Direction → Telling S
-  goes_on b f s d = telling (texts m s (more_of d.rules f b)) (with_frame (open_after d.rules f b) d) (after_all m s (more_of d.rules f b))
+  abbrev pub goes_on : List ℕ → Open → S → Direction → Reporting S
+  goes_on b f s d = reporting (texts m s (more_of d.rules f b)) (with_frame (open_after d.rules f b) d) (after_all m s (more_of d.rules f b))
 
-  abbrev pub begins_plain : (at : ℕ) → Header → S → Direction → Telling S
+  abbrev pub begins_plain : (at : ℕ) → Header → S → Direction → Reporting S
   begins_plain at h s d =
       before (m.text s (Begins at h))
       (goes_on (header_bytes h) (opened at (taken d.rules (m.types s at h)) []) (m.after s (Begins at h)) d)
 
   -- a frame is read only where there is room for its memory
-  abbrev pub begins : (room : Bool) → (at : ℕ) → Header → S → Direction → Telling S
+  abbrev pub begins : (room : Bool) → (at : ℕ) → Header → S → Direction → Reporting S
   begins room at h s d =
       if is_plain h then (if room then begins_plain at h s d else happens (Unread at h) s (with_frame None d))
       else happens (Compressed at h) s (with_frame None d)
 
-  abbrev pub body : List ℕ → Option Open → S → Direction → Telling S
-  body b None s d = telling [] (with_frame None d) s
+  abbrev pub body : List ℕ → Option Open → S → Direction → Reporting S
+  body b None s d = reporting [] (with_frame None d) s
   body b (Some f) s d = goes_on b f s d
 
   -- the bytes that lie before this offset, and what they are
-  abbrev pub tells : (room : Bool) → (end : ℕ) → List ℕ → Heard → S → Direction → Telling S
-  tells room end b (heard_as.Begins h) s d = begins room (end - 9) h s d
-  tells room end b heard_as.Body s d = body b d.frame s d
-  tells room end b (heard_as.Ends f) s d = ends d.frame s d
-  tells room end b heard_as.Stray s d = closes d.frame s d
-  tells room end b heard_as.More s d = telling [] d s
+  abbrev pub reports : (room : Bool) → (end : ℕ) → List ℕ → Heard → S → Direction → Reporting S
+  reports room end b (heard_as.Begins h) s d = begins room (end - 9) h s d
+  reports room end b heard_as.Body s d = body b d.frame s d
+  reports room end b (heard_as.Ends f) s d = ends d.frame s d
+  reports room end b heard_as.Stray s d = closes d.frame s d
+  reports room end b heard_as.More s d = reporting [] d s
 
   -- ---- bytes, step by step. Their first one begins a segment or not.
 
-  abbrev pub all_told : (room : Bool) → (steps at : ℕ) → (begins : Bool) → List ℕ → S → Direction → Telling S
-  all_told room zero at begins b s d = telling [] d s
-  all_told room (suc n) at begins b s d =
+  abbrev pub all_reported : (room : Bool) → (steps at : ℕ) → (begins : Bool) → List ℕ → S → Direction → Reporting S
+  all_reported room zero at begins b s d = reporting [] d s
+  all_reported room (suc n) at begins b s d =
       let x = watch.heard None begins b d.heads in
-      let t = tells room (behind at x.step.used) (take x.step.used b) x.step.heard s (with_heads x.after d) in
+      let t = reports room (behind at x.step.used) (take x.step.used b) x.step.heard s (with_heads x.after d) in
       if is_done x.step.heard then t
-      else before t.text (all_told room n (behind at x.step.used) (begins && x.step.used == 0) (drop x.step.used b) t.known t.after)
+      else before t.text (all_reported room n (behind at x.step.used) (begins && x.step.used == 0) (drop x.step.used b) t.known t.after)
 
   -- as many steps as they can take: each uses some byte, or ends a frame
-  abbrev pub bytes_told : (room : Bool) → (at : ℕ) → (begins : Bool) → List ℕ → S → Direction → Telling S
-  bytes_told room at begins b s d = all_told room (2 * length b + 2) at begins b s d
+  abbrev pub bytes_reported : (room : Bool) → (at : ℕ) → (begins : Bool) → List ℕ → S → Direction → Reporting S
+  bytes_reported room at begins b s d = all_reported room (2 * length b + 2) at begins b s d
 
-  -- ---- what a stream tells: the first bytes of a segment's payload begin it
+  -- ---- what a stream delivers: the first bytes of a segment's payload begin it
 
-  abbrev pub gap_told : (at length : ℕ) → GapCause → Telling S → Telling S
-  gap_told at n cause t = before t.text (happens (Gap at n cause) t.known t.after)
+  abbrev pub gap_reported : (at length : ℕ) → GapCause → Reporting S → Reporting S
+  gap_reported at n cause t = before t.text (happens (Gap at n cause) t.known t.after)
 
-  abbrev pub step_told : (room : Bool) → StreamStep → (at : ℕ) → List ℕ → S → Direction → Telling S
-  step_told room (step.Began syn) at b s d = closes d.frame s (begun d.rules d.responses syn)
-  step_told room (step.Payload from count) at b s d = bytes_told room at (from == 0) b s d
-  step_told room (step.Held time begins) at b s d = bytes_told room at begins b s d
-  step_told room (step.Gap n cause time) at b s d = gap_told at n cause (closes d.frame s (with_heads (watch.after_gap n None d.heads).after d))
-  step_told room step.Kept at b s d = telling [] d s
-  step_told room step.Ended at b s d = closes d.frame s (with_heads (watch.after_end d.heads).after d)
-  step_told room step.Reset at b s d = closes d.frame s (with_heads (watch.after_end d.heads).after d)
-  step_told room step.Done at b s d = telling [] d s
+  abbrev pub step_reported : (room : Bool) → StreamStep → (at : ℕ) → List ℕ → S → Direction → Reporting S
+  step_reported room (step.Began syn) at b s d = closes d.frame s (begun d.rules d.responses syn)
+  step_reported room (step.Payload from count) at b s d = bytes_reported room at (from == 0) b s d
+  step_reported room (step.Held time begins) at b s d = bytes_reported room at begins b s d
+  step_reported room (step.Gap n cause time) at b s d = gap_reported at n cause (closes d.frame s (with_heads (watch.after_gap n None d.heads).after d))
+  step_reported room step.Kept at b s d = reporting [] d s
+  step_reported room step.Ended at b s d = closes d.frame s (with_heads (watch.after_end d.heads).after d)
+  step_reported room step.Reset at b s d = closes d.frame s (with_heads (watch.after_end d.heads).after d)
+  step_reported room step.Done at b s d = reporting [] d s

@@ -2,7 +2,7 @@
 use Rattle.std.specs.Prelude.{ℕ, zero, suc, ◌+◌, ◌-◌, ◌^◌, min, ◌&&◌, Bool, nat_le, if◌then◌else◌, List, [], ◌∷◌, ◌++◌, length, drop, Option, Some, None, option_map}
 use Rattle.cqlp_note.specs.declared.refusal.Reason.{Reason}
 use Rattle.cqlp_note.specs.Limits.{Rules}
-use Rattle.cqlp_note.specs.Reader.{Said, More, Got, Bad, says as told}
+use Rattle.cqlp_note.specs.Reader.{Said, More, Got, Bad, says as reported}
 use Rattle.cqlp_note.specs.Step.{Emitted}
 use Rattle.cqlp_kind.specs.declared.node.Node.{Node}
 use Rattle.cqlp_kind.specs.Types.{types_of}
@@ -52,12 +52,12 @@ place_on next p bytes (Got x used) = next (x.after used) (drop used bytes)
 -- where the reading stands after n events, or after all that there are
 abbrev pub place_behind : Rules → (n : ℕ) → Place → List ℕ → Place
 place_behind l zero p bytes = p
-place_behind l (suc n) p bytes = place_on (place_behind l n) p bytes (told (step l p) 0 bytes)
+place_behind l (suc n) p bytes = place_on (place_behind l n) p bytes (reported (step l p) 0 bytes)
 
 abbrev pub types_read : Rules → (given : Option (List Node)) → List ℕ → List Node
 types_read l given bytes = (place_behind l (length bytes + 1) (start_with (gifts_of given)) bytes).nodes
 
--- ---- what is told of a frame
+-- ---- what is reported of a frame
 
 -- the offset after this many bytes; the greatest number, if more
 abbrev pub behind : (at n : ℕ) → ℕ

@@ -1,6 +1,6 @@
 pub mod Faults
 pub mod Lines
-pub mod Tellings
+pub mod Reportings
 pub mod Happenings
 pub mod Frames
 pub mod Reading

@@ -63,8 +63,8 @@ impl<A: Allocator + Clone> Direction<A> {
     ghost use Rattle.std.specs.Prelude.{[], None, Some, is_some};
     ghost use Rattle.cqlp_capture_frames.specs.Readers.{frame_reading};
     ghost use Rattle.cqlp_capture_frames.specs.Frames.{nodes_of, opened, taken};
-    ghost use Rattle.cqlp_capture_frames.specs.Directions.{IsSame, IsTold, begins, begins_plain, begun, body};
-    ghost use Rattle.cqlp_capture_frames.specs.Directions.{bytes_told, closes, ends, step_told, tells, with_frame};
+    ghost use Rattle.cqlp_capture_frames.specs.Directions.{IsSame, IsReported, begins, begins_plain, begun, body};
+    ghost use Rattle.cqlp_capture_frames.specs.Directions.{bytes_reported, closes, ends, step_reported, reports, with_frame};
 
     /// Nothing came. Its first byte begins a frame, where `from_start`; else the first header that a segment begins with does.
     pub fn restart(&mut self, from_start: bool)
@@ -84,7 +84,7 @@ impl<A: Allocator + Clone> Direction<A> {
         }
     }
 
-    /// Takes what is told of it at an offset, with its bytes, and tells the transcript what happens. Where there is no room for the memory of a
+    /// Takes what it delivers at an offset, with its bytes, and reports to the transcript what happens. Where there is no room for the memory of a
     /// frame, those that begin are passed over.
     pub fn hear<T: Transcript<A>, P: Pen>(
         &mut self,
@@ -95,7 +95,8 @@ impl<A: Allocator + Clone> Direction<A> {
         transcript: &mut T,
         writer: &mut TextWriter<P>,
     ) -> Result<(), T::Fault>
-        ensures told { IsTold T.Transcript.refuses (step_told T.Transcript.manner has_room step at bytes.now (T.Transcript.state transcript.old) self.old)
+        ensures reported { IsReported T.Transcript.refuses
+            (step_reported T.Transcript.manner has_room step at bytes.now (T.Transcript.state transcript.old) self.old)
             result writer.old writer.new self.new (T.Transcript.state transcript.new) }
         ensures same { IsSame self.old self.new }
     {
@@ -131,7 +132,7 @@ impl<A: Allocator + Clone> Direction<A> {
         writer: &mut TextWriter<P>,
     ) -> Result<(), T::Fault>
         ensures direction { self.new ≡ with_frame None self.old }
-        ensures told { IsTold T.Transcript.refuses (closes T.Transcript.manner self.old.frame (T.Transcript.state transcript.old) self.old)
+        ensures reported { IsReported T.Transcript.refuses (closes T.Transcript.manner self.old.frame (T.Transcript.state transcript.old) self.old)
             result writer.old writer.new self.new (T.Transcript.state transcript.new) }
     {
         match self.reader.take() {
@@ -147,7 +148,7 @@ impl<A: Allocator + Clone> Direction<A> {
         writer: &mut TextWriter<P>,
     ) -> Result<(), T::Fault>
         ensures direction { self.new ≡ with_frame None self.old }
-        ensures told { IsTold T.Transcript.refuses (ends T.Transcript.manner self.old.frame (T.Transcript.state transcript.old) self.old)
+        ensures reported { IsReported T.Transcript.refuses (ends T.Transcript.manner self.old.frame (T.Transcript.state transcript.old) self.old)
             result writer.old writer.new self.new (T.Transcript.state transcript.new) }
     {
         match self.reader.take() {
@@ -166,7 +167,8 @@ impl<A: Allocator + Clone> Direction<A> {
         transcript: &mut T,
         writer: &mut TextWriter<P>,
     ) -> Result<(), T::Fault>
-        ensures told { IsTold T.Transcript.refuses (bytes_told T.Transcript.manner has_room at begins bytes.now (T.Transcript.state transcript.old) self.old)
+        ensures reported { IsReported T.Transcript.refuses
+            (bytes_reported T.Transcript.manner has_room at begins bytes.now (T.Transcript.state transcript.old) self.old)
             result writer.old writer.new self.new (T.Transcript.state transcript.new) }
         ensures same { IsSame self.old self.new }
     {
@@ -175,7 +177,7 @@ impl<A: Allocator + Clone> Direction<A> {
         while unread.steps > 0 {
             let HeardStep { used, heard } = self.heads.take(unread.bytes, None, unread.begins);
             end = behind(end, used as u64);
-            self.tell(
+            self.report(
                 has_room,
                 end,
                 heard,
@@ -192,7 +194,7 @@ impl<A: Allocator + Clone> Direction<A> {
     }
 
     /// Takes bytes that end at an offset, and what they are.
-    fn tell<T: Transcript<A>, P: Pen>(
+    fn report<T: Transcript<A>, P: Pen>(
         &mut self,
         has_room: bool,
         end: u64,
@@ -201,7 +203,8 @@ impl<A: Allocator + Clone> Direction<A> {
         transcript: &mut T,
         writer: &mut TextWriter<P>,
     ) -> Result<(), T::Fault>
-        ensures told { IsTold T.Transcript.refuses (tells T.Transcript.manner has_room end bytes.now heard (T.Transcript.state transcript.old) self.old)
+        ensures reported { IsReported T.Transcript.refuses
+            (reports T.Transcript.manner has_room end bytes.now heard (T.Transcript.state transcript.old) self.old)
             result writer.old writer.new self.new (T.Transcript.state transcript.new) }
         ensures same { IsSame self.old self.new }
     {
@@ -226,7 +229,7 @@ impl<A: Allocator + Clone> Direction<A> {
         transcript: &mut T,
         writer: &mut TextWriter<P>,
     ) -> Result<(), T::Fault>
-        ensures told { IsTold T.Transcript.refuses (begins T.Transcript.manner has_room at header.now (T.Transcript.state transcript.old) self.old)
+        ensures reported { IsReported T.Transcript.refuses (begins T.Transcript.manner has_room at header.now (T.Transcript.state transcript.old) self.old)
             result writer.old writer.new self.new (T.Transcript.state transcript.new) }
         ensures same { IsSame self.old self.new }
     {
@@ -250,7 +253,7 @@ impl<A: Allocator + Clone> Direction<A> {
         writer: &mut TextWriter<P>,
     ) -> Result<(), T::Fault>
         requires plain { is_plain header.now ≡ true }
-        ensures told { IsTold T.Transcript.refuses (begins_plain T.Transcript.manner at header.now (T.Transcript.state transcript.old) self.old)
+        ensures reported { IsReported T.Transcript.refuses (begins_plain T.Transcript.manner at header.now (T.Transcript.state transcript.old) self.old)
             result writer.old writer.new self.new (T.Transcript.state transcript.new) }
         ensures same { IsSame self.old self.new }
     {
@@ -290,7 +293,7 @@ impl<A: Allocator + Clone> Direction<A> {
         transcript: &mut T,
         writer: &mut TextWriter<P>,
     ) -> Result<(), T::Fault>
-        ensures told { IsTold T.Transcript.refuses (body T.Transcript.manner bytes.now self.old.frame (T.Transcript.state transcript.old) self.old)
+        ensures reported { IsReported T.Transcript.refuses (body T.Transcript.manner bytes.now self.old.frame (T.Transcript.state transcript.old) self.old)
             result writer.old writer.new self.new (T.Transcript.state transcript.new) }
         ensures same { IsSame self.old self.new }
     {
@@ -305,7 +308,7 @@ impl<A: Allocator + Clone> Direction<A> {
     }
 }
 
-/// Whether nothing more is told of a piece.
+/// Whether nothing more is reported of a piece.
 fn is_done(heard: Heard) -> bool
     ensures { result ≡ is_done heard }
 {

@@ -5,31 +5,31 @@ use cqlp_note::NoMemory;
 
 /// What ends the text of what happens early.
 #[derive(Clone, Copy, Debug, PartialEq, Eq)]
-pub enum TellFault {
+pub enum ReportFault {
     /// The output failed.
     Write,
     /// Memory is refused.
     NoMemory,
 }
 
-impl From<SinkFault> for TellFault {
+impl From<SinkFault> for ReportFault {
     ghost use Rattle.std.specs.Prelude.{◌≡◌};
-    ghost use Rattle.cqlp_capture_frames.specs.declared.fault.TellFault.TheVariants.{Write};
+    ghost use Rattle.cqlp_capture_frames.specs.declared.fault.ReportFault.TheVariants.{Write};
 
     ghost from_gives = { λ _ fault. fault ≡ Write };
 
-    fn from(_: SinkFault) -> TellFault {
-        TellFault::Write
+    fn from(_: SinkFault) -> ReportFault {
+        ReportFault::Write
     }
 }
 
-impl From<NoMemory> for TellFault {
+impl From<NoMemory> for ReportFault {
     ghost use Rattle.std.specs.Prelude.{◌≡◌};
-    ghost use Rattle.cqlp_capture_frames.specs.declared.fault.TellFault.TheVariants.{NoMemory};
+    ghost use Rattle.cqlp_capture_frames.specs.declared.fault.ReportFault.TheVariants.{NoMemory};
 
     ghost from_gives = { λ _ fault. fault ≡ NoMemory };
 
-    fn from(_: NoMemory) -> TellFault {
-        TellFault::NoMemory
+    fn from(_: NoMemory) -> ReportFault {
+        ReportFault::NoMemory
     }
 }

@@ -5,7 +5,7 @@ ghost use Rattle.cqlp_note.specs.Limits.{rules_of};
 ghost use Rattle.cqlp_observer.specs.declared.heads.Heads.{Heads};
 ghost use Rattle.cqlp_capture_frames.specs.Frames.{nodes_of, opened, taken};
 ghost use Rattle.cqlp_capture_frames.specs.Readers.{frame_reading};
-ghost use Rattle.cqlp_capture_frames.specs.Directions.{IsTold, body, closes, direction, ends};
+ghost use Rattle.cqlp_capture_frames.specs.Directions.{IsReported, body, closes, direction, ends};
 
 use crate::drain::{begin_frame, behind, drain};
 use crate::noted::Noted;
@@ -82,8 +82,8 @@ impl<A: Allocator> FrameReader<A> {
         transcript: &mut T,
         writer: &mut TextWriter<P>,
     ) -> Result<(), T::Fault>
-        ensures told { (responses : Bool) (heads : Heads) →
-            IsTold T.Transcript.refuses
+        ensures reported { (responses : Bool) (heads : Heads) →
+            IsReported T.Transcript.refuses
             (body T.Transcript.manner bytes.now self.old.frame (T.Transcript.state transcript.old) (direction self.old.rules responses heads self.old.frame))
             result writer.old writer.new (direction self.new.rules responses heads self.new.frame) (T.Transcript.state transcript.new) }
         ensures same { self.new.rules ≡ self.old.rules }
@@ -111,7 +111,7 @@ impl<A: Allocator> FrameReader<A> {
         writer: &mut TextWriter<P>,
     ) -> Result<(), T::Fault>
         ensures { (responses : Bool) (heads : Heads) →
-            IsTold T.Transcript.refuses
+            IsReported T.Transcript.refuses
             (ends T.Transcript.manner self.now.frame (T.Transcript.state transcript.old) (direction self.now.rules responses heads self.now.frame))
             result writer.old writer.new (direction self.now.rules responses heads None) (T.Transcript.state transcript.new) }
     {
@@ -128,7 +128,7 @@ impl<A: Allocator> FrameReader<A> {
         writer: &mut TextWriter<P>,
     ) -> Result<(), T::Fault>
         ensures { (responses : Bool) (heads : Heads) →
-            IsTold T.Transcript.refuses
+            IsReported T.Transcript.refuses
             (closes T.Transcript.manner self.now.frame (T.Transcript.state transcript.old) (direction self.now.rules responses heads self.now.frame))
             result writer.old writer.new (direction self.now.rules responses heads None) (T.Transcript.state transcript.new) }
     {

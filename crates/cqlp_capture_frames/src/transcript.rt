@@ -10,8 +10,8 @@ use cqlp_text::{Pen, TextWriter};
 use cqlp_type::TypeTable;
 use std::alloc::Allocator;
 
-/// What writes down what happens in one direction of a connection, one thing after the other. Each call takes the text of what it is told, and
-/// offsets count from the start of the direction. After a fault nothing more is told.
+/// What writes down what happens in one direction of a connection, one thing after the other. Each call takes the text of what is reported to it, and
+/// offsets count from the start of the direction. After a fault nothing more is reported.
 pub trait Transcript<A: Allocator> {
     ghost use Rattle.cqlp_grammar.specs.Events.{event_of};
     ghost use Rattle.cqlp_capture_frames.specs.Happenings.{Manner, Begins, Says, Fails, Compressed, Unread, Ends, Closes, outcome};

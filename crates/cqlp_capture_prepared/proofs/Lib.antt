@@ -1,6 +1,6 @@
 pub mod Places
 pub mod Lookups
-pub mod Told
+pub mod Reported
 pub mod Whole
 pub mod Asked
 pub mod Stays

@@ -104,7 +104,7 @@ module _ {K V : Type 0} (eq : K → K → Bool) (same : (a b : K) → eq a b ≡
       let rest = apart_removed (eq k) l.entries h in
       (none_take (eq k) (l.limit - 1) (remove_entry (eq k) l.entries) (removed_none k l.entries h), apart_take (l.limit - 1) (remove_entry (eq k) l.entries) rest)
 
-  -- ---- what is told is right
+  -- ---- what is reported is right
 
   pub put_same : (q k : K) (v w : V) (l : Latest K V) → eq q k ≡ true → lookup (eq q) (put eq k v l).entries ≡ Some w → v ≡ w
   put_same q k v w l is e = let f : Some v ≡ Some w = rw is at e in cc f
@@ -114,21 +114,21 @@ module _ {K V : Type 0} (eq : K → K → Bool) (same : (a b : K) → eq a b ≡
       let f : lookup (eq q) (take (l.limit - 1) (remove_entry (eq k) l.entries)) ≡ Some w = rw isnt at e in
       sym (lookup_other q k l.entries isnt) ∙ lookup_take (eq q) (l.limit - 1) (remove_entry (eq k) l.entries) w f
 
-  pub used_told : (q k : K) (w : V) (l : Latest K V) → lookup (eq q) (used (eq k) l).entries ≡ Some w → lookup (eq q) l.entries ≡ Some w
-  used_told q k w l e = elim (cases_Option (lookup_entry (eq k) l.entries)) [
+  pub used_reported : (q k : K) (w : V) (l : Latest K V) → lookup (eq q) (used (eq k) l).entries ≡ Some w → lookup (eq q) l.entries ≡ Some w
+  used_reported q k w l e = elim (cases_Option (lookup_entry (eq k) l.entries)) [
     | inl none ↦ rw none at e
     | inr some ↦
         let x = some.0 in
         let has = found (eq k) l.entries x some.1 in
         let own : k ≡ x.0 = same k x.0 has.0 in
-        let told = rw some.1 at e in
+        let reported = rw some.1 at e in
         elim (cases_Bool (eq q x.0)) [
           | inl is ↦
-              let f : Some x.1 ≡ Some w = rw is at told in
+              let f : Some x.1 ≡ Some w = rw is at reported in
               let q_is : q ≡ k = same q x.0 is ∙ sym own in
               ap (λ (z : K). lookup (eq z) l.entries) q_is ∙ has.1 ∙ f
           | inr isnt ↦
-              let f : lookup (eq q) (take (l.limit - 1) (remove_entry (eq k) l.entries)) ≡ Some w = rw isnt at told in
+              let f : lookup (eq q) (take (l.limit - 1) (remove_entry (eq k) l.entries)) ≡ Some w = rw isnt at reported in
               let apart : eq q k ≡ false = subst (λ (z : K). eq q z ≡ false) (sym own) isnt in
               sym (lookup_other q k l.entries apart) ∙ lookup_take (eq q) (l.limit - 1) (remove_entry (eq k) l.entries) w f
         ]

@@ -11,7 +11,7 @@ use Rattle.cqlp_capture_prepared.specs.Keeping.{types_of}
 use Rattle.cqlp_capture_prepared.specs.History.{Heard, Prepared, Executed, Other, after, ids_named, is_named}
 use Rattle.cqlp_capture_prepared.specs.Laws.{KeepsTheLatest}
 use Rattle.cqlp_capture_prepared.proofs.Lookups.{Apart, apart_removed, cases_Option, found, length_without_one, removed_none, without_none}
-use Rattle.cqlp_capture_prepared.proofs.Told.{one_id}
+use Rattle.cqlp_capture_prepared.proofs.Reported.{one_id}
 use Rattle.cqlp_capture_prepared.proofs.Whole.{limit_known}
 
 or_false : (a b : Bool) → a || b ≡ false → (a ≡ false) × (b ≡ false)
@@ -146,8 +146,8 @@ record Stands (q : List ℕ) (t : List Node) (p : List ℕ → Bool) (es : Entri
   apart : Apart bytes_eq one_id front
   named : AreNamed p front
 
-told : (q : List ℕ) (t : List Node) (p : List ℕ → Bool) (es : Entries) → Stands q t p es → p q ≡ false → lookup (bytes_eq q) es ≡ Some t
-told q t p es s isnt = ap (lookup (bytes_eq q)) s.split ∙ found_behind (bytes_eq q) s.front s.rest (s.key, t) (none_named p q s.front s.named isnt) s.is
+reported : (q : List ℕ) (t : List Node) (p : List ℕ → Bool) (es : Entries) → Stands q t p es → p q ≡ false → lookup (bytes_eq q) es ≡ Some t
+reported q t p es s isnt = ap (lookup (bytes_eq q)) s.split ∙ found_behind (bytes_eq q) s.front s.rest (s.key, t) (none_named p q s.front s.named isnt) s.is
 
 wider : (q : List ℕ) (t : List Node) (p : List ℕ → Bool) (own : List ℕ) (es : Entries) → Stands q t p es → Stands q t (or_own own p) es
 wider q t p own es s =
@@ -248,20 +248,20 @@ begins n m (Executed stream own) before q t few named e =
     let q_is = one_id q own is in
     let short : nat_le (length own) 64 ≡ true = subst (λ (z : List ℕ). nat_le (length z) 64 ≡ true) q_is few in
     let l = (after n m before).known in
-    let told = rw short at e in
+    let reported = rw short at e in
     elim (cases_Option (lookup_entry (bytes_eq own) l.entries)) [
       | inl none ↦
           let nothing : lookup (bytes_eq q) l.entries ≡ None = subst (λ (z : List ℕ). lookup (bytes_eq z) l.entries ≡ None) (sym q_is) (none_found (bytes_eq own) l.entries none) in
-          let something : lookup (bytes_eq q) l.entries ≡ Some t = rw none at told in
+          let something : lookup (bytes_eq q) l.entries ≡ Some t = rw none at reported in
           absurd (cc (nothing, something))
       | inr some ↦
           let x = some.0 in
           let here : bytes_eq q x.0 ≡ true = same_id q x.0 (q_is ∙ one_id own x.0 (found (bytes_eq own) l.entries x some.1).0) in
-          rw (short, some.1) (first q t x (take (l.limit - 1) (remove_entry (bytes_eq own) l.entries)) here (rw some.1 at told))
+          rw (short, some.1) (first q t x (take (l.limit - 1) (remove_entry (bytes_eq own) l.entries)) here (rw some.1 at reported))
     ]
 begins n m (Other stream) before q t few named e = absurd (cc named)
 
 pub keeps : KeepsTheLatest
 keeps n m before h later q t few named e isnt least =
     let short : nat_le (length q) 64 ≡ true = le-leb (length q) 64 few in
-    told q t (λ k. is_named k later) (after n m (later ++ h ∷ before)).known.entries (stays n m (h ∷ before) q t (begins n m h before q t short named e) later isnt least) isnt
+    reported q t (λ k. is_named k later) (after n m (later ++ h ∷ before)).known.entries (stays n m (h ∷ before) q t (begins n m h before q t short named e) later isnt least) isnt

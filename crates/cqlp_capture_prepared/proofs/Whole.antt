@@ -1,4 +1,4 @@
--- Where no statement and no EXECUTE has to go, all that was said is told.
+-- Where no statement and no EXECUTE has to go, all that was said is reported.
 use Rattle.std.proofs.Common.{inl, inr, ◌≡◌, ◌≤◌, ◌-◌, ℕ, suc, Bool, true, false, List, [], ◌∷◌, length, refl, sym, ap, subst, ◌∙◌, arith, Option, Some, None, ℤ}
 use Rattle.std.specs.Prelude.{nat_le, is_some, option_and_then, if◌then◌else◌}
 use Rattle.std.specs.Ordering.{int_eq}
@@ -6,9 +6,9 @@ use Rattle.std.specs.Str.{bytes_eq}
 use Rattle.std.specs.Map.{lookup, remove_entry}
 use Rattle.std.proofs.lemmas.Bool.{cases_Bool, le-leb}
 use Rattle.cqlp_capture_prepared.specs.History.{Heard, Prepared, Executed, Other, AreShort, WaitNeverMore, after, executes_waiting, id_asked, statements_prepared, types_said}
-use Rattle.cqlp_capture_prepared.specs.Laws.{TellsAll}
+use Rattle.cqlp_capture_prepared.specs.Laws.{ReportsAll}
 use Rattle.cqlp_capture_prepared.proofs.Lookups.{length_put, length_used, length_without_one, limit_used, lookup_other, put_here, put_there, removed_none, used_there, without_none}
-use Rattle.cqlp_capture_prepared.proofs.Told.{apart_after, one_id, one_stream}
+use Rattle.cqlp_capture_prepared.proofs.Reported.{apart_after, one_id, one_stream}
 
 if_true : {X : Type 0} (b : Bool) (x y : X) → b ≡ true → (if b then x else y) ≡ x
 if_true b x y e = rw e refl
@@ -143,7 +143,7 @@ same_then : {X Y : Type 0} (f g : X → Option Y) (o : Option X) → ((x : X) �
 same_then f g None h = refl
 same_then f g (Some x) h = h x
 
-pub all : TellsAll
+pub all : ReportsAll
 all n m hs s short within never =
     let waits = wait_all n m hs short never in
     let knows = know_all n m hs short within in

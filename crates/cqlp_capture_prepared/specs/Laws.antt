@@ -4,15 +4,15 @@ use Rattle.cqlp_kind.specs.declared.node.Node.{Node}
 use Rattle.cqlp_capture_prepared.specs.Keeping.{Keeping, new_keeping, types_for, types_of}
 use Rattle.cqlp_capture_prepared.specs.History.{AreShort, Heard, WaitNeverMore, after, ids_named, is_named, statements_prepared, types_by}
 
--- What is told are the types that the last PREPARED said of the id that the last EXECUTE under the stream id named, if nothing came under it since.
-abbrev pub TellsNoOthers : Type 0
-TellsNoOthers =
+-- What is reported are the types that the last PREPARED said of the id that the last EXECUTE under the stream id named, if nothing came under it since.
+abbrev pub ReportsNoOthers : Type 0
+ReportsNoOthers =
     (statements executes : ℕ) (heard : List Heard) (stream : ℤ) (types : List Node)
     → types_for stream (after statements executes heard) ≡ Some types → types_by stream heard ≡ Some types
 
--- They are told of each page where no more statements were prepared, and no more EXECUTEs waited, than there are places for.
-abbrev pub TellsAll : Type 0
-TellsAll =
+-- They are reported of each page where no more statements were prepared, and no more EXECUTEs waited, than there are places for.
+abbrev pub ReportsAll : Type 0
+ReportsAll =
     (statements executes : ℕ) (heard : List Heard) (stream : ℤ)
     → AreShort heard → statements_prepared heard ≤ statements → WaitNeverMore executes heard
     → types_for stream (after statements executes heard) ≡ types_by stream heard

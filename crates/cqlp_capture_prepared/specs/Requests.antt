@@ -101,7 +101,7 @@ all_asked (suc n) begins b a =
 abbrev pub bytes_asked : (begins : Bool) → List ℕ → Asked → Asked
 bytes_asked begins b a = all_asked (2 * length b + 2) begins b a
 
--- ---- what a stream tells: the first bytes of a segment's payload begin it
+-- ---- what a stream delivers: the first bytes of a segment's payload begin it
 
 -- With a SYN nothing is known any more.
 abbrev pub begins : (syn : Bool) → Asked → Asked

@@ -1,16 +1,16 @@
-//! Laws of which types are told. No code needs them.
+//! Laws of which types are reported. No code needs them.
 
-ghost use Rattle.cqlp_capture_prepared.specs.Laws.{KeepsTheLatest, OneAnswerOfNew, TellsAll, TellsNoOthers};
+ghost use Rattle.cqlp_capture_prepared.specs.Laws.{KeepsTheLatest, OneAnswerOfNew, ReportsAll, ReportsNoOthers};
 
 /// Whatever happens on a connection, a page never gets other types than the last PREPARED said of the id that the last EXECUTE under its stream
 /// id named, if nothing came under that stream id since.
 pub fn no_other_types()
-    ensures { TellsNoOthers }
+    ensures { ReportsNoOthers }
 {}
 
 /// A page gets these types, where no more different statements were prepared and never more EXECUTEs waited than there are places for.
 pub fn all_types()
-    ensures { TellsAll }
+    ensures { ReportsAll }
 {}
 
 /// A statement that was prepared or executed while it was known stays known, until as many others were prepared or executed as there are places for.

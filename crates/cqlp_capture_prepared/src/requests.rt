@@ -30,7 +30,7 @@ impl Requests {
         }
     }
 
-    /// Takes what is told of the requests, with its bytes, and tells the EXECUTEs among them, and the other requests, to `known`: each at its
+    /// Takes what the direction of the requests delivers, with its bytes, and reports the EXECUTEs among them, and the other requests, to `known`: each at its
     /// header, and an EXECUTE again where its id came whole. With a SYN nothing is known any more.
     pub fn hear<A: Allocator>(
         &mut self,
@@ -128,7 +128,7 @@ fn names_statement(header: &Header) -> bool
     header.opcode == Opcode::Execute && header.flags & 0x01 == 0
 }
 
-/// Whether nothing more is told of a piece.
+/// Whether nothing more is reported of a piece.
 fn is_done(heard: Heard) -> bool
     ensures { result ≡ is_done heard }
 {

@@ -1,30 +1,30 @@
--- What is known after a saying.
+-- What is known after an event of a connection.
 use Rattle.std.proofs.Common.{◌≡◌, ◌∙◌, ◌++◌, [], ℕ, IsSome, List, Option, Some, None, OnOk, Result, Ok, Err, ap, append-nil, sym, subst, refl}
 use Rattle.std.specs.Io.KnownBytes.{append_known}
 use Rattle.cqlp_text.specs.Outputs.{output, with_text}
 use Rattle.cqlp_text.specs.Written.{Receives, Written}
 use Rattle.cqlp_capture_prepared.specs.declared.requests.Requests.{Requests}
 use Rattle.cqlp_capture_streams.specs.declared.fault.StreamsFault.{StreamsFault}
-use Rattle.cqlp_capture_streams.specs.Sayings.{Saying}
-use Rattle.cqlp_capture_frames.specs.declared.fault.TellFault.{TellFault}
-use Rattle.cqlp_capture_frames.specs.declared.fault.TellFault.TheVariants as fault
+use Rattle.cqlp_capture_streams.specs.ConnectionEvents.{ConnectionEvent}
+use Rattle.cqlp_capture_frames.specs.declared.fault.ReportFault.{ReportFault}
+use Rattle.cqlp_capture_frames.specs.declared.fault.ReportFault.TheVariants as fault
 use Rattle.cqlp_capture_frames.specs.Directions.{Direction}
 use Rattle.cqlp_capture_frames.specs.Faults.{Takes}
-use Rattle.cqlp_capture_frames.specs.Tellings.{is_memory}
+use Rattle.cqlp_capture_frames.specs.Reportings.{is_memory}
 use Rattle.cqlp_capture_rows.specs.Responses.{Responses}
-use Rattle.cqlp_capture_rows.specs.Listening.{Change, Hears, Listening, Tells, change_of, listening, with_saying}
+use Rattle.cqlp_capture_rows.specs.Listening.{Change, Hears, Listening, Reports, change_of, listening, with_connection_event}
 
 -- it is still known what the output was given
 still_known : (given : Option (List ℕ)) (text : List ℕ) → IsSome given → IsSome (append_known given text)
 still_known None text k = cc
 still_known (Some t) text k = refl
 
-heard_known : (old new : Listening) (s : Saying) → new ≡ with_saying old s → IsSome old.output.given → IsSome new.output.given
+heard_known : (old new : Listening) (s : ConnectionEvent) → new ≡ with_connection_event old s → IsSome old.output.given → IsSome new.output.given
 heard_known old new s e k = subst (λ (w : Listening). IsSome w.output.given) (sym e) (still_known old.output.given (change_of s old).text k)
 
-pub tells_what_it_heard : (old new : Listening) (s : Saying) (r : Result (Unit {0}) StreamsFault) → (IsSome old.output.given → Hears old s r new) → OnOk r (IsSome old.output.given → IsSome new.output.given × (new ≡ with_saying old s))
-tells_what_it_heard old new s (Ok u) h = λ k. (heard_known old new s (h k) k, h k)
-tells_what_it_heard old new s (Err e) h = tt
+pub reports_what_it_heard : (old new : Listening) (s : ConnectionEvent) (r : Result (Unit {0}) StreamsFault) → (IsSome old.output.given → Hears old s r new) → OnOk r (IsSome old.output.given → IsSome new.output.given × (new ≡ with_connection_event old s))
+reports_what_it_heard old new s (Ok u) h = λ k. (heard_known old new s (h k) k, h k)
+reports_what_it_heard old new s (Err e) h = tt
 
 -- ---- lines that were passed on
 
@@ -41,10 +41,10 @@ passed_on w v text none none' known takes =
     let given : v.given ≡ append_known w.given text = p.1 ∙ ap (λ (z : List ℕ). Some (t.0 ++ z)) all ∙ sym (ap (λ (g : Option (List ℕ)). append_known g text) t.1) in
     λ i. output (given i) (takes.failures i)
 
-pub tells_told : (asked : ℕ) (requests requests' : Requests) (direction direction' : Direction) (old new : Responses) (w v : Written) (x : Change) (r : Result (Unit {0}) TellFault) → w.waiting ≡ [] → v.waiting ≡ [] → IsSome w.given → Takes is_memory w x.text r v → OnOk r (requests' ≡ x.requests) → OnOk r (direction' ≡ x.direction) → OnOk r (new ≡ x.responses)
-    → Tells (listening asked requests direction old (output w.given w.failures)) x r (listening asked requests' direction' new (output v.given v.failures))
-tells_told asked requests requests' direction direction' old new w v x (Ok u) none none' known takes same there after = λ i. listening asked (same i) (there i) (after i) (passed_on w v x.text none none' known takes i)
-tells_told asked requests requests' direction direction' old new w v x (Err fault.Write) none none' known breaks same there after =
+pub reports_change : (asked : ℕ) (requests requests' : Requests) (direction direction' : Direction) (old new : Responses) (w v : Written) (x : Change) (r : Result (Unit {0}) ReportFault) → w.waiting ≡ [] → v.waiting ≡ [] → IsSome w.given → Takes is_memory w x.text r v → OnOk r (requests' ≡ x.requests) → OnOk r (direction' ≡ x.direction) → OnOk r (new ≡ x.responses)
+    → Reports (listening asked requests direction old (output w.given w.failures)) x r (listening asked requests' direction' new (output v.given v.failures))
+reports_change asked requests requests' direction direction' old new w v x (Ok u) none none' known takes same there after = λ i. listening asked (same i) (there i) (after i) (passed_on w v x.text none none' known takes i)
+reports_change asked requests requests' direction direction' old new w v x (Err fault.Write) none none' known breaks same there after =
     let text = x.text in
     let t = known_at w.given known in
     let p = breaks.passed t.0 t.1 in
@@ -56,8 +56,8 @@ tells_told asked requests requests' direction direction' old new w v x (Err faul
       given = p.1 ∙ sym (ap (λ (g : Option (List ℕ)). append_known g p.0) t.1);
       failures = breaks.failures;
     }
-tells_told asked requests requests' direction direction' old new w v x (Err fault.NoMemory) none none' known (front, later, split, takes) same there after = (front, later, split, passed_on w v front none none' known takes)
+reports_change asked requests requests' direction direction' old new w v x (Err fault.NoMemory) none none' known (front, later, split, takes) same there after = (front, later, split, passed_on w v front none none' known takes)
 
-pub on_ok : (r : Result (Unit {0}) TellFault) (x : Requests) → OnOk r (x ≡ x)
+pub on_ok : (r : Result (Unit {0}) ReportFault) (x : Requests) → OnOk r (x ≡ x)
 on_ok (Ok u) x = refl
 on_ok (Err e) x = tt

@@ -8,13 +8,13 @@ use Rattle.cqlp_capture_streams.specs.Captures.{ReadsMade}
 use Rattle.cqlp_capture_streams.specs.Streams.{ReadsCapture}
 use Rattle.cqlp_capture_streams.specs.Endings.{Concludes}
 use Rattle.cqlp_capture_streams.specs.Causes.{HasCause}
-use Rattle.cqlp_capture_rows.specs.Listening.{Listening, StopsAt, new_listening, with_saying}
+use Rattle.cqlp_capture_rows.specs.Listening.{Listening, StopsAt, new_listening, with_connection_event}
 
 -- What was heard of an input with the bytes xs by so many reads, what that was, and the text that was written.
 abbrev pub Listens : StreamsLimits → (asked : ℕ) → (ports : List ℕ) → (xs : List ℕ) → ReadsMade → Result CaptureRead StreamsFault
     → (left : Option (List ℕ)) → (out : Output) → (out' : Output) → Type 0
 Listens l asked ports xs m r left out out' =
-    (w : Listening) × ReadsCapture with_saying StopsAt l ports xs m r left (new_listening asked out) w
+    (w : Listening) × ReadsCapture with_connection_event StopsAt l ports xs m r left (new_listening asked out) w
     × (out' ≡ w.output)
 
 -- The text of its pages was written, and then the line of how it ended, with its status.

@@ -1,7 +1,7 @@
 -- Laws: two answers are the same.
 use Rattle.std.specs.Prelude.{◌≡◌, ℕ, Ok}
 use Rattle.cqlp_text.specs.Outputs.{Output}
-use Rattle.cqlp_capture_streams.specs.Sayings.{Saying}
+use Rattle.cqlp_capture_streams.specs.ConnectionEvents.{ConnectionEvent}
 use Rattle.cqlp_capture_rows.specs.Listening.{Hears, Listening, new_listening}
 
 abbrev pub OneAnswerOfNew : Type 0
@@ -12,4 +12,4 @@ OneAnswerOfNew =
 -- where the output does not fail
 abbrev pub OneAnswerOfHear : Type 0
 OneAnswerOfHear =
-    (before e f : Listening) (s : Saying) (u v : Unit {0}) → Hears before s (Ok u) e → Hears before s (Ok v) f → f ≡ e
+    (before e f : Listening) (s : ConnectionEvent) (u v : Unit {0}) → Hears before s (Ok u) e → Hears before s (Ok v) f → f ≡ e

@@ -13,7 +13,7 @@ use crate::limits::{EXECUTES, STATEMENTS};
 use crate::page::Page;
 use crate::spot::{FrameSpot, Spot};
 use cqlp_capture_frames::{
-    LinePlace, TellFault, Transcript, put_compressed, put_gap, put_refused, put_unread,
+    LinePlace, ReportFault, Transcript, put_compressed, put_gap, put_refused, put_unread,
 };
 use cqlp_capture_prepared::{NewPreparedError, PreparedTypes, Requests};
 use cqlp_grammar::{Event, SinkFault};
@@ -74,7 +74,7 @@ impl<A: Allocator + Clone> Responses<A> {
 }
 
 impl<A: Allocator> Responses<A> {
-    /// Takes what is told of the requests, with its bytes: what is known of statements changes by that.
+    /// Takes what the direction of the requests delivers, with its bytes: what is known of statements changes by that.
     pub(crate) fn hear_requests(&mut self, step: StreamStep, bytes: &[u8], requests: &mut Requests)
         ensures known { asked requests.new self.new.known ≡ step_asked step bytes.now (asked requests.old self.old.known) }
         ensures others { self.new ≡ with_known self.new.known self.old }
@@ -134,10 +134,10 @@ impl<A: Allocator> Responses<A> {
 impl<A: Allocator + Clone> Transcript<A> for Responses<A> {
     ghost use Rattle.cqlp_capture_frames.specs.Faults.{Takes};
     ghost use Rattle.cqlp_capture_frames.specs.Happenings.{Begins, Ends, outcome};
-    ghost use Rattle.cqlp_capture_frames.specs.Tellings.{is_memory};
+    ghost use Rattle.cqlp_capture_frames.specs.Reportings.{is_memory};
     ghost use Rattle.cqlp_capture_rows.specs.Responses.{AsksFor, Responses, page_manner};
 
-    type Fault = TellFault;
+    type Fault = ReportFault;
 
     ghost refuses = { is_memory };
 
@@ -147,17 +147,17 @@ impl<A: Allocator + Clone> Transcript<A> for Responses<A> {
 
     ghost manner = { page_manner };
 
-    fn no_memory() -> TellFault {
-        TellFault::NoMemory
+    fn no_memory() -> ReportFault {
+        ReportFault::NoMemory
     }
 
-    #[tactic(auto, using(cqlp_capture_frames::proofs::Tellings::asked_here, cqlp_capture_frames::proofs::Tellings::refused_here))]
+    #[tactic(auto, using(cqlp_capture_frames::proofs::Reportings::asked_here, cqlp_capture_frames::proofs::Reportings::refused_here))]
     fn begin<P: Pen>(
         &mut self,
         at: u64,
         header: &Header,
         _writer: &mut TextWriter<P>,
-    ) -> Result<Option<TypeTable<A>>, TellFault>
+    ) -> Result<Option<TypeTable<A>>, ReportFault>
         ensures text { Takes is_memory _writer.old (page_manner.text self.old (Begins at header.now)) (outcome result) _writer.new }
         ensures types { IfOk result (λ types. option_map (λ table. table.nodes) types ≡ page_manner.types self.old at header.now) }
         ensures after { OnOk result (self.new ≡ page_manner.after self.old (Begins at header.now)) }
@@ -172,66 +172,66 @@ impl<A: Allocator + Clone> Transcript<A> for Responses<A> {
         Ok(types)
     }
 
-    #[tactic(auto, using(cqlp_capture_frames::proofs::Tellings::breaks_here))]
+    #[tactic(auto, using(cqlp_capture_frames::proofs::Reportings::breaks_here))]
     fn event<P: Pen>(
         &mut self,
         _at: u64,
         event: &Event<'_>,
         writer: &mut TextWriter<P>,
-    ) -> Result<(), TellFault> {
+    ) -> Result<(), ReportFault> {
         Ok(self.page.put_event(event, self.begun, writer)?)
     }
 
-    #[tactic(auto, using(cqlp_capture_frames::proofs::Tellings::first_breaks, cqlp_capture_frames::proofs::Tellings::then_breaks))]
+    #[tactic(auto, using(cqlp_capture_frames::proofs::Reportings::first_breaks, cqlp_capture_frames::proofs::Reportings::then_breaks))]
     fn refusal<P: Pen>(
         &mut self,
         at: u64,
         why: Reason,
         writer: &mut TextWriter<P>,
-    ) -> Result<(), TellFault> {
+    ) -> Result<(), ReportFault> {
         self.cut(writer)?;
         Ok(put_refused(writer, self.place(), at, why)?)
     }
 
-    #[tactic(auto, using(cqlp_capture_frames::proofs::Tellings::breaks_here))]
+    #[tactic(auto, using(cqlp_capture_frames::proofs::Reportings::breaks_here))]
     fn compressed<P: Pen>(
         &mut self,
         at: u64,
         header: &Header,
         writer: &mut TextWriter<P>,
-    ) -> Result<(), TellFault> {
+    ) -> Result<(), ReportFault> {
         self.known.forget(header.stream);
         Ok(put_compressed(writer, self.place(), at)?)
     }
 
-    #[tactic(auto, using(cqlp_capture_frames::proofs::Tellings::breaks_here))]
+    #[tactic(auto, using(cqlp_capture_frames::proofs::Reportings::breaks_here))]
     fn unread<P: Pen>(
         &mut self,
         at: u64,
         header: &Header,
         writer: &mut TextWriter<P>,
-    ) -> Result<(), TellFault> {
+    ) -> Result<(), ReportFault> {
         self.known.forget(header.stream);
         Ok(put_unread(writer, self.place(), at)?)
     }
 
-    #[tactic(auto, using(cqlp_capture_frames::proofs::Tellings::breaks_here))]
+    #[tactic(auto, using(cqlp_capture_frames::proofs::Reportings::breaks_here))]
     fn gap<P: Pen>(
         &mut self,
         at: u64,
         length: u64,
         cause: GapCause,
         writer: &mut TextWriter<P>,
-    ) -> Result<(), TellFault> {
+    ) -> Result<(), ReportFault> {
         Ok(put_gap(writer, self.place(), at, length, cause)?)
     }
 
-    #[tactic(auto, using(cqlp_capture_frames::proofs::Tellings::early_ends))]
+    #[tactic(auto, using(cqlp_capture_frames::proofs::Reportings::early_ends))]
     fn end<P: Pen>(
         &mut self,
         types: &TypeTable<A>,
         writer: &mut TextWriter<P>,
-    ) -> Result<(), TellFault>
+    ) -> Result<(), ReportFault>
         ensures text { Takes is_memory writer.old (page_manner.text self.old (Ends types.now.nodes)) result writer.new }
         ensures after { OnOk result (self.new ≡ page_manner.after self.old (Ends types.now.nodes)) }
         ensures asks { IfErr result (λ f. is_memory f ≡ true → AsksFor self.old (Ends types.now.nodes)) }
@@ -240,8 +240,8 @@ impl<A: Allocator + Clone> Transcript<A> for Responses<A> {
         Ok(self.cut(writer)?)
     }
 
-    #[tactic(auto, using(cqlp_capture_frames::proofs::Tellings::breaks_here))]
-    fn close<P: Pen>(&mut self, writer: &mut TextWriter<P>) -> Result<(), TellFault> {
+    #[tactic(auto, using(cqlp_capture_frames::proofs::Reportings::breaks_here))]
+    fn close<P: Pen>(&mut self, writer: &mut TextWriter<P>) -> Result<(), ReportFault> {
         Ok(self.cut(writer)?)
     }
 }

@@ -5,17 +5,17 @@ ghost use Rattle.cqlp_text.specs.Outputs.{written};
 ghost use Rattle.cqlp_capture_prepared.specs.Keeping.{new_keeping};
 ghost use Rattle.cqlp_capture_frames.specs.Directions.{begun, closes};
 ghost use Rattle.cqlp_capture_frames.specs.Faults.{Takes};
-ghost use Rattle.cqlp_capture_frames.specs.Tellings.{is_memory};
+ghost use Rattle.cqlp_capture_frames.specs.Reportings.{is_memory};
 ghost use Rattle.cqlp_capture_rows.specs.Responses.{new_responses, page_manner, rules};
 ghost use Rattle.cqlp_capture_rows.specs.Listening.{heard, leaves};
 
 use crate::limits::{EXECUTES, LIMITS, STATEMENTS};
 use crate::responses::Responses;
-use cqlp_capture_frames::{Direction, TellFault};
+use cqlp_capture_frames::{Direction, ReportFault};
 use cqlp_capture_prepared::Requests;
-use cqlp_capture_streams::{Listener, Saying, StreamsFault};
+use cqlp_capture_streams::{ConnectionEvent, Listener, StreamsFault};
 use cqlp_note::Target;
-use cqlp_tcp_connections::{Told, Way};
+use cqlp_tcp_connections::{Delivery, Way};
 use cqlp_text::{Buffered, Pen, TextWriter};
 use std::alloc::{AllocError, Allocator, Global};
 use std::marker::Model;
@@ -68,8 +68,8 @@ impl<O: Target, A: Allocator> Rows<O, A> {
 }
 
 impl<O: Target, A: Allocator + Clone> Rows<O, A> {
-    ghost use Rattle.cqlp_capture_streams.specs.Sayings.{Of, saying_of};
-    ghost use Rattle.cqlp_capture_rows.specs.Listening.{Changes, Hears, Tells, if_asked, new_listening};
+    ghost use Rattle.cqlp_capture_streams.specs.ConnectionEvents.{Of, connection_event_of};
+    ghost use Rattle.cqlp_capture_rows.specs.Listening.{Changes, Hears, Reports, if_asked, new_listening};
 
     /// Nothing came of the connection with this number, and its pages go to this output. Memory for all but types and frames is taken here; where it
     /// is not granted, the output is given back.
@@ -89,27 +89,27 @@ impl<O: Target, A: Allocator + Clone> Rows<O, A> {
         }
     }
 
-    /// Takes what is told next of the connections.
-    fn take(&mut self, saying: &Saying<'_>) -> Result<(), StreamsFault>
-        ensures { IsSome self.old.output.given → Hears self.old (saying_of saying.now) result self.new }
+    /// Takes the next event of the connections.
+    fn take(&mut self, event: &ConnectionEvent<'_>) -> Result<(), StreamsFault>
+        ensures { IsSome self.old.output.given → Hears self.old (connection_event_of event.now) result self.new }
     {
-        match saying {
-            Saying::Packet { .. } | Saying::New { .. } => Ok(()),
-            Saying::Of { told, bytes } => self.hear_told(told, bytes),
-            Saying::Left(totals) => self.hear_left(totals.number),
+        match event {
+            ConnectionEvent::Packet { .. } | ConnectionEvent::New { .. } => Ok(()),
+            ConnectionEvent::Of { delivered, bytes } => self.hear_delivery(delivered, bytes),
+            ConnectionEvent::Left(totals) => self.hear_left(totals.number),
         }
     }
 
-    fn hear_told(&mut self, told: &Told, bytes: &[u8]) -> Result<(), StreamsFault>
-        ensures { IsSome self.old.output.given → Hears self.old (Of told.now bytes.now) result self.new }
+    fn hear_delivery(&mut self, delivered: &Delivery, bytes: &[u8]) -> Result<(), StreamsFault>
+        ensures { IsSome self.old.output.given → Hears self.old (Of delivered.now bytes.now) result self.new }
     {
-        if told.number != self.asked {
+        if delivered.number != self.asked {
             return Ok(());
         }
-        match self.tell(told, bytes) {
+        match self.report(delivered, bytes) {
             Ok(()) => Ok(()),
-            Err(TellFault::Write) => Err(StreamsFault::Write),
-            Err(TellFault::NoMemory) => Err(StreamsFault::NoMemory),
+            Err(ReportFault::Write) => Err(StreamsFault::Write),
+            Err(ReportFault::NoMemory) => Err(StreamsFault::NoMemory),
         }
     }
 
@@ -122,90 +122,92 @@ impl<O: Target, A: Allocator + Clone> Rows<O, A> {
         }
         match self.leave() {
             Ok(()) => Ok(()),
-            Err(TellFault::Write) => Err(StreamsFault::Write),
-            Err(TellFault::NoMemory) => Err(StreamsFault::NoMemory),
+            Err(ReportFault::Write) => Err(StreamsFault::Write),
+            Err(ReportFault::NoMemory) => Err(StreamsFault::NoMemory),
         }
     }
 
-    /// Writes the text of what is told of the connection.
-    fn tell(&mut self, told: &Told, bytes: &[u8]) -> Result<(), TellFault>
+    /// Writes the text of an event of the connection.
+    fn report(&mut self, delivered: &Delivery, bytes: &[u8]) -> Result<(), ReportFault>
         ensures { IsSome self.old.output.given
-            → Tells self.old (heard told.now bytes.now self.old.requests self.old.direction self.old.responses) result self.new }
+            → Reports self.old (heard delivered.now bytes.now self.old.requests self.old.direction self.old.responses) result self.new }
     {
-        put_told(
+        put_delivery(
             &mut self.requests,
             &mut self.direction,
             &mut self.responses,
-            told,
+            delivered,
             bytes,
             &mut self.writer,
         )
     }
 
     /// Writes the text of its end.
-    fn leave(&mut self) -> Result<(), TellFault>
-        ensures { IsSome self.old.output.given → Tells self.old (leaves self.old.requests self.old.direction self.old.responses) result self.new }
+    fn leave(&mut self) -> Result<(), ReportFault>
+        ensures { IsSome self.old.output.given → Reports self.old (leaves self.old.requests self.old.direction self.old.responses) result self.new }
     {
         put_left(&mut self.direction, &mut self.responses, &mut self.writer)
     }
 }
 
-/// Takes the text of what is told, and passes it on, also where memory was refused.
-#[tactic(auto, using(cqlp_capture_frames::proofs::Tellings::passing_fails, cqlp_capture_frames::proofs::Tellings::passing_front_fails))]
-fn put_told<W: Target, A: Allocator + Clone, B: Allocator>(
+/// Takes the text of an event, and passes it on, also where memory was refused.
+#[tactic(auto, using(cqlp_capture_frames::proofs::Reportings::passing_fails, cqlp_capture_frames::proofs::Reportings::passing_front_fails))]
+fn put_delivery<W: Target, A: Allocator + Clone, B: Allocator>(
     requests: &mut Requests,
     direction: &mut Direction<A>,
     responses: &mut Responses<A>,
-    told: &Told,
+    delivered: &Delivery,
     bytes: &[u8],
     writer: &mut TextWriter<Buffered<W, B>>,
-) -> Result<(), TellFault>
-    ensures text { Takes is_memory writer.old (heard told.now bytes.now requests.old direction.old responses.old).text result writer.new }
+) -> Result<(), ReportFault>
+    ensures text { Takes is_memory writer.old (heard delivered.now bytes.now requests.old direction.old responses.old).text result writer.new }
     ensures passed { writer.new.waiting ≡ [] }
-    ensures requests { OnOk result (requests.new ≡ (heard told.now bytes.now requests.old direction.old responses.old).requests) }
-    ensures direction { OnOk result (direction.new ≡ (heard told.now bytes.now requests.old direction.old responses.old).direction) }
-    ensures responses { OnOk result (responses.new ≡ (heard told.now bytes.now requests.old direction.old responses.old).responses) }
+    ensures requests { OnOk result (requests.new ≡ (heard delivered.now bytes.now requests.old direction.old responses.old).requests) }
+    ensures direction { OnOk result (direction.new ≡ (heard delivered.now bytes.now requests.old direction.old responses.old).direction) }
+    ensures responses { OnOk result (responses.new ≡ (heard delivered.now bytes.now requests.old direction.old responses.old).responses) }
 {
-    match put_heard(requests, direction, responses, told, bytes, writer) {
+    match put_heard(requests, direction, responses, delivered, bytes, writer) {
         Ok(()) => Ok(writer.pass_on()?),
-        Err(TellFault::Write) => Err(TellFault::Write),
-        Err(TellFault::NoMemory) => {
+        Err(ReportFault::Write) => Err(ReportFault::Write),
+        Err(ReportFault::NoMemory) => {
             writer.pass_on()?;
-            Err(TellFault::NoMemory)
+            Err(ReportFault::NoMemory)
         }
     }
 }
 
-/// Takes the text of what is told.
+/// Takes the text of an event.
 fn put_heard<P: Pen, A: Allocator + Clone>(
     requests: &mut Requests,
     direction: &mut Direction<A>,
     responses: &mut Responses<A>,
-    told: &Told,
+    delivered: &Delivery,
     bytes: &[u8],
     writer: &mut TextWriter<P>,
-) -> Result<(), TellFault>
-    ensures text { Takes is_memory writer.old (heard told.now bytes.now requests.old direction.old responses.old).text result writer.new }
-    ensures requests { OnOk result (requests.new ≡ (heard told.now bytes.now requests.old direction.old responses.old).requests) }
-    ensures direction { OnOk result (direction.new ≡ (heard told.now bytes.now requests.old direction.old responses.old).direction) }
-    ensures responses { OnOk result (responses.new ≡ (heard told.now bytes.now requests.old direction.old responses.old).responses) }
+) -> Result<(), ReportFault>
+    ensures text { Takes is_memory writer.old (heard delivered.now bytes.now requests.old direction.old responses.old).text result writer.new }
+    ensures requests { OnOk result (requests.new ≡ (heard delivered.now bytes.now requests.old direction.old responses.old).requests) }
+    ensures direction { OnOk result (direction.new ≡ (heard delivered.now bytes.now requests.old direction.old responses.old).direction) }
+    ensures responses { OnOk result (responses.new ≡ (heard delivered.now bytes.now requests.old direction.old responses.old).responses) }
 {
-    match told.way {
+    match delivered.way {
         Way::Requests => {
-            responses.hear_requests(told.step, bytes, requests);
+            responses.hear_requests(delivered.step, bytes, requests);
             Ok(())
         }
-        Way::Responses => { direction.hear(true, told.step, told.at, bytes, responses, writer) }
+        Way::Responses => {
+            direction.hear(true, delivered.step, delivered.at, bytes, responses, writer)
+        }
     }
 }
 
 /// Takes the text of the end of a connection, and passes it on.
-#[tactic(auto, using(cqlp_capture_frames::proofs::Tellings::passing_fails, cqlp_capture_frames::proofs::Tellings::passing_front_fails))]
+#[tactic(auto, using(cqlp_capture_frames::proofs::Reportings::passing_fails, cqlp_capture_frames::proofs::Reportings::passing_front_fails))]
 fn put_left<W: Target, A: Allocator + Clone, B: Allocator>(
     direction: &mut Direction<A>,
     responses: &mut Responses<A>,
     writer: &mut TextWriter<Buffered<W, B>>,
-) -> Result<(), TellFault>
+) -> Result<(), ReportFault>
     ensures text { Takes is_memory writer.old (closes page_manner direction.old.frame responses.old direction.old).text result writer.new }
     ensures passed { writer.new.waiting ≡ [] }
     ensures direction { OnOk result (direction.new ≡ (closes page_manner direction.old.frame responses.old direction.old).after) }
@@ -213,10 +215,10 @@ fn put_left<W: Target, A: Allocator + Clone, B: Allocator>(
 {
     match direction.close(responses, writer) {
         Ok(()) => Ok(writer.pass_on()?),
-        Err(TellFault::Write) => Err(TellFault::Write),
-        Err(TellFault::NoMemory) => {
+        Err(ReportFault::Write) => Err(ReportFault::Write),
+        Err(ReportFault::NoMemory) => {
             writer.pass_on()?;
-            Err(TellFault::NoMemory)
+            Err(ReportFault::NoMemory)
         }
     }
 }
@@ -237,19 +239,19 @@ fn take_memory<A: Allocator + Clone>(
 }
 
 impl<O: Target, A: Allocator + Clone> Listener for Rows<O, A> {
-    ghost use Rattle.cqlp_capture_rows.specs.Listening.{Listening, StopsAt, with_saying};
+    ghost use Rattle.cqlp_capture_rows.specs.Listening.{Listening, StopsAt, with_connection_event};
 
     ghost View = { Listening };
 
     ghost view = { λ r. r };
 
-    ghost tells = { λ r. IsSome r.output.given };
+    ghost reports = { λ r. IsSome r.output.given };
 
-    ghost after = { with_saying };
+    ghost after = { with_connection_event };
 
     ghost faulted = { StopsAt };
 
-    fn hear(&mut self, saying: &Saying<'_>) -> Result<(), StreamsFault> {
-        self.take(saying)
+    fn hear(&mut self, event: &ConnectionEvent<'_>) -> Result<(), StreamsFault> {
+        self.take(event)
     }
 }

@@ -8,7 +8,7 @@ use Rattle.cqlp_capture_streams.specs.declared.capturing.CaptureRead.{CaptureRea
 use Rattle.cqlp_capture_streams.specs.declared.fault.StreamsFault.{StreamsFault}
 use Rattle.cqlp_capture_streams.specs.declared.limits.StreamsLimits.{StreamsLimits}
 use Rattle.cqlp_capture_streams.specs.declared.fault.StreamsFault.TheVariants as fault
-use Rattle.cqlp_capture_streams.specs.Sayings.{Saying}
+use Rattle.cqlp_capture_streams.specs.ConnectionEvents.{ConnectionEvent}
 use Rattle.cqlp_capture_streams.specs.Listening.{FailsAtLast, after_all}
 use Rattle.cqlp_capture_streams.specs.Packets.{SplitState}
 use Rattle.cqlp_capture_streams.specs.Captures.{IsOfReads, ReadsMade, SplitsTo}
@@ -43,14 +43,14 @@ of_reads k m fault.Write n n' a = absurd a
 of_reads k m fault.NoMemory n n' a = absurd a
 of_reads k m (fault.File f) n n' a = absurd a
 
-module _ {V : Type 0} (after : V → Saying → V) (faulted : V → Saying → StreamsFault → V → Type 0) (failures : V → ℕ)
-    (keeps : (v : V) (s : Saying) → failures (after v s) ≡ failures v)
-    (stops : (v w : V) (s : Saying) (e : StreamsFault) → faulted v s e w → FailsSo e (failures v) (failures w)) where
-  pub all_keep : (v : V) (ss : List Saying) → failures (after_all after v ss) ≡ failures v
+module _ {V : Type 0} (after : V → ConnectionEvent → V) (faulted : V → ConnectionEvent → StreamsFault → V → Type 0) (failures : V → ℕ)
+    (keeps : (v : V) (s : ConnectionEvent) → failures (after v s) ≡ failures v)
+    (stops : (v w : V) (s : ConnectionEvent) (e : StreamsFault) → faulted v s e w → FailsSo e (failures v) (failures w)) where
+  pub all_keep : (v : V) (ss : List ConnectionEvent) → failures (after_all after v ss) ≡ failures v
   all_keep v [] = refl
   all_keep v (s ∷ ss) = all_keep (after v s) ss ∙ keeps v s
 
-  at_last : (m : ReadsMade) (endless : Type 0) (v w : V) (ss : List Saying) (e : StreamsFault) → FailsAtLast after faulted endless v ss e w → EndedBy m e (failures v) (failures w)
+  at_last : (m : ReadsMade) (endless : Type 0) (v w : V) (ss : List ConnectionEvent) (e : StreamsFault) → FailsAtLast after faulted endless v ss e w → EndedBy m e (failures v) (failures w)
   at_last m endless v w ss e (inl (is, many, same)) = subst (λ (z : StreamsFault). EndedBy m z (failures v) (failures w)) (sym is) tt
   at_last m endless v w ss e (inr (inl (is, same))) = subst (λ (z : StreamsFault). EndedBy m z (failures v) (failures w)) (sym is) tt
   at_last m endless v w ss e (inr (inr (front, s, parts, a))) =
@@ -89,12 +89,12 @@ never_fault (end.Cut at n) is = cc
 never_fault (end.Refused r) is = cc
 
 -- what the fault line that was written says
-told_cause : (m : ReadsMade) (e : StreamsFault) (out err out' err' : Output) → EndedBy m e out.failures out'.failures → err' ≡ with_text err (fault_line e) → HasCause m out err out' err'
-told_cause m fault.Read out err out' err' a line = inl a
-told_cause m fault.Write out err out' err' a line = inr (inl a)
-told_cause m fault.NoMemory out err out' err' a line = inr (inr (inr (inl line)))
-told_cause m fault.TooManyTurns out err out' err' a line = inr (inr (inr (inr line)))
-told_cause m (fault.File f) out err out' err' a line = absurd a
+delivered_cause : (m : ReadsMade) (e : StreamsFault) (out err out' err' : Output) → EndedBy m e out.failures out'.failures → err' ≡ with_text err (fault_line e) → HasCause m out err out' err'
+delivered_cause m fault.Read out err out' err' a line = inl a
+delivered_cause m fault.Write out err out' err' a line = inr (inl a)
+delivered_cause m fault.NoMemory out err out' err' a line = inr (inr (inr (inl line)))
+delivered_cause m fault.TooManyTurns out err out' err' a line = inr (inr (inr (inr line)))
+delivered_cause m (fault.File f) out err out' err' a line = absurd a
 
 abbrev pub EndedIfFault : ReadsMade → Result CaptureRead StreamsFault → (failures failures' : ℕ) → Type 0
 EndedIfFault m (Ok x) n n' = Unit {0}
@@ -109,7 +109,7 @@ ok_never false lost x is = cc
 -- The status of a fault has its cause.
 pub ended_noted : (ports note words : List ℕ) (m : ReadsMade) (r : Result CaptureRead StreamsFault) (out err out' err' : Output) → EndedIfFault m r out.failures out'.failures → ConcludesNoted ports note words r err 3 err' → HasCause m out err out' err'
 ended_noted ports note words m (Ok x) out err out' err' a (inl (is, line)) = absurd (ok_never (length note == 0) (has_losses x) x (sym is))
-ended_noted ports note words m (Err e) out err out' err' a (inl (is, line)) = told_cause m e out err out' err' a line
+ended_noted ports note words m (Err e) out err out' err' a (inl (is, line)) = delivered_cause m e out err out' err' a line
 ended_noted ports note words m r out err out' err' a (inr (is, stops)) = inr (inr (inl stops.failures))
 
 pub ended_by : (ports words : List ℕ) (m : ReadsMade) (r : Result CaptureRead StreamsFault) (out err out' err' : Output) → EndedIfFault m r out.failures out'.failures → Concludes ports words r err 3 err' → HasCause m out err out' err'

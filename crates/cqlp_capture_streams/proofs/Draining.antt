@@ -11,10 +11,10 @@ use Rattle.cqlp_capture.proofs.Moving.{take_two}
 use Rattle.cqlp_capture_streams.specs.declared.fault.StreamsFault.{StreamsFault}
 use Rattle.cqlp_capture_streams.specs.declared.fault.StreamsFault.TheVariants as fault
 use Rattle.cqlp_capture_streams.specs.declared.running.Drained.TheVariants as drained
-use Rattle.cqlp_capture_streams.specs.Sayings.{Saying}
+use Rattle.cqlp_capture_streams.specs.ConnectionEvents.{ConnectionEvent}
 use Rattle.cqlp_capture_streams.specs.Listening.{AreEndless, FailsAtLast, after_all}
-use Rattle.cqlp_capture_streams.specs.Packets.{SplitState, TellsEvent}
-use Rattle.cqlp_capture_streams.specs.Captures.{DrainsTo, Has, IsAtEndBy, TellsFirst}
+use Rattle.cqlp_capture_streams.specs.Packets.{SplitState, ReportsEvent}
+use Rattle.cqlp_capture_streams.specs.Captures.{DrainsTo, Has, IsAtEndBy, ReportsFirst}
 use Rattle.cqlp_capture_streams.proofs.Events.{fails_at, has_more, never_ends, parted_at, same_limits, wants_more}
 
 -- nothing is refused at an event
@@ -26,9 +26,9 @@ joined : (s piece : List ℕ) (k n : ℕ) → (s ++ take k piece) ++ take n (dro
 joined s piece k n = append_assoc s (take k piece) (take n (drop k piece)) ∙ ap (λ z. s ++ z) (sym (take_two k n piece))
 
 -- an event of the piece
-pub takes_event : {V : Type 0} (after : V → Saying → V) (t : SplitState) (before : V) (s piece : List ℕ) (k : ℕ) (d d' : CaptureState) (u u' : SplitState) (v v' : V) (at used : ℕ) (e : CaptureEvent) (ts : List Saying) → (h : Has after t before (s ++ take k piece) d u v) → Leads d (s ++ take k piece) h.events (drop k piece) (answer.Event at used e) d' → TellsEvent true u (event_of e) ts u' → v' ≡ after_all after v ts → (n : ℕ) → n ≤ length h.events → (next : Has after t before (s ++ take (k + used) piece) d' u' v') × (n + 1 ≤ length next.events)
-takes_event after t before s piece k d d' u u' v v' at used e ts h leads tells is n few =
-    let next = has_more after t before (s ++ take k piece) (drop k piece) d d' u u' v v' at used e ts h leads tells is in
+pub takes_event : {V : Type 0} (after : V → ConnectionEvent → V) (t : SplitState) (before : V) (s piece : List ℕ) (k : ℕ) (d d' : CaptureState) (u u' : SplitState) (v v' : V) (at used : ℕ) (e : CaptureEvent) (ts : List ConnectionEvent) → (h : Has after t before (s ++ take k piece) d u v) → Leads d (s ++ take k piece) h.events (drop k piece) (answer.Event at used e) d' → ReportsEvent true u (event_of e) ts u' → v' ≡ after_all after v ts → (n : ℕ) → n ≤ length h.events → (next : Has after t before (s ++ take (k + used) piece) d' u' v') × (n + 1 ≤ length next.events)
+takes_event after t before s piece k d d' u u' v v' at used e ts h leads reports is n few =
+    let next = has_more after t before (s ++ take k piece) (drop k piece) d d' u u' v v' at used e ts h leads reports is in
     let enough : n + 1 ≤ length next.0.events = omega (arith, few, next.1) in
     subst (λ z. (next : Has after t before z d' u' v') × (n + 1 ≤ length next.events)) (joined s piece k used) (next.0, enough)
 
@@ -44,22 +44,22 @@ refuses_new : (o : Option CaptureRefusal) (old : CaptureState) (s : List ℕ) (e
 refuses_new None old s es input r none a = a
 refuses_new (Some x) old s es input r none a = absurd (let y = none in cc)
 
-pub drained_more : {V : Type 0} (after : V → Saying → V) (faulted : V → Saying → StreamsFault → V → Type 0) (l : CaptureLimits) (t : SplitState) (before : V) (s piece : List ℕ) (k : ℕ) (d d' : CaptureState) (u : SplitState) (v : V) (used : ℕ) → (h : Has after t before (s ++ take k piece) d u v) → d.limits ≡ l → d.refusal ≡ None → AnswersFrom d.refusal d (drop k piece) (answer.More used) d' → Leads d (s ++ take k piece) h.events (drop k piece) (answer.More used) d' → DrainsTo after faulted l t before s piece (Ok drained.More) d' u v
+pub drained_more : {V : Type 0} (after : V → ConnectionEvent → V) (faulted : V → ConnectionEvent → StreamsFault → V → Type 0) (l : CaptureLimits) (t : SplitState) (before : V) (s piece : List ℕ) (k : ℕ) (d d' : CaptureState) (u : SplitState) (v : V) (used : ℕ) → (h : Has after t before (s ++ take k piece) d u v) → d.limits ≡ l → d.refusal ≡ None → AnswersFrom d.refusal d (drop k piece) (answer.More used) d' → Leads d (s ++ take k piece) h.events (drop k piece) (answer.More used) d' → DrainsTo after faulted l t before s piece (Ok drained.More) d' u v
 drained_more after faulted l t before s piece k d d' u v used h same none answers leads = (
   same_limits d.refusal d d' (drop k piece) (answer.More used) answers ∙ same,
   leads.1,
   (s ++ take k piece) ++ drop k piece,
   record {
     events = h.events;
-    sayings = h.sayings;
+    connection_events = h.connection_events;
     stands = leads.2;
-    tells = h.tells;
+    reports = h.reports;
     got = h.got;
   },
   at_end_none d'.refusal d' (s ++ piece) ((s ++ take k piece) ++ drop k piece) h.events leads.1 (parted_at s piece k) (wants_more d.refusal d d' (drop k piece) used none answers),
 )
 
-pub drained_refused : {V : Type 0} (after : V → Saying → V) (faulted : V → Saying → StreamsFault → V → Type 0) (l : CaptureLimits) (t : SplitState) (before : V) (s piece : List ℕ) (k : ℕ) (d d' : CaptureState) (u : SplitState) (v : V) (r : CaptureRefusal) → (h : Has after t before (s ++ take k piece) d u v) → d.limits ≡ l → d.refusal ≡ None → AnswersFrom d.refusal d (drop k piece) (answer.Refused r) d' → Leads d (s ++ take k piece) h.events (drop k piece) (answer.Refused r) d' → DrainsTo after faulted l t before s piece (Ok drained.Refused) d' u v
+pub drained_refused : {V : Type 0} (after : V → ConnectionEvent → V) (faulted : V → ConnectionEvent → StreamsFault → V → Type 0) (l : CaptureLimits) (t : SplitState) (before : V) (s piece : List ℕ) (k : ℕ) (d d' : CaptureState) (u : SplitState) (v : V) (r : CaptureRefusal) → (h : Has after t before (s ++ take k piece) d u v) → d.limits ≡ l → d.refusal ≡ None → AnswersFrom d.refusal d (drop k piece) (answer.Refused r) d' → Leads d (s ++ take k piece) h.events (drop k piece) (answer.Refused r) d' → DrainsTo after faulted l t before s piece (Ok drained.Refused) d' u v
 drained_refused after faulted l t before s piece k d d' u v r h same none answers leads =
     let limits = same_limits d.refusal d d' (drop k piece) (answer.Refused r) answers in
     let says = refuses_new d.refusal d (s ++ take k piece) h.events (drop k piece) r none leads.2 in
@@ -69,24 +69,24 @@ drained_refused after faulted l t before s piece k d d' u v r h same none answer
       s ++ take k piece,
       record {
         events = h.events;
-        sayings = h.sayings;
+        connection_events = h.connection_events;
         stands = leads.1;
-        tells = h.tells;
+        reports = h.reports;
         got = h.got;
       },
       at_end_some d'.refusal d' (s ++ piece) (s ++ take k piece) h.events r leads.0 (subst (λ (z : CaptureLimits). Says z start (s ++ piece) h.events (Refused r)) (sym limits) there),
     )
 
 -- something failed at an event of the piece
-pub drain_fails : {V : Type 0} (after : V → Saying → V) (faulted : V → Saying → StreamsFault → V → Type 0) (l : CaptureLimits) (t : SplitState) (before : V) (s piece : List ℕ) (k : ℕ) (d d' : CaptureState) (u u' : SplitState) (v v' : V) (at used : ℕ) (e : CaptureEvent) (ts : List Saying) (f' : StreamsFault) → (h : Has after t before (s ++ take k piece) d u v) → d.limits ≡ l → AnswersFrom d.refusal d (drop k piece) (answer.Event at used e) d' → Leads d (s ++ take k piece) h.events (drop k piece) (answer.Event at used e) d' → TellsEvent false u (event_of e) ts u' → FailsAtLast after faulted (AreEndless ts) v ts f' v' → DrainsTo after faulted l t before s piece (Err f') d' u' v'
-drain_fails after faulted l t before s piece k d d' u u' v v' at used e ts f' h same answers leads tells fails =
-    let first = fails_at after faulted l t before (s ++ take k piece) (drop k piece) d d' u u' v v' at used e ts f' h leads (same_limits d.refusal d d' (drop k piece) (answer.Event at used e) answers ∙ same) tells fails in
-    let there = subst (λ z. (f : TellsFirst l t z first.0 u') × FailsAtLast after faulted (AreEndless first.0 ⊎ AreEndless f.events) before first.0 f' v' × (length f.later ≤ length piece)) (parted_at s piece k) (first.1, first.2, omega (arith, first.3, length-drop k piece)) in
+pub drain_fails : {V : Type 0} (after : V → ConnectionEvent → V) (faulted : V → ConnectionEvent → StreamsFault → V → Type 0) (l : CaptureLimits) (t : SplitState) (before : V) (s piece : List ℕ) (k : ℕ) (d d' : CaptureState) (u u' : SplitState) (v v' : V) (at used : ℕ) (e : CaptureEvent) (ts : List ConnectionEvent) (f' : StreamsFault) → (h : Has after t before (s ++ take k piece) d u v) → d.limits ≡ l → AnswersFrom d.refusal d (drop k piece) (answer.Event at used e) d' → Leads d (s ++ take k piece) h.events (drop k piece) (answer.Event at used e) d' → ReportsEvent false u (event_of e) ts u' → FailsAtLast after faulted (AreEndless ts) v ts f' v' → DrainsTo after faulted l t before s piece (Err f') d' u' v'
+drain_fails after faulted l t before s piece k d d' u u' v v' at used e ts f' h same answers leads reports fails =
+    let first = fails_at after faulted l t before (s ++ take k piece) (drop k piece) d d' u u' v v' at used e ts f' h leads (same_limits d.refusal d d' (drop k piece) (answer.Event at used e) answers ∙ same) reports fails in
+    let there = subst (λ z. (f : ReportsFirst l t z first.0 u') × FailsAtLast after faulted (AreEndless first.0 ⊎ AreEndless f.events) before first.0 f' v' × (length f.later ≤ length piece)) (parted_at s piece k) (first.1, first.2, omega (arith, first.3, length-drop k piece)) in
     (first.0, there.0, there.1, there.2)
 
 -- there was no end to its events
-pub never_drained : {V : Type 0} (after : V → Saying → V) (faulted : V → Saying → StreamsFault → V → Type 0) (l : CaptureLimits) (t : SplitState) (before : V) (s piece : List ℕ) (k : ℕ) (d : CaptureState) (u : SplitState) (v : V) → (h : Has after t before (s ++ take k piece) d u v) → AreEndless h.events → d.refusal ≡ None → d.limits ≡ l → DrainsTo after faulted l t before s piece (Err fault.TooManyTurns) d u v
+pub never_drained : {V : Type 0} (after : V → ConnectionEvent → V) (faulted : V → ConnectionEvent → StreamsFault → V → Type 0) (l : CaptureLimits) (t : SplitState) (before : V) (s piece : List ℕ) (k : ℕ) (d : CaptureState) (u : SplitState) (v : V) → (h : Has after t before (s ++ take k piece) d u v) → AreEndless h.events → d.refusal ≡ None → d.limits ≡ l → DrainsTo after faulted l t before s piece (Err fault.TooManyTurns) d u v
 never_drained after faulted l t before s piece k d u v h many none same =
     let first = never_ends after faulted l t before (s ++ take k piece) (drop k piece) d u v h many none same in
-    let there = subst (λ z. (f : TellsFirst l t z first.0 u) × FailsAtLast after faulted (AreEndless first.0 ⊎ AreEndless f.events) before first.0 fault.TooManyTurns v × (length f.later ≤ length piece)) (parted_at s piece k) (first.1, first.2, omega (arith, first.3, length-drop k piece)) in
+    let there = subst (λ z. (f : ReportsFirst l t z first.0 u) × FailsAtLast after faulted (AreEndless first.0 ⊎ AreEndless f.events) before first.0 fault.TooManyTurns v × (length f.later ≤ length piece)) (parted_at s piece k) (first.1, first.2, omega (arith, first.3, length-drop k piece)) in
     (first.0, there.0, there.1, there.2)

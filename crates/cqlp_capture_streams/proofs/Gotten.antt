@@ -4,11 +4,11 @@ use Rattle.cqlp_tcp_reassembly.specs.declared.step.StreamStep.TheVariants as ste
 use Rattle.cqlp_tcp_reassembly.specs.declared.step.StreamStep.{StreamStep}
 use Rattle.cqlp_capture_streams.specs.declared.files.StreamFile.{StreamFile}
 use Rattle.cqlp_capture_streams.specs.Files.{Call, with_call}
-use Rattle.cqlp_capture_streams.specs.Sayings.{Saying, Packet, New, Of, Left}
-use Rattle.cqlp_capture_streams.specs.Recordings.{call_of, call_of_step, called, file_of, with_saying}
-use Rattle.cqlp_capture_streams.specs.Laws.{GetWhatIsTold, appended_by, bytes_in, handed_on, is_same_file, told_by}
+use Rattle.cqlp_capture_streams.specs.ConnectionEvents.{ConnectionEvent, Packet, New, Of, Left}
+use Rattle.cqlp_capture_streams.specs.Recordings.{call_of, call_of_step, called, file_of, with_connection_event}
+use Rattle.cqlp_capture_streams.specs.Laws.{GetTheirBytes, appended_by, bytes_in, handed_on, is_same_file, delivered_by}
 
--- the one call of a saying, or none
+-- the one call of an event, or none
 abbrev calls_of : Option Call → List Call
 calls_of None = []
 calls_of (Some c) = c ∷ []
@@ -31,22 +31,22 @@ step_bytes f step.Ended g bytes = sym (nothing (is_same_file f g))
 step_bytes f step.Reset g bytes = sym (nothing (is_same_file f g))
 step_bytes f step.Done g bytes = sym (nothing (is_same_file f g))
 
-saying_bytes : (f : StreamFile) (s : Saying) → bytes_in f (calls_of (call_of s)) ≡ told_by f s
-saying_bytes f (Packet time) = refl
-saying_bytes f (New n) = refl
-saying_bytes f (Of told bytes) = step_bytes f told.step (file_of told) bytes
-saying_bytes f (Left totals) = refl
+connection_event_bytes : (f : StreamFile) (s : ConnectionEvent) → bytes_in f (calls_of (call_of s)) ≡ delivered_by f s
+connection_event_bytes f (Packet time) = refl
+connection_event_bytes f (New n) = refl
+connection_event_bytes f (Of delivered bytes) = step_bytes f delivered.step (file_of delivered) bytes
+connection_event_bytes f (Left totals) = refl
 
 bytes_then : (f : StreamFile) (xs ys : List Call) → bytes_in f (xs ++ ys) ≡ bytes_in f xs ++ bytes_in f ys
 bytes_then f [] ys = refl
 bytes_then f (x ∷ xs) ys = ap (λ z. appended_by f x ++ z) (bytes_then f xs ys) ∙ sym (append_assoc (appended_by f x) (bytes_in f xs) (bytes_in f ys))
 
-pub get_what_is_told : GetWhatIsTold
-get_what_is_told f before [] calls is = ([], is ∙ ap (λ z. Some z) (sym (append-nil calls)), refl)
-get_what_is_told f before (s ∷ ss) calls is =
+pub get_their_bytes : GetTheirBytes
+get_their_bytes f before [] calls is = ([], is ∙ ap (λ z. Some z) (sym (append-nil calls)), refl)
+get_their_bytes f before (s ∷ ss) calls is =
     let one = calls_of (call_of s) in
-    let rest = get_what_is_told f (with_saying before s) ss (calls ++ one) (called_known (call_of s) before.calls calls is) in (
+    let rest = get_their_bytes f (with_connection_event before s) ss (calls ++ one) (called_known (call_of s) before.calls calls is) in (
       one ++ rest.0,
       rest.1 ∙ ap (λ z. Some z) (append_assoc calls one rest.0),
-      bytes_then f one rest.0 ∙ (λ i. saying_bytes f s i ++ rest.2 i),
+      bytes_then f one rest.0 ∙ (λ i. connection_event_bytes f s i ++ rest.2 i),
     )

@@ -2,7 +2,7 @@ pub mod Paths
 pub mod Getting
 pub mod Parts
 pub mod Written
-pub mod Told
+pub mod Delivery
 pub mod Events
 pub mod Draining
 pub mod Splitting

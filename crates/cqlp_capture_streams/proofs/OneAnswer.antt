@@ -16,10 +16,10 @@ use Rattle.cqlp_capture.proofs.Whole.{always_said, refusal_stays, says_once}
 use Rattle.cqlp_capture_streams.specs.declared.capturing.CaptureRead.{CaptureRead}
 use Rattle.cqlp_capture_streams.specs.declared.fault.StreamsFault.{StreamsFault}
 use Rattle.cqlp_capture_streams.specs.declared.limits.StreamsLimits.{StreamsLimits}
-use Rattle.cqlp_capture_streams.specs.Sayings.{Saying}
+use Rattle.cqlp_capture_streams.specs.ConnectionEvents.{ConnectionEvent}
 use Rattle.cqlp_capture_streams.specs.Listening.{after_all}
-use Rattle.cqlp_capture_streams.specs.Recordings.{Recording, StopsAt, no_sums, recording, with_saying}
-use Rattle.cqlp_capture_streams.specs.Packets.{Finishes, SplitState, TellsEvents}
+use Rattle.cqlp_capture_streams.specs.Recordings.{Recording, StopsAt, no_sums, recording, with_connection_event}
+use Rattle.cqlp_capture_streams.specs.Packets.{Finishes, SplitState, ReportsEvents}
 use Rattle.cqlp_capture_streams.specs.Captures.{EndsSo, HearsAll, IsAll, ReadsMade, SplitsTo}
 use Rattle.cqlp_capture_streams.specs.Endings.{Concludes, ConcludesNoted, last_line, last_status, sums_words}
 use Rattle.cqlp_capture_streams.specs.Streams.{ReadsCapture, default_limits, no_connections, read_of}
@@ -107,7 +107,7 @@ module _ (l : CaptureLimits) where
 ok_same : (x y : CaptureRead) → ◌≡◌ {A = Result CaptureRead StreamsFault} (Ok x) (Ok y) → x ≡ y
 ok_same x y e = cc
 
-module _ {V : Type 0} (after : V → Saying → V) (faulted : V → Saying → StreamsFault → V → Type 0) where
+module _ {V : Type 0} (after : V → ConnectionEvent → V) (faulted : V → ConnectionEvent → StreamsFault → V → Type 0) where
   pub splits_once : (l : CaptureLimits) → Fits l → (t : SplitState) (turns : ℕ) (made made' : ReadsMade) (before : V) (xs : List ℕ) (e e' : CaptureEnd) (left left' : Option (List ℕ)) (u u' : SplitState) (v w : V) → SplitsTo after faulted l t turns made before xs (Ok e) left u v → SplitsTo after faulted l t turns made' before xs (Ok e') left' u' w → (e' ≡ e) × (u' ≡ u) × (w ≡ v)
   splits_once l fits t turns made made' before xs e e' left left' u u' v w a b =
       let f = a.ends.1 in
@@ -115,9 +115,9 @@ module _ {V : Type 0} (after : V → Saying → V) (faulted : V → Saying → S
       let here = ends_there l fits a.read a.rest xs f.events e a.parts a.all f.ends in
       let there = ends_there l fits b.read b.rest xs g.events e' b.parts b.all g.ends in
       let same = ends_once l xs f.events g.events e e' here there in
-      let told = events_once t f.mid g.mid f.events f.front g.front f.tells (subst (λ (z : List (ℕ × Event)). TellsEvents t z g.front g.mid) same.0 g.tells) in
-      let left = finishes_once f.mid u u' f.last g.last f.leave (subst (λ (z : SplitState). Finishes true z g.last u') told.1 g.leave) in
-      let all : b.ends.0 ≡ a.ends.0 = g.all ∙ (λ i. told.0 i ++ left.0 i) ∙ sym f.all in
+      let delivered = events_once t f.mid g.mid f.events f.front g.front f.reports (subst (λ (z : List (ℕ × Event)). ReportsEvents t z g.front g.mid) same.0 g.reports) in
+      let left = finishes_once f.mid u u' f.last g.last f.leave (subst (λ (z : SplitState). Finishes true z g.last u') delivered.1 g.leave) in
+      let all : b.ends.0 ≡ a.ends.0 = g.all ∙ (λ i. delivered.0 i ++ left.0 i) ∙ sym f.all in
       (same.1, left.1, b.ends.2 ∙ ap (after_all after before) all ∙ sym a.ends.2)
 
   pub read_once : OneAnswerOfReadCapture after faulted
@@ -140,7 +140,7 @@ well_read note (Ok x) well = (x, refl)
 well_read note (Err f) well = absurd (well refl)
 
 -- Two runs that end with a note and words of the view, and no fault.
-module _ {V : Type 0} (after : V → Saying → V) (faulted : V → Saying → StreamsFault → V → Type 0) (note words : V → Result CaptureRead StreamsFault → List ℕ) (limits : StreamsLimits) (ports xs : List ℕ) (before v w : V) (made made' : ReadsMade) (left left' : Option (List ℕ)) (r r' : Result CaptureRead StreamsFault) (err err' err'' : Output) (status status' : ℕ) where
+module _ {V : Type 0} (after : V → ConnectionEvent → V) (faulted : V → ConnectionEvent → StreamsFault → V → Type 0) (note words : V → Result CaptureRead StreamsFault → List ℕ) (limits : StreamsLimits) (ports xs : List ℕ) (before v w : V) (made made' : ReadsMade) (left left' : Option (List ℕ)) (r r' : Result CaptureRead StreamsFault) (err err' err'' : Output) (status status' : ℕ) where
   pub runs_noted : ReadsCapture after faulted limits ports xs made r left before v → ConcludesNoted ports (note v r) (words v r) r err status err' → status ≢ 3 → ReadsCapture after faulted limits ports xs made' r' left' before w → ConcludesNoted ports (note w r') (words w r') r' err status' err'' → status' ≢ 3 → (status' ≡ status) × (w ≡ v) × (err'' ≡ err')
   runs_noted reads ends well reads' ends' well' =
       let c = concluded ports (note v r) (words v r) r err err' status ends well in
@@ -157,11 +157,11 @@ module _ {V : Type 0} (after : V → Saying → V) (faulted : V → Saying → S
       )
 
 -- without a note
-module _ {V : Type 0} (after : V → Saying → V) (faulted : V → Saying → StreamsFault → V → Type 0) (words : V → List ℕ) (limits : StreamsLimits) (ports xs : List ℕ) (before v w : V) (made made' : ReadsMade) (left left' : Option (List ℕ)) (r r' : Result CaptureRead StreamsFault) (err err' err'' : Output) (status status' : ℕ) where
+module _ {V : Type 0} (after : V → ConnectionEvent → V) (faulted : V → ConnectionEvent → StreamsFault → V → Type 0) (words : V → List ℕ) (limits : StreamsLimits) (ports xs : List ℕ) (before v w : V) (made made' : ReadsMade) (left left' : Option (List ℕ)) (r r' : Result CaptureRead StreamsFault) (err err' err'' : Output) (status status' : ℕ) where
   pub runs_once : ReadsCapture after faulted limits ports xs made r left before v → Concludes ports (words v) r err status err' → status ≢ 3 → ReadsCapture after faulted limits ports xs made' r' left' before w → Concludes ports (words w) r' err status' err'' → status' ≢ 3 → (status' ≡ status) × (w ≡ v) × (err'' ≡ err')
   runs_once = runs_noted after faulted (λ v r. []) (λ v r. words v) limits ports xs before v w made made' left left' r r' err err' err'' status status'
 
 pub streams_once : OneAnswerOfWriteStreams
 streams_once limits ports xs calls out err left left' status status' made made' out' out'' err' err'' (n, (r, sums, reads, ends)) well (n', (r', sums', reads', ends')) well' =
-    let one = runs_once with_saying StopsAt (λ (z : Recording). sums_words z.sums) limits ports xs (recording calls out no_sums) (recording made out' sums) (recording made' out'' sums') n n' left left' r r' err err' err'' status status' reads ends well reads' ends' well' in
+    let one = runs_once with_connection_event StopsAt (λ (z : Recording). sums_words z.sums) limits ports xs (recording calls out no_sums) (recording made out' sums) (recording made' out'' sums') n n' left left' r r' err err' err'' status status' reads ends well reads' ends' well' in
     (one.0, ap (λ (z : Recording). z.calls) one.1, ap (λ (z : Recording). z.output) one.1, one.2)

@@ -1,6 +1,6 @@
 -- Steps, one after the other.
 use Rattle.std.proofs.Common.{List, [], ◌∷◌, ◌++◌, refl, subst}
-use Rattle.cqlp_capture_streams.specs.Tellings.{Path}
+use Rattle.cqlp_capture_streams.specs.Reportings.{Path}
 
 -- one step more
 pub path_more : {S X : Type 0} (Step : S → X → S → Type 0) (s m t : S) (xs : List X) (x : X) → Path Step s xs m → Step m x t → Path Step s (xs ++ x ∷ []) t

@@ -13,9 +13,9 @@ use Rattle.cqlp_capture_streams.specs.declared.fault.StreamsFault.{StreamsFault}
 use Rattle.cqlp_capture_streams.specs.declared.fault.StreamsFault.TheVariants as fault
 use Rattle.cqlp_capture_streams.specs.declared.running.Drained.{Drained}
 use Rattle.cqlp_capture_streams.specs.declared.running.Drained.TheVariants as drained
-use Rattle.cqlp_capture_streams.specs.Sayings.{Saying}
+use Rattle.cqlp_capture_streams.specs.ConnectionEvents.{ConnectionEvent}
 use Rattle.cqlp_capture_streams.specs.Packets.{SplitState}
-use Rattle.cqlp_capture_streams.specs.Captures.{DrainsTo, EndsTo, Has, HearsAll, IsAll, IsAtEndBy, IsRefused, ReadsMade, ReadsOn, SplitsTo, TellsSoFar, most_read}
+use Rattle.cqlp_capture_streams.specs.Captures.{DrainsTo, EndsTo, Has, HearsAll, IsAll, IsAtEndBy, IsRefused, ReadsMade, ReadsOn, SplitsTo, ReportsSoFar, most_read}
 use Rattle.cqlp_capture_streams.specs.Streams.{read_of}
 use Rattle.cqlp_capture_streams.proofs.Events.{hears_here}
 
@@ -30,7 +30,7 @@ well_made n = record { made = n; failed = false }
 abbrev pub badly_made : ℕ → ReadsMade
 badly_made n = record { made = n; failed = true }
 
-pub record SoFar {V : Type 0} (after : V → Saying → V) (l : CaptureLimits) (t : SplitState) (before : V) (xs : List ℕ)
+pub record SoFar {V : Type 0} (after : V → ConnectionEvent → V) (l : CaptureLimits) (t : SplitState) (before : V) (xs : List ℕ)
     (left : Option (List ℕ)) (d : CaptureState) (u : SplitState) (v : V) : Type 0 where
   pub read : List ℕ
   pub rest : List ℕ
@@ -42,7 +42,7 @@ pub record SoFar {V : Type 0} (after : V → Saying → V) (l : CaptureLimits) (
   pub wants : says (step d.limits d.spot) 0 d.pending ≡ More
 
 -- before the first read
-pub none_read : {V : Type 0} (after : V → Saying → V) (xs : List ℕ) (left : Option (List ℕ)) (d : CaptureState) (u : SplitState) (v : V) → d ≡ new_state d.limits → left ≡ Some xs → SoFar after d.limits u v xs left d u v
+pub none_read : {V : Type 0} (after : V → ConnectionEvent → V) (xs : List ℕ) (left : Option (List ℕ)) (d : CaptureState) (u : SplitState) (v : V) → d ≡ new_state d.limits → left ≡ Some xs → SoFar after d.limits u v xs left d u v
 none_read after xs left d u v made is = record {
   read = [];
   rest = xs;
@@ -50,9 +50,9 @@ none_read after xs left d u v made is = record {
   others = is;
   has = record {
     events = [];
-    sayings = [];
+    connection_events = [];
     stands = subst (λ (z : CaptureState). After z [] []) (sym made) (record { steps = []; events = refl; reads = (refl, refl) });
-    tells = (refl, refl);
+    reports = (refl, refl);
     got = refl;
   };
   limits = refl;
@@ -93,20 +93,20 @@ refused_by (Some y) d x (Err e) rest some is = tt
 pub refused_all : (d : CaptureState) (r : Result CaptureEnd StreamsFault) (rest : List ℕ) → IsRefused drained.Refused d.refusal → IfOk r (λ e. e ≡ ending d) → IsAll r rest
 refused_all d r rest some is = refused_by d.refusal d some.0 r rest some.1 is
 
-module _ {V : Type 0} (after : V → Saying → V) (faulted : V → Saying → StreamsFault → V → Type 0) (l : CaptureLimits) (t : SplitState) (before : V) (xs : List ℕ) (left left' : Option (List ℕ)) (d : CaptureState) (u : SplitState) (v : V) (f : SoFar after l t before xs left d u v) (turns made : ℕ) (few : made ≤ turns) where
+module _ {V : Type 0} (after : V → ConnectionEvent → V) (faulted : V → ConnectionEvent → StreamsFault → V → Type 0) (l : CaptureLimits) (t : SplitState) (before : V) (xs : List ℕ) (left left' : Option (List ℕ)) (d : CaptureState) (u : SplitState) (v : V) (f : SoFar after l t before xs left d u v) (turns made : ℕ) (few : made ≤ turns) where
   so_far_heard : HearsAll l f.read f.has.events d.spot d.pending
   so_far_heard = record {
     hears = subst (λ (z : CaptureLimits). Hears z start f.read f.has.events d.spot d.pending) f.limits (hears_here d f.read f.has.events f.free f.has.stands);
     wants = subst (λ (z : CaptureLimits). says (step z d.spot) 0 d.pending ≡ More) f.limits f.wants;
   }
 
-  so_far_told : TellsSoFar l t f.read f.has.sayings u
-  so_far_told = record {
+  so_far_delivered : ReportsSoFar l t f.read f.has.connection_events u
+  so_far_delivered = record {
     events = f.has.events;
     spot = d.spot;
     rest = d.pending;
     hears = so_far_heard;
-    tells = f.has.tells;
+    reports = f.has.reports;
   }
 
   -- with what the last read gave
@@ -137,8 +137,8 @@ module _ {V : Type 0} (after : V → Saying → V) (faulted : V → Saying → S
     on = none_more;
     all = tt;
     ends = (
-      f.has.sayings,
-      inl (refl, so_far_told, f.has.got),
+      f.has.connection_events,
+      inl (refl, so_far_delivered, f.has.got),
     );
   }
 
@@ -153,7 +153,7 @@ module _ {V : Type 0} (after : V → Saying → V) (faulted : V → Saying → S
     others = f.others;
     on = none_more;
     all = tt;
-    ends = (f.has.sayings, inl (all, so_far_told, f.has.got));
+    ends = (f.has.connection_events, inl (all, so_far_delivered, f.has.got));
   }
 
   module _ (piece rest : List ℕ) (is : left' ≡ Some rest) (reads : f.rest ≡ piece ++ rest) (short : length piece ≤ most_read) (d' : CaptureState) (u' : SplitState) (v' : V) where
@@ -204,7 +204,7 @@ module _ {V : Type 0} (after : V → Saying → V) (faulted : V → Saying → S
         }
 
 -- the same under other names
-pub splits_as : {V : Type 0} (after : V → Saying → V) (faulted : V → Saying → StreamsFault → V → Type 0) (l l' : CaptureLimits) (t t' : SplitState) (turns : ℕ) (m : ReadsMade) (before : V) (xs : List ℕ) (r : Result CaptureEnd StreamsFault) (left : Option (List ℕ)) (u : SplitState) (v : V) → l ≡ l' → t ≡ t' → SplitsTo after faulted l t turns m before xs r left u v → SplitsTo after faulted l' t' turns m before xs r left u v
+pub splits_as : {V : Type 0} (after : V → ConnectionEvent → V) (faulted : V → ConnectionEvent → StreamsFault → V → Type 0) (l l' : CaptureLimits) (t t' : SplitState) (turns : ℕ) (m : ReadsMade) (before : V) (xs : List ℕ) (r : Result CaptureEnd StreamsFault) (left : Option (List ℕ)) (u : SplitState) (v : V) → l ≡ l' → t ≡ t' → SplitsTo after faulted l t turns m before xs r left u v → SplitsTo after faulted l' t' turns m before xs r left u v
 splits_as after faulted l l' t t' turns m before xs r left u v el et a =
     let one = subst (λ (z : SplitState). SplitsTo after faulted l z turns m before xs r left u v) et a in
     subst (λ (z : CaptureLimits). SplitsTo after faulted z t' turns m before xs r left u v) el one

@@ -10,8 +10,8 @@ use Rattle.cqlp_capture_streams.specs.declared.limits.StreamsLimits.{StreamsLimi
 use Rattle.cqlp_capture_streams.specs.declared.recorder.Sums.{Sums}
 use Rattle.cqlp_capture_streams.specs.Files.{Call, Kept, with_call}
 use Rattle.cqlp_capture_streams.specs.Lines.{connection_line}
-use Rattle.cqlp_capture_streams.specs.Sayings.{Saying, Left}
-use Rattle.cqlp_capture_streams.specs.Recordings.{Recording, Puts, Records, StopsAt, lined, line_of, no_sums, recording, summed, sums_with, with_saying}
+use Rattle.cqlp_capture_streams.specs.ConnectionEvents.{ConnectionEvent, Left}
+use Rattle.cqlp_capture_streams.specs.Recordings.{Recording, Puts, Records, StopsAt, lined, line_of, no_sums, recording, summed, sums_with, with_connection_event}
 use Rattle.cqlp_capture_streams.specs.Endings.{Concludes, sums_words}
 use Rattle.cqlp_capture_streams.specs.Captures.{ReadsMade}
 use Rattle.cqlp_capture_streams.specs.Streams.{ReadsCapture, WritesStreamsBy}
@@ -47,19 +47,19 @@ known_line : (l : Option (List ℕ)) (o : Output) → IsSome o.given → IsSome 
 known_line None o k = k
 known_line (Some line) o k = known_more o.given line k
 
-pub heard_ok : (old new : Recording) (s : Saying) (r : Result (Unit {0}) StreamsFault) → (IsSome old.output.given → Records old s r new) → OnOk r (IsSome old.output.given → IsSome new.output.given × (new ≡ with_saying old s))
+pub heard_ok : (old new : Recording) (s : ConnectionEvent) (r : Result (Unit {0}) StreamsFault) → (IsSome old.output.given → Records old s r new) → OnOk r (IsSome old.output.given → IsSome new.output.given × (new ≡ with_connection_event old s))
 heard_ok old new s (Ok u) a = λ known.
     let is = a known in
     (subst (λ (z : Recording). IsSome z.output.given) (sym is) (known_line (line_of s) old.output known), is)
 heard_ok old new s (Err e) a = tt
 
-pub heard_err : (old new : Recording) (s : Saying) (r : Result (Unit {0}) StreamsFault) → (IsSome old.output.given → Records old s r new) → IfErr r (λ e. IsSome old.output.given → StopsAt old s e new)
+pub heard_err : (old new : Recording) (s : ConnectionEvent) (r : Result (Unit {0}) StreamsFault) → (IsSome old.output.given → Records old s r new) → IfErr r (λ e. IsSome old.output.given → StopsAt old s e new)
 heard_err old new s (Ok u) a = tt
 heard_err old new s (Err e) a = a
 
 -- ---- a capture whose streams are written
 
-pub writes_by : (m : ReadsMade) (limits : StreamsLimits) (ports xs : List ℕ) (r : Result CaptureRead StreamsFault) (left : Option (List ℕ)) (calls calls' : Option (List Call)) (out out' err err' : Output) (sums : Sums) (status : ℕ) (old new : Recording) → old ≡ recording calls out no_sums → recording calls' out' sums ≡ new → ReadsCapture with_saying StopsAt limits ports xs m r left old new → Concludes ports (sums_words sums) r err status err' → WritesStreamsBy m limits ports xs left calls out err status calls' out' err'
+pub writes_by : (m : ReadsMade) (limits : StreamsLimits) (ports xs : List ℕ) (r : Result CaptureRead StreamsFault) (left : Option (List ℕ)) (calls calls' : Option (List Call)) (out out' err err' : Output) (sums : Sums) (status : ℕ) (old new : Recording) → old ≡ recording calls out no_sums → recording calls' out' sums ≡ new → ReadsCapture with_connection_event StopsAt limits ports xs m r left old new → Concludes ports (sums_words sums) r err status err' → WritesStreamsBy m limits ports xs left calls out err status calls' out' err'
 writes_by m limits ports xs r left calls calls' out out' err err' sums status old new first last reads ends =
-    let from = subst (λ (z : Recording). ReadsCapture with_saying StopsAt limits ports xs m r left z new) first reads in
-    (r, sums, subst (λ (z : Recording). ReadsCapture with_saying StopsAt limits ports xs m r left (recording calls out no_sums) z) (sym last) from, ends)
+    let from = subst (λ (z : Recording). ReadsCapture with_connection_event StopsAt limits ports xs m r left z new) first reads in
+    (r, sums, subst (λ (z : Recording). ReadsCapture with_connection_event StopsAt limits ports xs m r left (recording calls out no_sums) z) (sym last) from, ends)

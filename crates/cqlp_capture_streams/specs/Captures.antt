@@ -1,4 +1,4 @@
--- What a whole capture tells, and what a listener has got of it.
+-- What a whole capture reports, and what a listener has got of it.
 use Rattle.std.specs.Prelude.{◌≡◌, ℕ, ◌*◌, ◌≤◌, Bool, ◌&&◌, true, false, List, [], ◌∷◌, ◌++◌, length, Option, Some, None, Result, Ok, Err, ◌⊎◌, ⊤}
 use Rattle.cqlp_note.specs.Reader.{More, says}
 use Rattle.cqlp_note.specs.declared.streams.Source as source
@@ -14,9 +14,9 @@ use Rattle.cqlp_capture_streams.specs.declared.fault.StreamsFault.{StreamsFault}
 use Rattle.cqlp_capture_streams.specs.declared.fault.StreamsFault.TheVariants as fault
 use Rattle.cqlp_capture_streams.specs.declared.running.Drained.{Drained}
 use Rattle.cqlp_capture_streams.specs.declared.running.Drained.TheVariants as drained
-use Rattle.cqlp_capture_streams.specs.Sayings.{Saying}
+use Rattle.cqlp_capture_streams.specs.ConnectionEvents.{ConnectionEvent}
 use Rattle.cqlp_capture_streams.specs.Listening.{AreEndless, FailsAtLast, after_all}
-use Rattle.cqlp_capture_streams.specs.Packets.{SplitState, Finishes, TellsEvent, TellsEvents}
+use Rattle.cqlp_capture_streams.specs.Packets.{SplitState, Finishes, ReportsEvent, ReportsEvents}
 
 -- ---- what the bytes of a file say
 
@@ -36,37 +36,37 @@ EndsSo l bytes es (end.Cut at n) =
     × (is_between q.place.stage && is_empty rest ≡ false) × (at ≡ began q.place)
 EndsSo l bytes es (end.Refused r) = Says l start bytes es (Refused r)
 
--- ---- what that tells
+-- ---- what that reports
 
--- All that a file tells: what its events do, in order, and then what connections do that leave.
-pub record TellsFile (l : CaptureLimits) (t : SplitState) (bytes : List ℕ) (e : CaptureEnd) (ss : List Saying) (u : SplitState) : Type 0 where
+-- All that a file reports: what its events do, in order, and then what connections do that leave.
+pub record ReportsFile (l : CaptureLimits) (t : SplitState) (bytes : List ℕ) (e : CaptureEnd) (ss : List ConnectionEvent) (u : SplitState) : Type 0 where
   pub events : List (ℕ × Event)
   pub ends : EndsSo l bytes events e
   pub mid : SplitState
-  pub front : List Saying
-  pub tells : TellsEvents t events front mid
-  pub last : List Saying
+  pub front : List ConnectionEvent
+  pub reports : ReportsEvents t events front mid
+  pub last : List ConnectionEvent
   pub leave : Finishes true mid last u
   pub all : ss ≡ front ++ last
 
--- All that the first bytes of a file tell, where more are wanted.
-pub record TellsSoFar (l : CaptureLimits) (t : SplitState) (bytes : List ℕ) (ss : List Saying) (u : SplitState) : Type 0 where
+-- All that the first bytes of a file report, where more are wanted.
+pub record ReportsSoFar (l : CaptureLimits) (t : SplitState) (bytes : List ℕ) (ss : List ConnectionEvent) (u : SplitState) : Type 0 where
   pub events : List (ℕ × Event)
   pub spot : Spot
   pub rest : List ℕ
   pub hears : HearsAll l bytes events spot rest
-  pub tells : TellsEvents t events ss u
+  pub reports : ReportsEvents t events ss u
 
--- what events tell but for, maybe, the last of what the last of them tells
-abbrev pub TellsSome : SplitState → List (ℕ × Event) → List Saying → SplitState → Type 0
-TellsSome s es ss u =
-    TellsEvents s es ss u
+-- what events report but for, maybe, the last of what the last of them reports
+abbrev pub ReportsSome : SplitState → List (ℕ × Event) → List ConnectionEvent → SplitState → Type 0
+ReportsSome s es ss u =
+    ReportsEvents s es ss u
     ⊎ ((before : List (ℕ × Event)) × (last : ℕ × Event) × (es ≡ before ++ last ∷ []) × (m : SplitState)
-    × (front : List Saying) × (rest : List Saying) × (ss ≡ front ++ rest)
-    × TellsEvents s before front m × TellsEvent false m last.1 rest u)
+    × (front : List ConnectionEvent) × (rest : List ConnectionEvent) × (ss ≡ front ++ rest)
+    × ReportsEvents s before front m × ReportsEvent false m last.1 rest u)
 
--- of the first bytes of a file the first of what they tell,
-pub record TellsFirst (l : CaptureLimits) (t : SplitState) (bytes : List ℕ) (ss : List Saying) (u : SplitState) : Type 0 where
+-- of the first bytes of a file the first of what they hold,
+pub record ReportsFirst (l : CaptureLimits) (t : SplitState) (bytes : List ℕ) (ss : List ConnectionEvent) (u : SplitState) : Type 0 where
   pub used : List ℕ
   pub later : List ℕ
   pub parts : bytes ≡ used ++ later
@@ -74,17 +74,17 @@ pub record TellsFirst (l : CaptureLimits) (t : SplitState) (bytes : List ℕ) (s
   pub spot : Spot
   pub rest : List ℕ
   pub hears : Hears l start used events spot rest
-  pub tells : TellsSome t events ss u
+  pub reports : ReportsSome t events ss u
 
--- or all that its events tell, and the first of what connections tell that leave
-pub record TellsLeaving (l : CaptureLimits) (t : SplitState) (bytes : List ℕ) (ss : List Saying) (u : SplitState) : Type 0 where
+-- or all that its events report, and the first of what connections deliver that leave
+pub record ReportsLeaving (l : CaptureLimits) (t : SplitState) (bytes : List ℕ) (ss : List ConnectionEvent) (u : SplitState) : Type 0 where
   pub events : List (ℕ × Event)
   pub end : CaptureEnd
   pub ends : EndsSo l bytes events end
   pub mid : SplitState
-  pub front : List Saying
-  pub tells : TellsEvents t events front mid
-  pub last : List Saying
+  pub front : List ConnectionEvent
+  pub reports : ReportsEvents t events front mid
+  pub last : List ConnectionEvent
   pub leave : Finishes false mid last u
   pub all : ss ≡ front ++ last
 
@@ -155,29 +155,29 @@ abbrev pub IsRefused : Drained → Option CaptureRefusal → Type 0
 IsRefused drained.More r = r ≡ None
 IsRefused drained.Refused r = (x : CaptureRefusal) × (r ≡ Some x)
 
-module _ {V : Type 0} (after : V → Saying → V) where
-  -- A reader that was made used the bytes s, and the listener has got all that its events tell.
+module _ {V : Type 0} (after : V → ConnectionEvent → V) where
+  -- A reader that was made used the bytes s, and the listener has got all that its events report.
   pub record Has (t : SplitState) (before : V) (s : List ℕ) (d : CaptureState) (u : SplitState) (v : V) : Type 0 where
     pub events : List (ℕ × Event)
-    pub sayings : List Saying
+    pub connection_events : List ConnectionEvent
     pub stands : After d s events
-    pub tells : TellsEvents t events sayings u
-    pub got : v ≡ after_all after before sayings
+    pub reports : ReportsEvents t events connection_events u
+    pub got : v ≡ after_all after before connection_events
 
-  module _ (faulted : V → Saying → StreamsFault → V → Type 0) where
+  module _ (faulted : V → ConnectionEvent → StreamsFault → V → Type 0) where
     -- What it has got of a file with these bytes, after so many reads of at most `turns`. A fault ends it: one of the input, or that no
-    -- more reads are to be made, after all that was told of the bytes read; any other within what they tell, so that at most the bytes of
-    -- one read are not told, and nothing more is told to it.
+    -- more reads are to be made, after all that was reported of the bytes read; any other within what they report, so that at most the bytes of
+    -- one read are not reported, and it gets nothing more.
     abbrev pub EndsTo : CaptureLimits → SplitState → (turns : ℕ) → ReadsMade → (before : V) → (read : List ℕ) → Result CaptureEnd StreamsFault
         → SplitState → V → Type 0
     EndsTo l t turns m before read (Ok e) u v =
-        (ss : List Saying) × TellsFile l t read e ss u × (v ≡ after_all after before ss)
+        (ss : List ConnectionEvent) × ReportsFile l t read e ss u × (v ≡ after_all after before ss)
     EndsTo l t turns m before read (Err e) u v =
-        (ss : List Saying)
-        × ((IsOfReads turns m e × TellsSoFar l t read ss u × (v ≡ after_all after before ss))
-        ⊎ (((f : TellsFirst l t read ss u) × FailsAtLast after faulted (AreEndless ss ⊎ AreEndless f.events) before ss e v
+        (ss : List ConnectionEvent)
+        × ((IsOfReads turns m e × ReportsSoFar l t read ss u × (v ≡ after_all after before ss))
+        ⊎ (((f : ReportsFirst l t read ss u) × FailsAtLast after faulted (AreEndless ss ⊎ AreEndless f.events) before ss e v
         × (length f.later ≤ most_read))
-        ⊎ (TellsLeaving l t read ss u × FailsAtLast after faulted (AreEndless ss) before ss e v)))
+        ⊎ (ReportsLeaving l t read ss u × FailsAtLast after faulted (AreEndless ss) before ss e v)))
 
     -- Of the bytes xs of an input these were read, by so many reads of at most `turns`, of which one failed only where that is the answer;
     -- it has got this of them, and the others are left.
@@ -200,5 +200,5 @@ module _ {V : Type 0} (after : V → Saying → V) where
         (d.limits ≡ l) × IsRefused x d.refusal × (used : List ℕ) × (h : Has t before used d u v)
         × IsAtEndOf d (s ++ piece) used h.events
     DrainsTo l t before s piece (Err e) d u v =
-        (ss : List Saying) × (f : TellsFirst l t (s ++ piece) ss u)
+        (ss : List ConnectionEvent) × (f : ReportsFirst l t (s ++ piece) ss u)
         × FailsAtLast after faulted (AreEndless ss ⊎ AreEndless f.events) before ss e v × (length f.later ≤ length piece)

@@ -6,7 +6,7 @@ use Rattle.cqlp_capture_streams.specs.Captures.{ReadsMade}
 use Rattle.cqlp_capture_streams.specs.Endings.{fault_line, no_memory_line}
 
 -- A read failed, or the output, or the error output; or the line that was written says that there was no memory, or that all reads were made
--- that may be, or that there was no end to what is told.
+-- that may be, or that there was no end to what is reported.
 abbrev pub HasCause : ReadsMade → (out err out' err' : Output) → Type 0
 HasCause m out err out' err' =
     (m.failed ≡ true)

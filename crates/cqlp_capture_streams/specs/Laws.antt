@@ -1,4 +1,4 @@
--- Laws: two answers of `read_capture` and of `write_streams` are the same, and each file gets just what is told of its direction.
+-- Laws: two answers of `read_capture` and of `write_streams` are the same, and each file gets just what its direction delivers.
 use Rattle.std.specs.Prelude.{◌≡◌, ◌≢◌, ℕ, ◌==◌, ◌&&◌, Bool, true, false, List, [], ◌∷◌, ◌++◌, Option, Some, Ok, if◌then◌else◌}
 use Rattle.cqlp_text.specs.Outputs.{Output}
 use Rattle.cqlp_tcp_reassembly.specs.declared.step.StreamStep.{StreamStep}
@@ -10,15 +10,15 @@ use Rattle.cqlp_capture_streams.specs.declared.fault.StreamsFault.{StreamsFault}
 use Rattle.cqlp_capture_streams.specs.declared.limits.StreamsLimits.{StreamsLimits}
 use Rattle.cqlp_capture_streams.specs.declared.files.StreamFile.{StreamFile}
 use Rattle.cqlp_capture_streams.specs.Files.{Call, Made, Appended, Kept, Failed}
-use Rattle.cqlp_capture_streams.specs.Sayings.{Saying, Packet, New, Of, Left}
-use Rattle.cqlp_capture_streams.specs.Recordings.{Recording, file_of, with_sayings}
+use Rattle.cqlp_capture_streams.specs.ConnectionEvents.{ConnectionEvent, Packet, New, Of, Left}
+use Rattle.cqlp_capture_streams.specs.Recordings.{Recording, file_of, with_connection_events}
 use Rattle.cqlp_capture_streams.specs.Captures.{ReadsMade}
 use Rattle.cqlp_capture_streams.specs.Streams.{ReadsCapture, WritesStreams}
 
 -- ---- one answer
 
 -- Where no fault comes, the same bytes, limits and ports lead a listener to the same view, and to the same answer.
-module _ {V : Type 0} (after : V → Saying → V) (faulted : V → Saying → StreamsFault → V → Type 0) where
+module _ {V : Type 0} (after : V → ConnectionEvent → V) (faulted : V → ConnectionEvent → StreamsFault → V → Type 0) where
   abbrev pub OneAnswerOfReadCapture : Type 0
   OneAnswerOfReadCapture =
       (limits : StreamsLimits) (ports xs : List ℕ) (before v w : V) (m n : ReadsMade) (left left' : Option (List ℕ)) (r r' : CaptureRead)
@@ -63,19 +63,19 @@ handed_on (step.Payload from count) bytes = bytes
 handed_on (step.Held time begins) bytes = bytes
 handed_on s bytes = []
 
-abbrev pub told_by : StreamFile → Saying → List ℕ
-told_by f (Packet time) = []
-told_by f (New n) = []
-told_by f (Of told bytes) = if is_same_file f (file_of told) then handed_on told.step bytes else []
-told_by f (Left totals) = []
+abbrev pub delivered_by : StreamFile → ConnectionEvent → List ℕ
+delivered_by f (Packet time) = []
+delivered_by f (New n) = []
+delivered_by f (Of delivered bytes) = if is_same_file f (file_of delivered) then handed_on delivered.step bytes else []
+delivered_by f (Left totals) = []
 
-abbrev pub bytes_told : StreamFile → List Saying → List ℕ
-bytes_told f [] = []
-bytes_told f (s ∷ ss) = told_by f s ++ bytes_told f ss
+abbrev pub bytes_delivered : StreamFile → List ConnectionEvent → List ℕ
+bytes_delivered f [] = []
+bytes_delivered f (s ∷ ss) = delivered_by f s ++ bytes_delivered f ss
 
--- Each file gets the bytes that are told of its direction, in order, and no others.
-abbrev pub GetWhatIsTold : Type 0
-GetWhatIsTold =
-    (f : StreamFile) (before : Recording) (ss : List Saying) (calls : List Call)
+-- Each file gets the bytes that its direction delivers, in order, and no others.
+abbrev pub GetTheirBytes : Type 0
+GetTheirBytes =
+    (f : StreamFile) (before : Recording) (ss : List ConnectionEvent) (calls : List Call)
     → before.calls ≡ Some calls
-    → (more : List Call) × ((with_sayings before ss).calls ≡ Some (calls ++ more)) × (bytes_in f more ≡ bytes_told f ss)
+    → (more : List Call) × ((with_connection_events before ss).calls ≡ Some (calls ++ more)) × (bytes_in f more ≡ bytes_delivered f ss)

@@ -1,9 +1,9 @@
 pub mod Files
 pub mod Lines
-pub mod Sayings
+pub mod ConnectionEvents
 pub mod Listening
 pub mod Recordings
-pub mod Tellings
+pub mod Reportings
 pub mod Packets
 pub mod Endings
 pub mod Captures

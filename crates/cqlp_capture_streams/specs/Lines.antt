@@ -31,7 +31,7 @@ abbrev pub cause_end : GapCause → List ℕ
 cause_end Lost = codes "\n"
 cause_end Snapped = codes " snapped\n"
 
--- a gap: its connection and direction, how many bytes were told before it, and how many are missing
+-- a gap: its connection and direction, how many bytes were delivered before it, and how many are missing
 abbrev pub gap_line : StreamFile → (at length : ℕ) → GapCause → List ℕ
 gap_line f at n cause =
     joined (codes "gap " ∷ decimal f.number ∷ codes " " ∷ way_name f.way ∷ codes " " ∷ decimal at ∷ codes " " ∷ decimal n ∷ cause_end cause ∷ [])
@@ -64,7 +64,7 @@ abbrev pub direction_text : DirectionTotals → List ℕ
 direction_text d =
     decimal d.bytes ++ codes " gaps " ++ decimal (counted d.gaps d.snapped) ++ codes " " ++ begin_name d.begin ++ codes " " ++ end_name d.end
 
--- a connection that has left: its number, its two ends, and what was told of its directions
+-- a connection that has left: its number, its two ends, and what its directions delivered
 abbrev pub connection_words : (number client node requests responses : List ℕ) → List ℕ
 connection_words number client node requests responses =
     codes "connection " ++ number ++ codes " " ++ client ++ codes " " ++ node ++ codes " requests " ++ requests

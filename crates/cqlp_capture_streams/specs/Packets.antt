@@ -1,4 +1,4 @@
--- What the packets of a capture tell.
+-- What the packets of a capture report.
 use Rattle.std.specs.Prelude.{◌≡◌, ℕ, Bool, true, false, ◌&&◌, nat_lt, is_some, if◌then◌else◌, List, [], ◌∷◌, ◌++◌, Option, Some, None, Result, Ok, Err, ◌⊎◌}
 use Rattle.cqlp_capture.specs.declared.event.SkipReason.{SkipReason}
 use Rattle.cqlp_capture.specs.declared.event.SkipReason.TheVariants as skip
@@ -17,8 +17,8 @@ use Rattle.cqlp_tcp_connections.specs.Tables.{Table}
 use Rattle.cqlp_capture_streams.specs.declared.packets.PacketCounts.{PacketCounts}
 use Rattle.cqlp_capture_streams.specs.declared.packets.WithoutCounts.{WithoutCounts}
 use Rattle.cqlp_capture_streams.specs.declared.skipped.SkippedCounts.{SkippedCounts}
-use Rattle.cqlp_capture_streams.specs.Sayings.{Saying}
-use Rattle.cqlp_capture_streams.specs.Tellings.{FinishesAll, TellsTimed}
+use Rattle.cqlp_capture_streams.specs.ConnectionEvents.{ConnectionEvent}
+use Rattle.cqlp_capture_streams.specs.Reportings.{FinishesAll, ReportsTimed}
 
 -- the connections; the packets that wait; of the packet that began the number of the link type, when it was captured, and how many bytes
 -- it had; and what packets were
@@ -126,14 +126,14 @@ segment_in p = segment_on (link_of p.link) p.bytes p.original
 abbrev pub is_snapped : Table → Seen → Bool
 is_snapped t g = nat_lt 0 g.missing && is_some (first_way t.ports g.head)
 
--- A packet of this time with a segment tells what that does, and is counted; one without is counted by the reason.
-abbrev pub TellsRead : Result Seen NoSegment → (time : Option ℕ) → (all : Bool) → SplitState → List Saying → SplitState → Type 0
-TellsRead (Ok g) time all s ss u =
-    TellsTimed all time g s.table ss u.table × (u ≡ record s { table = u.table; counts = with_segment (is_snapped s.table g) s.counts })
-TellsRead (Err why) time all s ss u = (ss ≡ []) × (u ≡ record s { counts = without_segment why s.counts })
+-- A packet of this time with a segment reports what that does, and is counted; one without is counted by the reason.
+abbrev pub ReportsRead : Result Seen NoSegment → (time : Option ℕ) → (all : Bool) → SplitState → List ConnectionEvent → SplitState → Type 0
+ReportsRead (Ok g) time all s ss u =
+    ReportsTimed all time g s.table ss u.table × (u ≡ record s { table = u.table; counts = with_segment (is_snapped s.table g) s.counts })
+ReportsRead (Err why) time all s ss u = (ss ≡ []) × (u ≡ record s { counts = without_segment why s.counts })
 
-abbrev pub TellsPacket : kept.Packet → (all : Bool) → SplitState → List Saying → SplitState → Type 0
-TellsPacket p all s ss u = TellsRead (segment_in p) p.time all s ss u
+abbrev pub ReportsPacket : kept.Packet → (all : Bool) → SplitState → List ConnectionEvent → SplitState → Type 0
+ReportsPacket p all s ss u = ReportsRead (segment_in p) p.time all s ss u
 
 -- ---- packets that leave the window
 
@@ -141,32 +141,32 @@ abbrev pub with_order : Order → SplitState → SplitState
 with_order o s = record s { order = o }
 
 module _ (leaves : Order → Release) where
-  -- a packet leaves, and tells what it does
-  abbrev pub Hands : (all : Bool) → SplitState → kept.Packet → List Saying → SplitState → Type 0
-  Hands all s p ss u = (o : Order) × (releasing (Some p) o ≡ leaves s.order) × TellsPacket p all (with_order o s) ss u
+  -- a packet leaves, and reports what it does
+  abbrev pub Hands : (all : Bool) → SplitState → kept.Packet → List ConnectionEvent → SplitState → Type 0
+  Hands all s p ss u = (o : Order) × (releasing (Some p) o ≡ leaves s.order) × ReportsPacket p all (with_order o s) ss u
 
   -- these do, one after the other
-  abbrev pub HandsEach : SplitState → List kept.Packet → List Saying → SplitState → Type 0
+  abbrev pub HandsEach : SplitState → List kept.Packet → List ConnectionEvent → SplitState → Type 0
   HandsEach s [] ss u = (ss ≡ []) × (u ≡ s)
   HandsEach s (p ∷ ps) ss u =
-      (m : SplitState) × (first : List Saying) × (rest : List Saying) × (ss ≡ first ++ rest)
+      (m : SplitState) × (first : List ConnectionEvent) × (rest : List ConnectionEvent) × (ss ≡ first ++ rest)
       × Hands true s p first m × HandsEach m ps rest u
 
   -- so do all that leave, or all but the last, in which something failed
-  abbrev pub HandsAll : (all : Bool) → SplitState → List Saying → SplitState → Type 0
+  abbrev pub HandsAll : (all : Bool) → SplitState → List ConnectionEvent → SplitState → Type 0
   HandsAll true s ss u = (ps : List kept.Packet) × HandsEach s ps ss u × (releasing None u.order ≡ leaves u.order)
   HandsAll false s ss u =
-      (ps : List kept.Packet) × (p : kept.Packet) × (m : SplitState) × (front : List Saying) × (rest : List Saying)
+      (ps : List kept.Packet) × (p : kept.Packet) × (m : SplitState) × (front : List ConnectionEvent) × (rest : List ConnectionEvent)
       × (ss ≡ front ++ rest) × HandsEach s ps front m × Hands false m p rest u
 
 -- A packet comes to the window, and those leave that have to.
-abbrev pub TellsArrived : (all : Bool) → SplitState → kept.Packet → List Saying → SplitState → Type 0
-TellsArrived all s p ss u = HandsAll due_left all (with_order (arrived p s.order) s) ss u
+abbrev pub ReportsArrived : (all : Bool) → SplitState → kept.Packet → List ConnectionEvent → SplitState → Type 0
+ReportsArrived all s p ss u = HandsAll due_left all (with_order (arrived p s.order) s) ss u
 
 -- unless memory for it is refused
-abbrev pub TellsCome : (all : Bool) → SplitState → kept.Packet → List Saying → SplitState → Type 0
-TellsCome true s p ss u = TellsArrived true s p ss u
-TellsCome false s p ss u = ((ss ≡ []) × (u ≡ s)) ⊎ TellsArrived false s p ss u
+abbrev pub ReportsCome : (all : Bool) → SplitState → kept.Packet → List ConnectionEvent → SplitState → Type 0
+ReportsCome true s p ss u = ReportsArrived true s p ss u
+ReportsCome false s p ss u = ((ss ≡ []) × (u ≡ s)) ⊎ ReportsArrived false s p ss u
 
 -- ---- events
 
@@ -174,19 +174,19 @@ TellsCome false s p ss u = ((ss ≡ []) × (u ≡ s)) ⊎ TellsArrived false s p
 abbrev pub packet_begun : SplitState → (bytes : List ℕ) → kept.Packet
 packet_begun s bytes = packet s.link s.time s.original bytes
 
-abbrev pub TellsEvent : (all : Bool) → SplitState → Event → List Saying → SplitState → Type 0
-TellsEvent all s (Section form) ss u = (ss ≡ []) × (u ≡ s)
-TellsEvent all s (Interface head) ss u = (ss ≡ []) × (u ≡ s)
-TellsEvent all s (Packet head) ss u = (ss ≡ []) × (u ≡ record s { link = head.link; time = head.time; original = head.original })
-TellsEvent all s (Bytes bytes) ss u = TellsCome all s (packet_begun s bytes) ss u
-TellsEvent all s (Skipped why) ss u = (ss ≡ []) × (u ≡ record s { counts = with_skipped why s.counts })
+abbrev pub ReportsEvent : (all : Bool) → SplitState → Event → List ConnectionEvent → SplitState → Type 0
+ReportsEvent all s (Section form) ss u = (ss ≡ []) × (u ≡ s)
+ReportsEvent all s (Interface head) ss u = (ss ≡ []) × (u ≡ s)
+ReportsEvent all s (Packet head) ss u = (ss ≡ []) × (u ≡ record s { link = head.link; time = head.time; original = head.original })
+ReportsEvent all s (Bytes bytes) ss u = ReportsCome all s (packet_begun s bytes) ss u
+ReportsEvent all s (Skipped why) ss u = (ss ≡ []) × (u ≡ record s { counts = with_skipped why s.counts })
 
 -- events, in order
-abbrev pub TellsEvents : SplitState → List (ℕ × Event) → List Saying → SplitState → Type 0
-TellsEvents s [] ss u = (ss ≡ []) × (u ≡ s)
-TellsEvents s (e ∷ es) ss u =
-    (m : SplitState) × (first : List Saying) × (rest : List Saying) × (ss ≡ first ++ rest)
-    × TellsEvent true s e.1 first m × TellsEvents m es rest u
+abbrev pub ReportsEvents : SplitState → List (ℕ × Event) → List ConnectionEvent → SplitState → Type 0
+ReportsEvents s [] ss u = (ss ≡ []) × (u ≡ s)
+ReportsEvents s (e ∷ es) ss u =
+    (m : SplitState) × (first : List ConnectionEvent) × (rest : List ConnectionEvent) × (ss ≡ first ++ rest)
+    × ReportsEvent true s e.1 first m × ReportsEvents m es rest u
 
 -- ---- the end
 
@@ -194,11 +194,11 @@ abbrev pub with_table : Table → SplitState → SplitState
 with_table t s = record s { table = t }
 
 -- The packets leave that wait, and then all connections do.
-abbrev pub LeavesLast : (all : Bool) → SplitState → List Saying → SplitState → Type 0
+abbrev pub LeavesLast : (all : Bool) → SplitState → List ConnectionEvent → SplitState → Type 0
 LeavesLast all s ss u =
-    (m : SplitState) × (front : List Saying) × (last : List Saying) × (ss ≡ front ++ last)
+    (m : SplitState) × (front : List ConnectionEvent) × (last : List ConnectionEvent) × (ss ≡ front ++ last)
     × HandsAll first_left true s front m × FinishesAll all m.table last u.table × (u ≡ with_table u.table m)
 
-abbrev pub Finishes : (all : Bool) → SplitState → List Saying → SplitState → Type 0
+abbrev pub Finishes : (all : Bool) → SplitState → List ConnectionEvent → SplitState → Type 0
 Finishes true s ss u = LeavesLast true s ss u
 Finishes false s ss u = HandsAll first_left false s ss u ⊎ LeavesLast false s ss u

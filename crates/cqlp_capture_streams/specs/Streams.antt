@@ -12,8 +12,8 @@ use Rattle.cqlp_capture_streams.specs.declared.fault.StreamsFault.{StreamsFault}
 use Rattle.cqlp_capture_streams.specs.declared.fault.StreamsFault.TheVariants as fault
 use Rattle.cqlp_capture_streams.specs.declared.recorder.Sums.{Sums}
 use Rattle.cqlp_capture_streams.specs.Files.{Call}
-use Rattle.cqlp_capture_streams.specs.Sayings.{Saying}
-use Rattle.cqlp_capture_streams.specs.Recordings.{StopsAt, no_sums, recording, with_saying}
+use Rattle.cqlp_capture_streams.specs.ConnectionEvents.{ConnectionEvent}
+use Rattle.cqlp_capture_streams.specs.Recordings.{StopsAt, no_sums, recording, with_connection_event}
 use Rattle.cqlp_capture_streams.specs.Packets.{SplitState, new_split}
 use Rattle.cqlp_capture_streams.specs.Captures.{ReadsMade, SplitsTo, no_reads}
 use Rattle.cqlp_capture_streams.specs.Endings.{Concludes, sums_words}
@@ -35,8 +35,8 @@ read_of (Ok e) u =
     Ok (record { end = e; packets = u.counts; order = u.order.counts; connections = u.table.counts; busiest = busiest u.table.foreign })
 read_of (Err f) u = Err f
 
--- What a listener has got of an input with the bytes xs, under these limits, by so many reads, and what that was; or memory was wanting, and nothing was read or told. A listener's view goes on by `after`, and a fault leaves what `faulted` says.
-abbrev pub ReadsCapture : {V : Type 0} → (after : V → Saying → V) → (faulted : V → Saying → StreamsFault → V → Type 0)
+-- What a listener has got of an input with the bytes xs, under these limits, by so many reads, and what that was; or memory was wanting, and nothing was read or reported. A listener's view goes on by `after`, and a fault leaves what `faulted` says.
+abbrev pub ReadsCapture : {V : Type 0} → (after : V → ConnectionEvent → V) → (faulted : V → ConnectionEvent → StreamsFault → V → Type 0)
     → StreamsLimits → (ports : List ℕ) → (xs : List ℕ) → ReadsMade → Result CaptureRead StreamsFault → (left : Option (List ℕ))
     → (before v : V) → Type 0
 ReadsCapture after faulted limits ports xs m r left before v =
@@ -50,7 +50,7 @@ abbrev pub WritesStreamsBy : ReadsMade → StreamsLimits → (ports : List ℕ) 
     → (out err : Output) → (status : ℕ) → (calls' : Option (List Call)) → (out' err' : Output) → Type 0
 WritesStreamsBy m limits ports xs left calls out err status calls' out' err' =
     (r : Result CaptureRead StreamsFault) × (sums : Sums)
-    × ReadsCapture with_saying StopsAt limits ports xs m r left (recording calls out no_sums) (recording calls' out' sums)
+    × ReadsCapture with_connection_event StopsAt limits ports xs m r left (recording calls out no_sums) (recording calls' out' sums)
     × Concludes ports (sums_words sums) r err status err'
 
 -- by some reads

@@ -1,6 +1,6 @@
-//! Laws of what is told and recorded of a capture. No code needs them.
+//! Laws of what is reported and recorded of a capture. No code needs them.
 
-ghost use Rattle.cqlp_capture_streams.specs.Laws.{GetWhatIsTold, OneAnswerOfReadCapture, OneAnswerOfWriteStreams};
+ghost use Rattle.cqlp_capture_streams.specs.Laws.{GetTheirBytes, OneAnswerOfReadCapture, OneAnswerOfWriteStreams};
 
 use crate::listener::Listener;
 
@@ -16,7 +16,7 @@ pub fn one_answer()
     ensures { OneAnswerOfWriteStreams }
 {}
 
-/// Each file gets the bytes that the table of connections tells of its direction, in order, and no others.
-pub fn files_get_what_is_told()
-    ensures { GetWhatIsTold }
+/// Each file gets the bytes that its direction delivers, in order, and no others.
+pub fn files_get_their_bytes()
+    ensures { GetTheirBytes }
 {}

@@ -3,6 +3,7 @@
 
 mod busiest;
 mod capturing;
+mod connection_event;
 mod ending;
 mod fault;
 mod files;
@@ -13,15 +14,15 @@ mod lines;
 mod listener;
 mod packets;
 mod recorder;
+mod reporting;
 mod running;
-mod saying;
 mod skipped;
 mod splitter;
 mod summary;
-mod telling;
 mod writing;
 
 pub use capturing::{CaptureRead, read_capture};
+pub use connection_event::ConnectionEvent;
 pub use ending::conclude_capture;
 pub use fault::StreamsFault;
 pub use files::{FileFault, StreamFile, StreamFiles};
@@ -29,7 +30,6 @@ pub use last_words::{LastWord, LastWords};
 pub use limits::StreamsLimits;
 pub use listener::Listener;
 pub use packets::{PacketCounts, WithoutCounts};
-pub use saying::Saying;
 pub use skipped::SkippedCounts;
 pub use summary::put_count;
 pub use writing::write_streams;

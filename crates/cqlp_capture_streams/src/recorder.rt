@@ -1,4 +1,4 @@
-//! What is told of connections, on its way to files and to lines.
+//! The events of connections, on their way to files and to lines.
 
 ghost use Rattle.std.specs.Prelude.{◌≡◌, ◌++◌, [], IsSome, Some};
 ghost use Rattle.cqlp_text.specs.Outputs.{written};
@@ -6,21 +6,21 @@ ghost use Rattle.cqlp_text.specs.Written.{Writes};
 ghost use Rattle.cqlp_capture_streams.specs.Recordings.{Puts};
 ghost use Rattle.cqlp_capture_streams.specs.Endings.{sums_words};
 
+use crate::connection_event::ConnectionEvent;
 use crate::fault::StreamsFault;
 use crate::files::{StreamFile, StreamFiles};
 use crate::last_words::LastWords;
 use crate::lines::{ConnectionLines, gap_line};
 use crate::listener::Listener;
-use crate::saying::Saying;
 use cqlp_grammar::SinkFault;
 use cqlp_note::Target;
-use cqlp_tcp_connections::{ConnectionTotals, DirectionTotals, Told};
+use cqlp_tcp_connections::{ConnectionTotals, Delivery, DirectionTotals};
 use cqlp_tcp_reassembly::{GapCause, StreamStep};
 use cqlp_text::{Pen, TextWriter, put_text};
 use std::alloc::{AllocError, Allocator};
 use std::marker::Model;
 
-/// What was told of the connections that have left. A number stays at 2^64 - 1 once it is there.
+/// What the connections delivered that have left. A number stays at 2^64 - 1 once it is there.
 #[derive(Clone, Copy, Debug, PartialEq, Eq)]
 pub(crate) struct Sums {
     pub gaps: u64,
@@ -91,7 +91,7 @@ impl LastWords for Sums {
 impl<F: StreamFiles, O: Target, A: Allocator + Drop> Recorder<F, O, A> {
     ghost use Rattle.cqlp_capture_streams.specs.Recordings.{no_sums, recording};
 
-    /// Over files and an output, with nothing told.
+    /// Over files and an output, with nothing recorded.
     pub fn new(alloc: A, files: F, out: O) -> Self
         ensures { result ≡ recording (F.calls files) (written O.Target out) no_sums }
     {
@@ -118,37 +118,42 @@ impl<F: StreamFiles, O: Target, A: Allocator + Drop> Recorder<F, O, A> {
 }
 
 impl<F: StreamFiles, O: Target, A: Allocator> Recorder<F, O, A> {
-    ghost use Rattle.cqlp_capture_streams.specs.declared.saying.Saying.TheVariants as saying;
-    ghost use Rattle.cqlp_capture_streams.specs.Sayings.{Left, Of, saying_of};
+    ghost use Rattle.cqlp_capture_streams.specs.declared.connection_event.ConnectionEvent.TheVariants as event;
+    ghost use Rattle.cqlp_capture_streams.specs.ConnectionEvents.{Left, Of, connection_event_of};
     ghost use Rattle.cqlp_capture_streams.specs.Lines.{gap_line};
     ghost use Rattle.cqlp_capture_streams.specs.Recordings.{Records, with_output};
 
-    /// Takes what is told: a new connection's files are made, bytes are appended to the file of their direction, a gap is a line,
+    /// Takes an event: a new connection's files are made, bytes are appended to the file of their direction, a gap is a line,
     /// and the files of a connection that has left are kept, and then its line is written.
-    fn record(&mut self, saying: &Saying<'_>) -> Result<(), StreamsFault>
-        ensures { IsSome self.old.output.given → Records self.old (saying_of saying.now) result self.new }
+    fn record(&mut self, event: &ConnectionEvent<'_>) -> Result<(), StreamsFault>
+        ensures { IsSome self.old.output.given → Records self.old (connection_event_of event.now) result self.new }
     {
-        match saying {
-            Saying::Packet { .. } => Ok(()),
-            Saying::New { number } => Ok(self.files.make(*number)?),
-            Saying::Of { told, bytes } => self.record_step(told, bytes),
-            Saying::Left(totals) => self.keep(totals),
+        match event {
+            ConnectionEvent::Packet { .. } => Ok(()),
+            ConnectionEvent::New { number } => Ok(self.files.make(*number)?),
+            ConnectionEvent::Of { delivered, bytes } => self.record_step(delivered, bytes),
+            ConnectionEvent::Left(totals) => self.keep(totals),
         }
     }
 
-    /// Takes what is told of a direction.
-    fn record_step(&mut self, told: &Told, bytes: &[u8]) -> Result<(), StreamsFault>
-        ensures { IsSome self.old.output.given → Records self.old (Of told.now bytes.now) result self.new }
+    /// Takes what a direction delivers.
+    fn record_step(&mut self, delivered: &Delivery, bytes: &[u8]) -> Result<(), StreamsFault>
+        ensures { IsSome self.old.output.given → Records self.old (Of delivered.now bytes.now) result self.new }
     {
         let file = StreamFile {
-            number: told.number,
-            way: told.way,
+            number: delivered.number,
+            way: delivered.way,
         };
-        match told.step {
+        match delivered.step {
             StreamStep::Payload { .. } | StreamStep::Held { .. } => {
                 Ok(self.files.append(file, bytes)?)
             }
-            StreamStep::Gap { length, cause, .. } => self.put_gap(file, told.at, length, cause),
+            StreamStep::Gap { length, cause, .. } => self.put_gap(
+                file,
+                delivered.at,
+                length,
+                cause,
+            ),
             StreamStep::Began { .. }
             | StreamStep::Kept
             | StreamStep::Ended
@@ -189,20 +194,20 @@ impl<F: StreamFiles, O: Target, A: Allocator> Recorder<F, O, A> {
 }
 
 impl<F: StreamFiles, O: Target, A: Allocator> Listener for Recorder<F, O, A> {
-    ghost use Rattle.cqlp_capture_streams.specs.Recordings.{Recording, StopsAt, with_saying};
+    ghost use Rattle.cqlp_capture_streams.specs.Recordings.{Recording, StopsAt, with_connection_event};
 
     ghost View = { Recording };
 
     ghost view = { λ r. r };
 
-    ghost tells = { λ r. IsSome r.output.given };
+    ghost reports = { λ r. IsSome r.output.given };
 
-    ghost after = { with_saying };
+    ghost after = { with_connection_event };
 
     ghost faulted = { StopsAt };
 
-    fn hear(&mut self, saying: &Saying<'_>) -> Result<(), StreamsFault> {
-        self.record(saying)
+    fn hear(&mut self, event: &ConnectionEvent<'_>) -> Result<(), StreamsFault> {
+        self.record(event)
     }
 }
 

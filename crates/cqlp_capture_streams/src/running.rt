@@ -19,8 +19,8 @@ enum Drained {
     Refused,
 }
 
-/// Tells all that a reader's capture tells, from at most `turns` reads into the buffer, none of which is tried again. No read is made
-/// before the listener has got all that the bytes read so far tell. At the end of the file, or where it is refused, all connections
+/// Reports all events of a reader's capture, from at most `turns` reads into the buffer, none of which is tried again. No read is made
+/// before the listener has got all events of the bytes read so far. At the end of the file, or where it is refused, all connections
 /// leave.
 pub(crate) fn split<R: Source, L: Listener, A: Allocator, B: Allocator + Clone>(
     reader: &mut CaptureReader<A>,
@@ -32,8 +32,8 @@ pub(crate) fn split<R: Source, L: Listener, A: Allocator, B: Allocator + Clone>(
 ) -> Result<CaptureEnd, StreamsFault>
     requires room { length buffer.old ≡ most_read }
     requires reader { reader.old ≡ new_state reader.old.limits }
-    ensures tells { L.tells listener.old → OnOk result (L.tells listener.new) }
-    ensures splits { (xs : List ℕ) → R.left input.old ≡ Some xs → L.tells listener.old →
+    ensures reports { L.reports listener.old → OnOk result (L.reports listener.new) }
+    ensures splits { (xs : List ℕ) → R.left input.old ≡ Some xs → L.reports listener.old →
         (m : ReadsMade) × AreCounted m (read_counts R.Source input.old) (read_counts R.Source input.new)
         × SplitsTo L.after L.faulted reader.old.limits splitter.old turns m (L.view listener.old) xs result
         (R.left input.new) splitter.new (L.view listener.new) }
@@ -56,15 +56,15 @@ pub(crate) fn split<R: Source, L: Listener, A: Allocator, B: Allocator + Clone>(
     Err(StreamsFault::TooManyTurns)
 }
 
-/// Tells what the events of a piece tell.
+/// Reports what the events of a piece hold.
 fn drain<L: Listener, A: Allocator, B: Allocator + Clone>(
     reader: &mut CaptureReader<A>,
     splitter: &mut Splitter<B>,
     piece: &[u8],
     listener: &mut L,
 ) -> Result<Drained, StreamsFault>
-    ensures tells { L.tells listener.old → OnOk result (L.tells listener.new) }
-    ensures drains { (t : SplitState) (before : L.View) (s : List ℕ) → L.tells listener.old →
+    ensures reports { L.reports listener.old → OnOk result (L.reports listener.new) }
+    ensures drains { (t : SplitState) (before : L.View) (s : List ℕ) → L.reports listener.old →
         Has L.after t before s reader.old splitter.old (L.view listener.old) → reader.old.refusal ≡ None →
         DrainsTo L.after L.faulted reader.old.limits t before s piece.now result reader.new splitter.new (L.view listener.new) }
 {
@@ -92,8 +92,8 @@ fn end_all<L: Listener, A: Allocator, B: Allocator + Clone>(
     splitter: &mut Splitter<B>,
     listener: &mut L,
 ) -> Result<CaptureEnd, StreamsFault>
-    ensures tells { L.tells listener.old → OnOk result (L.tells listener.new) }
-    ensures ends { (t : SplitState) (turns : ℕ) (m : ReadsMade) (before : L.View) (s : List ℕ) (read : List ℕ) → L.tells listener.old →
+    ensures reports { L.reports listener.old → OnOk result (L.reports listener.new) }
+    ensures ends { (t : SplitState) (turns : ℕ) (m : ReadsMade) (before : L.View) (s : List ℕ) (read : List ℕ) → L.reports listener.old →
         (h : Has L.after t before s reader.now splitter.old (L.view listener.old)) → IsAtEndOf reader.now read s h.events →
         EndsTo L.after L.faulted reader.now.limits t turns m before read result splitter.new (L.view listener.new) }
     ensures end { IfOk result (λ e. e ≡ ending reader.now) }

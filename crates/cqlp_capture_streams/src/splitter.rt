@@ -9,7 +9,7 @@ ghost use Rattle.cqlp_capture_streams.specs.Packets.{segment_in};
 use crate::fault::StreamsFault;
 use crate::listener::Listener;
 use crate::packets::PacketCounts;
-use crate::telling::{finish_all, take_timed};
+use crate::reporting::{finish_all, take_timed};
 use cqlp_capture::{CaptureEvent, PacketHead};
 use cqlp_packet_order::{KeptPacket, OrderCounts, Packet, PacketOrder};
 use cqlp_tcp_connections::{ConnectionCounts, Connections};
@@ -103,17 +103,17 @@ impl<A: Allocator + Clone> Splitter<A> {
     ghost use Rattle.cqlp_capture.specs.Progress.{event_of};
     ghost use Rattle.cqlp_packet_order.specs.Orders.{due_left, first_left};
     ghost use Rattle.cqlp_capture_streams.specs.Listening.{Gets};
-    ghost use Rattle.cqlp_capture_streams.specs.Tellings.{FinishesAll, is_done};
-    ghost use Rattle.cqlp_capture_streams.specs.Packets.{Finishes, HandsAll, TellsCome, TellsEvent, TellsPacket, packet_begun};
+    ghost use Rattle.cqlp_capture_streams.specs.Reportings.{FinishesAll, is_done};
+    ghost use Rattle.cqlp_capture_streams.specs.Packets.{Finishes, HandsAll, ReportsCome, ReportsEvent, ReportsPacket, packet_begun};
 
-    /// Takes the next event, and tells what it tells of connections.
+    /// Takes the next event, and reports what it means for connections.
     #[inline]
     pub fn take<L: Listener>(
         &mut self,
         event: &CaptureEvent<'_>,
         listener: &mut L,
     ) -> Result<(), StreamsFault>
-        ensures { Gets L.Listener (λ ss. TellsEvent (is_done result) self.old (event_of event.now) ss self.new)
+        ensures { Gets L.Listener (λ ss. ReportsEvent (is_done result) self.old (event_of event.now) ss self.new)
             listener.old result listener.new }
     {
         match event {
@@ -145,7 +145,7 @@ impl<A: Allocator + Clone> Splitter<A> {
         bytes: &[u8],
         listener: &mut L,
     ) -> Result<(), StreamsFault>
-        ensures { Gets L.Listener (λ ss. TellsCome (is_done result) self.old (packet_begun self.old bytes.now) ss self.new)
+        ensures { Gets L.Listener (λ ss. ReportsCome (is_done result) self.old (packet_begun self.old bytes.now) ss self.new)
             listener.old result listener.new }
     {
         let packet = Packet {
@@ -189,7 +189,7 @@ impl<A: Allocator + Clone> Splitter<A> {
         kept: KeptPacket<A>,
         listener: &mut L,
     ) -> Result<(), StreamsFault>
-        ensures tells { Gets L.Listener (λ ss. TellsPacket (packet_in kept) (is_done result) self.old ss self.new)
+        ensures reports { Gets L.Listener (λ ss. ReportsPacket (packet_in kept) (is_done result) self.old ss self.new)
             listener.old result listener.new }
         ensures order { self.new.order ≡ self.old.order }
     {
@@ -204,7 +204,7 @@ impl<A: Allocator + Clone> Splitter<A> {
         packet: &Packet<'_>,
         listener: &mut L,
     ) -> Result<(), StreamsFault>
-        ensures tells { Gets L.Listener (λ ss. TellsPacket (packet_of packet.now) (is_done result) self.old ss self.new)
+        ensures reports { Gets L.Listener (λ ss. ReportsPacket (packet_of packet.now) (is_done result) self.old ss self.new)
             listener.old result listener.new }
         ensures order { self.new.order ≡ self.old.order }
     {

@@ -12,4 +12,4 @@ mod Orders
 mod Ranks
 mod Roomy
 pub mod Texts
-mod Told
+mod Reported

@@ -20,7 +20,7 @@ OneAnswerOfNew = (n : ℕ) (s t : Summary) → s ≡ new_summary n → t ≡ new
 abbrev pub OneAnswerOfNote : Type 0
 OneAnswerOfNote = (old s t : Summary) (r : Request) → s ≡ noted_request r old → t ≡ noted_request r old → t ≡ s
 
--- ---- buckets: a time lies in its bucket, and what is told of it is at most 1/32 more
+-- ---- buckets: a time lies in its bucket, and what is reported of it is at most 1/32 more
 
 abbrev pub LiesInItsBucket : Type 0
 LiesInItsBucket =
@@ -42,9 +42,9 @@ pub record IsAtRank (rank : ℕ) (times : List ℕ) (time : ℕ) : Type 0 where
   pub below : length (filter (λ t. nat_lt t time) times) < rank
   pub within : rank ≤ length (filter (λ t. nat_le t time) times)
 
--- What is told of a rank is at least the time at this rank, and at most 1/32 more.
-abbrev pub TellsTimeAtRank : Type 0
-TellsTimeAtRank =
+-- What is reported of a rank is at least the time at this rank, and at most 1/32 more.
+abbrev pub ReportsTimeAtRank : Type 0
+ReportsTimeAtRank =
     (os : List Request) (rank time : ℕ) → length (times_in os) < 2 ^ 64 → All (λ t. t < 2 ^ 64) (times_in os) → time < 2 ^ 64
     → IsAtRank rank (times_in os) time
     → (time ≤ time_at rank (tallied_all os none_counted)) × (32 * (time_at rank (tallied_all os none_counted) - time) ≤ time)

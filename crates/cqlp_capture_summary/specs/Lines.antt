@@ -54,7 +54,7 @@ figures_line total n missing f =
 abbrev pub line : (total : ℕ) → Name → (missing : ℕ) → Tally → List ℕ
 line total n missing t = figures_line total n missing (figures_of t)
 
--- ---- the lines of the statements that are told apart, by their ranks, and the line of the others if there are any
+-- ---- the lines of the statements that are distinguished, by their ranks, and the line of the others if there are any
 
 abbrev pub line_at : (total : ℕ) → List Name → (weights : List ℕ) → List Tally → (place : ℕ) → List ℕ
 line_at total names ws ts place =

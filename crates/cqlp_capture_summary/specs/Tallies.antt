@@ -1,4 +1,4 @@
--- Occurrences of a statement are counted, and what is told of them.
+-- Occurrences of a statement are counted, and what is reported of them.
 use Rattle.std.specs.Prelude.{ℕ, ◌+◌, ◌-◌, ◌/◌, ◌^◌, ◌==◌, Bool, true, false, nat_le, List, [], ◌∷◌, replicate, min, max, Option, Some, None, if◌then◌else◌, slice_index_or, slice_set}
 use Rattle.cqlp_capture_summary.specs.declared.tally.Figures.{Figures}
 use Rattle.cqlp_capture_summary.specs.declared.tally.Times.{Times}

@@ -2,7 +2,7 @@
 
 ghost use Rattle.cqlp_capture_summary.specs.Heaviest.{CountsAllWhereThereIsRoom, KeepsEachOnce, KeepsTheHeaviest, ShowsExactlySince};
 ghost use Rattle.cqlp_capture_summary.specs.Laws.{DearerComesFirst, EachHasItsRank, FirstComesFirst};
-ghost use Rattle.cqlp_capture_summary.specs.Laws.{LiesInItsBucket, MergeCountsBoth, OneAnswerOfNew, OneAnswerOfNote, TellsTimeAtRank, TextsAreAlike};
+ghost use Rattle.cqlp_capture_summary.specs.Laws.{LiesInItsBucket, MergeCountsBoth, OneAnswerOfNew, OneAnswerOfNote, ReportsTimeAtRank, TextsAreAlike};
 
 /// Where memory is granted `Summary::new` has one answer, and so has `note`.
 pub fn one_answer()
@@ -15,9 +15,9 @@ pub fn lies_in_its_bucket()
     ensures { LiesInItsBucket }
 {}
 
-/// Of fewer than 2^64 times, what is told of a rank is at least the time at this rank, and at most 1/32 more.
-pub fn tells_time_at_rank()
-    ensures { TellsTimeAtRank }
+/// Of fewer than 2^64 times, what is reported of a rank is at least the time at this rank, and at most 1/32 more.
+pub fn reports_time_at_rank()
+    ensures { ReportsTimeAtRank }
 {}
 
 /// Each statement has a rank of its own, and so its line once: the one that took more time in sum has the lesser rank, and of two that took

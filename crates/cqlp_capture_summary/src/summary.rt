@@ -110,11 +110,7 @@ impl<A: Allocator> Summary<A> {
     )
         ensures { self.new ≡ noted_by_fingerprint (request_of occurrence.now is_answered at) self.old }
     {
-        let name = fingerprint_in(
-            &mut self.recent,
-            occurrence.name,
-            occurrence.is_whole_name,
-        );
+        let name = fingerprint_in(&mut self.recent, occurrence.name, occurrence.is_whole_name);
         self.note_named(name, occurrence, is_answered, at);
     }
 

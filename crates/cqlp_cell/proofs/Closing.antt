@@ -19,7 +19,7 @@ use Rattle.cqlp_kind.specs.CellStep.{Leave, place_after}
 use Rattle.cqlp_cell.specs.OpenValues.{but_last}
 use Rattle.cqlp_cell.specs.Progress.{CellState, ended, is_some_next, all_open_symbols, place, is_over, due_of, has_further, AreOpen, last_stop, Stands}
 use Rattle.cqlp_cell.specs.Coming.{room_of}
-use Rattle.cqlp_cell.specs.Reading.{Saying, step_says, sized_of, Hands, Fails, Settles, Moves, Answers, LengthCame, AreBytes, HaveCome}
+use Rattle.cqlp_cell.specs.Reading.{StepAnswer, step_says, sized_of, Hands, Fails, Settles, Moves, Answers, LengthCame, AreBytes, HaveCome}
 use Rattle.cqlp_cell.proofs.Nesting.{but_last_is}
 use Rattle.cqlp_cell.proofs.Opened.{Inmost, close_next}
 use Rattle.cqlp_cell.proofs.Coming.{value_due, close_items, close_is}
@@ -103,7 +103,7 @@ module _ (nodes : List Node) (old : CellState) (p : FieldState) (input : List �
       settles_as nodes old p input _ _ _ _ _ _ a new q said base (λ u seen w. come_behind n (b ++ input) (p.seen ++ input) u seen (h.0, h.1, h.2, all) w) s
 
 -- a call that settles does not end the cell
-pub moves_by : (nodes : List Node) (old : CellState) (p : FieldState) (input : List ℕ) (said : Saying) (base : ℕ) (W : Arrived → List ℕ → Type 0) (a : CellAdvance) (new : CellState) (q : FieldState) → Settles nodes old p input said base W a new q
+pub moves_by : (nodes : List Node) (old : CellState) (p : FieldState) (input : List ℕ) (said : StepAnswer) (base : ℕ) (W : Arrived → List ℕ → Type 0) (a : CellAdvance) (new : CellState) (q : FieldState) → Settles nodes old p input said base W a new q
     → ((b : List ℕ) → HaveCome b old.arrived p.seen → Settles nodes old p input (step_says nodes old (b ++ input)) (length b) (HaveCome (b ++ input)) a new q) → Moves nodes old p input a new q
 moves_by nodes old p input said base W (advance.More used) new q h f = f
 moves_by nodes old p input said base W (advance.Item at used i) new q h f = f
@@ -115,7 +115,7 @@ pub moves_afresh : (nodes : List Node) (old : CellState) (p : FieldState) (input
 moves_afresh nodes old p input a new q fresh h = moves_by nodes old p input _ _ _ a new q h (λ b come. let none : b ≡ [] = rw fresh at come in rw none h)
 
 -- such a call has not been asked to end it
-pub settles_answers : (nodes : List Node) (old : CellState) (p : FieldState) (input : List ℕ) (said : Saying) (base : ℕ) (W : Arrived → List ℕ → Type 0) (a : CellAdvance) (new : CellState) (q : FieldState) → Settles nodes old p input said base W a new q → due_of old ≢ due.Nothing → Answers old input a
+pub settles_answers : (nodes : List Node) (old : CellState) (p : FieldState) (input : List ℕ) (said : StepAnswer) (base : ℕ) (W : Arrived → List ℕ → Type 0) (a : CellAdvance) (new : CellState) (q : FieldState) → Settles nodes old p input said base W a new q → due_of old ≢ due.Nothing → Answers old input a
 settles_answers nodes old p input said base W (advance.More used) new q h some = (h.0.all, some)
 settles_answers nodes old p input said base W (advance.Item at used i) new q h some = (h.within, some)
 settles_answers nodes old p input said base W advance.Done new q h some = absurd h

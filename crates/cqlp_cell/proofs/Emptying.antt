@@ -8,7 +8,7 @@ use Rattle.cqlp_cell.specs.declared.advance.CellAdvance.{CellAdvance}
 use Rattle.cqlp_cell.specs.declared.advance.CellAdvance.TheVariants as advance
 use Rattle.cqlp_cell.specs.Items.{CanLend, event_at}
 use Rattle.cqlp_cell.specs.Progress.{CellState}
-use Rattle.cqlp_cell.specs.Reading.{Saying, step_says, Joined, IsLent, IsKept, IsHeld, Hands, Moves, has_content, is_bare}
+use Rattle.cqlp_cell.specs.Reading.{StepAnswer, step_says, Joined, IsLent, IsKept, IsHeld, Hands, Moves, has_content, is_bare}
 use Rattle.cqlp_cell.proofs.Leading.{some_come}
 
 module _ (nodes : List Node) (old : CellState) (p : FieldState) (input : List ℕ) (new : CellState) (mid : FieldState) (joined : Joined nodes old p) where
@@ -40,7 +40,7 @@ bare_lends nodes (outline.Enter level k n) p input b used e = (tt, tt, tt, tt)
 bare_lends nodes (outline.Leave level n) p input b used e = (tt, tt, tt, tt)
 
 module _ (nodes : List Node) (old : CellState) (p : FieldState) (input : List ℕ) (new : CellState) (mid q : FieldState) (idle : q.under_way ≡ false) (room : q.room ≡ mid.room) where
-  bare_hands : (said : Saying) (base at used : ℕ) (i : CellOutline) → not (has_content i) ≡ true → Hands nodes old p input said base at used i new mid → Hands nodes old p input said base at used i new q
+  bare_hands : (said : StepAnswer) (base at used : ℕ) (i : CellOutline) → not (has_content i) ≡ true → Hands nodes old p input said base at used i new mid → Hands nodes old p input said base at used i new q
   bare_hands said base at used i e h =
       let same = bare_event i input mid.content q.content e in
       let can = bare_lends nodes i p input q.content used e in

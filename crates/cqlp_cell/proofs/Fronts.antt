@@ -50,20 +50,20 @@ module _ (l : Rules) (k : Kind) (room n : ℕ) (input : List ℕ) (v : ScalarVal
 
 -- ---- what a scalar at the front says of the bytes
 
-abbrev Saying : Type 0
-Saying = Said (Emitted CellEvent CellPlace) (ℕ × Reason)
+abbrev StepAnswer : Type 0
+StepAnswer = Said (Emitted CellEvent CellPlace) (ℕ × Reason)
 
 abbrev is_leaf : CellEvent → Bool
 is_leaf (Leaf level v) = true
 is_leaf e = false
 
-abbrev tells_leaf : Saying → Bool
-tells_leaf (Got x used) = is_leaf x.event
-tells_leaf d = false
+abbrev emits_leaf : StepAnswer → Bool
+emits_leaf (Got x used) = is_leaf x.event
+emits_leaf d = false
 
 module _ (taken : ℕ) (bytes : List ℕ) where
   abbrev leads : Step CellEvent CellPlace → Bool
-  leads s = tells_leaf (says s taken bytes)
+  leads s = emits_leaf (says s taken bytes)
 
   else_leads : (b : Bool) (x y : Step CellEvent CellPlace) → leads (cond b x y) ≡ true → leads x ≡ false → (b ≡ false) × (leads y ≡ true)
   else_leads true x y h never = absurd cc
@@ -77,11 +77,11 @@ module _ (taken : ℕ) (bytes : List ℕ) where
   neither_leads true x y p q = p
   neither_leads false x y p q = q
 
-waits_or : (b : Bool) (d : Saying) → tells_leaf (cond b More d) ≡ true → (b ≡ false) × (tells_leaf d ≡ true)
+waits_or : (b : Bool) (d : StepAnswer) → emits_leaf (cond b More d) ≡ true → (b ≡ false) × (emits_leaf d ≡ true)
 waits_or true d h = absurd cc
 waits_or false d h = (refl, h)
 
-never_waits_or : (b : Bool) (d : Saying) → tells_leaf d ≡ false → tells_leaf (cond b More d) ≡ false
+never_waits_or : (b : Bool) (d : StepAnswer) → emits_leaf d ≡ false → emits_leaf (cond b More d) ≡ false
 never_waits_or true d h = refl
 never_waits_or false d h = h
 
@@ -103,7 +103,7 @@ module _ (l : Rules) (p : CellPlace) (taken : ℕ) (bytes : List ℕ) where
   scalar_kind kind.Tuple n h = absurd cc
   scalar_kind k n h = refl
 
-leaf_is : (p : CellPlace) (k : Kind) (o : Option ScalarValue) (taken : ℕ) (bytes : List ℕ) → tells_leaf (says (leaf_step p [] 0 k o) taken bytes) ≡ true → is_some o ≡ true
+leaf_is : (p : CellPlace) (k : Kind) (o : Option ScalarValue) (taken : ℕ) (bytes : List ℕ) → emits_leaf (says (leaf_step p [] 0 k o) taken bytes) ≡ true → is_some o ≡ true
 leaf_is p k None taken bytes h = absurd cc
 leaf_is p k (Some v) taken bytes h = refl
 
@@ -137,17 +137,17 @@ module _ (l : Rules) (k : Kind) (room used : ℕ) (input : List ℕ) (v : Scalar
   abbrev rest : List ℕ
   rest = drop 4 input
 
-  leaf : tells_leaf (says (value_step l start [] k NoMore 0 room) 0 input) ≡ true
-  leaf = ap tells_leaf (h.is start [] NoMore 0)
+  leaf : emits_leaf (says (value_step l start [] k NoMore 0 room) 0 input) ≡ true
+  leaf = ap emits_leaf (h.is start [] NoMore 0)
 
-  sized : (4 ≤ room) × (4 ≤ length input) × (tells_leaf (says (sized_step l start [] k NoMore 0 room n) 4 rest) ≡ true)
+  sized : (4 ≤ room) × (4 ≤ length input) × (emits_leaf (says (sized_step l start [] k NoMore 0 room n) 4 rest) ≡ true)
   unfolding number_of
   sized =
       let a = else_leads 0 input (ltb room 4) _ _ leaf refl in
       let b = waits_or (ltb (length input) 4) _ a.1 in
       (ltb-false room 4 a.0, ltb-false (length input) 4 b.0, b.1)
 
-  content : (is_negative n ≡ false) × (eqb n 0 ≡ false) × (4 + n ≤ room) × (tells_leaf (says (content_step l start [] 0 k NoMore n) 4 rest) ≡ true)
+  content : (is_negative n ≡ false) × (eqb n 0 ≡ false) × (4 + n ≤ room) × (emits_leaf (says (content_step l start [] 0 k NoMore n) 4 rest) ≡ true)
   content =
       let a = else_leads 4 rest (is_negative n) _ _ sized.2 refl in
       let b = else_leads 4 rest (eqb n 0) _ _ a.1 refl in
@@ -157,7 +157,7 @@ module _ (l : Rules) (k : Kind) (room used : ℕ) (input : List ℕ) (v : Scalar
   pub front_there : IsThere l k room n input
   front_there =
       let kind = scalar_kind l start 4 rest k n content.3 in
-      let scalar : tells_leaf (says (scalar_step l start [] 0 k n) 4 rest) ≡ true = rw (scalar_content_is l start [] 0 k NoMore n kind) at content.3 in
+      let scalar : emits_leaf (says (scalar_step l start [] 0 k n) 4 rest) ≡ true = rw (scalar_content_is l start [] 0 k NoMore n kind) at content.3 in
       let a = then_leads 4 rest (takes_size l.lenient k n) _ _ scalar refl in
       let b = else_leads 4 rest (l.parts && is_opaque k && ltb l.part n) _ _ a.1 (part_leads l start 4 rest n) in
       let c = else_leads 4 rest (ltb l.cell n) _ _ b.1 refl in
@@ -181,13 +181,13 @@ abbrev leaf_in : CellEvent → Option ScalarValue
 leaf_in (Leaf level v) = Some v
 leaf_in e = None
 
-abbrev told_leaf : Saying → Option ScalarValue
-told_leaf (Got x used) = leaf_in x.event
-told_leaf d = None
+abbrev emitted_leaf : StepAnswer → Option ScalarValue
+emitted_leaf (Got x used) = leaf_in x.event
+emitted_leaf d = None
 
-abbrev told_used : Saying → ℕ
-told_used (Got x used) = used
-told_used d = 0
+abbrev emitted_used : StepAnswer → ℕ
+emitted_used (Got x used) = used
+emitted_used d = 0
 
 module _ (l : Rules) (k : Kind) (room used : ℕ) (input : List ℕ) (v : ScalarValue) (same : l.part ≡ l.cell) (h : SaysScalar l k room input used v) where
   abbrev content_long : ℕ
@@ -203,8 +203,8 @@ module _ (l : Rules) (k : Kind) (room used : ℕ) (input : List ℕ) (v : Scalar
       let s = says_scalar l k room content_long input w same refl t.some t.low t.short t.enough t.there t.kind t.allows e in
       let begin : CellPlace = record { offset = 0; symbols = [] } in
       let both = sym (h.is begin [] NoMore 0) ∙ s.is begin [] NoMore 0 in
-      let is : ◌≡◌ {A = Option ScalarValue} (Some v) (Some w) = ap told_leaf both in
-      (ap told_used both, e ∙ sym is)
+      let is : ◌≡◌ {A = Option ScalarValue} (Some v) (Some w) = ap emitted_leaf both in
+      (ap emitted_used both, e ∙ sym is)
 
   -- all that the bytes say of it
   pub front_is : IsThere l k room content_long input × (used ≡ 4 + content_long) × (scalar_taken l.lenient k content_of ≡ Some v)

@@ -28,7 +28,7 @@ use Rattle.cqlp_kind.specs.Scalars.{ScalarValue, allows_size, scalar_of}
 use Rattle.cqlp_cell.specs.Items.{CanLend, content_at, content_length, event_at, event_of, leaf_event}
 use Rattle.cqlp_cell.specs.OpenValues.{last_open}
 use Rattle.cqlp_cell.specs.Progress.{CellState, ended, is_some_next, is_under_way, symbols_for, place, close_if, is_over, due_in, due_for, due_of, Stands}
-use Rattle.cqlp_cell.specs.Reading.{Saying, step_says, Joined, UnderBy, AreBytes, HaveCome, IsLent, IsKept, Moves, Empties, has_content}
+use Rattle.cqlp_cell.specs.Reading.{StepAnswer, step_says, Joined, UnderBy, AreBytes, HaveCome, IsLent, IsKept, Moves, Empties, has_content}
 use Rattle.cqlp_cell.specs.Pushing.{is_done, done_by, Continues, Keeps, Pushes}
 use Rattle.cqlp_cell.proofs.ScalarSizes.{scalar_sized}
 
@@ -48,12 +48,12 @@ pub some_come : (nodes : List Node) (d : CellState) (p : FieldState) → Joined 
 some_come nodes d p j = come_by nodes d p d.arrived j.under_way
 
 -- only one list of bytes has come, or the step says the same of each
-pub told_is : (nodes : List Node) (d : CellState) (bytes : List ℕ) → step_says nodes d bytes ≡ says (cell_step d.rules (place nodes d)) 0 bytes
+pub answer_is : (nodes : List Node) (d : CellState) (bytes : List ℕ) → step_says nodes d bytes ≡ says (cell_step d.rules (place nodes d)) 0 bytes
 unfolding step_says
-told_is nodes d bytes = refl
+answer_is nodes d bytes = refl
 
-abbrev saying : Rules → CellPlace → List ℕ → Saying
-saying l p bytes = says (cell_step l p) 0 bytes
+abbrev step_answer : Rules → CellPlace → List ℕ → StepAnswer
+step_answer l p bytes = says (cell_step l p) 0 bytes
 
 -- ---- whether something is left
 
@@ -144,7 +144,7 @@ module _ (nodes : List Node) (old : CellState) (p : FieldState) (input : List �
           leads = λ start s es after.
               let w = m after.pending after.come in (
                 record { pending = after.pending ++ input; runs = rw (rules, here) (runs_stay (cell_step old.rules) start s input es (place nodes old) after.pending after.runs); come = w.1 },
-                (λ i. saying (rules i) (here i) (after.pending ++ input)) ∙ sym (told_is nodes old (after.pending ++ input)) ∙ w.0.is,
+                (λ i. step_answer (rules i) (here i) (after.pending ++ input)) ∙ sym (answer_is nodes old (after.pending ++ input)) ∙ w.0.is,
               );
           serves = (h.0.joined, h.0.under_way, h.0.kept);
           longest = h.0.longest;
@@ -165,7 +165,7 @@ module _ (nodes : List Node) (old : CellState) (p : FieldState) (input : List �
               let g = w.emits in
               let bytes = take used input in
               let long : length bytes ≡ used = length-take-le used input w.within in
-              let exact = says_exact (cell_step old.rules (place nodes old)) after.pending input g.x used (sym (told_is nodes old (after.pending ++ input)) ∙ g.is) in
+              let exact = says_exact (cell_step old.rules (place nodes old)) after.pending input g.x used (sym (answer_is nodes old (after.pending ++ input)) ∙ g.is) in
               record {
                 pending = [];
                 runs = rw w.rules (run_more old.rules start (place nodes old) (place nodes new) s after.pending bytes es at (event_of e) g.x after.runs (rw long exact) g.offset (g.event ∙ sym is) (rw long g.after));
@@ -200,7 +200,7 @@ module _ (nodes : List Node) (old : CellState) (p : FieldState) (input : List �
         record {
           leads = λ start s es after.
               let w = m after.pending after.come in
-              (after.pending ++ input, runs_stay (cell_step old.rules) start s input es (place nodes old) after.pending after.runs, sym (told_is nodes old (after.pending ++ input)) ∙ w.is);
+              (after.pending ++ input, runs_stay (cell_step old.rules) start s input es (place nodes old) after.pending after.runs, sym (answer_is nodes old (after.pending ++ input)) ∙ w.is);
           serves = (h.idle, empties refl);
           longest = h.longest;
         },

@@ -18,11 +18,11 @@ use Rattle.cqlp_cell.specs.declared.progress.CellDue.TheVariants as due
 use Rattle.cqlp_cell.specs.Numbers.{IsUnsigned, WantsNumber, IsCounted}
 use Rattle.cqlp_cell.specs.Progress.{CellState, ended, due_of, Stands}
 use Rattle.cqlp_cell.specs.Coming.{room_of, ValueDue}
-use Rattle.cqlp_cell.specs.Reading.{Saying, step_says, sized_of, IsKept, Waits, Fails, Settles, LengthCame, AreBytes, HaveCome}
+use Rattle.cqlp_cell.specs.Reading.{StepAnswer, step_says, sized_of, IsKept, Waits, Fails, Settles, LengthCame, AreBytes, HaveCome}
 use Rattle.cqlp_cell.proofs.Coming.{value_due}
 
 -- what a call does, it does where the same is said in other words
-pub settles_as : (nodes : List Node) (old : CellState) (p : FieldState) (input : List ℕ) (said said' : Saying) (base base' : ℕ) (W W' : Arrived → List ℕ → Type 0) (a : CellAdvance) (new : CellState) (q : FieldState)
+pub settles_as : (nodes : List Node) (old : CellState) (p : FieldState) (input : List ℕ) (said said' : StepAnswer) (base base' : ℕ) (W W' : Arrived → List ℕ → Type 0) (a : CellAdvance) (new : CellState) (q : FieldState)
     → said ≡ said' → base ≡ base' → ((u : Arrived) (seen : List ℕ) → W u seen → W' u seen) → Settles nodes old p input said base W a new q → Settles nodes old p input said' base' W' a new q
 settles_as nodes old p input said said' base base' W W' (advance.More used) new q e f g h = (rw e at h.0, g new.arrived q.seen h.1)
 settles_as nodes old p input said said' base base' W W' (advance.Item at used i) new q e f g h = rw (e, f) at h
@@ -119,7 +119,7 @@ still_kept nodes (outline.Enter level k n) p mid input buffer used idle h = tt
 still_kept nodes (outline.Leave level n) p mid input buffer used idle h = tt
 
 -- where a call begins with no field under way, it may as well have begun with another `Partial` of the same room
-pub settles_from : (nodes : List Node) (old : CellState) (p mid : FieldState) (input : List ℕ) (said : Saying) (base : ℕ) (W : Arrived → List ℕ → Type 0) (a : CellAdvance) (new : CellState) (q : FieldState)
+pub settles_from : (nodes : List Node) (old : CellState) (p mid : FieldState) (input : List ℕ) (said : StepAnswer) (base : ℕ) (W : Arrived → List ℕ → Type 0) (a : CellAdvance) (new : CellState) (q : FieldState)
     → mid.room ≡ p.room → mid.under_way ≡ false → Settles nodes old mid input said base W a new q → Settles nodes old p input said base W a new q
 settles_from nodes old p mid input said base W (advance.More used) new q e idle h = (record { all = h.0.all; is = h.0.is; same = h.0.same; under_way = h.0.under_way; joined = h.0.joined; kept = h.0.kept; longest = h.0.longest ∙ e }, h.1)
 settles_from nodes old p mid input said base W (advance.Item at used i) new q e idle h = record {

@@ -40,8 +40,8 @@ use Rattle.cqlp_cell.specs.OpenValues.{last_open}
 use Rattle.cqlp_cell.specs.Coming.{inner_of, room_of}
 
 -- what a step says
-abbrev pub Saying : Type 0
-Saying = Said (Emitted CellEvent CellPlace) (ℕ × Reason)
+abbrev pub StepAnswer : Type 0
+StepAnswer = Said (Emitted CellEvent CellPlace) (ℕ × Reason)
 
 -- the bytes of the next part
 abbrev pub part_size : CellState → (offset total : ℕ) → ℕ
@@ -70,7 +70,7 @@ gathered arrived.Later seen = seen
 
 module _ (nodes : List Node) where
   -- what the next step says of these bytes
-  unfoldable pub step_says : CellState → List ℕ → Saying
+  unfoldable pub step_says : CellState → List ℕ → StepAnswer
   step_says d bytes = says (cell_step d.rules (place nodes d)) 0 bytes
 
   -- how it goes on after the length of the value that comes next, the number n
@@ -126,7 +126,7 @@ module _ (nodes : List Node) where
   -- ---- what a call does
 
   -- A step says this event at this offset, of k bytes, and leads to where the reader stands.
-  pub record Emits (said : Saying) (at k : ℕ) (e : CellEvent) (new : CellState) : Type 0 where
+  pub record Emits (said : StepAnswer) (at k : ℕ) (e : CellEvent) (new : CellState) : Type 0 where
     pub x : Emitted CellEvent CellPlace
     pub is : said ≡ Got x k
     pub offset : x.at ≡ at
@@ -156,7 +156,7 @@ module _ (nodes : List Node) where
 
   -- The first `used` bytes of the input, with `base` bytes before it, end this item. It takes some of them, or it is
   -- the end of an open value.
-  pub record Hands (old : CellState) (p : FieldState) (input : List ℕ) (said : Saying) (base at used : ℕ)
+  pub record Hands (old : CellState) (p : FieldState) (input : List ℕ) (said : StepAnswer) (base at used : ℕ)
       (i : CellOutline) (new : CellState) (q : FieldState) : Type 0 where
     pub within : used ≤ length input
     pub emits : Emits said at (base + used) (event_at i input q.content) new
@@ -176,7 +176,7 @@ module _ (nodes : List Node) where
     pub longest : q.room ≡ p.room
 
   -- All of the input belongs to an item that goes on, in the `Partial`.
-  pub record Waits (old : CellState) (p : FieldState) (input : List ℕ) (said : Saying) (used : ℕ)
+  pub record Waits (old : CellState) (p : FieldState) (input : List ℕ) (said : StepAnswer) (used : ℕ)
       (new : CellState) (q : FieldState) : Type 0 where
     pub all : used ≡ length input
     pub is : said ≡ More
@@ -187,7 +187,7 @@ module _ (nodes : List Node) where
     pub longest : q.room ≡ p.room
 
   -- The cell ends by this refusal.
-  pub record Fails (old : CellState) (p : FieldState) (said : Saying) (r : Refusal)
+  pub record Fails (old : CellState) (p : FieldState) (said : StepAnswer) (r : Refusal)
       (new : CellState) (q : FieldState) : Type 0 where
     pub is : said ≡ Bad (r.at, r.why)
     pub ends : new ≡ ended old
@@ -195,7 +195,7 @@ module _ (nodes : List Node) where
     pub longest : q.room ≡ p.room
 
   -- What a call does where a step says this, with W of what waits.
-  abbrev pub Settles : CellState → FieldState → List ℕ → Saying → (base : ℕ) → (W : Arrived → List ℕ → Type 0)
+  abbrev pub Settles : CellState → FieldState → List ℕ → StepAnswer → (base : ℕ) → (W : Arrived → List ℕ → Type 0)
       → CellAdvance → CellState → FieldState → Type 0
   Settles old p input said base W (advance.More used) new q = Waits old p input said used new q × W new.arrived q.seen
   Settles old p input said base W (advance.Item at used i) new q = Hands old p input said base at used i new q

@@ -26,7 +26,7 @@ use Rattle.cqlp_columns.specs.declared.filled.Stop.{Stop as Why}
 use Rattle.cqlp_columns.specs.declared.filled.Stop.TheVariants as why
 use Rattle.cqlp_columns.specs.declared.page_columns.Went.{Went}
 use Rattle.cqlp_columns.specs.Filling.{EndsAtEvent, IsRead, StopsBy, TakesCells, refusal_after, refused_again, went_of}
-use Rattle.cqlp_columns.specs.PageLaws.{AreOneRead, HasRead, IsTold, OneAnswerOfRead, StopAlike}
+use Rattle.cqlp_columns.specs.PageLaws.{AreOneRead, HasRead, IsEmitted, OneAnswerOfRead, StopAlike}
 use Rattle.cqlp_columns.specs.Sorting.{takes}
 
 -- ---- one reading
@@ -146,54 +146,54 @@ full_takes b (Whole k c) full free =
 module _ (gifts : Gifts) (l : Rules) (s input : List ℕ) (es : List (ℕ × Event)) where
   -- the reading of all of the input goes through these events
   abbrev Through : List (ℕ × Event) → Type 0
-  Through told = (q : Place) × (rest : List ℕ) × Reads l (start_with gifts) (s ++ input) (es ++ told) q rest
+  Through emitted = (q : Place) × (rest : List ℕ) × Reads l (start_with gifts) (s ++ input) (es ++ emitted) q rest
 
-  stay : (used : ℕ) (told : List (ℕ × Event)) (p : Place) (b : List ℕ) → Reads l (start_with gifts) (s ++ take used input) (es ++ told) p b
-      → Reads l (start_with gifts) (s ++ input) (es ++ told) p (b ++ drop used input)
-  stay used told p b run =
+  stay : (used : ℕ) (emitted : List (ℕ × Event)) (p : Place) (b : List ℕ) → Reads l (start_with gifts) (s ++ take used input) (es ++ emitted) p b
+      → Reads l (start_with gifts) (s ++ input) (es ++ emitted) p (b ++ drop used input)
+  stay used emitted p b run =
       let there : (s ++ take used input) ++ drop used input ≡ s ++ input = append_assoc s (take used input) (drop used input)
       ∙ ap (λ (z : List ℕ). s ++ z) (take-append-drop used input) in
-      subst (λ (z : List ℕ). Reads l (start_with gifts) z (es ++ told) p (b ++ drop used input)) there (runs_stay (step l) (start_with gifts)
-      (s ++ take used input) (drop used input) (es ++ told) p b run)
+      subst (λ (z : List ℕ). Reads l (start_with gifts) z (es ++ emitted) p (b ++ drop used input)) there (runs_stay (step l) (start_with gifts)
+      (s ++ take used input) (drop used input) (es ++ emitted) p b run)
 
   -- where the reading is after these events, it has at least what was not used
-  record Reached (used : ℕ) (told : List (ℕ × Event)) : Type 0 where
+  record Reached (used : ℕ) (emitted : List (ℕ × Event)) : Type 0 where
     place : Place
     rest : List ℕ
-    run : Reads l (start_with gifts) (s ++ input) (es ++ told) place rest
+    run : Reads l (start_with gifts) (s ++ input) (es ++ emitted) place rest
     least : length input ≤ length rest + used
 
-  reached_by : (o : Option Refusal) (d : StreamState) (used : ℕ) (told : List (ℕ × Event)) → d.rules ≡ l → AfterBy o gifts d (s ++ take used input)
-      (es ++ told) → Reached used told
-  reached_by None d used told is a = record {
+  reached_by : (o : Option Refusal) (d : StreamState) (used : ℕ) (emitted : List (ℕ × Event)) → d.rules ≡ l → AfterBy o gifts d (s ++ take used input)
+      (es ++ emitted) → Reached used emitted
+  reached_by None d used emitted is a = record {
     place = a.place;
     rest = a.bytes ++ drop used input;
-    run = stay used told a.place a.bytes
+    run = stay used emitted a.place a.bytes
         (rw is at a.read);
     least = omega (arith, length-append a.bytes (drop used input), length-drop used input);
   }
-  reached_by (Some r) d used told is a = record {
+  reached_by (Some r) d used emitted is a = record {
     place = a.place;
     rest = a.bytes ++ drop used input;
-    run = stay used told a.place a.bytes
+    run = stay used emitted a.place a.bytes
         (rw is at a.read);
     least = omega (arith, length-append a.bytes (drop used input), length-drop used input);
   }
 
   -- the bytes used end with the last of these events, or there are none
-  abbrev Stops : (used : ℕ) → (told : List (ℕ × Event)) → Type 0
-  Stops used told = (r : Reached used told) × ((used ≡ 0) ⊎ (length r.rest + used ≡ length input))
+  abbrev Stops : (used : ℕ) → (emitted : List (ℕ × Event)) → Type 0
+  Stops used emitted = (r : Reached used emitted) × ((used ≡ 0) ⊎ (length r.rest + used ≡ length input))
 
-  stops_there : (used : ℕ) (told : List (ℕ × Event)) → used ≤ length input → Reached used told → EndsAtEvent gifts l s (take used input) (es ++ told)
-      → Stops used told
-  stops_there used told within r (inl none) = (r, inl (omega (arith, ap length none, length-take-le used input within)))
-  stops_there used told within r (inr run) =
+  stops_there : (used : ℕ) (emitted : List (ℕ × Event)) → used ≤ length input → Reached used emitted → EndsAtEvent gifts l s (take used input) (es ++ emitted)
+      → Stops used emitted
+  stops_there used emitted within r (inl none) = (r, inl (omega (arith, ap length none, length-take-le used input within)))
+  stops_there used emitted within r (inr run) =
       let long : length (drop used input) + used ≡ length input = omega (arith, within, length-drop used input) in
-      (record { place = run.0; rest = drop used input; run = stay used told run.0 [] run.1; least = omega (arith, long) }, inr long)
+      (record { place = run.0; rest = drop used input; run = stay used emitted run.0 [] run.1; least = omega (arith, long) }, inr long)
 
-  used_once : (used used' : ℕ) (told : List (ℕ × Event)) → Stops used told → Stops used' told → used' ≡ used
-  used_once used used' told x y =
-      let same = ap length (place_once gifts l (s ++ input) (es ++ told) x.0.place y.0.place x.0.rest y.0.rest x.0.run y.0.run).1 in
+  used_once : (used used' : ℕ) (emitted : List (ℕ × Event)) → Stops used emitted → Stops used' emitted → used' ≡ used
+  used_once used used' emitted x y =
+      let same = ap length (place_once gifts l (s ++ input) (es ++ emitted) x.0.place y.0.place x.0.rest y.0.rest x.0.run y.0.run).1 in
       let a = x.0.least in
       let b = y.0.least in
       elim x.1 [
@@ -269,9 +269,9 @@ module _ (gifts : Gifts) (l : Rules) (s input : List ℕ) (es : List (ℕ × Eve
         not_both (takes c (found_in on.0.1)) on.4 (subst (λ (z : ℕ × Event). takes c (found_in z.1) ≡ false) same e.3)
 
     -- the same cells, and of the other events the one list begins the other
-    same_told : (c c' : Batch) (used used' : ℕ) (w w' : Why) (x : Outcome c used w) (y : Outcome c' used' w')
+    same_emitted : (c c' : Batch) (used used' : ℕ) (w w' : Why) (x : Outcome c used w) (y : Outcome c' used' w')
         → (y.cells ≡ x.cells) × (((more : List (ℕ × Event)) × (y.other ≡ x.other ++ more)) ⊎ ((more : List (ℕ × Event)) × (x.other ≡ y.other ++ more)))
-    same_told c c' used used' w w' x y = elim (cases_lt (length x.cells) (length y.cells)) [
+    same_emitted c c' used used' w w' x y = elim (cases_lt (length x.cells) (length y.cells)) [
       | inl lt ↦ absurd (longer_by c c' used used' w' y w x x.ends lt)
       | inr le ↦ elim (cases_lt (length y.cells) (length x.cells)) [
         | inl lt ↦ absurd (longer_by c' c used' used w x w' y y.ends lt)
@@ -363,10 +363,10 @@ module _ (gifts : Gifts) (l : Rules) (s input : List ℕ) (es : List (ℕ × Eve
     same_outcome : (c c' : Batch) (used used' : ℕ) (w w' : Why) (x : Outcome c used w) (y : Outcome c' used' w')
         → (c' ≡ c) × (used' ≡ used) × StopAlike w w' × (y.other ≡ x.other) × (y.cells ≡ x.cells)
     same_outcome c c' used used' w w' x y =
-        let told = same_told c c' used used' w w' x y in
-        let one = same_columns c c' x.cells x.taken (subst (λ (z : List (ℕ × Event)). TakesCells columns z c') told.0 y.taken) in
-        let end = same_end c used used' x.cells x.other y.other told.1 w w' x.ends (rw (told.0, one) at y.ends) in
-        (one, end.0, end.1, end.2, told.0)
+        let emitted = same_emitted c c' used used' w w' x y in
+        let one = same_columns c c' x.cells x.taken (subst (λ (z : List (ℕ × Event)). TakesCells columns z c') emitted.0 y.taken) in
+        let end = same_end c used used' x.cells x.other y.other emitted.1 w w' x.ends (rw (emitted.0, one) at y.ends) in
+        (one, end.0, end.1, end.2, emitted.0)
 
     -- ---- what a call makes
 
@@ -375,15 +375,15 @@ module _ (gifts : Gifts) (l : Rules) (s input : List ℕ) (es : List (ℕ × Eve
     module _ {S : Type 0} (m : sink.Ghosts S) (old new : StreamState) (none : old.refusal ≡ None) (was_rules : old.rules ≡ l) (rules : new.rules ≡ l)
         (c : Batch) (before after : S) (used : ℕ) (within : used ≤ length input)
         (cells : List (ℕ × Event)) (taken : TakesCells columns cells c) where
-      through_all : (told : List (ℕ × Event)) → Reached used told → Through told
-      through_all told r = (r.place, r.rest, r.run)
+      through_all : (emitted : List (ℕ × Event)) → Reached used emitted → Through emitted
+      through_all emitted r = (r.place, r.rest, r.run)
 
       -- the decoder stands after the bytes used and these events
-      abbrev StandsAfter : (told : List (ℕ × Event)) → Type 0
-      StandsAfter told = AfterGifts gifts new (s ++ take used input) (es ++ told)
+      abbrev StandsAfter : (emitted : List (ℕ × Event)) → Type 0
+      StandsAfter emitted = AfterGifts gifts new (s ++ take used input) (es ++ emitted)
 
       abbrev Made : Why → Type 0
-      Made w = (o : Outcome c used w) × IsTold m w before after o.other × StandsAfter (o.cells ++ o.other)
+      Made w = (o : Outcome c used w) × IsEmitted m w before after o.other × StandsAfter (o.cells ++ o.other)
 
       -- no other event
       alone : StandsAfter cells → StandsAfter (cells ++ [])
@@ -486,9 +486,9 @@ module _ {S : Type 0} (m : sink.Ghosts S) (gifts : Gifts) (s : List ℕ) (es : L
   same_went : f'.stop ≡ f.stop → w' ≡ w
   same_went same = y.went ∙ ap went_of same ∙ sym x.went
 
-  again_told : (r : Refusal) (full : Bool) (g : Filled) (o : S) → g ≡ refused_again r full → o ≡ before → IsTold m g.stop before o []
-  again_told r true g o is same = subst (λ (z : Filled). IsTold m z.stop before o []) (sym is) (refl, same)
-  again_told r false g o is same = subst (λ (z : Filled). IsTold m z.stop before o []) (sym is) (refl, same)
+  again_emitted : (r : Refusal) (full : Bool) (g : Filled) (o : S) → g ≡ refused_again r full → o ≡ before → IsEmitted m g.stop before o []
+  again_emitted r true g o is same = subst (λ (z : Filled). IsEmitted m z.stop before o []) (sym is) (refl, same)
+  again_emitted r false g o is same = subst (λ (z : Filled). IsEmitted m z.stop before o []) (sym is) (refl, same)
 
   again_alike : (r : Refusal) (full : Bool) → StopAlike (refused_again r full).stop (refused_again r full).stop
   again_alike r true = refl
@@ -515,8 +515,8 @@ module _ {S : Type 0} (m : sink.Ghosts S) (gifts : Gifts) (s : List ℕ) (es : L
         cells = [];
         taken = p.2;
         other = [];
-        told = again_told r full f after p.0 p.3;
-        told' = again_told r full f' after' q.0 q.3;
+        emitted = again_emitted r full f after p.0 p.3;
+        emitted' = again_emitted r full f' after' q.0 q.3;
         stands = stands_again new f p.1 none;
         stands' = stands_again new' f q.1 none;
         refusal = ap (λ (n : StreamState). n.refusal) (q.1 ∙ sym p.1);
@@ -540,8 +540,8 @@ module _ {S : Type 0} (m : sink.Ghosts S) (gifts : Gifts) (s : List ℕ) (es : L
         cells = p.0.cells;
         taken = p.0.taken;
         other = p.0.other;
-        told = p.1;
-        told' = subst (λ (z : List (ℕ × Event)). IsTold m f'.stop before after' z) same.3 q.1;
+        emitted = p.1;
+        emitted' = subst (λ (z : List (ℕ × Event)). IsEmitted m f'.stop before after' z) same.3 q.1;
         stands = p.2;
         stands' = subst (λ (n : ℕ). AfterGifts gifts new' (s ++ take n input) (es ++ (p.0.cells ++ p.0.other))) same.1 (subst (λ (z : List (ℕ
             × Event)). AfterGifts gifts new' (s ++ take f'.used input) (es ++ z)) (λ i. same.4 i ++ same.3 i) q.2);

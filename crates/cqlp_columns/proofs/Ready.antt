@@ -16,7 +16,7 @@ use Rattle.cqlp_columns.specs.Cells.{Cell, cell_bytes, is_of}
 pub written_back : (new items : List Column) (n : ℕ) → n ≡ length new → take n (new ++ drop (length new) items) ≡ new
 written_back new items n long = take_at new (drop (length new) items) n (sym long)
 
--- ---- what no fault tells
+-- ---- what no fault says
 
 passed : (d : Bool) (x : Option TakeError) (y : TakeError) → (if d then x else Some y) ≡ None → (d ≡ true) × (x ≡ None)
 passed true x y e = (refl, e)

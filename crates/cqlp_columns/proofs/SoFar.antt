@@ -10,9 +10,9 @@ use Rattle.cqlp_decode.specs.Reading.{Event, Gifts, Reads, Says, Waits, start_wi
 use Rattle.cqlp_decode.specs.Progress.{StreamState, Pending, Kept, Skipped, Valued, IsHeld, IsPending}
 use Rattle.cqlp_decode.specs.Streams.{AfterBy, AfterGifts, LeadsAfter, Refuses, Stands}
 use Rattle.cqlp_decode.specs.Sinks.{Gets, Fails}
-use Rattle.cqlp_decode.specs.Cells.{Item, TakesItems, GetsAll, HandsOut, FailsAfter, bytes_of, told_of}
+use Rattle.cqlp_decode.specs.Cells.{Item, TakesItems, GetsAll, HandsOut, FailsAfter, bytes_of, emitted_of}
 use Rattle.cqlp_decode.proofs.Gets.{take_two}
-use Rattle.cqlp_decode.proofs.Taken.{takes_stands, takes_within, told_append}
+use Rattle.cqlp_decode.proofs.Taken.{takes_stands, takes_within, emitted_append}
 use Rattle.cqlp_columns.specs.Batches.{Batch, is_full}
 use Rattle.cqlp_columns.specs.Findings.{found_in}
 use Rattle.cqlp_columns.specs.Sorting.{TakesCell, SortsTo, IsOver, takes}
@@ -94,7 +94,7 @@ begun_end old new input [] y t = begun_last old new input y [] t
 begun_end old new input (x ∷ xs) y t = begun_end t.0 new (drop x.used input) xs y t.3
 
 ends_on : (gifts : Gifts) (old new : StreamState) (s input : List ℕ) (es cells : List (ℕ × Event)) (used : ℕ) (xs : List Item) → TakesItems old (drop used input) xs new → EndsAtEvent gifts old.rules s (take used input) (es ++ cells)
-    → AfterGifts gifts new (s ++ take (used + bytes_of xs) input) (es ++ (cells ++ told_of xs)) → EndsAtEvent gifts new.rules s (take (used + bytes_of xs) input) (es ++ (cells ++ told_of xs))
+    → AfterGifts gifts new (s ++ take (used + bytes_of xs) input) (es ++ (cells ++ emitted_of xs)) → EndsAtEvent gifts new.rules s (take (used + bytes_of xs) input) (es ++ (cells ++ emitted_of xs))
 ends_on gifts old new s input es cells used [] t ends after =
     let more : used ≡ used + 0 = omega arith in
     subst (λ (n : ℕ). EndsAtEvent gifts new.rules s (take n input) (es ++ (cells ++ []))) more
@@ -108,7 +108,7 @@ held_longer e held n k more h = λ short. h (omega (arith, short, more))
 
 module _ {P S : Type 0} (Got : P → ℕ → Event → P → Type 0) (columns : P → Batch) (other : P → S)
     (sorts : (p q : P) (at : ℕ) (e : Event) → Got p at e q → TakesCell (columns p) e (columns q) × (is_full (columns q) ≡ false) × (other q ≡ other p)) where
-  pub all_cells : (p q : P) (xs : List Item) → GetsAll Got p xs q → is_full (columns p) ≡ false → TakesCells (columns p) (told_of xs) (columns q) × (is_full (columns q) ≡ false) × (other q ≡ other p)
+  pub all_cells : (p q : P) (xs : List Item) → GetsAll Got p xs q → is_full (columns p) ≡ false → TakesCells (columns p) (emitted_of xs) (columns q) × (is_full (columns q) ≡ false) × (other q ≡ other p)
   all_cells p q [] g free = (ap columns g, ap (λ (z : P). is_full (columns z)) g ∙ free, ap other g)
   all_cells p q (x ∷ xs) g free =
       let one = sorts p g.0 x.at x.event g.1 in
@@ -124,10 +124,10 @@ module _ {P S : Type 0} (Got : P → ℕ → Event → P → Type 0) (columns : 
           all.2,
           λ gifts s es a r.
               let stands = takes_stands gifts old new (s ++ take used input) (drop used input) (es ++ r.cells) h.items h.takes r.after in
-              let after : AfterGifts gifts new (s ++ take (used + bytes_of h.items) input) (es ++ (r.cells ++ told_of h.items)) =
-              rw (← (append_assoc es r.cells (told_of h.items))) (onward gifts new s input used (bytes_of h.items) ((es ++ r.cells) ++ told_of h.items) stands) in record {
-                cells = r.cells ++ told_of h.items;
-                taken = cells_append a (columns p) (columns q) r.cells (told_of h.items) r.taken all.0;
+              let after : AfterGifts gifts new (s ++ take (used + bytes_of h.items) input) (es ++ (r.cells ++ emitted_of h.items)) =
+              rw (← (append_assoc es r.cells (emitted_of h.items))) (onward gifts new s input used (bytes_of h.items) ((es ++ r.cells) ++ emitted_of h.items) stands) in record {
+                cells = r.cells ++ emitted_of h.items;
+                taken = cells_append a (columns p) (columns q) r.cells (emitted_of h.items) r.taken all.0;
                 after = rw h.all after;
                 ends = rw h.all (ends_on gifts old new s input es r.cells used h.items h.takes r.ends after);
               },
@@ -198,17 +198,17 @@ module _ {P S : Type 0} (m : sink.Ghosts S) (Got Failed : P → ℕ → Event �
       let all = all_cells Got columns other sorts p h.mid h.items h.got room in
       let over = last h.mid q h.last.at h.last.event h.fault in
       let x : ℕ × Event = (h.last.at, h.last.event) in
-      let cells = r.cells ++ told_of h.items in
+      let cells = r.cells ++ emitted_of h.items in
       let stands = takes_stands gifts old new (s ++ take used input) (drop used input) (es ++ r.cells) (h.items ++ h.last ∷ []) h.takes r.after in
-      let told : (es ++ r.cells) ++ told_of (h.items ++ h.last ∷ []) ≡ (es ++ cells) ++ x ∷ [] =
-      ap (λ (z : List (ℕ × Event)). (es ++ r.cells) ++ z) (told_append h.items (h.last ∷ [])) ∙ sym (append_assoc (es ++ r.cells) (told_of h.items) (x ∷ [])) ∙ ap (λ (z : List (ℕ × Event)). z ++ x ∷ []) (append_assoc es r.cells (told_of h.items)) in
+      let emitted : (es ++ r.cells) ++ emitted_of (h.items ++ h.last ∷ []) ≡ (es ++ cells) ++ x ∷ [] =
+      ap (λ (z : List (ℕ × Event)). (es ++ r.cells) ++ z) (emitted_append h.items (h.last ∷ [])) ∙ sym (append_assoc (es ++ r.cells) (emitted_of h.items) (x ∷ [])) ∙ ap (λ (z : List (ℕ × Event)). z ++ x ∷ []) (append_assoc es r.cells (emitted_of h.items)) in
       let bytes = takes_within old new (drop used input) (h.items ++ h.last ∷ []) h.takes in
       let few = bytes_last h.items h.last in
       let begun = begun_end old new (drop used input) h.items h.last h.takes in
       let long = length-take-le (used + taken) input (omega (arith, bytes, h.all, within, length-drop used input)) in
-      ends m gifts free new s input es cells a (columns h.mid) (columns q) o (other h.mid) (other q) (cells_append a (columns p) (columns h.mid) r.cells (told_of h.items) r.taken all.0) all.1 (all.2 ∙ same) (used + taken) h.last.at h.last.event (gone q) over.0 over.1
+      ends m gifts free new s input es cells a (columns h.mid) (columns q) o (other h.mid) (other q) (cells_append a (columns p) (columns h.mid) r.cells (emitted_of h.items) r.taken all.0) all.1 (all.2 ∙ same) (used + taken) h.last.at h.last.event (gone q) over.0 over.1
       begun.1 begun.0
-      (rw h.all (onward gifts new s input used (bytes_of (h.items ++ h.last ∷ [])) ((es ++ cells) ++ x ∷ []) (rw told at stands)))
+      (rw h.all (onward gifts new s input used (bytes_of (h.items ++ h.last ∷ [])) ((es ++ cells) ++ x ∷ []) (rw emitted at stands)))
       (held_longer h.last.event new.held h.last.used _ (omega (arith, few, h.all, long)) (last_held old new (drop used input) h.items h.last h.takes))
 
 all_of : (s input : List ℕ) (used : ℕ) → (s ++ take used input) ++ drop used input ≡ s ++ input

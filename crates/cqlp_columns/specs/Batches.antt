@@ -39,7 +39,7 @@ columns_from l at [] es = []
 columns_from l at (s ∷ ss) es = filled l s (cells_among at es) ∷ columns_from l (at + 1) ss es
 
 -- Each column has just its cells among these events, in the arrays that Arrow gives them; and cells come in the order of the columns, so that
--- the number of cells so far tells the column of the next.
+-- the number of cells so far gives the column of the next.
 abbrev pub batch_of : BatchLimits → List Site → List Event → Batch
 batch_of l sites es = batch l (columns_from l 0 sites es) (cell_count es % length sites)
 

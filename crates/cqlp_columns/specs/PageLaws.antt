@@ -32,10 +32,10 @@ module _ {S : Type 0} (m : sink.Ghosts S) where
     pub given : new.given ≡ old.given
 
   -- The other sink got these events, of which there is one at most, or failed at it.
-  abbrev pub IsTold : Stop → (before after : S) → List (ℕ × Event) → Type 0
-  IsTold stop.Other before after es = (x : ℕ × Event) × (es ≡ x ∷ []) × Gets m before x.0 x.1 after
-  IsTold stop.Failed before after es = (x : ℕ × Event) × (es ≡ x ∷ []) × Fails m before x.0 x.1 after
-  IsTold w before after es = (es ≡ []) × (after ≡ before)
+  abbrev pub IsEmitted : Stop → (before after : S) → List (ℕ × Event) → Type 0
+  IsEmitted stop.Other before after es = (x : ℕ × Event) × (es ≡ x ∷ []) × Gets m before x.0 x.1 after
+  IsEmitted stop.Failed before after es = (x : ℕ × Event) × (es ≡ x ∷ []) × Fails m before x.0 x.1 after
+  IsEmitted w before after es = (es ≡ []) × (after ≡ before)
 
   -- Two calls used the same bytes, and stop alike. The columns took the same cells, and the other sinks were handed the same event, if any; and both
   -- decoders stand after the same bytes and the same events, have refused the same, and have the same types that were given.
@@ -48,8 +48,8 @@ module _ {S : Type 0} (m : sink.Ghosts S) where
     pub cells : List (ℕ × Event)
     pub taken : TakesCells columns cells columns'
     pub other : List (ℕ × Event)
-    pub told : IsTold f.stop before after other
-    pub told' : IsTold f'.stop before after' other
+    pub emitted : IsEmitted f.stop before after other
+    pub emitted' : IsEmitted f'.stop before after' other
     pub stands : AfterGifts gifts new (s ++ take f.used input) (es ++ (cells ++ other))
     pub stands' : AfterGifts gifts new' (s ++ take f.used input) (es ++ (cells ++ other))
     pub refusal : new'.refusal ≡ new.refusal

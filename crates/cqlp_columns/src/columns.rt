@@ -3,7 +3,7 @@
 ghost use Rattle.std.specs.Prelude.{◌≡◌, ◌+◌, ◌<◌, ◌^◌, ◌&&◌, ◌++◌, ◌∷◌, [], List, length, map, vec_capacity};
 ghost use Rattle.std.specs.Prelude.{IfOk, IsOk, OnErr, None};
 ghost use Rattle.std.specs.List.{list_all};
-ghost use Rattle.cqlp_grammar.specs.Events.{Event as Told, event_of};
+ghost use Rattle.cqlp_grammar.specs.Events.{Event as Emitted, event_of};
 ghost use Rattle.cqlp_columns.specs.Arrays.{Site, site};
 ghost use Rattle.cqlp_columns.specs.Batches.{HasTaken, IsAnswerOf, IsMade, IsNew, batch, cleared, empty_column, empty_columns, fault_among, fault_at, fault_in};
 ghost use Rattle.cqlp_columns.specs.Batches.{has_layout, is_full, kinds_in, next_after, refusal_among, refusal_of_kinds, refusal_to, rows_in};
@@ -149,7 +149,7 @@ impl<A: Allocator> Columns<A> {
     #[inline(always)]
     pub fn take(&mut self, event: &Event<'_>) -> Result<(), TakeError>
         ensures answer { IsAnswerOf (refusal_to (found_in (event_of event.now)) self.old) result }
-        ensures taken { IsOk result → (sites : List Site) (es : List Told) → HasTaken self.old.limits sites es self.old
+        ensures taken { IsOk result → (sites : List Site) (es : List Emitted) → HasTaken self.old.limits sites es self.old
             → HasTaken self.old.limits sites (es ++ event_of event.now ∷ []) self.new }
         ensures refused { OnErr result (self.new ≡ self.old) }
     {
@@ -193,7 +193,7 @@ impl<A: Allocator> Columns<A> {
 
     /// Removes all rows, also one that is under way, and keeps the memory.
     pub fn clear(&mut self)
-        ensures { (sites : List Site) (es : List Told) → HasTaken self.old.limits sites es self.old → HasTaken self.old.limits sites [] self.new }
+        ensures { (sites : List Site) (es : List Emitted) → HasTaken self.old.limits sites es self.old → HasTaken self.old.limits sites [] self.new }
     {
         clear_all(self.columns.as_mut_slice());
         self.light = true;

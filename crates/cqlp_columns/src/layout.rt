@@ -12,7 +12,7 @@ pub enum Layout {
     Bits,
     /// So many bytes each. Numbers have their lowest byte first; a uuid has its 16 bytes in their order.
     Fixed(u8),
-    /// As many bytes as each has, one after the other, as section 6 of `native_protocol_v4.spec` spells them. Where they begin and end is told by offsets.
+    /// As many bytes as each has, one after the other, as section 6 of `native_protocol_v4.spec` spells them. Offsets say where they begin and end.
     Variable,
 }
 

@@ -11,7 +11,7 @@ use Rattle.cqlp_message.specs.Pages.{filled, with_cells}
 use Rattle.cqlp_message.specs.Parts.{parts_size}
 use Rattle.cqlp_build.specs.Building.{AreEventsOf, CanBeBuilt, is_built}
 use Rattle.cqlp_build.specs.Closing.{closed, of_length}
-use Rattle.cqlp_build.specs.Told.{told}
+use Rattle.cqlp_build.specs.Emitted.{emitted}
 use Rattle.cqlp_compose.specs.PageLaws.{IsPageOf, PageIsBuilt}
 
 same_response : (m : Message) (cells : List Values) → is_response (filled m cells) ≡ is_response m
@@ -32,11 +32,11 @@ same_header f cells k m = λ i. record (header_of f m) { response = same_respons
 
 -- its events, with a header of whatever length
 pub page_closed : (f : FrameValue) (n k : ℕ) (es : List Event) (bytes : List ℕ) (p : IsPageOf f n es bytes)
-    → AreEventsOf (closed (header_of f k) (parts_size (frame_parts (with_cells f p.cells))) (told (frame_parts f) ++ es)) (with_cells f p.cells) 0
+    → AreEventsOf (closed (header_of f k) (parts_size (frame_parts (with_cells f p.cells))) (emitted (frame_parts f) ++ es)) (with_cells f p.cells) 0
 page_closed f n k es bytes p =
     let page = with_cells f p.cells in
     let m = parts_size (frame_parts page) in
-    let fields = told (frame_parts f) ++ es in
+    let fields = emitted (frame_parts f) ++ es in
     subst (λ (h : Header). AreEventsOf (Frame h ∷ fields ++ End 0 ∷ []) page 0) (same_header f p.cells k m) p.are
 
 pub page_can : (f : FrameValue) (n : ℕ) (es : List Event) (bytes : List ℕ) (p : IsPageOf f n es bytes) → is_built f.message ≡ true → CanBeBuilt (with_cells f p.cells)

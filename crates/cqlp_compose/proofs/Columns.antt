@@ -15,7 +15,7 @@ use Rattle.cqlp_message.specs.declared.message.Message.TheVariants as message
 use Rattle.cqlp_message.specs.declared.response.Metadata.{Metadata}
 use Rattle.cqlp_message.specs.declared.response.Spec.{Spec}
 use Rattle.cqlp_build.specs.Productions.{column_type}
-use Rattle.cqlp_build.proofs.Columns.{readable, untold_column}
+use Rattle.cqlp_build.proofs.Columns.{readable, undescribed_column}
 use Rattle.cqlp_compose.specs.Places.{type_at, type_if, type_in}
 
 pub type_some : (cs : List Spec) (i : ℕ) (s : Spec) → s ≡ get_or cs i s → i < length cs → type_at cs i ≡ Some s.tree
@@ -28,21 +28,21 @@ type_none [] i le = refl
 type_none (c ∷ cs) zero le = absurd (omega (arith, le))
 type_none (c ∷ cs) (suc i) le = type_none cs i (omega (arith, le))
 
--- ---- as the message tells them
+-- ---- as the message describes them
 
-told_at : (cs : List Spec) (i : ℕ) → i < length cs → cell_type (type_at cs i) ≡ column_type i (column_types (map spec_of cs))
-told_at [] i lt = absurd (omega (arith, lt))
-told_at (c ∷ cs) zero lt = refl
-told_at (c ∷ cs) (suc i) lt = told_at cs i (omega (arith, lt))
+described_at : (cs : List Spec) (i : ℕ) → i < length cs → cell_type (type_at cs i) ≡ column_type i (column_types (map spec_of cs))
+described_at [] i lt = absurd (omega (arith, lt))
+described_at (c ∷ cs) zero lt = refl
+described_at (c ∷ cs) (suc i) lt = described_at cs i (omega (arith, lt))
 
 in_metadata : (m : Metadata) (i : ℕ) → metadata_agrees (metadata_of m) ≡ true → i < m.columns → cell_type (type_if m.specs i) ≡ column_type i (cell_types (metadata_of m))
 in_metadata m i e lt = by_specs m.specs refl
   where
     by_specs : (o : Option (Vec Spec Global)) → m.specs ≡ o → cell_type (type_if m.specs i) ≡ column_type i (cell_types (metadata_of m))
-    by_specs None is = rw is (sym (untold_column (metadata_of (record m { specs = None })) i refl lt))
+    by_specs None is = rw is (sym (undescribed_column (metadata_of (record m { specs = None })) i refl lt))
     by_specs (Some cs) is =
         let many : length (map spec_of cs.items) ≡ m.columns = (readable (metadata_of m) e (map spec_of cs.items) (rw is refl)).0 in
-        rw is (told_at cs.items i (omega (arith, lt, many, length-map cs.items spec_of)))
+        rw is (described_at cs.items i (omega (arith, lt, many, length-map cs.items spec_of)))
 
 pub type_is : (m : Message) (i : ℕ) → message_agrees (message_of m) ≡ true → i < page_columns (message_of m) → cell_type (type_in m i) ≡ column_type i (types_of_page (message_of m))
 type_is (message.Rows p) i e lt = in_metadata p.meta i e lt

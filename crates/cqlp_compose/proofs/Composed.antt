@@ -10,7 +10,7 @@ use Rattle.cqlp_build.specs.declared.error.BuildError.{BuildError}
 use Rattle.cqlp_build.specs.declared.error.BuildError.TheVariants as error
 use Rattle.cqlp_build.specs.Building.{AreEventsOf, CanBeBuilt}
 use Rattle.cqlp_build.specs.Closing.{Ends, closed}
-use Rattle.cqlp_build.specs.Told.{told}
+use Rattle.cqlp_build.specs.Emitted.{emitted}
 use Rattle.cqlp_compose.proofs.Built.{page_can, page_closed}
 use Rattle.cqlp_compose.specs.BatchLaws.{BatchesAreComposed, IsComposed, PageIsComposed}
 
@@ -35,4 +35,4 @@ batches_are_composed h fields bytes p = is_composed h fields bytes p.size p.fram
 
 pub page_is_composed : PageIsComposed
 page_is_composed f n k es bytes p built =
-    is_composed (header_of f k) (told (frame_parts f) ++ es) bytes (parts_size (frame_parts (with_cells f p.cells))) (with_cells f p.cells) (page_can f n es bytes p built) (page_closed f n k es bytes p) p.written
+    is_composed (header_of f k) (emitted (frame_parts f) ++ es) bytes (parts_size (frame_parts (with_cells f p.cells))) (with_cells f p.cells) (page_can f n es bytes p built) (page_closed f n k es bytes p) p.written

@@ -13,7 +13,7 @@ use Rattle.cqlp_build_cells.specs.Laws.{AreSame}
 use Rattle.cqlp_build_cells.proofs.OneAnswers.{one_answer as one_event, one_answer_of_finish as one_value}
 use Rattle.cqlp_compose.specs.declared.error.PageCellError.TheVariants as error
 use Rattle.cqlp_compose.specs.Cells.{CellsState, Ends, GoesOn, IsOfColumn, NotTaken, Takes, TakesNext, is_next, next_column, room, with_cell, within, without_cell}
-use Rattle.cqlp_compose.specs.Places.{told_type}
+use Rattle.cqlp_compose.specs.Places.{described_type}
 use Rattle.cqlp_compose.specs.PageLaws.{Answer, OneAnswer}
 
 abbrev no_memory : Answer
@@ -109,7 +109,7 @@ both_ends : (s : CellsState) (a b : Answer) (x y : CellsState) → IsEnd s a x �
 both_ends s a b x y (inr e) k = inr (inl e)
 both_ends s a b x y (inl m) (inr e) = inr (inr e)
 both_ends s a b x y (inl m) (inl k) =
-    both_made s a b x y m k (same_made m.made k.made (one_value s.under.events (told_type s.frame (next_column s)) m.made k.made m.is k.is))
+    both_made s a b x y m k (same_made m.made k.made (one_value s.under.events (described_type s.frame (next_column s)) m.made k.made m.is k.is))
 
 one_end : (s : CellsState) (a b : Answer) (x y : CellsState) → Ends s a x → Ends s b y → Alike (Forgets s) a b x y
 one_end s a b x y p q = both_ends s a b x y (end_is s a x p) (end_is s b y q)

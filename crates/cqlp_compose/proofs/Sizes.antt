@@ -1,4 +1,4 @@
--- How many bytes the events of cells tell of.
+-- How many bytes the events of cells cover.
 use Rattle.std.proofs.Common.{◌≡◌, ℕ, zero, suc, ◌+◌, ◌&&◌, ◌^◌, ltb, Bool, true, false, List, [], ◌∷◌, ◌++◌, map, drop, refl, sym, ap, ◌∙◌, arith}
 use Rattle.std.specs.Prelude.{if◌then◌else◌}
 use Rattle.std.specs.List.{list_all}
@@ -14,8 +14,8 @@ use Rattle.cqlp_grammar.specs.Events.{Event, cell_event}
 use Rattle.cqlp_message.specs.Bodies.{row_parts, rows_parts}
 use Rattle.cqlp_message.specs.Parts.{cell_fits, parts_size}
 use Rattle.cqlp_message.proofs.Bounds.{parts_append}
-use Rattle.cqlp_build.specs.Told.{told}
-use Rattle.cqlp_build.proofs.Steps.{told_append}
+use Rattle.cqlp_build.specs.Emitted.{emitted}
+use Rattle.cqlp_build.proofs.Steps.{emitted_append}
 use Rattle.cqlp_build_cells.specs.Said.{values_said}
 use Rattle.cqlp_compose.specs.Measures.{event_size, events_size, said_size}
 
@@ -92,7 +92,7 @@ events_same : (row column : ℕ) (es : List CellEvent) → events_size (map (cel
 events_same row column [] = refl
 events_same row column (e ∷ es) = omega (arith, event_same row column e, events_same row column es)
 
-row_sizes : (r c : ℕ) (ts : Types) (cells : List Values) → list_all cell_fits (row_parts r c ts cells) ≡ true → events_size (told (row_parts r c ts cells)) ≡ parts_size (row_parts r c ts cells)
+row_sizes : (r c : ℕ) (ts : Types) (cells : List Values) → list_all cell_fits (row_parts r c ts cells) ≡ true → events_size (emitted (row_parts r c ts cells)) ≡ parts_size (row_parts r c ts cells)
 row_sizes r c NoMore cells f = refl
 row_sizes r c (Type_and k inner ts) [] f = refl
 row_sizes r c (Type_and k inner ts) (v ∷ cells) f =
@@ -100,13 +100,13 @@ row_sizes r c (Type_and k inner ts) (v ∷ cells) f =
     let one = events_same r c (values_said 0 (Type_and k inner NoMore) v) in
     let two = said_sizes 0 (Type_and k inner NoMore) v p.0 in
     let more = row_sizes r (c + 1) ts cells p.1 in
-    omega (arith, one, two, more, events_both (map (cell_event r c) (values_said 0 (Type_and k inner NoMore) v)) (told (row_parts r (c + 1) ts cells)))
+    omega (arith, one, two, more, events_both (map (cell_event r c) (values_said 0 (Type_and k inner NoMore) v)) (emitted (row_parts r (c + 1) ts cells)))
 
--- the events of cells that fit tell of as many bytes as the cells have
-pub rows_sizes : (r : ℕ) (ts : Types) (n : ℕ) (cells : List Values) → list_all cell_fits (rows_parts r ts n cells) ≡ true → events_size (told (rows_parts r ts n cells)) ≡ parts_size (rows_parts r ts n cells)
+-- the events of cells that fit cover as many bytes as the cells have
+pub rows_sizes : (r : ℕ) (ts : Types) (n : ℕ) (cells : List Values) → list_all cell_fits (rows_parts r ts n cells) ≡ true → events_size (emitted (rows_parts r ts n cells)) ≡ parts_size (rows_parts r ts n cells)
 rows_sizes r ts zero cells f = refl
 rows_sizes r ts (suc n) cells f =
     let first = row_parts r 0 ts cells in
     let rest = rows_parts (r + 1) ts n (drop (how_many ts) cells) in
     let p = both (list_all cell_fits first) (list_all cell_fits rest) (sym (list_all-append cell_fits first rest) ∙ f) in
-    omega (arith, ap events_size (told_append first rest), events_both (told first) (told rest), parts_append first rest, row_sizes r 0 ts cells p.0, rows_sizes (r + 1) ts n (drop (how_many ts) cells) p.1)
+    omega (arith, ap events_size (emitted_append first rest), events_both (emitted first) (emitted rest), parts_append first rest, row_sizes r 0 ts cells p.0, rows_sizes (r + 1) ts n (drop (how_many ts) cells) p.1)

@@ -23,15 +23,15 @@ use Rattle.cqlp_message.specs.Owned.{frame_of}
 use Rattle.cqlp_message.specs.Pages.{cells_bytes, cells_fit, cells_size, cells_wanted, fits_column, page_columns, page_unfit_of, types_of_page}
 use Rattle.cqlp_message.specs.declared.frame.Frame.{Frame as OwnedFrame}
 use Rattle.cqlp_message.proofs.PageCells.{cells_bytes_more, cells_size_more}
-use Rattle.cqlp_message.proofs.PageFrames.{cell_parts, columns_told, is_page, next_fits, page_rows, wanted_is}
+use Rattle.cqlp_message.proofs.PageFrames.{cell_parts, columns_described, is_page, next_fits, page_rows, wanted_is}
 use Rattle.cqlp_build.specs.Productions.{column_type}
-use Rattle.cqlp_build.specs.Told.{told}
-use Rattle.cqlp_build.proofs.Steps.{told_append}
+use Rattle.cqlp_build.specs.Emitted.{emitted}
+use Rattle.cqlp_build.proofs.Steps.{emitted_append}
 use Rattle.cqlp_build_cells.specs.Building.{AreEventsOf, CellState, Finishes, IsBuiltOf, cell_of, ends_cell, is_part, with_event}
 use Rattle.cqlp_build_cells.specs.Said.{values_said}
 use Rattle.cqlp_build_cells.proofs.Whole.{have_none, is_no_part, items_said}
 use Rattle.cqlp_compose.specs.declared.place.PagePlace.{PagePlace}
-use Rattle.cqlp_compose.specs.Places.{told_type}
+use Rattle.cqlp_compose.specs.Places.{described_type}
 use Rattle.cqlp_compose.specs.Cells.{CellsState, GoesOn, Takes, is_at, next_column, next_row, page, room, with_cell, within}
 use Rattle.cqlp_compose.proofs.Columns.{column_is, type_is}
 use Rattle.cqlp_compose.proofs.Rows.{column_fits, rows_more}
@@ -52,7 +52,7 @@ at_place row column r s d c own at is =
     let same : d ≡ c = cc in
     (λ i. Cell_at (one i) (two i) d) ∙ sym own ∙ ap (cell_event row column) same
 
--- an event of this row and column is what is told of the cell there
+-- an event of this row and column is one of the cell there
 event_is : (row column : ℕ) (e : Event) (c : CellEvent) → is_at row column e ≡ true → cell_of e ≡ Some c → e ≡ cell_event row column c
 event_is row column (Frame h) c at is = absurd cc
 event_is row column (Holds f v) c at is = absurd cc
@@ -96,7 +96,7 @@ pub record Stands (f : FrameValue) (n : ℕ) (es : List Event) (bytes : List ℕ
   pub cells : List Values
   pub count : p.cells ≡ length cells
   pub few : length cells ≤ cells_wanted f.message
-  pub events : told (cell_parts f.message cells) ≡ es
+  pub events : emitted (cell_parts f.message cells) ≡ es
   pub fit : cells_fit f cells ≡ true
   pub size : p.free + cells_size cells ≡ n
   pub are : cells_bytes cells ≡ bytes
@@ -128,7 +128,7 @@ metadata_in f e =
 
 module _ (f : OwnedFrame) (n : ℕ) (begins : page_unfit_of (frame_of f) n ≡ None) (es : List Event) (bytes : List ℕ) (p : PagePlace) (w : Values) (cs : List CellEvent) (s : Stands (frame_of f) n es bytes p)
     (some : p.cells < cells_wanted (frame_of f).message) (short : values_size w ≤ p.free) (none : have_none cs ≡ true)
-    (are : AreEventsOf cs (cell_type (told_type f (p.cells % page_columns (frame_of f).message))) w) (fits : values_fit (cell_type (told_type f (p.cells % page_columns (frame_of f).message))) w ≡ true) (range : AreInRange w) where
+    (are : AreEventsOf cs (cell_type (described_type f (p.cells % page_columns (frame_of f).message))) w) (fits : values_fit (cell_type (described_type f (p.cells % page_columns (frame_of f).message))) w ≡ true) (range : AreInRange w) where
   abbrev g : FrameValue
   g = frame_of f
 
@@ -142,7 +142,7 @@ module _ (f : OwnedFrame) (n : ℕ) (begins : page_unfit_of (frame_of f) n ≡ N
   column = p.cells % page_columns g.message
 
   abbrev own : Types
-  own = cell_type (told_type f column)
+  own = cell_type (described_type f column)
 
   agrees : frame_agrees g ≡ true
   agrees = (is_page g n begins).agrees
@@ -151,7 +151,7 @@ module _ (f : OwnedFrame) (n : ℕ) (begins : page_unfit_of (frame_of f) n ≡ N
   there = is_there p.cells (page_rows g.message) (page_columns g.message) (omega (arith, some, wanted_is g.message))
 
   many : how_many ts ≡ page_columns g.message
-  many = columns_told g agrees
+  many = columns_described g agrees
 
   within_types : column < how_many ts
   within_types = omega (arith, there.column, many)
@@ -172,10 +172,10 @@ module _ (f : OwnedFrame) (n : ℕ) (begins : page_unfit_of (frame_of f) n ≡ N
     said : cs ≡ values_said 0 (Type_and k inner NoMore) w
     said = came ∙ ap (λ (t : Types). values_said 0 t w) (is_own ∙ is)
 
-    told_more : told (cell_parts g.message (s.cells ++ w ∷ [])) ≡ es ++ map (cell_event row column) cs
-    told_more =
+    emitted_more : emitted (cell_parts g.message (s.cells ++ w ∷ [])) ≡ es ++ map (cell_event row column) cs
+    emitted_more =
         let first : 0 + row ≡ row = omega arith in
-        ap told more ∙ told_append (cell_parts g.message s.cells) (Cell_is (0 + row) column k inner w ∷ [])
+        ap emitted more ∙ emitted_append (cell_parts g.message s.cells) (Cell_is (0 + row) column k inner w ∷ [])
         ∙ (λ i. s.events i ++ (map (cell_event (first i) column) (sym said i) ++ []))
         ∙ ap (λ (r : List Event). es ++ r) (append-nil (map (cell_event row column) cs))
 
@@ -197,7 +197,7 @@ module _ (f : OwnedFrame) (n : ℕ) (begins : page_unfit_of (frame_of f) n ≡ N
         cells = s.cells ++ w ∷ [];
         count = omega (arith, s.count, length-append s.cells (w ∷ []));
         few = omega (arith, some, s.count, length-append s.cells (w ∷ []));
-        events = told_more has.0 has.1 has.2 ∙ e;
+        events = emitted_more has.0 has.1 has.2 ∙ e;
         fit = fit_more has.0 has.1 has.2;
         size = omega (arith, s.size, short, cells_size_more s.cells w);
         are = cells_bytes_more s.cells w ∙ ap (λ (b : List ℕ). b ++ values_bytes w) s.are ∙ d;
@@ -225,9 +225,9 @@ less m n e = grind (arith, nat_tests)
 
 -- where a cell ends
 module _ (f : OwnedFrame) (n : ℕ) (begins : page_unfit_of (frame_of f) n ≡ None) (es : List Event) (bytes : List ℕ) (s : CellsState) (some : s.place.cells < cells_wanted (page s).message) (w : IsWithin f n es bytes s) (v : Value)
-    (made : Finishes s.under.events (told_type s.frame (next_column s)) (Ok v)) (short : values_size (value_of v) ≤ room s) (range : AreInRange (value_of v)) where
-  built : IsBuiltOf s.under.events (cell_type (told_type f (s.place.cells % page_columns (frame_of f).message))) (value_of v)
-  built = subst (λ (x : OwnedFrame). IsBuiltOf s.under.events (cell_type (told_type x (s.place.cells % page_columns (frame_of x).message))) (value_of v)) w.frame made.1
+    (made : Finishes s.under.events (described_type s.frame (next_column s)) (Ok v)) (short : values_size (value_of v) ≤ room s) (range : AreInRange (value_of v)) where
+  built : IsBuiltOf s.under.events (cell_type (described_type f (s.place.cells % page_columns (frame_of f).message))) (value_of v)
+  built = subst (λ (x : OwnedFrame). IsBuiltOf s.under.events (cell_type (described_type x (s.place.cells % page_columns (frame_of x).message))) (value_of v)) w.frame made.1
 
   here : w.before ++ map (cell_event (s.place.cells / page_columns (frame_of f).message) (s.place.cells % page_columns (frame_of f).message)) s.under.events ≡ es
   here =

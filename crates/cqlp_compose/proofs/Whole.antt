@@ -15,10 +15,10 @@ use Rattle.cqlp_message.specs.Pages.{AreItsCells, cells_wanted, page_head, page_
 use Rattle.cqlp_message.specs.Parts.{cell_fits, parts_size}
 use Rattle.cqlp_message.proofs.PageCells.{rows_size}
 use Rattle.cqlp_message.proofs.PageWalks.{rows_cut}
-use Rattle.cqlp_message.proofs.PageFrames.{cell_parts, columns_told, front_parts, is_page, no_cells_fit, page_rows, page_written, parts_bare, parts_with, wanted_is}
-use Rattle.cqlp_build.specs.Told.{told}
-use Rattle.cqlp_build.proofs.FrameViews.{body_told, frame_said}
-use Rattle.cqlp_build.proofs.Steps.{told_append}
+use Rattle.cqlp_message.proofs.PageFrames.{cell_parts, columns_described, front_parts, is_page, no_cells_fit, page_rows, page_written, parts_bare, parts_with, wanted_is}
+use Rattle.cqlp_build.specs.Emitted.{emitted}
+use Rattle.cqlp_build.proofs.FrameViews.{body_events, frame_said}
+use Rattle.cqlp_build.proofs.Steps.{emitted_append}
 use Rattle.cqlp_compose.specs.declared.place.PagePlace.{PagePlace}
 use Rattle.cqlp_compose.specs.Places.{first_place, is_done}
 use Rattle.cqlp_compose.specs.PageLaws.{IsPageOf, PageHasItsEvents, all_bytes, all_events, own_header}
@@ -40,7 +40,7 @@ module _ (f : FrameValue) (n : ℕ) (begins : page_unfit_of f n ≡ None) where
     cells = [];
     count = refl;
     few = omega arith;
-    events = ap told no_cells;
+    events = ap emitted no_cells;
     fit = no_cells_fit f n begins;
     size = omega arith;
     are = refl;
@@ -59,16 +59,16 @@ module _ (f : FrameValue) (n : ℕ) (begins : page_unfit_of f n ≡ None) where
     abbrev g : FrameValue
     g = with_cells f s.cells
 
-    events_of : told (frame_parts g) ≡ told (frame_parts f) ++ es
+    events_of : emitted (frame_parts g) ≡ emitted (frame_parts f) ++ es
     events_of =
-        ap told (parts_with f s.cells) ∙ told_append (front_parts f) (cell_parts f.message s.cells)
-        ∙ (λ i. told (sym (parts_bare f (is_page f n begins).bare) i) ++ s.events i)
+        ap emitted (parts_with f s.cells) ∙ emitted_append (front_parts f) (cell_parts f.message s.cells)
+        ∙ (λ i. emitted (sym (parts_bare f (is_page f n begins).bare) i) ++ s.events i)
 
-    own : map (λ e. e.1) (Flat whole_limits 0 g 0) ≡ own_header g ∷ (told (frame_parts f) ++ es) ++ End 0 ∷ []
+    own : map (λ e. e.1) (Flat whole_limits 0 g 0) ≡ own_header g ∷ (emitted (frame_parts f) ++ es) ++ End 0 ∷ []
     own =
         let none : parts_size (frame_parts g) + 0 ≡ parts_size (frame_parts g) = omega arith in
         frame_said whole_limits 0 g 0
-        ∙ (λ i. Frame (header_of g (none i)) ∷ (body_told whole_limits 0 g (inl refl) ∙ events_of) i ++ End 0 ∷ [])
+        ∙ (λ i. Frame (header_of g (none i)) ∷ (body_events whole_limits 0 g (inl refl) ∙ events_of) i ++ End 0 ∷ [])
 
     fits : list_all cell_fits (cell_parts f.message s.cells) ≡ true
     fits =
@@ -77,7 +77,7 @@ module _ (f : FrameValue) (n : ℕ) (begins : page_unfit_of f n ≡ None) where
 
     few : length s.cells ≤ page_rows f.message * how_many (types_of_page f.message)
     few =
-        let e : cells_wanted f.message ≡ page_rows f.message * how_many (types_of_page f.message) = wanted_is f.message ∙ ap (λ (k : ℕ). page_rows f.message * k) (sym (columns_told f (is_page f n begins).agrees)) in
+        let e : cells_wanted f.message ≡ page_rows f.message * how_many (types_of_page f.message) = wanted_is f.message ∙ ap (λ (k : ℕ). page_rows f.message * k) (sym (columns_described f (is_page f n begins).agrees)) in
         omega (arith, e, s.few)
 
     sizes : events_size es ≡ n

@@ -21,11 +21,11 @@ use Rattle.cqlp_message.proofs.PageFrames.{is_page as can_begin}
 use Rattle.cqlp_message.proofs.Ranges.{page_range}
 use Rattle.cqlp_build.specs.Building.{AreEventsOf, HaveNoParts, is_built, is_unbuilt}
 use Rattle.cqlp_build.specs.Closing.{ClosesAt, Ends, closed, of_length}
-use Rattle.cqlp_build.specs.Told.{told}
+use Rattle.cqlp_build.specs.Emitted.{emitted}
 use Rattle.cqlp_build.proofs.Finishing.{is_frame_of}
 use Rattle.cqlp_build.proofs.FrameViews.{none_both}
 use Rattle.cqlp_build.proofs.Several.{join}
-use Rattle.cqlp_build.proofs.Steps.{told_append}
+use Rattle.cqlp_build.proofs.Steps.{emitted_append}
 use Rattle.cqlp_build_cells.specs.declared.builder.CellLimits.{CellLimits}
 use Rattle.cqlp_build_cells.specs.Building.{ends_cell}
 use Rattle.cqlp_compose.specs.declared.place.PagePlace.{PagePlace}
@@ -94,8 +94,8 @@ counts_last : (m : Message) → is_page m ≡ true → CountsLast m
 counts_last (Rows p) e = (int field.ResultKind (pos 2) ∷ metadata_parts p.meta, (λ n. refl), refl)
 counts_last m e = absurd cc
 
-told_front : (announced front : List Part) (n : ℕ) → told (announced ++ (front ++ count field.Rows n ∷ [])) ≡ told (announced ++ front) ++ rows_event n ∷ []
-told_front announced front n = ap told (sym (append_assoc announced front (count field.Rows n ∷ []))) ∙ told_append (announced ++ front) (count field.Rows n ∷ [])
+emitted_front : (announced front : List Part) (n : ℕ) → emitted (announced ++ (front ++ count field.Rows n ∷ [])) ≡ emitted (announced ++ front) ++ rows_event n ∷ []
+emitted_front announced front n = ap emitted (sym (append_assoc announced front (count field.Rows n ∷ []))) ∙ emitted_append (announced ++ front) (count field.Rows n ∷ [])
 
 no_parts : (xs ys : List Event) → HaveNoParts xs → HaveNoParts ys → HaveNoParts (xs ++ ys)
 no_parts xs ys a b = list_all-append (λ e. not (is_unbuilt e)) xs ys ∙ join (list_all (λ e. not (is_unbuilt e)) xs) (list_all (λ e. not (is_unbuilt e)) ys) a b
@@ -114,16 +114,16 @@ module _ (h : Header) (fields : List Event) (n : ℕ) (g : FrameValue) (page : i
   head : CountsLast g.message
   head = counts_last g.message page
 
-  fields_are : told (announced_parts g ++ head.0) ≡ fields
+  fields_are : emitted (announced_parts g ++ head.0) ≡ fields
   fields_are =
       let i = is_frame_of (of_length h size) (fields ++ rows_event 0 ∷ []) 0 g 0 whole are in
-      let without : told (frame_parts g) ≡ told (announced_parts g ++ head.0) ++ rows_event (page_rows g.message) ∷ [] =
-      ap told (parts_bare g bare_g ∙ ap (λ (ps : List Part). announced_parts g ++ ps) head.2) ∙ told_front (announced_parts g) head.0 (page_rows g.message) in
-      front_is (told (announced_parts g ++ head.0)) fields (rows_event (page_rows g.message)) (rows_event 0) (sym without ∙ i.parts)
+      let without : emitted (frame_parts g) ≡ emitted (announced_parts g ++ head.0) ++ rows_event (page_rows g.message) ∷ [] =
+      ap emitted (parts_bare g bare_g ∙ ap (λ (ps : List Part). announced_parts g ++ ps) head.2) ∙ emitted_front (announced_parts g) head.0 (page_rows g.message) in
+      front_is (emitted (announced_parts g ++ head.0)) fields (rows_event (page_rows g.message)) (rows_event 0) (sym without ∙ i.parts)
 
-  told_head : told (frame_parts f) ≡ fields ++ rows_event n ∷ []
-  told_head =
-      ap told (parts_bare f bare_f ∙ ap (λ (ps : List Part). announced_parts g ++ ps) (head.1 n)) ∙ told_front (announced_parts g) head.0 n
+  emitted_head : emitted (frame_parts f) ≡ fields ++ rows_event n ∷ []
+  emitted_head =
+      ap emitted (parts_bare f bare_f ∙ ap (λ (ps : List Part). announced_parts g ++ ps) (head.1 n)) ∙ emitted_front (announced_parts g) head.0 n
       ∙ ap (λ (es : List Event). es ++ rows_event n ∷ []) fields_are
 
   header_is : (vs : List Values) (m : ℕ) → header_of (with_cells f vs) m ≡ of_length h m
@@ -140,7 +140,7 @@ module _ (h : Header) (fields : List Event) (n : ℕ) (g : FrameValue) (page : i
   framed es bytes range none p =
       let g = with_cells f p.cells in
       let m = parts_size (frame_parts g) in
-      let all : told (frame_parts f) ++ es ≡ fields ++ rows_event n ∷ es = ap (λ (xs : List Event). xs ++ es) told_head ∙ append_assoc fields (rows_event n ∷ []) es in
+      let all : emitted (frame_parts f) ++ es ≡ fields ++ rows_event n ∷ es = ap (λ (xs : List Event). xs ++ es) emitted_head ∙ append_assoc fields (rows_event n ∷ []) es in
       record {
         frame = g;
         size = m;

@@ -11,7 +11,7 @@ use Rattle.cqlp_build.specs.declared.error.BuildError.TheVariants as build_error
 use Rattle.cqlp_build.specs.declared.error.BuildError.{BuildError}
 use Rattle.cqlp_build.specs.Building.{AreEventsOf, HaveNoParts, is_built}
 use Rattle.cqlp_build.specs.Closing.{closed}
-use Rattle.cqlp_build.specs.Told.{told}
+use Rattle.cqlp_build.specs.Emitted.{emitted}
 use Rattle.cqlp_compose.specs.Composing.{ComposerState, IsOfNone, IsWrittenOf}
 use Rattle.cqlp_build_cells.specs.declared.builder.CellLimits.{CellLimits}
 use Rattle.cqlp_build_cells.specs.declared.error.CellError.TheVariants as cell_error
@@ -107,12 +107,12 @@ abbrev pub IsComposed : List Event → (bytes : List ℕ) → Type 0
 IsComposed es bytes =
     ((other : List ℕ) → IsWrittenOf es other → other ≡ bytes) × ((why : BuildError) → IsOfNone es why → why ≡ build_error.NoMemory)
 
--- Of the header of a page, of whatever length, of what is told of it without cells, and of the events of all pieces in which its cells were written, a composer
+-- Of the header of a page, of whatever length, of the events of it without cells, and of the events of all pieces in which its cells were written, a composer
 -- writes the same bytes.
 abbrev pub PageIsComposed : Type 0
 PageIsComposed =
     (f : FrameValue) (n k : ℕ) (es : List Event) (bytes : List ℕ)
-    → IsPageOf f n es bytes → is_built f.message ≡ true → IsComposed (Frame (header_of f k) ∷ told (frame_parts f) ++ es) bytes
+    → IsPageOf f n es bytes → is_built f.message ≡ true → IsComposed (Frame (header_of f k) ∷ emitted (frame_parts f) ++ es) bytes
 
 -- The same of a page that was put in batches, of whose events the header need not say how long the body is.
 abbrev pub BatchesAreComposed : Type 0

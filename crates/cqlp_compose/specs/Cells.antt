@@ -20,7 +20,7 @@ use Rattle.cqlp_compose.specs.declared.cells.WrittenCells.{WrittenCells}
 use Rattle.cqlp_compose.specs.declared.error.PageCellError.{PageCellError}
 use Rattle.cqlp_compose.specs.declared.error.PageCellError.TheVariants as error
 use Rattle.cqlp_compose.specs.declared.place.PagePlace.{PagePlace}
-use Rattle.cqlp_compose.specs.Places.{told_type}
+use Rattle.cqlp_compose.specs.Places.{described_type}
 
 -- The page without its cells, and where it stands behind those that were written; the cell under way, and whether it has begun; and
 -- the bytes of those that were written here.
@@ -84,7 +84,7 @@ room s = min s.place.free LONGEST_BODY
 
 -- What is made of the events of a cell of this column: a value, or why there is none.
 abbrev pub IsOfColumn : CellsState → Result Value CellError → Type 0
-IsOfColumn s r = Finishes s.under.events (told_type s.frame (next_column s)) r
+IsOfColumn s r = Finishes s.under.events (described_type s.frame (next_column s)) r
 
 -- Memory was refused for the value that has its events, or for the bytes of that value, for which there is room.
 abbrev pub LacksMemory : CellsState → Type 0

@@ -25,7 +25,7 @@ composed c = record { frame = state c.builder; ended = c.ended }
 abbrev pub start : BuildLimits → ComposerState
 start limits = record { frame = empty limits; ended = false }
 
--- which limit has no place for a field, the kind of a type option or what is told of a cell
+-- which limit has no place for a field, the kind of a type option or an event of a cell
 abbrev pub limit_of : BuilderState → Event → Option BuildError
 limit_of s e =
     if nat_lt s.limits.fields (length s.events) then Some error.TooManyFields

@@ -1,4 +1,4 @@
--- How many bytes of a page the events of its cells tell of (section 6 of native_protocol_v4.spec).
+-- How many bytes of a page the events of its cells cover (section 6 of native_protocol_v4.spec).
 use Rattle.std.specs.Prelude.{ℕ, ◌+◌, List, [], ◌∷◌, length, if◌then◌else◌}
 use Rattle.cqlp_kind.specs.CellStep.{CellEvent, Leaf, Null, Empty, Enter, Leave, Part}
 use Rattle.cqlp_kind.specs.Scalars.{content_of}

@@ -11,7 +11,7 @@ use Rattle.cqlp_message.specs.Frames.{frame_bytes, frame_parts, header_of, unfit
 use Rattle.cqlp_message.specs.Pages.{page_head, page_unfit_of, with_cells}
 use Rattle.cqlp_build.specs.Building.{AreEventsOf, is_built}
 use Rattle.cqlp_build.specs.Closing.{Ends}
-use Rattle.cqlp_build.specs.Told.{told}
+use Rattle.cqlp_build.specs.Emitted.{emitted}
 use Rattle.cqlp_build_cells.specs.Building.{ends_cell}
 use Rattle.cqlp_build_cells.specs.declared.builder.CellLimits.{CellLimits}
 use Rattle.cqlp_build_cells.specs.declared.error.CellError.TheVariants as cell_error
@@ -70,11 +70,11 @@ all_bytes ps = flat_map (λ p. p.1) ps
 abbrev pub own_header : FrameValue → Event
 own_header f = Frame (header_of f (parts_size (frame_parts f)))
 
--- The bytes are those of the page with some cells, which nothing keeps from being spelled; and its events are its header, what is told of
--- the page without cells, these, and an end. These tell of n bytes. The numbers of the cells are in the ranges of their types.
+-- The bytes are those of the page with some cells, which nothing keeps from being spelled; and its events are its header, what is reported of
+-- the page without cells, these, and an end. These cover n bytes. The numbers of the cells are in the ranges of their types.
 pub record IsPageOf (f : FrameValue) (n : ℕ) (es : List Event) (bytes : List ℕ) : Type 0 where
   pub cells : List Values
-  pub are : AreEventsOf (own_header (with_cells f cells) ∷ (told (frame_parts f) ++ es) ++ End 0 ∷ []) (with_cells f cells) 0
+  pub are : AreEventsOf (own_header (with_cells f cells) ∷ (emitted (frame_parts f) ++ es) ++ End 0 ∷ []) (with_cells f cells) 0
   pub spelled : unfit_of (with_cells f cells) ≡ None
   pub written : bytes ≡ frame_bytes (with_cells f cells)
   pub size : events_size es ≡ n
@@ -87,10 +87,10 @@ PageHasItsEvents =
     → page_unfit_of (frame_of f) n ≡ None → ArePieces f (first_place n) pieces end → is_done (frame_of f) end ≡ true
     → IsPageOf (frame_of f) n (all_events pieces) (page_head (frame_of f) n ++ all_bytes pieces)
 
--- Where a builder gives a frame of the page's header, of whatever length, of what is told of it without cells, and of these events, that frame
+-- Where a builder gives a frame of the page's header, of whatever length, of the events of it without cells, and of these events, that frame
 -- is the page: what is written of it, and of its events by `Composer`, is the same.
 abbrev pub PageIsBuilt : Type 0
 PageIsBuilt =
     (f : FrameValue) (n k : ℕ) (es : List Event) (bytes : List ℕ) (g : OwnedFrame)
-    → IsPageOf f n es bytes → is_built f.message ≡ true → Ends (Frame (header_of f k) ∷ told (frame_parts f) ++ es) (Ok g)
+    → IsPageOf f n es bytes → is_built f.message ≡ true → Ends (Frame (header_of f k) ∷ emitted (frame_parts f) ++ es) (Ok g)
     → bytes ≡ frame_bytes (frame_of g)

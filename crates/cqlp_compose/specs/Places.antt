@@ -48,6 +48,6 @@ abbrev pub type_in : Message → ℕ → Option TypeTree
 type_in (message.Rows p) i = type_if p.meta.specs i
 type_in m i = None
 
--- the type of a column of a page, the first of which is 0, where it is told
-abbrev pub told_type : Frame → ℕ → Option TypeTree
-told_type f i = type_in f.message i
+-- the type of a column of a page, the first of which is 0, where it is described
+abbrev pub described_type : Frame → ℕ → Option TypeTree
+described_type f i = type_in f.message i

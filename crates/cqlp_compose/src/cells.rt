@@ -6,7 +6,7 @@ ghost use Rattle.cqlp_message.specs.Owned.{frame_of};
 ghost use Rattle.cqlp_message.specs.Pages.{cells_wanted, page_columns};
 ghost use Rattle.cqlp_value.specs.Owned.{value_of};
 ghost use Rattle.cqlp_value.specs.Values.{values_size};
-ghost use Rattle.cqlp_compose.specs.Cells as told;
+ghost use Rattle.cqlp_compose.specs.Cells as model;
 ghost use Rattle.cqlp_build_cells.specs.Building.{ends_cell};
 ghost use Rattle.cqlp_compose.specs.Cells.{Ends, Gives, GoesOn, Puts, Takes, begun, state};
 
@@ -130,7 +130,7 @@ impl<'a> PageCells<'a> {
 
     /// Whether an event can be of the next cell.
     fn is_next(&self, event: &Event<'_>) -> bool
-        ensures is { result ≡ told.is_next (state self.now) (event_of event.now) }
+        ensures is { result ≡ model.is_next (state self.now) (event_of event.now) }
         ensures bounded { result ≡ true → self.now.place.cells + 1 < 2 ^ 64 }
     {
         if self.place.cells >= self.frame.cells_wanted() {

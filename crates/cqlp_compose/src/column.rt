@@ -1,14 +1,14 @@
 //! The columns of a page.
 
 ghost use Rattle.std.specs.Prelude.{◌≡◌, option_map};
-ghost use Rattle.cqlp_compose.specs.Places as told;
+ghost use Rattle.cqlp_compose.specs.Places as model;
 
 use cqlp_message::{Frame, Message, Spec};
 use cqlp_type::TypeTree;
 
-/// The type of a column of a page, the first of which is 0, where it is told.
+/// The type of a column of a page, the first of which is 0, where it is described.
 pub fn column_type(frame: &Frame, column: usize) -> Option<&TypeTree>
-    ensures { option_map (λ t. t.now) result ≡ told.told_type frame.now column }
+    ensures { option_map (λ t. t.now) result ≡ model.described_type frame.now column }
 {
     match &frame.message {
         Message::Rows(page) => match &page.meta.specs {
@@ -21,7 +21,7 @@ pub fn column_type(frame: &Frame, column: usize) -> Option<&TypeTree>
 
 /// The same of these columns.
 fn spec_type(specs: &[Spec], column: usize) -> Option<&TypeTree>
-    ensures { option_map (λ t. t.now) result ≡ told.type_at specs.now column }
+    ensures { option_map (λ t. t.now) result ≡ model.type_at specs.now column }
 {
     match specs.get(column) {
         Some(spec) => Some(&spec.tree),

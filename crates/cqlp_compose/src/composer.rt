@@ -1,7 +1,7 @@
 //! The events of one frame, and its bytes.
 
 ghost use Rattle.std.specs.Prelude.{◌≡◌, None, MatchResult, IfOk, IfErr, false};
-ghost use Rattle.cqlp_grammar.specs.Events as told;
+ghost use Rattle.cqlp_grammar.specs.Events as model;
 ghost use Rattle.cqlp_grammar.specs.Events.{event_of};
 ghost use Rattle.cqlp_message.specs.Frames.{FrameIsInRange, frame_bytes, unfit_of};
 ghost use Rattle.cqlp_message.specs.Owned.{frame_of};
@@ -86,7 +86,7 @@ impl Composer {
     /// The end comes.
     fn end(&mut self, extra: u32) -> Result<(), BuildError>
         requires { self.old.ended ≡ false }
-        ensures { Takes (composed self.old) (told.End extra) result (composed self.new) }
+        ensures { Takes (composed self.old) (model.End extra) result (composed self.new) }
     {
         let _ = extra;
         if self.builder.is_between() {

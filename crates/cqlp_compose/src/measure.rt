@@ -1,22 +1,22 @@
-//! How many bytes the events of cells tell of.
+//! How many bytes the events of cells cover.
 
 ghost use Rattle.std.specs.Prelude.{◌≡◌, ◌<◌, ◌+◌, ◌^◌, length};
 ghost use Rattle.cqlp_grammar.specs.Events.{event_of};
 ghost use Rattle.cqlp_kind.specs.Contents.{value_of};
 ghost use Rattle.cqlp_kind.specs.Scalars.{content_of};
-ghost use Rattle.cqlp_compose.specs.Measures as told;
+ghost use Rattle.cqlp_compose.specs.Measures as model;
 
 use cqlp_grammar::Event;
 use cqlp_kind::{Kind, Scalar};
 use cqlp_note::Address;
 
-/// How many bytes of a page an event of a cell tells of. Those of all events of its cells, added up, are what
-/// [`page_head`](crate::page_head) and [`PagePlace::start`](crate::PagePlace::start) are to be told.
+/// How many bytes of a page an event of a cell covers. Those of all events of its cells, added up, are what
+/// [`page_head`](crate::page_head) and [`PagePlace::start`](crate::PagePlace::start) take.
 ///
 /// None of a part of a scalar, which is not written, and of an event that is none of a cell.
 #[must_use]
 pub fn event_size(event: &Event<'_>) -> u64
-    ensures { result ≡ told.event_size (event_of event.now) }
+    ensures { result ≡ model.event_size (event_of event.now) }
 {
     match event {
         Event::Leaf { scalar, .. } => 4 + scalar_len(scalar),

@@ -3,7 +3,7 @@
 ghost use Rattle.std.specs.Prelude.{◌≡◌};
 ghost use Rattle.cqlp_compose.specs.Composing.{composed};
 ghost use Rattle.cqlp_message.specs.Owned.{frame_of, message_of};
-ghost use Rattle.cqlp_compose.specs.Begun as told;
+ghost use Rattle.cqlp_compose.specs.Begun as model;
 ghost use Rattle.cqlp_compose.specs.Begun.{Begins, BeginsBare, IsBare, SetsRows, ends, is_page, with_rows};
 
 use crate::composer::Composer;
@@ -18,7 +18,7 @@ use std::alloc::Global;
 
 /// A page whose cells come in batches: its frame without cells, and where it stands. Section 4.2.5.2 of `native_protocol_v4.spec`.
 ///
-/// This is all that is held of a page of any size between two batches, and as much as the events of its head told. A proxy adds up
+/// This is all that is held of a page of any size between two batches, and as much as the events of its head held. A proxy adds up
 /// [`event_size`](crate::event_size) of the events of the cells, begins the page with its header, its metadata and the count of its rows, and
 /// then hands on the cells as they come:
 ///
@@ -109,7 +109,7 @@ impl OpenPage {
 
 /// How many bytes the cells are said to have. No body has as many as do not fit.
 fn said_len(cells_len: u64) -> u32
-    ensures { result ≡ told.said_len cells_len }
+    ensures { result ≡ model.said_len cells_len }
 {
     cells_len.min(u64::from(u32::MAX)) as u32
 }

@@ -4,7 +4,7 @@ ghost use Rattle.std.specs.Prelude.{◌≡◌, None};
 ghost use Rattle.cqlp_message.specs.Frames.{FrameIsInRange};
 ghost use Rattle.cqlp_message.specs.Owned.{frame_of};
 ghost use Rattle.cqlp_message.specs.Pages.{page_unfit_of};
-ghost use Rattle.cqlp_compose.specs.Places as told;
+ghost use Rattle.cqlp_compose.specs.Places as model;
 
 use cqlp_message::{Frame, Unfit};
 
@@ -26,7 +26,7 @@ impl PagePlace {
     ///
     /// What [`Frame::page_unfit`] says, where the frame is no page that can be written with cells of as many bytes.
     pub fn start(frame: &Frame, cells_len: u32) -> Result<PagePlace, Unfit>
-        ensures is { result ≡ told.place_unless (page_unfit_of (frame_of frame.now) cells_len) cells_len }
+        ensures is { result ≡ model.place_unless (page_unfit_of (frame_of frame.now) cells_len) cells_len }
         ensures range { page_unfit_of (frame_of frame.now) cells_len ≡ None → FrameIsInRange (frame_of frame.now) }
     {
         match frame.page_unfit(cells_len) {
@@ -57,7 +57,7 @@ impl PagePlace {
     /// Whether all cells of this page have come, and all bytes that they were to have.
     #[must_use]
     pub fn is_done(&self, frame: &Frame) -> bool
-        ensures { result ≡ told.is_done (frame_of frame.now) self.now }
+        ensures { result ≡ model.is_done (frame_of frame.now) self.now }
     {
         self.cells == frame.cells_wanted() && self.free == 0
     }

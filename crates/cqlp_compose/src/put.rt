@@ -17,7 +17,7 @@ use std::alloc::Global;
 /// `native_protocol_v4.spec`.
 ///
 /// It takes what a decoder says of the cells, in that order, each event with its row and its column, and holds the events of one cell. The
-/// page stays where it is: the caller tells it to go on to [`PutCells::place`]. After an error the cell under way is forgotten, and nothing of
+/// page stays where it is: the caller makes it go on to [`PutCells::place`]. After an error the cell under way is forgotten, and nothing of
 /// it was put, so its events may be given again, from the first on, as where there was no room.
 #[derive(Drop)]
 pub struct PutCells<'a> {

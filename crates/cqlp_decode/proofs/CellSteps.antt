@@ -26,7 +26,7 @@ use Rattle.cqlp_cell.specs.Reading.{HaveCome, IsAfterItem}
 use Rattle.cqlp_cell.specs.Reading as taking
 use Rattle.cqlp_cell.specs.Pushing.{is_done, begun as begun_at}
 use Rattle.cqlp_cell.specs.Fronts.{SaysScalar}
-use Rattle.cqlp_cell.proofs.Leading.{some_come, stands_under, told_is as cell_told_is}
+use Rattle.cqlp_cell.proofs.Leading.{some_come, stands_under, answer_is as cell_answer_is}
 use Rattle.cqlp_cell.proofs.ScalarSizes.{scalar_sized}
 use Rattle.cqlp_cell.proofs.Leavings.{left_none, left_some, stop_is}
 use Rattle.cqlp_grammar.specs.Productions.{Symbol, Cell_due, In_cell}
@@ -138,12 +138,12 @@ module _ (s : StreamProgress) (q : PartsState) (p : CellCursor) (here : s.stage 
   place_is : (state_of s q).place ≡ stands
   place_is = rw (here, column.is) refl
 
-  told_is : (bytes : List ℕ) → said (state_of s q) bytes ≡ map_said (cell_event p.row p.column) (place_of_cells p.row p.column stands rest) (taking.step_says typed q.cells bytes)
-  told_is bytes =
+  answer_is : (bytes : List ℕ) → said (state_of s q) bytes ≡ map_said (cell_event p.row p.column) (place_of_cells p.row p.column stands rest) (taking.step_says typed q.cells bytes)
+  answer_is bytes =
       ap (λ (z : Place). says (step (rules_asked s.limits) z) 0 bytes) place_is
       ∙ ap (λ z. says z 0 bytes) (alike (rules_asked s.limits) typed q.cells q.cells.next p.row p.column s.stop column.first column.inner rest q.table.nodes held due_now)
       ∙ says_map (cell_event p.row p.column) (place_of_cells p.row p.column stands rest) (cell_step (rules_asked s.limits) (place typed q.cells)) 0 bytes
-      ∙ ap (λ z. map_said (cell_event p.row p.column) (place_of_cells p.row p.column stands rest) z) (rw (← rules) (sym (cell_told_is typed q.cells bytes)))
+      ∙ ap (λ z. map_said (cell_event p.row p.column) (place_of_cells p.row p.column stands rest) z) (rw (← rules) (sym (cell_answer_is typed q.cells bytes)))
 
   come_is : (b : List ℕ) → IsPending (state_of s q).pending b → HaveCome b q.cells.arrived q.partial.seen
   come_is b is = rw here at is
@@ -160,12 +160,12 @@ module _ (s : StreamProgress) (q : PartsState) (p : CellCursor) (here : s.stage 
         frame = refl;
         waits = λ b is.
             let w = m b (come_is b is) in
-            (told_is (b ++ input) ∙ ap (λ z. map_said (cell_event p.row p.column) (place_of_cells p.row p.column stands rest) z) w.0.is, rw here w.1);
+            (answer_is (b ++ input) ∙ ap (λ z. map_said (cell_event p.row p.column) (place_of_cells p.row p.column stands rest) z) w.0.is, rw here w.1);
       }
 
   pub cell_fails : (input : List ℕ) (r : Refusal) (d : CellState) (p' : FieldState) → taking.Moves typed q.cells q.partial input (cell_advance.Refused r) d p'
       → (b : List ℕ) → IsPending (state_of s q).pending b → said (state_of s q) (b ++ input) ≡ Bad (r.at, r.why)
-  cell_fails input r d p' m b is = told_is (b ++ input) ∙ ap (λ z. map_said (cell_event p.row p.column) (place_of_cells p.row p.column stands rest) z) (m b (come_is b is)).is
+  cell_fails input r d p' m b is = answer_is (b ++ input) ∙ ap (λ z. map_said (cell_event p.row p.column) (place_of_cells p.row p.column stands rest) z) (m b (come_is b is)).is
 
   module _ (input : List ℕ) (at used : ℕ) (i : CellOutline) (d : CellState) (p' : FieldState) (m : taking.Moves typed q.cells q.partial input (cell_advance.Item at used i) d p') where
     abbrev event : (held : List ℕ) → reading.Event
@@ -192,7 +192,7 @@ module _ (s : StreamProgress) (q : PartsState) (p : CellCursor) (here : s.stage 
                   let g = one b (come_is b is) in
                   let x = g.emits.x in (
                     record { at = x.at; event = cell_event p.row p.column x.event; after = λ u. place_of_cells p.row p.column stands rest (x.after u) },
-                    told_is (b ++ input) ∙ ap (λ z. map_said (cell_event p.row p.column) (place_of_cells p.row p.column stands rest) z) g.emits.is,
+                    answer_is (b ++ input) ∙ ap (λ z. map_said (cell_event p.row p.column) (place_of_cells p.row p.column stands rest) z) g.emits.is,
                     g.emits.offset,
                     ap (cell_event p.row p.column) g.emits.event ∙ ap event (sym content),
                     ap (λ (z : CellPlace). place_of_cells p.row p.column stands rest z) g.emits.after ∙ (λ j. place_at (sym offset j) (sym stop j) (sym symbols j) (sym nodes j) (sym given j)),

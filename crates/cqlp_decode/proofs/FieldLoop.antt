@@ -28,10 +28,10 @@ use Rattle.cqlp_decode.proofs.Within.{none_kept}
 use Rattle.cqlp_decode.proofs.FieldSteps.{field_gives, fixed_got, following_there, goes_on_lawful, metadata_forest}
 
 -- an event was taken
-pub takes_one : (old new : StreamState) (input : List ℕ) (at used : ℕ) (e told : Event) → Hands old input at used e new → e ≡ told → new.refusal ≡ old.refusal → new.rules ≡ old.rules → new.given ≡ old.given → (Holds : ℕ → Event → Type 0) → Holds at told → TakesOne old input used Holds new
-takes_one old new input at used e told hands is refusal rules given Holds holds = record {
+pub takes_one : (old new : StreamState) (input : List ℕ) (at used : ℕ) (e emitted : Event) → Hands old input at used e new → e ≡ emitted → new.refusal ≡ old.refusal → new.rules ≡ old.rules → new.given ≡ old.given → (Holds : ℕ → Event → Type 0) → Holds at emitted → TakesOne old input used Holds new
+takes_one old new input at used e emitted hands is refusal rules given Holds holds = record {
   at = at;
-  event = told;
+  event = emitted;
   takes = (refusal, rules, given, subst (λ (z : Event). Hands old input at used z new) is hands);
   holds = holds;
 }
@@ -102,9 +102,9 @@ module _ (s : StreamProgress) (q : PartsState) (w : Want) (here : s.stage ≡ st
           pays = rw (here, one_due_bare e.stage q e.upcoming room) (omega (arith, fixed, stage_is.0.read));
         }
 
-    module _ (Holds : ℕ → Event → Type 0) (told : Holds s.offset (reading.Holds w.field v)) where
+    module _ (Holds : ℕ → Event → Type 0) (emitted : Holds s.offset (reading.Holds w.field v)) where
       pub alone_takes : TakesOne (state_of s q) input used Holds (state_of e q)
-      alone_takes = takes_one (state_of s q) (state_of e q) input s.offset used (reading.Holds w.field v) (reading.Holds w.field v) alone_hands refl (ap (λ (z : StreamProgress). z.refusal) is) (ap (λ (z : StreamProgress). rules_asked z.limits) is) refl Holds told
+      alone_takes = takes_one (state_of s q) (state_of e q) input s.offset used (reading.Holds w.field v) (reading.Holds w.field v) alone_hands refl (ap (λ (z : StreamProgress). z.refusal) is) (ap (λ (z : StreamProgress). rules_asked z.limits) is) refl Holds emitted
 
 -- a field that lies whole in the input
 module _ (s : StreamProgress) (q : PartsState) (w : Want) (here : s.stage ≡ stage.Field w) (law : IsConsistent s q) (unrefused : s.refusal ≡ None) (idle : q.partial.under_way ≡ false) (empty : q.partial.content ≡ []) (input : List ℕ) (used : ℕ) (v : FieldValue)
@@ -172,4 +172,4 @@ module _ (s : StreamProgress) (q : PartsState) (w : Want) (here : s.stage ≡ st
         }
 
     pub whole_takes : fault_in w.role v ≡ None → (Holds : ℕ → Event → Type 0) → Holds s.offset (reading.Holds w.field v) → TakesOne (state_of s q) input used Holds (state_of e beside)
-    whole_takes fine Holds told = takes_one (state_of s q) (state_of e beside) input s.offset used (reading.Holds w.field v) (reading.Holds w.field v) (whole_hands fine) refl (ap (λ (z : StreamProgress). z.refusal) is) (ap (λ (z : StreamProgress). rules_asked z.limits) is) refl Holds told
+    whole_takes fine Holds emitted = takes_one (state_of s q) (state_of e beside) input s.offset used (reading.Holds w.field v) (reading.Holds w.field v) (whole_hands fine) refl (ap (λ (z : StreamProgress). z.refusal) is) (ap (λ (z : StreamProgress). rules_asked z.limits) is) refl Holds emitted

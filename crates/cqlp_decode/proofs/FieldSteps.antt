@@ -93,17 +93,17 @@ module _ (s : StreamProgress) (q : PartsState) (w : Want) (here : s.stage ≡ st
   abbrev next_step : FieldValue → Reader (Emitted reading.Event Place) (ℕ × Reason)
   next_step v = value_step s.limits.types (place_at s.offset s.stop (wanted (due.Field w) ∷ rest) q.table.nodes held) w.field w.role rest v (fault_in w.role v)
 
-  told_is : said (state_of s q) bytes ≡ says (after_field s.offset (reader_of (asked s w)) next_step) 0 bytes
-  told_is = rw here refl
+  answer_is : said (state_of s q) bytes ≡ says (after_field s.offset (reader_of (asked s w)) next_step) 0 bytes
+  answer_is = rw here refl
 
   field_waits : says (reader_of (asked s w)) 0 bytes ≡ More → said (state_of s q) bytes ≡ More
-  field_waits m = told_is ∙ after_more s.offset _ next_step 0 bytes m
+  field_waits m = answer_is ∙ after_more s.offset _ next_step 0 bytes m
 
   field_fails : (why : Reason) → says (reader_of (asked s w)) 0 bytes ≡ Bad why → said (state_of s q) bytes ≡ Bad (s.offset, why)
-  field_fails why m = told_is ∙ after_bad s.offset _ next_step 0 bytes why m
+  field_fails why m = answer_is ∙ after_bad s.offset _ next_step 0 bytes why m
 
   field_faults : (v : FieldValue) (k : ℕ) (why : Reason) → says (reader_of (asked s w)) 0 bytes ≡ Got v k → fault_in w.role v ≡ Some why → said (state_of s q) bytes ≡ Bad (s.offset, why)
-  field_faults v k why m fault = told_is ∙ (after_got s.offset (reader_of (asked s w)) next_step 0 bytes v k m).1 ∙ rw fault refl
+  field_faults v k why m fault = answer_is ∙ (after_got s.offset (reader_of (asked s w)) next_step 0 bytes v k m).1 ∙ rw fault refl
 
   abbrev behind_field : ℕ → FieldValue → Place
   behind_field k v = place_at (s.offset + k) s.stop (following types w.role v ++ rest) (nodes_after w.role q.table.nodes) (given_after w.role held)
@@ -111,7 +111,7 @@ module _ (s : StreamProgress) (q : PartsState) (w : Want) (here : s.stage ≡ st
   pub field_gives : (v : FieldValue) (k : ℕ) → says (reader_of (asked s w)) 0 bytes ≡ Got v k → fault_in w.role v ≡ None → Gives (state_of s q) bytes s.offset (reading.Holds w.field v) k (behind_field k v)
   field_gives v k m fine =
       let x : Emitted reading.Event Place = record { at = s.offset; event = reading.Holds w.field v; after = λ used. record { offset = s.offset + used; stop = s.stop; symbols = following types w.role v ++ rest; nodes = nodes_after w.role q.table.nodes; given = given_after w.role held; gifts = [] } } in
-      (x, told_is ∙ (after_got s.offset (reader_of (asked s w)) next_step 0 bytes v k m).1 ∙ rw fine refl, refl, refl, refl)
+      (x, answer_is ∙ (after_got s.offset (reader_of (asked s w)) next_step 0 bytes v k m).1 ∙ rw fine refl, refl, refl, refl)
 
 -- what a piece of input makes of a field that is wanted, and was begun
 module _ (s : StreamProgress) (old p : FieldState) (r : type.TypeState) (d : value.CellState) (t : Table) (g : Option Table) (w : Want) (input : List ℕ) (here : s.stage ≡ stage.Field w) (a : IsAsked s old p w) where

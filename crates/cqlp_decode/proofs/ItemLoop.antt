@@ -30,7 +30,7 @@ use Rattle.cqlp_decode.specs.declared.progress.StreamProgress.{StreamProgress}
 use Rattle.cqlp_decode.specs.Reading.{Event, cell_event}
 use Rattle.cqlp_decode.specs.Pages.{cells_after}
 use Rattle.cqlp_decode.specs.Progress.{PartsState, Hands, GoesOn, IsAt, IsCell, IsConsistent, StageHolds, nodes_of, parts, state_of}
-use Rattle.cqlp_decode.specs.Items.{SaysLeaf, TakesItem, at_level, bare_event, part_told}
+use Rattle.cqlp_decode.specs.Items.{SaysLeaf, TakesItem, at_level, bare_event, part_emitted}
 use Rattle.cqlp_decode.proofs.CellSteps.{going_hands, ended_hands, cell_going_lawful, cell_ended_lawful}
 
 -- ---- one item
@@ -88,7 +88,7 @@ module _ (s : StreamProgress) (q : PartsState) (p : CellCursor) (here : s.stage 
     pub going_lawful : is_done d ≡ false → IsConsistent s beside
     going_lawful more = cell_going_lawful s q p here cell_is law.parts.cells input t.at t.used (outline_of t.part) d q.partial moves law more
 
-    pub going_takes : is_done d ≡ false → TakesItem (state_of s q) input t.at t.used (part_told p.row p.column t.part) (state_of s beside)
+    pub going_takes : is_done d ≡ false → TakesItem (state_of s q) input t.at t.used (part_emitted p.row p.column t.part) (state_of s beside)
     going_takes more =
         let going = going_hands s q p here cell_is law.parts.cells input t.at t.used (outline_of t.part) d q.partial moves more in
         (refl, refl, refl, subst (λ (e : CellEvent). Hands (state_of s q) input t.at t.used (cell_event p.row p.column e) (state_of s beside)) (part_is t.part input q.partial.content) going.1)
@@ -104,7 +104,7 @@ module _ (s : StreamProgress) (q : PartsState) (p : CellCursor) (here : s.stage 
           cell_ended_lawful s q p here cell_is law.parts.cells input t.at t.used (outline_of t.part) d q.partial moves law e d' (ap (λ (z : StreamProgress). z.offset) rest) (ap (λ (z : StreamProgress). z.stop) rest) (ap (λ (z : StreamProgress). z.limits) rest) (ap (λ (z : StreamProgress). z.header) rest)
           (ap (λ (z : StreamProgress). z.came) rest) (ap (λ (z : CellState). z.rules) cells) (rw here at (law.table unrefused)) (ap is_under_way cells) (ap (λ (z : CellState). z.open_values) cells) goes.1
 
-      pub over_takes : TakesItem (state_of s q) input t.at t.used (part_told p.row p.column t.part) (state_of e after)
+      pub over_takes : TakesItem (state_of s q) input t.at t.used (part_emitted p.row p.column t.part) (state_of e after)
       over_takes =
           let goes = goes_on after refl (rw here at law.uses) in
           let hands = ended_hands s q p here cell_is law.parts.cells input t.at t.used (outline_of t.part) d q.partial moves whole e d' (ap (λ (z : StreamProgress). z.offset) rest) (ap (λ (z : StreamProgress). z.stop) rest) (ap (λ (z : StreamProgress). z.frame) rest)

@@ -53,11 +53,11 @@ module _ {S : Type 0} (Gets : S → ℕ → Event → S → Type 0) (old : Strea
 
   module _ (mid : StreamState) (used : ℕ) (s : S) (i : Stood mid used s) (new : StreamState) (n : ℕ) where
     -- ---- one item more
-    module _ (at : ℕ) (told : Event) (h : TakesItem mid (drop used input) at n told new) where
+    module _ (at : ℕ) (emitted : Event) (h : TakesItem mid (drop used input) at n emitted new) where
       within_item : used + n ≤ length input
       within_item = omega (arith, i.within, h.3.within, length-drop used input)
 
-      pub stood_item : (t : S) → Gets s at told t → Stood new (used + n) t
+      pub stood_item : (t : S) → Gets s at emitted t → Stood new (used + n) t
       stood_item t got = record {
         within = within_item;
         unrefused = h.0 ∙ i.unrefused;
@@ -65,14 +65,14 @@ module _ {S : Type 0} (Gets : S → ℕ → Event → S → Type 0) (old : Strea
         rules = h.1 ∙ i.rules;
         given = h.2 ∙ i.given;
         pays = omega (arith, h.3.pays, i.pays);
-        drained = item_drains Gets old mid new input used before s i.drained i.unrefused at n told h t got;
+        drained = item_drains Gets old mid new input used before s i.drained i.unrefused at n emitted h t got;
       }
 
       pub item_stays : StaysWithin old input (Err (record { used = used + n })) new
       item_stays = (within_item, h.0 ∙ i.refusal, h.1 ∙ i.rules, h.2 ∙ i.given)
 
-      pub item_faults : (Fails : S → ℕ → Event → S → Type 0) (t : S) → Fails s at told t → FailsAfter Gets Fails old new input (used + n) before t
-      item_faults Fails t fault = item_fails Gets old mid new input used before s i.drained i.unrefused at n told h Fails t fault
+      pub item_faults : (Fails : S → ℕ → Event → S → Type 0) (t : S) → Fails s at emitted t → FailsAfter Gets Fails old new input (used + n) before t
+      item_faults Fails t fault = item_fails Gets old mid new input used before s i.drained i.unrefused at n emitted h Fails t fault
 
     -- ---- more items
     module _ (w : UsesWithin mid (drop used input) (Ok n) new) (refusal : new.refusal ≡ mid.refusal) (rules : new.rules ≡ mid.rules) (given : new.given ≡ mid.given) where
@@ -105,12 +105,12 @@ not_some (Some r) h = absurd cc
 zero_on : (n : ℕ) → 0 + n ≡ n
 zero_on n = omega arith
 
-module _ {S : Type 0} (Gets : S → ℕ → Event → S → Type 0) (start : StreamState) (input : List ℕ) (before : S) (none : start.refusal ≡ None) (new : StreamState) (at used : ℕ) (told : Event) (h : TakesItem start input at used told new) where
-  pub stood_entered : (t : S) → Gets before at told t → Stood Gets start input before new used t
-  stood_entered t got = subst (λ (n : ℕ). Stood Gets start input before new n t) (zero_on used) (stood_item Gets start input before start 0 before (stood_first Gets start input before none) new used at told h t got)
+module _ {S : Type 0} (Gets : S → ℕ → Event → S → Type 0) (start : StreamState) (input : List ℕ) (before : S) (none : start.refusal ≡ None) (new : StreamState) (at used : ℕ) (emitted : Event) (h : TakesItem start input at used emitted new) where
+  pub stood_entered : (t : S) → Gets before at emitted t → Stood Gets start input before new used t
+  stood_entered t got = subst (λ (n : ℕ). Stood Gets start input before new n t) (zero_on used) (stood_item Gets start input before start 0 before (stood_first Gets start input before none) new used at emitted h t got)
 
-  pub entry_faults : (Fails : S → ℕ → Event → S → Type 0) (t : S) → Fails before at told t → FailsAfter Gets Fails start new input used before t
-  entry_faults Fails t fault = subst (λ (n : ℕ). FailsAfter Gets Fails start new input n before t) (zero_on used) (item_faults Gets start input before start 0 before (stood_first Gets start input before none) new used at told h Fails t fault)
+  pub entry_faults : (Fails : S → ℕ → Event → S → Type 0) (t : S) → Fails before at emitted t → FailsAfter Gets Fails start new input used before t
+  entry_faults Fails t fault = subst (λ (n : ℕ). FailsAfter Gets Fails start new input n before t) (zero_on used) (item_faults Gets start input before start 0 before (stood_first Gets start input before none) new used at emitted h Fails t fault)
 
 -- ---- the level that was handed out
 
@@ -118,6 +118,6 @@ pub back_level : (q : PartsState) (l : Level) → level_of q.cells ≡ Some l �
 back_level q l e = ap (λ (z : CellState). parts q.partial q.types z q.table q.given) (sym (level_own q.cells l e).1)
 
 -- the beginning of a list that was taken, where its level is in the loop's hands
-pub entered_at : (start before : StreamState) → before ≡ start → (s : StreamProgress) (q : PartsState) (l : Level) → level_of q.cells ≡ Some l → (rest : List ℕ) (at used : ℕ) (told : Event) → TakesItem before rest at used told (state_of s q) → TakesItem start rest at used told (state_of s (at_level q l))
-entered_at start before same s q l e rest at used told h =
-    subst (λ (z : PartsState). TakesItem start rest at used told (state_of s z)) (back_level q l e) (subst (λ (z : StreamState). TakesItem z rest at used told (state_of s q)) same h)
+pub entered_at : (start before : StreamState) → before ≡ start → (s : StreamProgress) (q : PartsState) (l : Level) → level_of q.cells ≡ Some l → (rest : List ℕ) (at used : ℕ) (emitted : Event) → TakesItem before rest at used emitted (state_of s q) → TakesItem start rest at used emitted (state_of s (at_level q l))
+entered_at start before same s q l e rest at used emitted h =
+    subst (λ (z : PartsState). TakesItem start rest at used emitted (state_of s z)) (back_level q l e) (subst (λ (z : StreamState). TakesItem z rest at used emitted (state_of s q)) same h)

@@ -19,7 +19,7 @@ use Rattle.cqlp_decode.specs.declared.progress.StreamStage.TheVariants as stage
 use Rattle.cqlp_decode.specs.declared.progress.StreamProgress.{StreamProgress}
 use Rattle.cqlp_decode.specs.Pages.{IsPage, Turns, cells_after, cells_from, node_by}
 use Rattle.cqlp_decode.specs.Progress.{StreamState, PartsState, GoesOn, IsBounded, IsCell, IsConsistent, StageHolds, nodes_of, parts, rest_of, state_of}
-use Rattle.cqlp_decode.specs.Items.{TakesItem, at_level, part_told}
+use Rattle.cqlp_decode.specs.Items.{TakesItem, at_level, part_emitted}
 use Rattle.cqlp_decode.proofs.CellSteps.{cell_begun_lawful, begun_same}
 use Rattle.cqlp_decode.proofs.ItemLoop.{going_lawful, going_takes, over_lawful, over_takes}
 use Rattle.cqlp_decode.proofs.Lists.{level_goes}
@@ -71,7 +71,7 @@ module _ (s : StreamProgress) (q : PartsState) (p : CellCursor) (here : s.stage 
   pub after_lawful : IsConsistent after idle
   after_lawful = over_lawful s (at_level q l) p here law empty [] left item (ends.0 []) ends.1 unrefused after (ended left) goes refl refl
 
-  pub after_takes : (input : List ℕ) → TakesItem (state_of s (at_level q l)) input item.at item.used (part_told p.row p.column item.part) (state_of after idle)
+  pub after_takes : (input : List ℕ) → TakesItem (state_of s (at_level q l)) input item.at item.used (part_emitted p.row p.column item.part) (state_of after idle)
   after_takes input = over_takes s (at_level q l) p here law empty input left item (ends.0 input) ends.1 unrefused after (ended left) goes refl refl
 
   module _ (node : ℕ) (column : node_by p'.columns p'.index ≡ Some node) where
@@ -112,5 +112,5 @@ module _ (s : StreamProgress) (q : PartsState) (p : CellCursor) (here : s.stage 
       pub next_lawful : IsConsistent onward (at_level q t.level)
       next_lawful = lagging s (at_level q t.level) p' l.offset at_next law.bounded (omega (arith, cell_here.after, at_next.stage.0.after))
 
-      pub next_takes : TakesItem (state_of after idle) input t.item.at t.item.used (part_told p'.row p'.column t.item.part) (state_of onward (at_level q t.level))
-      next_takes = subst (λ (z : StreamState). TakesItem z input t.item.at t.item.used (part_told p'.row p'.column t.item.part) (state_of within (at_level q t.level))) next_state (going_takes within next_parts p' refl next_law empty input (with_level q.cells t.level) t.item enters.0 not_done)
+      pub next_takes : TakesItem (state_of after idle) input t.item.at t.item.used (part_emitted p'.row p'.column t.item.part) (state_of onward (at_level q t.level))
+      next_takes = subst (λ (z : StreamState). TakesItem z input t.item.at t.item.used (part_emitted p'.row p'.column t.item.part) (state_of within (at_level q t.level))) next_state (going_takes within next_parts p' refl next_law empty input (with_level q.cells t.level) t.item enters.0 not_done)

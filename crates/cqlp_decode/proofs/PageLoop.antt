@@ -45,15 +45,15 @@ module _ (l : Rules) (k : Kind) (room n : ℕ) (input : List ℕ) (number : n �
 -- an event was handed out that the bytes say
 pub hands_said : (l : Rules) (k : Kind) (room : ℕ) (input : List ℕ) (row column used : ℕ) (e : CellEvent) → SaysCell l k room input used e → (HasGot Failed : Event → Type 0) (h : Handed)
     → HasHanded (HasGot (cell_event row column e)) (Failed (cell_event row column e)) used h → HandsFront l k room input row column HasGot Failed h
-hands_said l k room input row column used e says HasGot Failed handed.Left told = absurd told
-hands_said l k room input row column used e says HasGot Failed (handed.Taken n) told = rw told.0 (record { event = e; says = says; holds = told.1 })
-hands_said l k room input row column used e says HasGot Failed (handed.Fault n) told = rw told.0 (record { event = e; says = says; holds = told.1 })
+hands_said l k room input row column used e says HasGot Failed handed.Left emitted = absurd emitted
+hands_said l k room input row column used e says HasGot Failed (handed.Taken n) emitted = rw emitted.0 (record { event = e; says = says; holds = emitted.1 })
+hands_said l k room input row column used e says HasGot Failed (handed.Fault n) emitted = rw emitted.0 (record { event = e; says = says; holds = emitted.1 })
 
 -- a cell is handed out as the item that it is
 pub hands_leaf : (l : Rules) (k : Kind) (room : ℕ) (input : List ℕ) (row column : ℕ) (HasGot Failed : Event → Type 0) (h : Handed) → HandsLeaf l k room 0 input row column HasGot Failed h → HandsFront l k room input row column HasGot Failed h
-hands_leaf l k room input row column HasGot Failed handed.Left told = tt
-hands_leaf l k room input row column HasGot Failed (handed.Taken n) told = record { event = Leaf 0 told.value; says = says_leaf l k room input n told.value told.says; holds = told.holds }
-hands_leaf l k room input row column HasGot Failed (handed.Fault n) told = record { event = Leaf 0 told.value; says = says_leaf l k room input n told.value told.says; holds = told.holds }
+hands_leaf l k room input row column HasGot Failed handed.Left emitted = tt
+hands_leaf l k room input row column HasGot Failed (handed.Taken n) emitted = record { event = Leaf 0 emitted.value; says = says_leaf l k room input n emitted.value emitted.says; holds = emitted.holds }
+hands_leaf l k room input row column HasGot Failed (handed.Fault n) emitted = record { event = Leaf 0 emitted.value; says = says_leaf l k room input n emitted.value emitted.says; holds = emitted.holds }
 
 -- ---- from cell to cell
 
@@ -72,26 +72,26 @@ module _ (s : StreamProgress) (q : PartsState) (p p' : CellCursor) (offset : ℕ
   abbrev new : StreamState
   new = state_of (at_cell s p' (offset + taken)) q
 
-  abbrev told : Event
-  told = cell_event p.row p.column h.event
+  abbrev emitted : Event
+  emitted = cell_event p.row p.column h.event
 
   pub cell_lawful : IsConsistent (at_cell s p' (offset + taken)) q
   cell_lawful = onward_lawful (at_cell s p offset) q p p' refl law unrefused (drop used input) taken k kind h.event h.says empty turns
 
-  cell_takes : TakesItem old (drop used input) offset taken told new
+  cell_takes : TakesItem old (drop used input) offset taken emitted new
   cell_takes = (refl, refl, refl, onward_hands (at_cell s p offset) q p p' refl law unrefused (drop used input) taken k kind h.event h.says empty turns)
 
   module _ {S : Type 0} (Gets : S → ℕ → Event → S → Type 0) (first : StreamState) (t u v : S) (d : HandsOut Gets first old input used t u) where
-    pub cell_drains : Gets u offset told v → HandsOut Gets first new input (used + taken) t v
-    cell_drains got = item_drains Gets first old new input used t u d unrefused offset taken told cell_takes v got
+    pub cell_drains : Gets u offset emitted v → HandsOut Gets first new input (used + taken) t v
+    cell_drains got = item_drains Gets first old new input used t u d unrefused offset taken emitted cell_takes v got
 
 -- ---- the last cell that is handed out
 
 -- The message goes on after it.
 module _ (s : StreamProgress) (q : PartsState) (p : CellCursor) (offset : ℕ) (law : IsConsistent (at_cell s p offset) q) (unrefused : s.refusal ≡ None) (empty : q.partial.content ≡ []) (k : Kind) (kind : IsKind (nodes_of q p.columns) p k)
     (input : List ℕ) (used taken : ℕ) (Holds : Event → Type 0) (h : HandsCell (rules_asked s.limits) k (s.stop - offset) (drop used input) p.row p.column taken Holds) (e : StreamProgress) (at : ℕ) (place : at ≡ offset + taken) (goes : Continues s e q (cells_after (nodes_of q p.columns) p)) (rest : IsAt e at s) where
-  abbrev last_told : Event
-  last_told = cell_event p.row p.column h.event
+  abbrev last_emitted : Event
+  last_emitted = cell_event p.row p.column h.event
 
   same_use : e.given_use ≡ s.given_use
   same_use = ap (λ (z : StreamProgress). z.given_use) rest
@@ -112,7 +112,7 @@ module _ (s : StreamProgress) (q : PartsState) (p : CellCursor) (offset : ℕ) (
   last_lawful =
       one_lawful (at_cell s p offset) q p refl law unrefused (drop used input) taken k kind.0 kind.1 h.event kind.2 h.says empty e goes.0 goes.1 same_use after_it same_stop same_frame same_came (ap (λ (z : StreamProgress). z.limits) rest) (ap (λ (z : StreamProgress). z.header) rest)
 
-  last_takes : TakesItem (state_of (at_cell s p offset) q) (drop used input) offset taken last_told (state_of e q)
+  last_takes : TakesItem (state_of (at_cell s p offset) q) (drop used input) offset taken last_emitted (state_of e q)
   last_takes = (
     ap (λ (z : StreamProgress). z.refusal) rest,
     ap (λ (z : StreamProgress). rules_asked z.limits) rest,
@@ -121,11 +121,11 @@ module _ (s : StreamProgress) (q : PartsState) (p : CellCursor) (offset : ℕ) (
   )
 
   module _ {S : Type 0} (Gets : S → ℕ → Event → S → Type 0) (first : StreamState) (t u v : S) (d : HandsOut Gets first (state_of (at_cell s p offset) q) input used t u) where
-    pub last_drains : Gets u offset last_told v → HandsOut Gets first (state_of e q) input (used + taken) t v
-    last_drains got = item_drains Gets first (state_of (at_cell s p offset) q) (state_of e q) input used t u d unrefused offset taken last_told last_takes v got
+    pub last_drains : Gets u offset last_emitted v → HandsOut Gets first (state_of e q) input (used + taken) t v
+    last_drains got = item_drains Gets first (state_of (at_cell s p offset) q) (state_of e q) input used t u d unrefused offset taken last_emitted last_takes v got
 
-    pub last_fails : (Fails : S → ℕ → Event → S → Type 0) → Fails u offset last_told v → FailsAfter Gets Fails first (state_of e q) input (used + taken) t v
-    last_fails Fails fault = item_fails Gets first (state_of (at_cell s p offset) q) (state_of e q) input used t u d unrefused offset taken last_told last_takes Fails v fault
+    pub last_fails : (Fails : S → ℕ → Event → S → Type 0) → Fails u offset last_emitted v → FailsAfter Gets Fails first (state_of e q) input (used + taken) t v
+    last_fails Fails fault = item_fails Gets first (state_of (at_cell s p offset) q) (state_of e q) input used t u d unrefused offset taken last_emitted last_takes Fails v fault
 
 -- what was handed out uses no more bytes than there are, and pays for what was opened
 pub hands_within : {S : Type 0} (Gets : S → ℕ → Event → S → Type 0) (old new : StreamState) (input : List ℕ) (used : ℕ) (s t : S) → HandsOut Gets old new input used s t → (used ≤ length input) × (ends_due new.place.symbols + new.open_values ≤ ends_due old.place.symbols + old.open_values + 2 * used)

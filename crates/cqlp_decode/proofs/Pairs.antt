@@ -85,8 +85,8 @@ module _ {S : Type 0} (Gets : S → ℕ → Event → S → Type 0) (s : StreamP
       item_fits = (level_fits s q p here l i.inside i.lawful more).inside
 
       module _ (t : DueItem) (is_due : Some t ≡ element_if l k false) (n : ℕ) (Holds : Event → Type 0) (one : SaysLeaf (rules_asked s.limits) t.kind t.room t.level (drop used input) p.row p.column n Holds) where
-        abbrev told : Event
-        told = cell_event p.row p.column (Leaf t.level one.value)
+        abbrev emitted : Event
+        emitted = cell_event p.row p.column (Leaf t.level one.value)
 
         found : due_at typed l ≡ Some t
         found = pair_due typed l k t more of_kind is_due
@@ -96,8 +96,8 @@ module _ {S : Type 0} (Gets : S → ℕ → Event → S → Type 0) (s : StreamP
 
         -- the level after the item
         module _ (m : Level) (goes : m ≡ passed typed l n) where
-          takes : TakesItem (standing l) (drop used input) t.at n told (standing m)
-          takes = subst (λ (z : Level). TakesItem (standing l) (drop used input) t.at n told (standing z)) (sym goes) (item_takes s q p here l i.inside i.lawful empty (drop used input) t found n Holds one)
+          takes : TakesItem (standing l) (drop used input) t.at n emitted (standing m)
+          takes = subst (λ (z : Level). TakesItem (standing l) (drop used input) t.at n emitted (standing z)) (sym goes) (item_takes s q p here l i.inside i.lawful empty (drop used input) t found n Holds one)
 
           pub further_inside : IsInLevel q.cells m
           further_inside = subst (λ (z : Level). IsInLevel q.cells z) (sym goes) (record { fresh = i.inside.fresh; items = i.inside.items; some = i.inside.some; level = i.inside.level })
@@ -108,14 +108,14 @@ module _ {S : Type 0} (Gets : S → ℕ → Event → S → Type 0) (s : StreamP
           pub further_within : UsesWithin (standing first) input (Ok (used + n)) (standing m)
           further_within = (omega (arith, i.within, takes.3.within, length-drop used input), omega (arith, takes.3.pays, i.pays))
 
-          pub further_stands : (after : S) → Gets mid t.at told after → StandsAt m (used + n) after
+          pub further_stands : (after : S) → Gets mid t.at emitted after → StandsAt m (used + n) after
           further_stands after got = record {
             within = further_within.0;
             inside = further_inside;
             lawful = further_lawful;
             pays = further_within.1;
-            drained = item_drains Gets (standing first) (standing l) (standing m) input used before mid i.drained unrefused t.at n told takes after got;
+            drained = item_drains Gets (standing first) (standing l) (standing m) input used before mid i.drained unrefused t.at n emitted takes after got;
           }
 
-          pub further_fails : (Fails : S → ℕ → Event → S → Type 0) (after : S) → Fails mid t.at told after → FailsAfter Gets Fails (standing first) (standing m) input (used + n) before after
-          further_fails Fails after fault = item_fails Gets (standing first) (standing l) (standing m) input used before mid i.drained unrefused t.at n told takes Fails after fault
+          pub further_fails : (Fails : S → ℕ → Event → S → Type 0) (after : S) → Fails mid t.at emitted after → FailsAfter Gets Fails (standing first) (standing m) input (used + n) before after
+          further_fails Fails after fault = item_fails Gets (standing first) (standing l) (standing m) input used before mid i.drained unrefused t.at n emitted takes Fails after fault

@@ -67,7 +67,7 @@ module _ {S : Type 0} (m : sink.Ghosts S) (gifts : Gifts) (s input : List ℕ) (
         let all : used ≡ used + taken = omega (arith, none) in
         subst (λ (z : StreamState). Drained z (used + taken) u) (sym same) (subst (λ (n : ℕ). Drained old n u) all (subst (λ (w : S). Drained old used w) (sym seen) d))
 
-    by_items : (xs : List Item) → TakesItems old (drop used input) xs mid → taken ≡ bytes_of xs → GetsAll (Gets m) t xs u → HandsOut (Gets m) old mid (drop used input) taken t u → m.tells t → Drained old used t → Drained mid (used + taken) u
+    by_items : (xs : List Item) → TakesItems old (drop used input) xs mid → taken ≡ bytes_of xs → GetsAll (Gets m) t xs u → HandsOut (Gets m) old mid (drop used input) taken t u → m.reports t → Drained old used t → Drained mid (used + taken) u
     by_items [] takes all got h is d = still_there takes all got d
     by_items (x ∷ xs) takes all got h is d =
         let last = begun_last old mid (drop used input) x xs takes in
@@ -75,7 +75,7 @@ module _ {S : Type 0} (m : sink.Ghosts S) (gifts : Gifts) (s input : List ℕ) (
         let r = drains_rest m.after gifts old mid s input used taken es v (m.view t) (m.view u) d.0 more in
         (r, inr (ends_there gifts mid (s ++ take (used + taken) input) (es ++ r.more) last.1 last.0 r.stands))
 
-    pub hands_on : HandsOut (Gets m) old mid (drop used input) taken t u → m.tells t → Drained old used t → Drained mid (used + taken) u
+    pub hands_on : HandsOut (Gets m) old mid (drop used input) taken t u → m.reports t → Drained old used t → Drained mid (used + taken) u
     hands_on h is d = by_items h.items h.takes h.all h.got h is d
 
 -- ---- a refusal

@@ -151,8 +151,8 @@ module _ {S : Type 0} {Gets : S → ℕ → Event → S → Type 0} {s : StreamP
   abbrev gone : ℕ
   gone = length within - length rest
 
-  abbrev told : Event
-  told = cell_event p.row p.column (Leaf l.level one.value)
+  abbrev emitted : Event
+  emitted = cell_event p.row p.column (Leaf l.level one.value)
 
   few : length rest ≤ l.value.stop - l.offset
   few = omega (arith, i.fits)
@@ -189,7 +189,7 @@ module _ {S : Type 0} {Gets : S → ℕ → Event → S → Type 0} {s : StreamP
           (further_within Gets s q first input before p here unrefused empty l gone mid i.stands k of_kind more
           (due_of_kind l k) refl n Holds whole m goes)
 
-      pub next_fails : (Fails : S → ℕ → Event → S → Type 0) {after : S} → Fails mid l.offset told after
+      pub next_fails : (Fails : S → ℕ → Event → S → Type 0) {after : S} → Fails mid l.offset emitted after
           → FailsAfter Gets Fails (standing Gets s q first input before first) (standing Gets s q first input before m) input
           (length within - length left) before after
       next_fails Fails {after} fault =
@@ -197,7 +197,7 @@ module _ {S : Type 0} {Gets : S → ℕ → Event → S → Type 0} {s : StreamP
           (further_fails Gets s q first input before p here unrefused empty l gone mid i.stands k of_kind more
           (due_of_kind l k) refl n Holds whole m goes Fails after fault)
 
-      pub next_stands : {after : S} → Gets mid l.offset told after → StandsBefore Gets s q first input before left within m after
+      pub next_stands : {after : S} → Gets mid l.offset emitted after → StandsBefore Gets s q first input before left within m after
       next_stands {after} got =
           let shorter = ap (λ (z : List ℕ). length z) is ∙ length-drop n rest in
           let stop = ap (λ (z : Level). z.value.stop) goes ∙ stop_after (nodes_of q p.columns) l n in

@@ -10,7 +10,7 @@ use Rattle.cqlp_decode.specs.Draining.{Drains, FailsWithin, Passes, fold_events}
 use Rattle.cqlp_decode.specs.Items.{TakesItem}
 use Rattle.cqlp_grammar.specs.declared.sink.Sink as sink
 use Rattle.cqlp_decode.specs.Sinks.{Gets, Fails}
-use Rattle.cqlp_decode.specs.Cells.{Item, TakesItems, GetsAll, HandsOut, FailsAfter, bytes_of, told_of}
+use Rattle.cqlp_decode.specs.Cells.{Item, TakesItems, GetsAll, HandsOut, FailsAfter, bytes_of, emitted_of}
 use Rattle.cqlp_decode.proofs.Leads.{hands_stands}
 use Rattle.cqlp_decode.proofs.Gets.{take_two}
 
@@ -20,9 +20,9 @@ bytes_append : (xs ys : List Item) → bytes_of (xs ++ ys) ≡ bytes_of xs + byt
 bytes_append [] ys = omega arith
 bytes_append (x ∷ xs) ys = let more = bytes_append xs ys in omega (arith, more)
 
-pub told_append : (xs ys : List Item) → told_of (xs ++ ys) ≡ told_of xs ++ told_of ys
-told_append [] ys = refl
-told_append (x ∷ xs) ys = ap (λ (z : List (ℕ × Event)). (x.at, x.event) ∷ z) (told_append xs ys)
+pub emitted_append : (xs ys : List Item) → emitted_of (xs ++ ys) ≡ emitted_of xs ++ emitted_of ys
+emitted_append [] ys = refl
+emitted_append (x ∷ xs) ys = ap (λ (z : List (ℕ × Event)). (x.at, x.event) ∷ z) (emitted_append xs ys)
 
 -- ---- what they lead to
 
@@ -49,13 +49,13 @@ takes_pays old new input (x ∷ xs) t =
     let more = takes_pays t.0 new (drop x.used input) xs t.3 in
     let first = t.2.3.pays in omega (arith, more, first)
 
-pub takes_stands : (gifts : Gifts) (old new : StreamState) (s input : List ℕ) (es : List (ℕ × Event)) (xs : List Item) → TakesItems old input xs new → AfterGifts gifts old s es → AfterGifts gifts new (s ++ take (bytes_of xs) input) (es ++ told_of xs)
+pub takes_stands : (gifts : Gifts) (old new : StreamState) (s input : List ℕ) (es : List (ℕ × Event)) (xs : List Item) → TakesItems old input xs new → AfterGifts gifts old s es → AfterGifts gifts new (s ++ take (bytes_of xs) input) (es ++ emitted_of xs)
 takes_stands gifts old new s input es [] t a = rw (t, append-nil s, append-nil es) a
 takes_stands gifts old new s input es (x ∷ xs) t a =
     let after = subst (λ (o : Option Refusal). AfterBy o gifts old s es) t.1 a in
     let first = hands_stands old t.0 input s es gifts x.at x.used x.event t.2.3 (t.2.0 ∙ t.1) t.2.1 after in
     let more = takes_stands gifts t.0 new (s ++ take x.used input) (drop x.used input) (es ++ (x.at, x.event) ∷ []) xs t.3 first in
-    rw (take_two x.used (bytes_of xs) input, ← (append_assoc s (take x.used input) (take (bytes_of xs) (drop x.used input))), ← (append_assoc es ((x.at, x.event) ∷ []) (told_of xs))) more
+    rw (take_two x.used (bytes_of xs) input, ← (append_assoc s (take x.used input) (take (bytes_of xs) (drop x.used input))), ← (append_assoc es ((x.at, x.event) ∷ []) (emitted_of xs))) more
 
 -- ---- what a sink has got
 
@@ -91,43 +91,43 @@ module _ {S : Type 0} (Gets : S → ℕ → Event → S → Type 0) where
 
   -- ---- one more
 
-  module _ (old mid new : StreamState) (input : List ℕ) (used : ℕ) (s t : S) (d : HandsOut Gets old mid input used s t) (unrefused : mid.refusal ≡ None) (at taken : ℕ) (told : Event) (h : TakesItem mid (drop used input) at taken told new) where
+  module _ (old mid new : StreamState) (input : List ℕ) (used : ℕ) (s t : S) (d : HandsOut Gets old mid input used s t) (unrefused : mid.refusal ≡ None) (at taken : ℕ) (emitted : Event) (h : TakesItem mid (drop used input) at taken emitted new) where
     abbrev one : Item
-    one = record { at = at; used = taken; event = told }
+    one = record { at = at; used = taken; event = emitted }
 
     takes_one : TakesItems mid (drop used input) (one ∷ []) new
     takes_one = (new, unrefused, h, refl)
 
-    pub item_drains : (u : S) → Gets t at told u → HandsOut Gets old new input (used + taken) s u
+    pub item_drains : (u : S) → Gets t at emitted u → HandsOut Gets old new input (used + taken) s u
     item_drains u got = hands_then old mid new input used taken s t u d (record { items = one ∷ []; takes = takes_one; all = omega arith; got = (u, got, refl) })
 
-    pub item_fails : (Fails : S → ℕ → Event → S → Type 0) (u : S) → Fails t at told u → FailsAfter Gets Fails old new input (used + taken) s u
+    pub item_fails : (Fails : S → ℕ → Event → S → Type 0) (u : S) → Fails t at emitted u → FailsAfter Gets Fails old new input (used + taken) s u
     item_fails Fails u fault = fails_then Fails old mid new input used taken s t u d (record { items = []; last = one; takes = takes_one; all = omega arith; mid = t; got = refl; fault = fault })
 
--- ---- over the whole stream, where the sink tells what it has got
+-- ---- over the whole stream, where the sink reports what it has got
 
 module _ {S : Type 0} (m : sink.Ghosts S) where
-  gets_told : (s t : S) (xs : List Item) → GetsAll (Gets m) s xs t → m.tells s → m.tells t × (m.view t ≡ fold_events m.after (m.view s) (told_of xs))
-  gets_told s t [] g is = rw g (is, refl)
-  gets_told s t (x ∷ xs) g is =
+  gets_emitted : (s t : S) (xs : List Item) → GetsAll (Gets m) s xs t → m.reports s → m.reports t × (m.view t ≡ fold_events m.after (m.view s) (emitted_of xs))
+  gets_emitted s t [] g is = rw g (is, refl)
+  gets_emitted s t (x ∷ xs) g is =
       let first = g.1.0 is in
-      let more = gets_told g.0 t xs g.2 first.0 in (more.0, more.1 ∙ ap (λ (z : m.View). fold_events m.after z (told_of xs)) first.1)
+      let more = gets_emitted g.0 t xs g.2 first.0 in (more.0, more.1 ∙ ap (λ (z : m.View). fold_events m.after z (emitted_of xs)) first.1)
 
   module _ (old new : StreamState) (input : List ℕ) (used : ℕ) (s t : S) where
-    pub still_tells : HandsOut (Gets m) old new input used s t → m.tells s → m.tells t
-    still_tells h is = (gets_told s t h.items h.got is).0
+    pub still_reports : HandsOut (Gets m) old new input used s t → m.reports s → m.reports t
+    still_reports h is = (gets_emitted s t h.items h.got is).0
 
-    pub drained : HandsOut (Gets m) old new input used s t → m.tells s → (gifts : Gifts) (bytes : List ℕ) (es : List (ℕ × Event)) → AfterGifts gifts old bytes es → Drains m.after gifts new bytes es (take used input) (m.view s) (m.view t)
-    drained h is gifts bytes es a = record { more = told_of h.items; stands = rw h.all (takes_stands gifts old new bytes input es h.items h.takes a); got = (gets_told s t h.items h.got is).1 }
+    pub drained : HandsOut (Gets m) old new input used s t → m.reports s → (gifts : Gifts) (bytes : List ℕ) (es : List (ℕ × Event)) → AfterGifts gifts old bytes es → Drains m.after gifts new bytes es (take used input) (m.view s) (m.view t)
+    drained h is gifts bytes es a = record { more = emitted_of h.items; stands = rw h.all (takes_stands gifts old new bytes input es h.items h.takes a); got = (gets_emitted s t h.items h.got is).1 }
 
-    pub failed : FailsAfter (Gets m) (Fails m) old new input used s t → m.tells s → FailsWithin m.after m.faulted old new (take used input) (m.view s) (m.view t)
+    pub failed : FailsAfter (Gets m) (Fails m) old new input used s t → m.reports s → FailsWithin m.after m.faulted old new (take used input) (m.view s) (m.view t)
     failed h is =
-        let got = gets_told s h.mid h.items h.got is in
+        let got = gets_emitted s h.mid h.items h.got is in
         λ gifts bytes es a. record {
-          more = told_of h.items;
+          more = emitted_of h.items;
           at = h.last.at;
           event = h.last.event;
-          stands = rw (h.all, append_assoc es (told_of h.items) ((h.last.at, h.last.event) ∷ []), ← (told_append h.items (h.last ∷ []))) (takes_stands gifts old new bytes input es (h.items ++ h.last ∷ []) h.takes a);
+          stands = rw (h.all, append_assoc es (emitted_of h.items) ((h.last.at, h.last.event) ∷ []), ← (emitted_append h.items (h.last ∷ []))) (takes_stands gifts old new bytes input es (h.items ++ h.last ∷ []) h.takes a);
           fault = rw (← got.1) (h.fault.0 got.0);
         }
 

@@ -79,9 +79,9 @@ abbrev pub bytes_of : List Item → ℕ
 bytes_of [] = 0
 bytes_of (x ∷ xs) = x.used + bytes_of xs
 
-abbrev pub told_of : List Item → List (ℕ × Event)
-told_of [] = []
-told_of (x ∷ xs) = (x.at, x.event) ∷ told_of xs
+abbrev pub emitted_of : List Item → List (ℕ × Event)
+emitted_of [] = []
+emitted_of (x ∷ xs) = (x.at, x.event) ∷ emitted_of xs
 
 -- These items were taken one after the other, the first from the first byte of the input on.
 abbrev pub TakesItems : StreamState → List ℕ → List Item → StreamState → Type 0

@@ -9,11 +9,11 @@ use Rattle.cqlp_decode.specs.declared.page_loop.Handed.TheVariants as handed
 use Rattle.cqlp_decode.specs.Reading.{Event, Holds}
 
 -- Bytes say that a field in this notation has a value, of whose event this holds.
-pub record HasField (n : Notation) (limit room : ℕ) (input : List ℕ) (f : Field) (used : ℕ) (IsTold : Event → Type 0)
+pub record HasField (n : Notation) (limit room : ℕ) (input : List ℕ) (f : Field) (used : ℕ) (IsEmitted : Event → Type 0)
     : Type 0 where
   pub value : FieldValue
   pub says : SaysField n limit room input used value
-  pub told : IsTold (Holds f value)
+  pub emitted : IsEmitted (Holds f value)
 
 -- What became of the field that is due: it was handed out, and the sink has got it, or it failed there.
 abbrev pub HandsField : Notation → (limit room : ℕ) → List ℕ → Field → (HasGot Failed : Event → Type 0) → Handed

@@ -33,8 +33,8 @@ bare_event (bare.Enter level k n) = cell.Enter level k n
 bare_event (bare.Leave level n) = cell.Leave level n
 
 -- the same in the cell of a row and a column
-abbrev pub part_told : (row column : ℕ) → BarePart → Event
-part_told row column part = cell_event row column (bare_event part)
+abbrev pub part_emitted : (row column : ℕ) → BarePart → Event
+part_emitted row column part = cell_event row column (bare_event part)
 
 -- The first bytes of the input end an item, which is this event; what the caller asked for and gave stands.
 abbrev pub TakesItem : StreamState → List ℕ → (at used : ℕ) → Event → StreamState → Type 0
@@ -92,7 +92,7 @@ at_level q l = parts q.partial q.types (with_level q.cells l) q.table q.given
 abbrev pub TakesPart : StreamState → List ℕ → (row column : ℕ) → Option PartTaken → StreamState → Type 0
 TakesPart old input row column None new = new ≡ old
 TakesPart old input row column (Some t) new =
-    TakesItem old input t.item.at t.item.used (part_told row column t.item.part) new
+    TakesItem old input t.item.at t.item.used (part_emitted row column t.item.part) new
 
 -- the cell that was under way still is, unless it is over
 abbrev pub StaysIn : CellCursor → Option PartTaken → StreamStage → Type 0
@@ -110,7 +110,7 @@ IsIn (Some page) now = now ≡ stage.InCell page
 abbrev pub TakesEntry : StreamState → List ℕ → (row column : ℕ) → Option Entered → StreamState → Type 0
 TakesEntry old input row column None new = new ≡ old
 TakesEntry old input row column (Some t) new =
-    TakesItem old input t.item.at t.item.used (part_told row column t.item.part) new
+    TakesItem old input t.item.at t.item.used (part_emitted row column t.item.part) new
 
 -- the reading of the cell stands in this level, if there is one
 abbrev pub StandsIn : Option Entered → CellState → Type 0
@@ -120,7 +120,7 @@ StandsIn (Some t) d = level_of d ≡ Some t.level
 -- What is next is the end of the cell, which takes no byte.
 abbrev pub LeavesCell : StreamState → (row column : ℕ) → BareItem → StreamState → Type 0
 LeavesCell old row column t new =
-    (input : List ℕ) → TakesItem old input t.at t.used (part_told row column t.part) new
+    (input : List ℕ) → TakesItem old input t.at t.used (part_emitted row column t.part) new
 
 -- From the end of a cell, at which a level stands, the reading went on into the next, which is a list, a set or a map: the
 -- end, which takes no byte, and the beginning. The parts stand, but for the level. Or nothing is done.
@@ -128,8 +128,8 @@ abbrev pub GoesToNext : StreamProgress → PartsState → Level → CellCursor �
 GoesToNext old q l page end input None new = new ≡ old
 GoesToNext old q l page end input (Some n) new =
     (mid : StreamState)
-    × ((rest : List ℕ) → TakesItem (state_of old (at_level q l)) rest end.at end.used (part_told page.row page.column end.part) mid)
-    × TakesItem mid input n.entered.item.at n.entered.item.used (part_told n.page.row n.page.column n.entered.item.part)
+    × ((rest : List ℕ) → TakesItem (state_of old (at_level q l)) rest end.at end.used (part_emitted page.row page.column end.part) mid)
+    × TakesItem mid input n.entered.item.at n.entered.item.used (part_emitted n.page.row n.page.column n.entered.item.part)
     (state_of new (at_level q n.entered.level))
     × IsConsistent new (at_level q n.entered.level)
     × IsInLevel q.cells n.entered.level

@@ -42,10 +42,10 @@ impl<A: Allocator> Decoder<A> {
         ensures refusal { DrainsBy result (state self.new).refusal }
         ensures refused { (r : Refused) → (state self.old).refusal ≡ Some r →
             (result ≡ Fed.Refused 0 r) × (state self.new ≡ state self.old) × (sink.new ≡ sink.old) }
-        ensures drains { S.tells sink.old →
+        ensures drains { S.reports sink.old →
             DrainsTo S.after S.faulted (state self.old) input.now result (state self.new)
             (S.view sink.old) (S.view sink.new) }
-        ensures tells { S.tells sink.old → result ≡ Fed.More → S.tells sink.new }
+        ensures reports { S.reports sink.old → result ≡ Fed.More → S.reports sink.new }
         ensures also { Passes S.also sink.old sink.new }
         ensures rules { (state self.new).rules ≡ (state self.old).rules }
         ensures given { (state self.new).given ≡ (state self.old).given }

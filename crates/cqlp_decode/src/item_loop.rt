@@ -9,7 +9,7 @@ ghost use Rattle.std.specs.Prelude.{◌≡◌, ◌-◌, ◌≤◌, length, Ok, O
 ghost use Rattle.cqlp_note.specs.declared.refusal.Refusal.{Refusal};
 ghost use Rattle.cqlp_decode.specs.declared.progress.StreamStage.TheVariants as stage;
 ghost use Rattle.cqlp_decode.specs.Cells.{DrainsCells, DrainsItems, StaysWithin, UsesWithin};
-ghost use Rattle.cqlp_decode.specs.Items.{IsIn, StaysIn, TakesPart, at_level, part_told};
+ghost use Rattle.cqlp_decode.specs.Items.{IsIn, StaysIn, TakesPart, at_level, part_emitted};
 ghost use Rattle.cqlp_type.specs.Forests.{node_at};
 ghost use Rattle.cqlp_cell.specs.declared.open_values.Order.TheVariants as order;
 ghost use Rattle.cqlp_cell.specs.Levels.{IsInLevel};
@@ -132,8 +132,8 @@ pub(crate) fn hand_part<S: Sink>(
     item: BareItem,
     sink: &mut S,
 ) -> Result<(), SinkFault>
-    ensures ok { OnOk result (Gets S.Sink sink.old item.at (part_told page.row page.column item.part) sink.new) }
-    ensures err { OnErr result (Fails S.Sink sink.old item.at (part_told page.row page.column item.part) sink.new) }
+    ensures ok { OnOk result (Gets S.Sink sink.old item.at (part_emitted page.row page.column item.part) sink.new) }
+    ensures err { OnErr result (Fails S.Sink sink.old item.at (part_emitted page.row page.column item.part) sink.new) }
 {
     let CellCursor { row, column, .. } = page;
     let at = item.at;

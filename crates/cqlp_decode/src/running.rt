@@ -33,7 +33,7 @@ pub fn run<R: Source, S: Sink, A: Allocator>(
     sink: &mut S,
     turns: u64,
 ) -> Outcome
-    ensures runs { (xs : List ℕ) → R.left reader.old ≡ Some xs → S.tells sink.old →
+    ensures runs { (xs : List ℕ) → R.left reader.old ≡ Some xs → S.reports sink.old →
         RunsTo S.after S.faulted turns result (state decoder.old) (state decoder.new)
         xs (R.left reader.new) (S.view sink.old) (S.view sink.new) }
     ensures waits { WaitsAt result (state decoder.new) }
@@ -42,7 +42,7 @@ pub fn run<R: Source, S: Sink, A: Allocator>(
         × (reader.new ≡ reader.old) × (sink.new ≡ sink.old) }
     ensures reads { MakesReads turns result (calls R.Source reader.old) (calls R.Source reader.new)
         (R.left reader.old) (R.left reader.new) }
-    ensures in_time { (xs : List ℕ) → R.left reader.old ≡ Some xs → S.tells sink.old →
+    ensures in_time { (xs : List ℕ) → R.left reader.old ≡ Some xs → S.reports sink.old →
         ReadsInTime S.after S.faulted turns result (state decoder.old) (state decoder.new) xs (R.reads reader.old)
         (R.reads reader.new) (R.left reader.new) (S.view sink.old) (S.view sink.new) }
     ensures also { Passes S.also sink.old sink.new }

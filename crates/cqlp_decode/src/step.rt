@@ -1,4 +1,4 @@
-//! What calls of a decoder tell.
+//! What calls of a decoder return.
 
 use cqlp_grammar::Event;
 use cqlp_note::Refusal;

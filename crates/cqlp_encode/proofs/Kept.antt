@@ -5,7 +5,7 @@ use Rattle.std.proofs.lemmas.Slice.{between_is}
 use borrow.Rule.Slice.PartMut.{put_mid}
 use lib.Seq.{take_at, drop_at}
 use Rattle.std.specs.Int.{w32, to_be_bytes}
-use Rattle.cqlp_encode.specs.Progress.{Progress, Keeps, told}
+use Rattle.cqlp_encode.specs.Progress.{Progress, Keeps, with_length}
 
 -- ---- one after the other
 
@@ -28,20 +28,20 @@ kept_all a b x e = record { more = x; kept = e; all = λ e. refl }
 
 -- ---- with a length before them
 
-told_is : (a z c : List ℕ) (start : ℕ) → start ≡ length a → length z ≡ 4 → told start (a ++ (z ++ c)) ≡ a ++ (to_be_bytes w32 (length c) ++ c)
-told_is a z c start from four =
+with_length_is : (a z c : List ℕ) (start : ℕ) → start ≡ length a → length z ≡ 4 → with_length start (a ++ (z ++ c)) ≡ a ++ (to_be_bytes w32 (length c) ++ c)
+with_length_is a z c start from four =
     let before : take start (a ++ (z ++ c)) ≡ a = take_at a (z ++ c) start (sym from) in
     let after : drop (start + 4) (a ++ (z ++ c)) ≡ c =
     ap (drop (start + 4)) (sym (append_assoc a z c)) ∙ drop_at (a ++ z) c (start + 4) (omega (arith, length-append a z, from, four)) in
     ap (λ (w : List ℕ). w ++ (to_be_bytes w32 (length (drop (start + 4) (a ++ (z ++ c)))) ++ drop (start + 4) (a ++ (z ++ c)))) before
     ∙ ap (λ (w : List ℕ). a ++ (to_be_bytes w32 (length w) ++ w)) after
 
-pub kept_told : (a b c : Progress) (z x : List ℕ) (start : ℕ) → start ≡ length a.waiting → length z ≡ 4 → Keeps a true (z ++ x) b
-    → c ≡ record b { waiting = told start b.waiting } → Keeps a true (to_be_bytes w32 (length x) ++ x) c
-kept_told a b c z x start from four s e =
+pub kept_with_length : (a b c : Progress) (z x : List ℕ) (start : ℕ) → start ≡ length a.waiting → length z ≡ 4 → Keeps a true (z ++ x) b
+    → c ≡ record b { waiting = with_length start b.waiting } → Keeps a true (to_be_bytes w32 (length x) ++ x) c
+kept_with_length a b c z x start from four s e =
     let waits : b ≡ record a { waiting = a.waiting ++ (z ++ x) } = s.kept ∙ ap (λ (w : List ℕ). record a { waiting = a.waiting ++ w }) (s.all refl) in
-    kept_all a c _ (e ∙ ap (λ (p : Progress). record p { waiting = told start p.waiting }) waits
-    ∙ ap (λ (w : List ℕ). record a { waiting = w }) (told_is a.waiting z x start from four))
+    kept_all a c _ (e ∙ ap (λ (p : Progress). record p { waiting = with_length start p.waiting }) waits
+    ∙ ap (λ (w : List ℕ). record a { waiting = w }) (with_length_is a.waiting z x start from four))
 
 -- ---- as it is written
 
@@ -52,9 +52,9 @@ take_over n (x ∷ xs) ys le =
     let rest : n - 1 - length xs ≡ suc (n - 1) - length {A = ℕ} (x ∷ xs) = omega arith in
     rw e (ap (λ (t : List ℕ). x ∷ t) (take_over (n - 1) xs ys (omega arith) ∙ ap (λ (k : ℕ). xs ++ take k ys) rest))
 
-pub told_view : (start n : ℕ) (xs ys : List ℕ) → start + 4 ≤ n → n ≤ length xs → ys ≡ to_be_bytes w32 (n - start - 4)
-    → take n (put_mid start (start + 4 - start) xs ys) ≡ told start (take n xs)
-told_view start n xs ys within room e =
+pub with_length_view : (start n : ℕ) (xs ys : List ℕ) → start + 4 ≤ n → n ≤ length xs → ys ≡ to_be_bytes w32 (n - start - 4)
+    → take n (put_mid start (start + 4 - start) xs ys) ≡ with_length start (take n xs)
+with_length_view start n xs ys within room e =
     let four : length ys ≡ 4 = ap length e in
     let front : length (take start xs) ≡ start = length-take-le start xs (omega arith) in
     let both : length (take start xs ++ ys) ≡ start + 4 = omega (arith, length-append (take start xs) ys, front, four) in

@@ -7,10 +7,10 @@ use Rattle.cqlp_value.specs.declared.value.Value.{Value}
 use Rattle.cqlp_value.specs.Values.{Values, NoValue, Counted_and, Fields_and, values_bytes}
 use Rattle.cqlp_value.specs.Owned.{value_of}
 use Rattle.cqlp_value.specs.Measures.{listed_values, listed_pairs}
-use Rattle.cqlp_encode.specs.Progress.{Flushes, Progress, Keeps, Puts, PutsWithin, told}
+use Rattle.cqlp_encode.specs.Progress.{Flushes, Progress, Keeps, Puts, PutsWithin, with_length}
 use Rattle.cqlp_encode.proofs.Contents.{many_bytes, many_pair_bytes, whole}
 use Rattle.cqlp_encode.proofs.Taking.{flushed_many, keeps, puts_then}
-use Rattle.cqlp_encode.proofs.Kept.{kept_then, kept_told}
+use Rattle.cqlp_encode.proofs.Kept.{kept_then, kept_with_length}
 
 same_kept : (a b : Progress) (whole : Bool) (x y : List ℕ) → x ≡ y → Keeps a whole x b → Keeps a whole y b
 same_kept a b whole x y e s = subst (λ (t : List ℕ). Keeps a whole t b) e s
@@ -28,15 +28,15 @@ pub fields_kept : (w items : Values) (k : Kind) (a b : Progress) (whole : Bool) 
 fields_kept w items k a b whole is s = same_kept a b whole _ _ (sym (ap values_bytes is ∙ append-nil _)) s
 
 -- the number of eight bytes leaves room for the length, and has the count after it
-pub counted_told : (a b c d : Progress) (n start : ℕ) (x : List ℕ) → start ≡ length a.waiting → Keeps a true (to_be_bytes w64 n) b → Keeps b true x c
-    → d ≡ record c { waiting = told start c.waiting } → Keeps a true (to_be_bytes w32 (length (to_be_bytes w32 n ++ x)) ++ (to_be_bytes w32 n ++ x)) d
-counted_told a b c d n start x from s t e =
+pub counted_with_length : (a b c d : Progress) (n start : ℕ) (x : List ℕ) → start ≡ length a.waiting → Keeps a true (to_be_bytes w64 n) b → Keeps b true x c
+    → d ≡ record c { waiting = with_length start c.waiting } → Keeps a true (to_be_bytes w32 (length (to_be_bytes w32 n ++ x)) ++ (to_be_bytes w32 n ++ x)) d
+counted_with_length a b c d n start x from s t e =
     let both : Keeps a true (to_be_bytes w64 n ++ x) c = kept_then a b c true _ _ s t in
-    kept_told a c d (take 4 (to_be_bytes w64 n)) (to_be_bytes w32 n ++ x) start from refl both e
+    kept_with_length a c d (take 4 (to_be_bytes w64 n)) (to_be_bytes w32 n ++ x) start from refl both e
 
-pub fields_told : (a b c d : Progress) (start : ℕ) (z x : List ℕ) → length z ≡ 4 → start ≡ length a.waiting → Keeps a true z b → Keeps b true x c
-    → d ≡ record c { waiting = told start c.waiting } → Keeps a true (to_be_bytes w32 (length x) ++ x) d
-fields_told a b c d start z x four from s t e = kept_told a c d z x start from four (kept_then a b c true _ _ s t) e
+pub fields_with_length : (a b c d : Progress) (start : ℕ) (z x : List ℕ) → length z ≡ 4 → start ≡ length a.waiting → Keeps a true z b → Keeps b true x c
+    → d ≡ record c { waiting = with_length start c.waiting } → Keeps a true (to_be_bytes w32 (length x) ++ x) d
+fields_with_length a b c d start z x four from s t e = kept_with_length a c d z x start from four (kept_then a b c true _ _ s t) e
 
 -- ---- several values
 

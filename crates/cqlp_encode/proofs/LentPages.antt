@@ -26,7 +26,7 @@ use Rattle.cqlp_encode.proofs.PageWhole.{as_encoded}
 use Rattle.cqlp_encode.specs.declared.lent_page.LentError.{LentError}
 use Rattle.cqlp_encode.specs.declared.lent_page.LentError.TheVariants as error
 use Rattle.cqlp_encode.specs.LentCells.{Another, TooFew, Changes, EncodesLent, Stops, are_all, are_front, front_bytes, lent_unfit_of}
-use Rattle.cqlp_encode.specs.Adding.{AddsLent, told}
+use Rattle.cqlp_encode.specs.Adding.{AddsLent, lent_error}
 
 -- ---- one cell more
 
@@ -132,7 +132,7 @@ front_after q n cells a = front_is (page q) n cells (omega (arith, a.left)) a.fi
 -- a writer whose target has not failed refuses what is no front
 module _ (q : PageState) (n : ℕ) (cells : List Values) (v : Values) (a : After q n cells) (sound : q.failed ≡ false) where
   abbrev pub Refusal : PageError → Type 0
-  Refusal e = (told e ≡ error.Changed) × (are_front (page q) n (cells ++ v ∷ []) ≡ false)
+  Refusal e = (lent_error e ≡ error.Changed) × (are_front (page q) n (cells ++ v ∷ []) ≡ false)
 
   all_there : (q.left == 0) ≡ true → are_front (page q) n (cells ++ v ∷ []) ≡ false
   all_there e =
@@ -146,9 +146,9 @@ module _ (q : PageState) (n : ℕ) (cells : List Values) (v : Values) (a : After
 
   by_tests : (x y z : Bool) (e : PageError) → (q.left == 0) ≡ x → cells_fit (page q) (cells ++ v ∷ []) ≡ y → nat_lt q.free (values_size v) ≡ z
       → first_of ((x, page_error.OutOfTurn) ∷ (not y, page_error.Unfit unfit.CellType) ∷ (z, page_error.PastLength) ∷ []) ≡ Some e → Refusal e
-  by_tests true y z e xs ys zs is = let same : e ≡ page_error.OutOfTurn = cc in (ap told same, all_there xs)
-  by_tests false false z e xs ys zs is = let same : e ≡ page_error.Unfit unfit.CellType = cc in (ap told same, not_of_type (page q) n (cells ++ v ∷ []) ys)
-  by_tests false true true e xs ys zs is = let same : e ≡ page_error.PastLength = cc in (ap told same, past_free zs)
+  by_tests true y z e xs ys zs is = let same : e ≡ page_error.OutOfTurn = cc in (ap lent_error same, all_there xs)
+  by_tests false false z e xs ys zs is = let same : e ≡ page_error.Unfit unfit.CellType = cc in (ap lent_error same, not_of_type (page q) n (cells ++ v ∷ []) ys)
+  by_tests false true true e xs ys zs is = let same : e ≡ page_error.PastLength = cc in (ap lent_error same, past_free zs)
   by_tests false true false e xs ys zs is = absurd cc
 
   pub refusal : (e : PageError) → cell_error q cells v ≡ Some e → Refusal e
@@ -205,7 +205,7 @@ module _ (f : Frame) (n : ℕ) (p : PageState) (old start : Output) (begun : Beg
     more_bytes : (v : Values) → front_bytes (frame_of f) n (cells ++ v ∷ []) ≡ front_bytes (frame_of f) n cells ++ values_bytes v
     more_bytes v = ap (λ (b : List ℕ). page_head (frame_of f) n ++ b) (cells_bytes_more cells v) ∙ sym (append_assoc (page_head (frame_of f) n) (cells_bytes cells) (values_bytes v))
 
-    refused : (ended : Bool) (v : Values) (why : PageError) (new : Output) → cell_error q cells v ≡ Some why → new ≡ mid → (told why ≡ error.Changed) × Changes (frame_of f) n (cells ++ v ∷ []) ended old new
+    refused : (ended : Bool) (v : Values) (why : PageError) (new : Output) → cell_error q cells v ≡ Some why → new ≡ mid → (lent_error why ≡ error.Changed) × Changes (frame_of f) n (cells ++ v ∷ []) ended old new
     refused ended v why new is unchanged =
         let r = refusal q n cells v after sound why is in
         let none : are_front (frame_of f) n (cells ++ v ∷ []) ≡ false = of_frame (λ g. are_front g n (cells ++ v ∷ []) ≡ false) r.1 in
@@ -224,7 +224,7 @@ module _ (f : Frame) (n : ℕ) (p : PageState) (old start : Output) (begun : Beg
           offered = subst (λ (x : List ℕ). Offered old x k new) (sym bytes) (subst (λ (m : ℕ). Offered old (front_bytes (frame_of f) n cells ++ values_bytes v) m new) (sym at) (offers_then old mid new (front_bytes (frame_of f) n cells) (values_bytes v) c.taken taken c.offered));
         }
 
-    last_one : (ended : Bool) (v : Values) (why : PageError) (new : Output) (r : PageState) → Adds q cells v mid (Err why) new r → (first : List Values) → lent_unfit_of (frame_of f) first ≡ None → cells_size first ≡ n → EncodesLent (frame_of f) first (cells ++ v ∷ []) ended old (Err (told why)) new
+    last_one : (ended : Bool) (v : Values) (why : PageError) (new : Output) (r : PageState) → Adds q cells v mid (Err why) new r → (first : List Values) → lent_unfit_of (frame_of f) first ≡ None → cells_size first ≡ n → EncodesLent (frame_of f) first (cells ++ v ∷ []) ended old (Err (lent_error why)) new
     last_one ended v (page_error.Write k) new r (inl s) first fits size = absurd (no_write k (refused ended v (page_error.Write k) new s.0 s.1).0)
     last_one ended v (page_error.Write k) new r (inr s) first fits size = (fits, rw size (cut v k new r s.0 s.1))
     last_one ended v (page_error.Unfit why) new r s first fits size = (fits, rw size (refused ended v (page_error.Unfit why) new s.0 s.1).1)
@@ -240,7 +240,7 @@ module _ (f : Frame) (n : ℕ) (p : PageState) (old start : Output) (begun : Beg
         let some : 0 < q.left + q.free = grind (arith, nat_tests, s.1) in
         TooFew refl front (of_frame (λ g. are_all g n cells ≡ false) (not_all (page q) n cells q.left q.free after.left after.free some)) (offers_all old mid (front_bytes (frame_of f) n cells) taken)
 
-    ends : (why : PageError) → Finishes q n cells (Err why) → (first : List Values) → lent_unfit_of (frame_of f) first ≡ None → cells_size first ≡ n → EncodesLent (frame_of f) first cells true old (Err (told why)) mid
+    ends : (why : PageError) → Finishes q n cells (Err why) → (first : List Values) → lent_unfit_of (frame_of f) first ≡ None → cells_size first ≡ n → EncodesLent (frame_of f) first cells true old (Err (lent_error why)) mid
     ends (page_error.Write k) s first fits size = let both = sym sound ∙ s.0 in absurd cc
     ends page_error.NotDone s first fits size = (fits, rw size (too_few s))
     ends (page_error.Unfit why) s first fits size = absurd s
@@ -251,13 +251,13 @@ module _ (f : Frame) (n : ℕ) (p : PageState) (old start : Output) (begun : Beg
   lent_again first again ended (Ok size) new fits same (end, q, adds, done) =
       (fits, end, rw same (front q again new adds), rw same (whole q again new adds done.1), as_encoded f n again p q old start new size begun adds done)
   lent_again first again ended (Err e) new fits same (inl s) =
-      subst (λ (x : LentError). EncodesLent (frame_of f) first again ended old (Err x) new) (sym s.told) (subst (λ (x : List Values). EncodesLent (frame_of f) first x ended old (Err (told s.why)) new) (sym s.is) (last_one s.q s.cells s.mid s.adds ended s.cell s.why new s.r s.stopped first fits same))
+      subst (λ (x : LentError). EncodesLent (frame_of f) first again ended old (Err x) new) (sym s.lent_error) (subst (λ (x : List Values). EncodesLent (frame_of f) first x ended old (Err (lent_error s.why)) new) (sym s.is) (last_one s.q s.cells s.mid s.adds ended s.cell s.why new s.r s.stopped first fits same))
   lent_again first again ended (Err e) new fits same (inr (end, s)) =
-      subst (λ (x : LentError). EncodesLent (frame_of f) first again ended old (Err x) new) (sym s.told) (subst (λ (b : Bool). EncodesLent (frame_of f) first again b old (Err (told s.why)) new) (sym end) (ends s.q again new s.adds s.why s.stopped first fits same))
+      subst (λ (x : LentError). EncodesLent (frame_of f) first again ended old (Err x) new) (sym s.lent_error) (subst (λ (b : Bool). EncodesLent (frame_of f) first again b old (Err (lent_error s.why)) new) (sym end) (ends s.q again new s.adds s.why s.stopped first fits same))
 
 -- ---- before the first cell
 
-pub head_cut : (f : Frame) (n : ℕ) (first : List Values) (why : PageError) (ended : Bool) (old new : Output) → lent_unfit_of (frame_of f) first ≡ None → page_unfit_of (frame_of f) n ≡ None → cells_size first ≡ n → Begins f n old (Err why) new → EncodesLent (frame_of f) first [] ended old (Err (told why)) new
+pub head_cut : (f : Frame) (n : ℕ) (first : List Values) (why : PageError) (ended : Bool) (old new : Output) → lent_unfit_of (frame_of f) first ≡ None → page_unfit_of (frame_of f) n ≡ None → cells_size first ≡ n → Begins f n old (Err why) new → EncodesLent (frame_of f) first [] ended old (Err (lent_error why)) new
 head_cut f n first (page_error.Unfit why) ended old new fits begins size b = let both = sym begins ∙ b.0 in absurd cc
 head_cut f n first (page_error.Write k) ended old new fits begins size b =
     let none : front_bytes (frame_of f) n [] ≡ page_head (frame_of f) n = append-nil (page_head (frame_of f) n) in (

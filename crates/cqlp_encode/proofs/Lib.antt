@@ -13,7 +13,7 @@ pub mod FramesTaken
 pub mod Checking
 pub mod PageSteps
 pub mod PageRests
-pub mod UntoldCells
+pub mod UndescribedCells
 pub mod WrittenValues
 pub mod Made
 pub mod OneAnswer

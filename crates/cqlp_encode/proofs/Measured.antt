@@ -33,7 +33,7 @@ first_none ((false, w) ∷ xs) ys e = first_none xs ys e
 
 -- ---- why not
 
--- what is longer than a body is told alike
+-- what is longer than a body is refused alike
 too_long : (f : FrameValue) (n m : ℕ) → LONGEST_BODY < n → LONGEST_BODY < m → page_unfit_of f n ≡ page_unfit_of f m
 too_long f n m a b = rw (lt-ltb LONGEST_BODY (parts_size (frame_parts f) + n) (omega arith), lt-ltb LONGEST_BODY (parts_size (frame_parts f) + m) (omega arith)) refl
 

@@ -135,11 +135,11 @@ stands p at v fits place is n cells a = record {
   bytes = λ e. refl;
 }
 
--- the same where its column's type is told
+-- the same where its column's type is described
 pub stands_as : (p : PageState) (at : ℕ) (specs : List Spec) (columns : ℕ) (s : Spec) (v : Values) → IsPlace p at → HasColumns p.frame specs columns → s ≡ get_or specs at s → at < length specs → (n : ℕ) (cells : List Values) → After p n cells
     → StandsFor p cells (values_fit (types_in (tree_of s.tree)) v) v v
 stands_as p at specs columns s v place has e lt n cells a =
-    let is = fits_spec p.frame.message at s v (subst (λ (x : List Spec). s ≡ get_or x at s) has.told e) (subst (λ (x : List Spec). at < length x) has.told lt) in
+    let is = fits_spec p.frame.message at s v (subst (λ (x : List Spec). s ≡ get_or x at s) has.described e) (subst (λ (x : List Spec). at < length x) has.described lt) in
     stands p at v _ place (sym is) n cells a
 
 -- ---- the size of a value that fits

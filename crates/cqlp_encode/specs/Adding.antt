@@ -9,9 +9,9 @@ use Rattle.cqlp_encode.specs.declared.lent_page.LentError.{LentError}
 use Rattle.cqlp_encode.specs.declared.lent_page.LentError.TheVariants as error
 
 -- what the writer of a page says, once its cells were measured
-abbrev pub told : PageError → LentError
-told (page_error.Write k) = error.Write k
-told e = error.Changed
+abbrev pub lent_error : PageError → LentError
+lent_error (page_error.Write k) = error.Write k
+lent_error e = error.Changed
 
 -- All cells that were lent were written but the last, of which the writer says why not.
 pub record LastStops (p : PageState) (lent : List Values) (old : Output) (e : LentError) (new : Output) : Type 0 where
@@ -24,7 +24,7 @@ pub record LastStops (p : PageState) (lent : List Values) (old : Output) (e : Le
   pub why : PageError
   pub adds : AddsAll p [] cells old mid q
   pub stopped : Adds q cells cell mid (Err why) new r
-  pub told : e ≡ told why
+  pub lent_error : e ≡ lent_error why
 
 -- All cells that were lent were written, and the writer says why they are not the page's.
 pub record EndStops (p : PageState) (n : ℕ) (lent : List Values) (old : Output) (e : LentError) (new : Output) : Type 0 where
@@ -32,7 +32,7 @@ pub record EndStops (p : PageState) (n : ℕ) (lent : List Values) (old : Output
   pub why : PageError
   pub adds : AddsAll p [] lent old new q
   pub stopped : Finishes q n lent (Err why)
-  pub told : e ≡ told why
+  pub lent_error : e ≡ lent_error why
 
 -- What becomes of a page that was begun with cells of n bytes, where these are lent, and that they have ended.
 abbrev pub AddsLent :

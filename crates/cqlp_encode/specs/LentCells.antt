@@ -22,7 +22,7 @@ cells_of lent = map (λ (cell : Bor Value). value_of cell.now) lent
 
 -- ---- the first time
 
--- What keeps a page from being written with these cells, each with its name, in the order in which it is told: what keeps
+-- What keeps a page from being written with these cells, each with its name, in the order in which it is reported: what keeps
 -- it from being written with cells of as many bytes; they are not as many as its rows and columns want; one is none of
 -- its column's type.
 abbrev pub lent_obstacles : FrameValue → List Values → List (Bool × Unfit)

@@ -5,7 +5,7 @@ pub mod Appending
 pub mod ValueWriting
 pub mod Binding
 pub mod PageWriting
-pub mod UntoldPages
+pub mod UndescribedPages
 pub mod PagePlaces
 pub mod Laws
 pub mod LentCells

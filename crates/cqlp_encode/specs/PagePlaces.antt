@@ -5,7 +5,7 @@ use Rattle.cqlp_note.specs.declared.header.TheConstants.Header.{LONGEST_BODY}
 use Rattle.cqlp_message.specs.declared.frame.Frame.{Frame}
 use Rattle.cqlp_message.specs.declared.response.Spec.{Spec}
 use Rattle.cqlp_message.specs.Owned.{frame_of}
-use Rattle.cqlp_message.specs.Pages.{page_columns, columns_told, cells_wanted, cells_fit}
+use Rattle.cqlp_message.specs.Pages.{page_columns, columns_described, cells_wanted, cells_fit}
 use Rattle.cqlp_value.specs.Values.{Values, values_size, values_bytes}
 use Rattle.cqlp_encode.specs.declared.page_writer.PageError.{PageError}
 use Rattle.cqlp_encode.specs.declared.page_writer.PageError.TheVariants as error
@@ -23,9 +23,9 @@ pub record IsPlace (p : PageState) (at : ℕ) : Type 0 where
   pub cut : p.cut ≤ p.written
   pub uncut : p.failed ≡ false → p.cut ≡ 0
 
--- These are the columns that the page tells, and this is how many it has.
+-- These are the columns that the page describes, and this is how many it has.
 pub record HasColumns (f : Frame) (specs : List Spec) (columns : ℕ) : Type 0 where
-  pub told : specs ≡ columns_told f.message
+  pub described : specs ≡ columns_described f.message
   pub number : columns ≡ page_columns (frame_of f).message
 
 -- It is spelled by this content after its length.

@@ -71,7 +71,7 @@ BeginsFrom f n before old (Err e) new = ⊥
 
 -- ---- cell
 
--- What keeps a value from being the next cell after these, each with what is told, in this order: a target failed
+-- What keeps a value from being the next cell after these, each with what is reported, in this order: a target failed
 -- before; all cells are there; the value is none of its column's type; its bytes would pass those that the cells are to
 -- have.
 abbrev pub cell_obstacles : PageState → List Values → Values → List (Bool × PageError)
@@ -152,7 +152,7 @@ before_cut p = record {
   cut = 0;
 }
 
--- What keeps a value from being the cell in which a target failed, each with what is told, in this order: none failed;
+-- What keeps a value from being the cell in which a target failed, each with what is reported, in this order: none failed;
 -- what keeps it from being the next cell; it has no more bytes than targets took of that one.
 abbrev pub rest_error : PageState → List Values → Values → Option PageError
 rest_error p cells v =

@@ -82,8 +82,8 @@ pub record Keeps (old : Progress) (whole : Bool) (bytes : List ℕ) (new : Progr
   pub all : whole ≡ true → more ≡ bytes
 
 -- Of these bytes the four from start are the length of those after them.
-abbrev pub told : (start : ℕ) → List ℕ → List ℕ
-told start waiting =
+abbrev pub with_length : (start : ℕ) → List ℕ → List ℕ
+with_length start waiting =
     take start waiting ++ (to_be_bytes w32 (length (drop (start + 4) waiting)) ++ drop (start + 4) waiting)
 
 -- What was there before the parts of a frame: where the target stood, what was taken first, and the name of the borrow.

@@ -1,4 +1,4 @@
-//! Values as they are bound to statements, and as they stand in pages whose columns are not told.
+//! Values as they are bound to statements, and as they stand in pages whose columns are not described.
 
 ghost use Rattle.std.specs.Prelude.{◌≡◌, [], IfOk, IsOk, Some, option_map};
 ghost use Rattle.cqlp_value.specs.Owned.{value_of};
@@ -59,7 +59,7 @@ pub fn bind_value(
     })
 }
 
-/// A value of this type, or one without a type, as a cell of a page whose columns are not told: its content as a raw scalar, or null, or
+/// A value of this type, or one without a type, as a cell of a page whose columns are not described: its content as a raw scalar, or null, or
 /// empty. The bytes of the cell are those that [`write_value`](crate::write_value) writes. Sections 4.2.5.2 and 6 of
 /// `native_protocol_v4.spec`.
 ///

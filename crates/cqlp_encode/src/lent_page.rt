@@ -8,7 +8,7 @@ ghost use Rattle.cqlp_value.specs.declared.value.Value as owned;
 ghost use Rattle.cqlp_message.specs.Owned.{frame_of};
 ghost use Rattle.cqlp_encode.specs.PageWriting.{After};
 ghost use Rattle.cqlp_encode.specs.LentCells.{EncodesLent, cells_of, measure_of};
-ghost use Rattle.cqlp_encode.specs.Adding.{AddsLent, told};
+ghost use Rattle.cqlp_encode.specs.Adding.{AddsLent, lent_error};
 
 use crate::page_writer::{PageError, PageWriter};
 use crate::tally::Tally;
@@ -35,7 +35,7 @@ pub enum LentError {
     },
 }
 
-/// How many bytes these cells of a page have, row after row: what [`PageWriter::begin`] is to be told of them.
+/// How many bytes these cells of a page have, row after row: what [`PageWriter::begin`] takes.
 ///
 /// # Errors
 ///
@@ -91,7 +91,7 @@ pub fn encode_page<
     };
     match PageWriter::begin(frame, cells_len, target) {
         Ok(page) => write_cells(page, again, target),
-        Err(why) => Err(told(why)),
+        Err(why) => Err(lent_error(why)),
     }
 }
 
@@ -111,18 +111,18 @@ fn write_cells<'v, J: Iterator<Item = &'v Value> + Drop, W: Target>(
     let mut page = page;
     for cell in cells {
         if let Err(why) = page.cell(cell, target) {
-            return Err(told(why));
+            return Err(lent_error(why));
         }
     }
     match page.finish() {
         Ok(len) => Ok(len),
-        Err(why) => Err(told(why)),
+        Err(why) => Err(lent_error(why)),
     }
 }
 
 /// What the writer of a page says, once its cells were measured.
-fn told(why: PageError) -> LentError
-    ensures { result ≡ told why }
+fn lent_error(why: PageError) -> LentError
+    ensures { result ≡ lent_error why }
 {
     match why {
         PageError::Write { written } => LentError::Write { written },

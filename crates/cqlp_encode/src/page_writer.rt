@@ -11,7 +11,7 @@ ghost use Rattle.cqlp_message.specs.Owned.{message_of};
 ghost use Rattle.cqlp_encode.specs.PagePlaces.{HasSize};
 ghost use Rattle.cqlp_encode.specs.Laws.{head_taken};
 ghost use Rattle.cqlp_encode.specs.Progress.{FewCalls};
-ghost use Rattle.cqlp_encode.specs.UntoldPages.{fits_untold};
+ghost use Rattle.cqlp_encode.specs.UndescribedPages.{fits_undescribed};
 
 use crate::value_writing::{offer_decimal, offer_lent, offer_number, offer_value};
 use crate::writing::write_parts;
@@ -57,7 +57,7 @@ pub enum PageError {
 #[derive(Drop)]
 pub struct PageWriter<'a> {
     frame: &'a Frame,
-    /// The columns, none where they are not told.
+    /// The columns, none where they are not described.
     specs: &'a [Spec],
     /// How many columns there are.
     columns: u32,
@@ -108,7 +108,7 @@ impl<'a> PageWriter<'a> {
     ghost use Rattle.cqlp_encode.specs.PagePlaces.{Checks, IsSized, IsTaken, StandsFor};
     ghost use Rattle.cqlp_encode.specs.PageWriting.{Adds, AddsRest, After, Begins, BeginsFrom, Finishes, before_cut, cells_after, failed_after};
     ghost use Rattle.cqlp_encode.specs.PageWriting.{one_more, page};
-    ghost use Rattle.cqlp_encode.specs.UntoldPages.{cell_of};
+    ghost use Rattle.cqlp_encode.specs.UndescribedPages.{cell_of};
 
     /// Writes all of a page that comes before its first cell: the header, whose length counts the cells, and all other parts.
     /// All cells together are to have `cells_len` bytes, as [`value_size`](cqlp_value::value_size) counts them.
@@ -189,13 +189,13 @@ impl<'a> PageWriter<'a> {
         }
     }
 
-    /// Writes the next cell of a page whose columns are not told to this target, where it is a value of a type that the caller names: as
+    /// Writes the next cell of a page whose columns are not described to this target, where it is a value of a type that the caller names: as
     /// [`raw_value`](crate::raw_value) makes it a cell of such a page, and [`cell`](Self::cell) would write it then.
     ///
     /// # Errors
     ///
     /// Those of [`cell`](Self::cell): [`PageError::Unfit`] where the value is none of its type, as [`fits`](cqlp_value::fits) says, and where the
-    /// page's columns are told.
+    /// page's columns are described.
     pub fn cell_as<W: Target>(
         &mut self,
         value: &Value,
@@ -209,7 +209,7 @@ impl<'a> PageWriter<'a> {
             After self.new n (cells_after result cells (cell_of (page self.old) value.now of.now)) }
         ensures calls { FewCalls (self.new.written - self.old.written) (W.writes target.old) (W.writes target.new) }
     {
-        let size = untold_size(&self.frame.message, value, of);
+        let size = undescribed_size(&self.frame.message, value, of);
         self.put(value, size, target)
     }
 
@@ -252,7 +252,7 @@ impl<'a> PageWriter<'a> {
             After self.new n (cells_after result cells (cell_of (page self.old) value.now of.now)) }
         ensures calls { FewCalls (self.new.written - self.old.written) (W.writes target.old) (W.writes target.new) }
     {
-        let size = untold_size(&self.frame.message, value, of);
+        let size = undescribed_size(&self.frame.message, value, of);
         self.put_rest(value, size, target)
     }
 
@@ -526,9 +526,9 @@ impl<'a> PageWriter<'a> {
     }
 }
 
-/// How many bytes spell a value of this type, if it is one and a cell of a page whose columns are not told.
-fn untold_size(message: &Message, value: &Value, of: &TypeTree) -> Option<u64>
-    ensures fits { is_some result ≡ fits_untold (message_of message.now) value.now of.now }
+/// How many bytes spell a value of this type, if it is one and a cell of a page whose columns are not described.
+fn undescribed_size(message: &Message, value: &Value, of: &TypeTree) -> Option<u64>
+    ensures fits { is_some result ≡ fits_undescribed (message_of message.now) value.now of.now }
     ensures size { IfSome result (HasSize (value_of value.now)) }
 {
     match message {

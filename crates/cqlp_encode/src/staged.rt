@@ -5,7 +5,7 @@ ghost use Rattle.std.specs.Int.{w32, to_be_bytes};
 ghost use Rattle.cqlp_note.specs.Outputs.{written};
 ghost use Rattle.cqlp_note.specs.Streams.{counted};
 ghost use Rattle.cqlp_encode.specs.Encoding.{Continued};
-ghost use Rattle.cqlp_encode.specs.Progress.{Flushes, Keeps, PassesOn, Puts, begun, told};
+ghost use Rattle.cqlp_encode.specs.Progress.{Flushes, Keeps, PassesOn, Puts, begun, with_length};
 
 use cqlp_note::{Target, offer};
 use std::marker::Model;
@@ -161,9 +161,9 @@ impl<'a, W: Target> Staged<'a, W> {
 
     /// Writes the length of what waits from `start + 4` on into the four bytes before it.
     #[inline(always)]
-    pub fn tell(&mut self, start: usize)
+    pub fn write_length(&mut self, start: usize)
         requires { start + 4 ≤ length self.old.waiting }
-        ensures { self.new ≡ record self.old { waiting = told start self.old.waiting } }
+        ensures { self.new ≡ record self.old { waiting = with_length start self.old.waiting } }
     {
         let len = (self.len - start - 4).to_be_bytes();
         self.buffer[start..start + 4].copy_from_slice(&len[4..]);

@@ -34,7 +34,7 @@ fn give_up(rt: &impl Print, client: &mut Client) -> Result<(), ExampleError> {
     Ok(())
 }
 
-/// Tells which request a response answers.
+/// Prints which request a response answers.
 fn deliver(rt: &impl Print, client: &mut Client, header: &Header) -> Result<(), ExampleError> {
     match client.reply(header)? {
         Reply::Answer { ticket, kind } => {

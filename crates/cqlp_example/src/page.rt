@@ -45,7 +45,7 @@ fn columns(alloc: Global) -> Result<Vec<Spec>, AllocError> {
     Ok(columns)
 }
 
-/// What is told of the columns: they are all of the table `shop.item`.
+/// The description of the columns: they are all of the table `shop.item`.
 fn metadata(alloc: Global) -> Result<Metadata, AllocError> {
     let keyspace = String::from_str(alloc, "shop")?;
     let table = String::from_str(alloc, "item")?;

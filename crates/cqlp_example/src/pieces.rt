@@ -77,8 +77,8 @@ fn pull_all<S: Source>(decoder: &mut Decoder, input: &mut S) -> Result<Seen, IoF
     Ok(seen)
 }
 
-/// Tells what was seen of a stream, and how it ended.
-fn tell<S: Source>(
+/// Reports what was seen of a stream, and how it ended.
+fn report<S: Source>(
     rt: &impl Print,
     decoder: &mut Decoder,
     input: &mut S,
@@ -91,5 +91,5 @@ fn tell<S: Source>(
 /// Reads a stream from an input.
 pub fn show<S: Source>(rt: &(impl Print + AllocGlobal), input: &mut S) -> Result<(), ExampleError> {
     let mut decoder = Decoder::new(rt.alloc(), LIMITS)?;
-    tell(rt, &mut decoder, input)
+    report(rt, &mut decoder, input)
 }

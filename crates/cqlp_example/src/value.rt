@@ -43,10 +43,10 @@ fn is_read(
 pub fn show(rt: &(impl Print + AllocGlobal)) -> Result<(), ExampleError> {
     let tree = list_of_int(rt.alloc())?;
     let value = numbers(rt.alloc())?;
-    tell(rt, &tree, &value)
+    report(rt, &tree, &value)
 }
 
-fn tell(
+fn report(
     rt: &(impl Print + AllocGlobal),
     tree: &TypeTree,
     value: &Value,

@@ -115,7 +115,7 @@ room_wanted : (w : Expected) → room_of (wanted w) ≡ room_after_due w
 room_wanted (due.Field w) = refl
 room_wanted due.Option = refl
 
--- what is due asks for the room that its symbol tells
+-- what is due asks for the room that its symbol has
 same_room : (v w : Expected) → wanted v ≡ wanted w → room_after_due w ≡ room_after_due v
 same_room v w e = sym (room_wanted w) ∙ ap room_of (sym e) ∙ room_wanted v
 

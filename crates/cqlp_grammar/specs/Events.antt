@@ -14,7 +14,7 @@ use Rattle.cqlp_kind.specs.Contents.{value_of as scalar_value}
 use Rattle.cqlp_grammar.specs.declared.event.Event as handed_out
 use Rattle.cqlp_grammar.specs.declared.event.Event.TheVariants as event
 
--- What is told of a frame: its header, each field, the id of a type option, what a cell holds, and its end, with how
+-- The events of a frame: its header, each field, the id of a type option, what a cell holds, and its end, with how
 -- many bytes there were after the last field.
 pub data Event : Type 0 where
   Frame : Header → Event

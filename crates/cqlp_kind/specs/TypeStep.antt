@@ -55,7 +55,7 @@ parameters_of kind.Udt depth = Text_of field.Keyspace ∷ Text_of field.TypeName
 parameters_of kind.Tuple depth = Fields_of false (depth + 1) ∷ []
 parameters_of _ depth = []
 
--- how many inner types the kind of an option tells; those of a udt and of a tuple are counted later
+-- how many inner types the kind of an option has; those of a udt and of a tuple are counted later
 abbrev pub arity_of : Kind → ℕ
 arity_of kind.List = 1
 arity_of kind.Set = 1

@@ -155,7 +155,7 @@ query_fair flags =
     (where_fair flags 0x10 (plain field.SerialConsistency notation.Short ∷ []) refl))
     (where_fair flags 0x20 (plain field.Timestamp notation.Long ∷ []) refl)
 
--- What a field of this role tells of metadata is that it comes.
+-- What a field of this role says of metadata is that it comes.
 abbrev Brings : Role → FieldValue → Type 0
 Brings (role.MetaFlags rows) v = has (number_in v) 0x04 ≡ false
 Brings (role.MetaColumns rows flags) v = has flags 0x04 ≡ false
@@ -223,9 +223,9 @@ module _ (l : Rules) (p : Place) (free : is_in_use p.given ≡ false) where
 
   value_stays : (f : Field) (r : Role) (rest : List Symbol) (v : FieldValue) (o : Option Reason) (b : List ℕ) → symbol_odd (In f notation.Int r) ≡ 0 → IsFair rest → Always Stays (value_step l.types p f r rest v o) b
   value_stays f r rest v (Some why) b fair later = tt
-  value_stays f r rest v None b fair later = λ told.
+  value_stays f r rest v None b fair later = λ described.
       let ts = types_for l.types r p.nodes p.given in
-      (rw (serves_none f r p.given fair) free, both_fair (following ts r v) rest (following_fair ts r v (brings p.offset f r v fair told)) later)
+      (rw (serves_none f r p.given fair) free, both_fair (following ts r v) rest (following_fair ts r v (brings p.offset f r v fair described)) later)
 
   cells_stay : (row column : ℕ) (cs : List CellSymbol) (rest : List Symbol) → IsFair rest → Always Stays (map_step (cell_event row column) (place_of_cells row column p rest) (cell_step l (record { offset = p.offset; symbols = cs }))) []
   cells_stay row column cs rest fair =
@@ -253,19 +253,19 @@ never_in_use (GivesTypes ts ∷ xs) g free = never_in_use xs (Waiting ts) refl
 never_in_use (TakesBack ∷ xs) g free = never_in_use xs Nothing refl
 
 reads_untyped : (l : Rules) (es : List (ℕ × Event)) (p q : Place) (b left : List ℕ) → IsUntyped p → All BringsMetadata es → Reads l p b es q left → IsUntyped q
-reads_untyped l [] p q b left h told r = rw r.0 h
-reads_untyped l (e ∷ es) p q b left h told r =
+reads_untyped l [] p q b left h described r = rw r.0 h
+reads_untyped l (e ∷ es) p q b left h described r =
     let x : Emitted Event Place = record { at = e.0; event = e.1; after = r.1 } in
     let t = taken (step l p) x r.0 b r.2 in
     let next : BringsMetadata e → IsUntyped (r.1 r.0) = rw t.long at (yields_always Stays (step l p) x [] t.front (step_stays l (settled p) (never_in_use (gifts_now p.gifts) p.given h.0) p.symbols h.1) t.yields) in
-    reads_untyped l es (r.1 r.0) q (drop r.0 b) left (next (All-head BringsMetadata e es told)) (All-tail BringsMetadata e es told) r.3
+    reads_untyped l es (r.1 r.0) q (drop r.0 b) left (next (All-head BringsMetadata e es described)) (All-tail BringsMetadata e es described) r.3
 
 all_front : (front back : List (ℕ × Event)) → All BringsMetadata (front ++ back) → All BringsMetadata front
 all_front front back all = subst (λ (xs : List (ℕ × Event)). All BringsMetadata xs) (take_at front back (length front) refl) (All-take BringsMetadata (length front) (front ++ back) all)
 
 pub given_types_are_for_pages_without_metadata : GivenTypesAreForPagesWithoutMetadata
-given_types_are_for_pages_without_metadata l gifts bytes before es closed told front back p left is run =
+given_types_are_for_pages_without_metadata l gifts bytes before es closed described front back p left is run =
     let c = runs_split (step l) (start_with gifts) p bytes left before front run in
     let here = closed_due l before false (start_with gifts) c.0 bytes c.1 (λ _. (refl, refl)) closed c.2 in
     let fair : IsUntyped c.0 = (here.1, rw here.0 refl) in
-    (reads_untyped l front c.0 p c.1 left fair (all_front front back (subst (λ (xs : List (ℕ × Event)). All BringsMetadata xs) is told)) c.3).0
+    (reads_untyped l front c.0 p c.1 left fair (all_front front back (subst (λ (xs : List (ℕ × Event)). All BringsMetadata xs) is described)) c.3).0

@@ -99,8 +99,8 @@ next_comes l p q b left e es run =
 -- ---- a header, and an end
 
 -- a place between frames
-abbrev pub between : (at stop : ℕ) (told : Types) → Place
-between at stop told = inside at stop (Stream ∷ []) told
+abbrev pub between : (at stop : ℕ) (described : Types) → Place
+between at stop described = inside at stop (Stream ∷ []) described
 
 record IsHeader (p : Place) (x : Emitted Event Place) (b : List ℕ) : Type 0 where
   header : Header
@@ -112,32 +112,32 @@ header_value : (p : Place) (x : Emitted Event Place) (d : Heading) (b : List ℕ
 header_value p x (Ok h) b y = (h, refl, y.1, sym y.0)
 header_value p x (Err e) b y = absurd y
 
-module _ (l : Rules) (at stop : ℕ) (told : Types) (x : Emitted Event Place) (b : List ℕ) where
-  header_back : Yields (step l (between at stop told)) x b → IsHeader (between at stop told) x b
+module _ (l : Rules) (at stop : ℕ) (described : Types) (x : Emitted Event Place) (b : List ℕ) where
+  header_back : Yields (step l (between at stop described)) x b → IsHeader (between at stop described) x b
   header_back y =
-      let p = between at stop told in
+      let p = between at stop described in
       let t = (passed (ltb (2 ^ 63) at) (at, StreamTooLong) (Takes 9 (λ c. header_step p (heading c))) x b y).1 in
       let v = header_value p x (heading t.0) t.1 t.4 in
       let whole : b ≡ t.0 = t.3 ∙ ap (λ (z : List ℕ). t.0 ++ z) v.2 ∙ append-nil t.0 in
       record { header = v.0; nine = ap length whole ∙ t.2; is = ap heading whole ∙ v.1; event = v.3 }
 
-  end_back : Yields (step l (inside at stop (Extra ∷ []) told)) x b → (length b ≡ stop - at) × (x ≡ record { at = stop; event = End (stop - at); after = place_at_end (inside at stop (Extra ∷ []) told) })
+  end_back : Yields (step l (inside at stop (Extra ∷ []) described)) x b → (length b ≡ stop - at) × (x ≡ record { at = stop; event = End (stop - at); after = place_at_end (inside at stop (Extra ∷ []) described) })
   end_back y =
       let whole : b ≡ y.0 = y.3 ∙ ap (λ (z : List ℕ). y.0 ++ z) y.4.1 ∙ append-nil y.0 in
       (ap length whole ∙ y.2, sym y.4.0)
 
 -- a run that begins with a frame's end
-pub record Ended (l : Rules) (at stop : ℕ) (told : Types) (b : List ℕ) (es : List (ℕ × Event)) (q : Place) (left : List ℕ) : Type 0 where
+pub record Ended (l : Rules) (at stop : ℕ) (described : Types) (b : List ℕ) (es : List (ℕ × Event)) (q : Place) (left : List ℕ) : Type 0 where
   pub extra : List ℕ
   pub back : List ℕ
   pub later : List (ℕ × Event)
   pub whole : b ≡ extra ++ back
   pub long : length extra ≡ stop - at
   pub events : es ≡ (stop, End (stop - at)) ∷ later
-  pub onward : Reads l (between stop stop told) back later q left
+  pub onward : Reads l (between stop stop described) back later q left
 
 -- a run that begins with a header
-pub record Begun (l : Rules) (at : ℕ) (told : Types) (b : List ℕ) (e : ℕ × Event) (es : List (ℕ × Event)) (q : Place) (left : List ℕ) : Type 0 where
+pub record Begun (l : Rules) (at : ℕ) (described : Types) (b : List ℕ) (e : ℕ × Event) (es : List (ℕ × Event)) (q : Place) (left : List ℕ) : Type 0 where
   pub head : List ℕ
   pub back : List ℕ
   pub header : Header
@@ -145,14 +145,14 @@ pub record Begun (l : Rules) (at : ℕ) (told : Types) (b : List ℕ) (e : ℕ �
   pub nine : length head ≡ 9
   pub is : heading head ≡ Ok header
   pub event : e ≡ (at, Frame header)
-  pub onward : Reads l (inside (at + 9) ((at + 9) + header.length) (message header) told) back es q left
+  pub onward : Reads l (inside (at + 9) ((at + 9) + header.length) (message header) described) back es q left
 
-module _ (l : Rules) (at stop : ℕ) (told : Types) (b : List ℕ) (e : ℕ × Event) (es : List (ℕ × Event)) (q : Place) (left : List ℕ) where
-  pub ended : Reads l (inside at stop (Extra ∷ []) told) b (e ∷ es) q left → Ended l at stop told b (e ∷ es) q left
+module _ (l : Rules) (at stop : ℕ) (described : Types) (b : List ℕ) (e : ℕ × Event) (es : List (ℕ × Event)) (q : Place) (left : List ℕ) where
+  pub ended : Reads l (inside at stop (Extra ∷ []) described) b (e ∷ es) q left → Ended l at stop described b (e ∷ es) q left
   ended run =
       let x : Emitted Event Place = record { at = e.0; event = e.1; after = run.1 } in
-      let t = taken (step l (inside at stop (Extra ∷ []) told)) x run.0 b run.2 in
-      let v = end_back l at stop told x t.front t.yields in
+      let t = taken (step l (inside at stop (Extra ∷ []) described)) x run.0 b run.2 in
+      let v = end_back l at stop described x t.front t.yields in
       record {
         extra = t.front;
         back = t.back;
@@ -163,12 +163,12 @@ module _ (l : Rules) (at stop : ℕ) (told : Types) (b : List ℕ) (e : ℕ × E
         onward = subst (λ (z : Emitted Event Place). Reads l (z.after run.0) t.back es q left) v.1 (rw t.left at run.3);
       }
 
-  pub begun : Reads l (between at stop told) b (e ∷ es) q left → Begun l at told b e es q left
+  pub begun : Reads l (between at stop described) b (e ∷ es) q left → Begun l at described b e es q left
   begun run =
-      let p = between at stop told in
+      let p = between at stop described in
       let x : Emitted Event Place = record { at = e.0; event = e.1; after = run.1 } in
       let t = taken (step l p) x run.0 b run.2 in
-      let v = header_back l at stop told x t.front t.yields in
+      let v = header_back l at stop described x t.front t.yields in
       let used : run.0 ≡ 9 = sym t.long ∙ v.nine in
       let onward = subst (λ (z : Emitted Event Place). Reads l (z.after run.0) t.back es q left) v.event (rw t.left at run.3) in
       record { head = t.front; back = t.back; header = v.header; whole = t.whole; nine = v.nine; is = v.is; event = ap (λ (z : Emitted Event Place). (z.at, z.event)) v.event; onward = subst (λ (n : ℕ). Reads l (place_in_frame p v.header n) t.back es q left) used onward }

@@ -27,11 +27,11 @@ use Rattle.cqlp_laws.proofs.FrameEdges.{Begun, extra_end, next_comes, between, E
 
 -- a place between frames, after these bytes
 pub record Between (at : ℕ) (b : List ℕ) (q : Place) (left : List ℕ) : Type 0 where
-  pub told : Types
+  pub described : Types
   pub stop : ℕ
   pub front : List ℕ
   pub whole : b ≡ front ++ left
-  pub place : q ≡ between (at + length front) stop told
+  pub place : q ≡ between (at + length front) stop described
 
 zero_more : (a : ℕ) → a ≡ 0 + a
 zero_more a = omega arith
@@ -49,7 +49,7 @@ no_end (x ∷ xs) ys at n all = no_end xs ys at n (All-tail EndsNone x (xs ++ (a
 -- What is read of a frame, between its header and its end, which no other end comes before.
 pub record IsReadFrame (l : Rules) (s : List ℕ) (p : ℕ) (h : Header) (q x : ℕ) (middle : List (ℕ × Event)) : Type 0 where
   pub parts : List Part
-  pub told : Types
+  pub described : Types
   pub body : List ℕ
   pub extra : List ℕ
   -- the bytes from the header's first one to the end
@@ -58,7 +58,7 @@ pub record IsReadFrame (l : Rules) (s : List ℕ) (p : ℕ) (h : Header) (q x : 
   pub lawful : IsLawful h
   pub flags : h.flags < 2 ^ 8
   pub stream : FitsSigned w16 h.stream
-  pub derives : Derives l parts (message h) told
+  pub derives : Derives l parts (message h) described
   pub spelled : PartsSpell parts body
   pub limits : PartsWithin l parts
   pub events : middle ≡ parts_events l (p + 9) parts
@@ -68,26 +68,26 @@ pub record IsReadFrame (l : Rules) (s : List ℕ) (p : ℕ) (h : Header) (q x : 
   pub within : q ≤ length s
 
 -- the end is due where the message ends
-record Middle (l : Rules) (at stop : ℕ) (ss : List Symbol) (told : Types) (b : List ℕ) (es : List (ℕ × Event)) (q : Place) (left : List ℕ) : Type 0 where
+record Middle (l : Rules) (at stop : ℕ) (ss : List Symbol) (described : Types) (b : List ℕ) (es : List (ℕ × Event)) (q : Place) (left : List ℕ) : Type 0 where
   parts : List Part
   body : List ℕ
-  told' : Types
+  described' : Types
   whole : b ≡ body ++ left
-  derives : Derives l parts ss told
+  derives : Derives l parts ss described
   spelled : PartsSpell parts body
   limits : PartsWithin l parts
   events : es ≡ parts_events l at parts
   within : at + length body ≤ stop
-  place : q ≡ inside (at + length body) stop (Extra ∷ []) told'
+  place : q ≡ inside (at + length body) stop (Extra ∷ []) described'
 
-module _ (l : Rules) (at stop : ℕ) (ss : List Symbol) (told : Types) (b : List ℕ) (es : List (ℕ × Event)) (q : Place) (left : List ℕ) where
-  middle_by : (r : ReadsParts l at stop ss told b es q left) → All EndsNone es → (later : List (ℕ × Event)) → r.later ≡ later → Middle l at stop ss told b es q left
+module _ (l : Rules) (at stop : ℕ) (ss : List Symbol) (described : Types) (b : List ℕ) (es : List (ℕ × Event)) (q : Place) (left : List ℕ) where
+  middle_by : (r : ReadsParts l at stop ss described b es q left) → All EndsNone es → (later : List (ℕ × Event)) → r.later ≡ later → Middle l at stop ss described b es q left
   middle_by r all [] is =
-      let run : Reads l (inside (at + length r.body) stop (Extra ∷ []) r.told') r.back [] q left = rw is at r.onward in
+      let run : Reads l (inside (at + length r.body) stop (Extra ∷ []) r.described') r.back [] q left = rw is at r.onward in
       record {
         parts = r.parts;
         body = r.body;
-        told' = r.told';
+        described' = r.described';
         whole = r.whole ∙ ap (λ (z : List ℕ). r.body ++ z) (sym run.1);
         derives = r.derives;
         spelled = r.spelled;
@@ -98,7 +98,7 @@ module _ (l : Rules) (at stop : ℕ) (ss : List Symbol) (told : Types) (b : List
       }
   middle_by r all (e ∷ later) is =
       let here = at + length r.body in
-      let f = ended l here stop r.told' r.back e later q left (rw is at r.onward) in
+      let f = ended l here stop r.described' r.back e later q left (rw is at r.onward) in
       let whole : es ≡ parts_events l at r.parts ++ (stop, End (stop - here)) ∷ f.later = r.events ∙ ap (λ (z : List (ℕ × Event)). parts_events l at r.parts ++ z) (is ∙ f.events) in
       absurd (no_end (parts_events l at r.parts) f.later stop (stop - here) (subst (λ (z : List (ℕ × Event)). All EndsNone z) whole all))
 
@@ -145,9 +145,9 @@ within_is front frame back s p q n whole begins size ends = omega (arith, ap len
 
 module _ (l : Rules) (s : List ℕ) (small : All (λ b. b < 256) s) (middle : List (ℕ × Event)) (x : ℕ) where
   -- a frame's bytes, and what was read of them
-  frame_is : (p q : ℕ) (h : Header) (front head body extra back : List ℕ) (parts : List Part) (told : Types) → s ≡ front ++ ((head ++ (body ++ extra)) ++ back) → length front ≡ p → length head ≡ 9 → heading head ≡ Ok h → q ≡ (p + 9) + h.length
-      → length (body ++ extra) ≡ h.length → length extra ≡ x → Derives l parts (message h) told → PartsSpell parts body → PartsWithin l parts → middle ≡ parts_events l (p + 9) parts → IsReadFrame l s p h q x middle
-  frame_is p q h front head body extra back parts told whole begins nine is ends content more derives spelled limits events =
+  frame_is : (p q : ℕ) (h : Header) (front head body extra back : List ℕ) (parts : List Part) (described : Types) → s ≡ front ++ ((head ++ (body ++ extra)) ++ back) → length front ≡ p → length head ≡ 9 → heading head ≡ Ok h → q ≡ (p + 9) + h.length
+      → length (body ++ extra) ≡ h.length → length extra ≡ x → Derives l parts (message h) described → PartsSpell parts body → PartsWithin l parts → middle ≡ parts_events l (p + 9) parts → IsReadFrame l s p h q x middle
+  frame_is p q h front head body extra back parts described whole begins nine is ends content more derives spelled limits events =
       let size : length (head ++ (body ++ extra)) ≡ q - p = size_is head (body ++ extra) p q h.length nine content ends in
       let from : drop p s ≡ (head ++ (body ++ extra)) ++ back = ap (λ (z : List ℕ). drop p z) whole ∙ drop_at front ((head ++ (body ++ extra)) ++ back) p begins in
       let bytes : take (q - p) (drop p s) ≡ head ++ (body ++ extra) = ap (λ (z : List ℕ). take (q - p) z) from ∙ take_at (head ++ (body ++ extra)) back (q - p) size in
@@ -156,7 +156,7 @@ module _ (l : Rules) (s : List ℕ) (small : All (λ b. b < 256) s) (middle : Li
       let written : header_bytes h ≡ head = read_is_written head h nine (λ i lt. bytes_small i 0 (subst (λ (n : ℕ). i < n) (sym nine) lt)) is in
       record {
         parts = parts;
-        told = told;
+        described = described;
         body = body;
         extra = extra;
         bytes = bytes ∙ ap (λ (z : List ℕ). z ++ (body ++ extra)) (sym written);
@@ -175,45 +175,45 @@ module _ (l : Rules) (s : List ℕ) (small : All (λ b. b < 256) s) (middle : Li
       }
 
   -- the same from a place between frames on
-  module _ (at stop : ℕ) (told : Types) (front b : List ℕ) (e : ℕ × Event) (q : ℕ) (after : List (ℕ × Event)) (last : Place) (over : List ℕ) (whole : s ≡ front ++ b) (begins : length front ≡ at) (inner : All EndsNone middle) where
+  module _ (at stop : ℕ) (described : Types) (front b : List ℕ) (e : ℕ × Event) (q : ℕ) (after : List (ℕ × Event)) (last : Place) (over : List ℕ) (whole : s ≡ front ++ b) (begins : length front ≡ at) (inner : All EndsNone middle) where
     abbrev Header_then : Type 0
-    Header_then = Begun l at told b e (middle ++ (q, End x) ∷ after) last over
+    Header_then = Begun l at described b e (middle ++ (q, End x) ∷ after) last over
 
     module _ (g : Header_then) (m : Place) (between : List ℕ) where
       abbrev Middle_then : Type 0
-      Middle_then = Middle l (at + 9) ((at + 9) + g.header.length) (message g.header) told g.back middle m between
+      Middle_then = Middle l (at + 9) ((at + 9) + g.header.length) (message g.header) described g.back middle m between
 
-      frame_made : (k : Middle_then) → Ended l ((at + 9) + length k.body) ((at + 9) + g.header.length) k.told' between ((q, End x) ∷ after) last over → IsReadFrame l s at g.header q x middle
+      frame_made : (k : Middle_then) → Ended l ((at + 9) + length k.body) ((at + 9) + g.header.length) k.described' between ((q, End x) ∷ after) last over → IsReadFrame l s at g.header q x middle
       frame_made k f =
           let end = (at + 9) + g.header.length in
           let ends = same_end x (end - ((at + 9) + length k.body)) end q after f.later f.events in
           let all : s ≡ front ++ ((g.head ++ (k.body ++ f.extra)) ++ f.back) =
           whole ∙ ap (λ (z : List ℕ). front ++ z) (g.whole ∙ ap (λ (z : List ℕ). g.head ++ z) (k.whole ∙ ap (λ (z : List ℕ). k.body ++ z) f.whole) ∙ three g.head k.body f.extra f.back) in
-          frame_is at q g.header front g.head k.body f.extra f.back k.parts told all begins g.nine g.is ends.0 (content_is k.body f.extra (at + 9) g.header.length k.within f.long) (f.long ∙ sym ends.1) k.derives k.spelled k.limits k.events
+          frame_is at q g.header front g.head k.body f.extra f.back k.parts described all begins g.nine g.is ends.0 (content_is k.body f.extra (at + 9) g.header.length k.within f.long) (f.long ∙ sym ends.1) k.derives k.spelled k.limits k.events
 
       frame_ended : Middle_then → Reads l m between ((q, End x) ∷ after) last over → IsReadFrame l s at g.header q x middle
-      frame_ended k run = frame_made k (ended l ((at + 9) + length k.body) ((at + 9) + g.header.length) k.told' between (q, End x) after last over (subst (λ (y : Place). Reads l y between ((q, End x) ∷ after) last over) k.place run))
+      frame_ended k run = frame_made k (ended l ((at + 9) + length k.body) ((at + 9) + g.header.length) k.described' between (q, End x) after last over (subst (λ (y : Place). Reads l y between ((q, End x) ∷ after) last over) k.place run))
 
     frame_read : l.types ≡ true → l.lenient ≡ false → (g : Header_then) → IsReadFrame l s at g.header q x middle
     frame_read on strict g =
         let end = (at + 9) + g.header.length in
-        let c = runs_split (step l) (inside (at + 9) end (message g.header) told) last g.back over middle ((q, End x) ∷ after) g.onward in
-        let r = parts_back l (at + 9) end (message g.header) told g.back middle c.0 c.1 on strict (message_due g.header) (no_less (at + 9) g.header.length) (extra_end c.0.symbols (next_comes l c.0 last c.1 over (q, End x) after c.3)) c.2 in
-        frame_ended g c.0 c.1 (middle_by l (at + 9) end (message g.header) told g.back middle c.0 c.1 r inner r.later refl) c.3
+        let c = runs_split (step l) (inside (at + 9) end (message g.header) described) last g.back over middle ((q, End x) ∷ after) g.onward in
+        let r = parts_back l (at + 9) end (message g.header) described g.back middle c.0 c.1 on strict (message_due g.header) (no_less (at + 9) g.header.length) (extra_end c.0.symbols (next_comes l c.0 last c.1 over (q, End x) after c.3)) c.2 in
+        frame_ended g c.0 c.1 (middle_by l (at + 9) end (message g.header) described g.back middle c.0 c.1 r inner r.later refl) c.3
 
 module _ (l : Rules) (on : l.types ≡ true) (strict : l.lenient ≡ false) (s : List ℕ) (small : All (λ b. b < 256) s) (middle after : List (ℕ × Event)) (inner : All EndsNone middle) (p q x : ℕ) (h : Header) (last : Place) (over : List ℕ) where
   abbrev later : List (ℕ × Event)
   later = middle ++ (q, End x) ∷ after
 
   module _ (m : Place) (left : List ℕ) (t : Between 0 s m left) where
-    frame_named : (g : Begun l (0 + length t.front) t.told left (p, Frame h) later last over) → (p ≡ 0 + length t.front) × (h ≡ g.header) → IsReadFrame l s p h q x middle
+    frame_named : (g : Begun l (0 + length t.front) t.described left (p, Frame h) later last over) → (p ≡ 0 + length t.front) × (h ≡ g.header) → IsReadFrame l s p h q x middle
     frame_named g is =
-        let r = frame_read l s small middle x (0 + length t.front) t.stop t.told t.front left (p, Frame h) q after last over t.whole (zero_more (length t.front)) inner on strict g in
+        let r = frame_read l s small middle x (0 + length t.front) t.stop t.described t.front left (p, Frame h) q after last over t.whole (zero_more (length t.front)) inner on strict g in
         subst (λ (k : ℕ). IsReadFrame l s k h q x middle) (sym is.0) (subst (λ (y : Header). IsReadFrame l s (0 + length t.front) y q x middle) (sym is.1) r)
 
     pub frame_from : Reads l m left ((p, Frame h) ∷ later) last over → IsReadFrame l s p h q x middle
     frame_from run =
-        let g = begun l (0 + length t.front) t.stop t.told left (p, Frame h) later last over (subst (λ (y : Place). Reads l y left ((p, Frame h) ∷ later) last over) t.place run) in
+        let g = begun l (0 + length t.front) t.stop t.described left (p, Frame h) later last over (subst (λ (y : Place). Reads l y left ((p, Frame h) ∷ later) last over) t.place run) in
         frame_named g (same_frame g.header h (0 + length t.front) p g.event)
 
 -- What is read between a header and the end of its frame is spelled by the bytes there, where no given types are in use
@@ -231,5 +231,5 @@ frame_back l gifts s before middle after p q x h v on strict small said none inn
     let free = free_from l gifts s before frame a.0 a.1 a.2 none in
     let plain = frame_forth l a.0 a.1 due (p, Frame h) (middle ++ (q, End x) ∷ []) c.0 c.1 free c.2 in
     let at : a.0.offset ≡ 0 + length exact.0 = omega (arith, offset_is l gifts before a.0 s a.1 a.2, ap length exact.1, length-append exact.0 a.1) in
-    let t : Between 0 s (plainly a.0) a.1 = record { told = NoMore; stop = a.0.stop; front = exact.0; whole = exact.1; place = ap (λ (n : ℕ). between n a.0.stop NoMore) at } in
+    let t : Between 0 s (plainly a.0) a.1 = record { described = NoMore; stop = a.0.stop; front = exact.0; whole = exact.1; place = ap (λ (n : ℕ). between n a.0.stop NoMore) at } in
     frame_from l on strict s small middle [] inner p q x h plain.0 c.1 (plainly a.0) a.1 t plain.1

@@ -8,9 +8,9 @@ use Rattle.cqlp_laws.specs.ReadFrames.{ReadIsSpelled, ReadIsSpelledWithGifts}
 use Rattle.cqlp_laws.proofs.ReadSpelled.{AreOfFrames, read_is_spelled, read_with_gifts}
 
 of_frames : (l : Rules) → l.types ≡ true → AreOfFrames l
-of_frames l on h ps told body extra lawful flags stream small s within d long =
+of_frames l on h ps described body extra lawful flags stream small s within d long =
     let range = (parts_fit ps body s small).range in
-    let f = spelled_back l h ps told body lawful range s d in
+    let f = spelled_back l h ps described body lawful range s d in
     record {
       frame = f.frame;
       spelled = frame_spelled l h ps f body extra (length extra) lawful s long refl;

@@ -27,16 +27,16 @@ like_same d d' e = record {
 }
 
 module _ {V : Type 0} (f : V → ℕ → Event → V) (faulted : V → ℕ → Event → V → Type 0) (gifts : Gifts) (old new new' : StreamState) (s input : List ℕ) (es : List (ℕ × Event)) (before after after' : V) (a : AfterGifts gifts old s es) where
-  abbrev Tells : List (ℕ × Event) → Verdict → Type 0
-  Tells more v = Says old.rules (start_with gifts) (s ++ input) (es ++ more) v
+  abbrev Emits : List (ℕ × Event) → Verdict → Type 0
+  Emits more v = Says old.rules (start_with gifts) (s ++ input) (es ++ more) v
 
   -- what a piece says, by the rules before it
-  says_here : (d : StreamState) (more : List (ℕ × Event)) (o : Option Refusal) → d.rules ≡ old.rules → d.refusal ≡ o → Says d.rules (start_with gifts) (s ++ input) (es ++ more) (verdict_of d.refusal) → Tells more (verdict_of o)
+  says_here : (d : StreamState) (more : List (ℕ × Event)) (o : Option Refusal) → d.rules ≡ old.rules → d.refusal ≡ o → Says d.rules (start_with gifts) (s ++ input) (es ++ more) (verdict_of d.refusal) → Emits more (verdict_of o)
   says_here d more o rules now says =
       subst (λ (l : Rules). Says l (start_with gifts) (s ++ input) (es ++ more) (verdict_of o)) rules
       (subst (λ (z : Option Refusal). Says d.rules (start_with gifts) (s ++ input) (es ++ more) (verdict_of z)) now says)
 
-  same_more : (more more' : List (ℕ × Event)) (v v' : Verdict) → Tells more v → Tells more' v' → (more' ≡ more) × (v' ≡ v)
+  same_more : (more more' : List (ℕ × Event)) (v v' : Verdict) → Emits more v → Emits more' v' → (more' ≡ more) × (v' ≡ v)
   same_more more more' v v' p q =
       let one = says_once old.rules (start_with gifts) (s ++ input) (es ++ more) (es ++ more') v v' p q in
       (append_cancel_left es more' more one.0, one.1)

@@ -31,7 +31,7 @@ pub record IsFrame (l : Rules) (h : Header) (ps : List Part) (body extra : List 
 -- Parts that come of a lawful header's symbols, and are spelled, are those of a frame value.
 abbrev pub AreOfFrames : Rules → Type 0
 AreOfFrames l =
-    (h : Header) (ps : List Part) (told : Types) (body extra : List ℕ) → IsLawful h → h.flags < 2 ^ 8 → FitsSigned w16 h.stream → All (λ b. b < 256) body → PartsSpell ps body → PartsWithin l ps → Derives l ps (message h) told
+    (h : Header) (ps : List Part) (described : Types) (body extra : List ℕ) → IsLawful h → h.flags < 2 ^ 8 → FitsSigned w16 h.stream → All (λ b. b < 256) body → PartsSpell ps body → PartsWithin l ps → Derives l ps (message h) described
     → h.length ≡ length (body ++ extra) → IsFrame l h ps body extra
 
 counted : (n x size : ℕ) (body extra : List ℕ) → n ≡ length (body ++ extra) → length body ≡ size → length extra ≡ x → n ≡ size + x
@@ -58,7 +58,7 @@ module _ (l : Rules) (on : l.types ≡ true) (framed : AreOfFrames l) (bytes : L
   }
 
   of_frame : IsOfFrame l (take (q - p) (drop p bytes)) p x ((p, Frame h) ∷ middle ++ (q, End x) ∷ [])
-  of_frame = framed_by (framed h r.parts r.told r.body r.extra r.lawful r.flags r.stream (small_body bytes (header_bytes h) r.body r.extra p (q - p) small r.bytes) r.spelled r.limits r.derives r.long)
+  of_frame = framed_by (framed h r.parts r.described r.body r.extra r.lawful r.flags r.stream (small_body bytes (header_bytes h) r.body r.extra p (q - p) small r.bytes) r.spelled r.limits r.derives r.long)
 
 pub read_with_gifts : ((l : Rules) → l.types ≡ true → AreOfFrames l) → ReadIsSpelledWithGifts
 read_with_gifts framed l gifts bytes before middle after p q x h v on strict small inner said none =

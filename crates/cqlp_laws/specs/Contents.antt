@@ -10,7 +10,7 @@ use Rattle.cqlp_kind.specs.Scalars as scalar
 use Rattle.cqlp_grammar.specs.Events.{Holds, Cell_at}
 use Rattle.cqlp_decode.specs.Reading.{Place, Event, Gifts, Reads, start_with}
 
--- the content of a scalar, if it has one; the others are told by their number or their bytes
+-- the content of a scalar, if it has one; the others are known by their number or their bytes
 abbrev pub scalar_content : ScalarValue → Option (List ℕ)
 scalar_content (scalar.Custom b) = Some b
 scalar_content (scalar.Blob b) = Some b

@@ -44,7 +44,7 @@ pub record AreNoWider (a b : Limits) : Type 0 where
   pub parts : b.parts ≡ a.parts
 
 -- A part has as many bytes as the limit on a cell. So parts are the same where that limit is, or where no content comes in parts: none does
--- where they are not asked for, unless a lenient reading tells in them the bytes that a value has after its fields.
+-- where they are not asked for, unless a lenient reading emits in them the bytes that a value has after its fields.
 abbrev pub HaveSameParts : (lenient : Bool) → (a b : Limits) → Type 0
 HaveSameParts lenient a b = ((a.parts ≡ false) × (lenient ≡ false)) ⊎ (b.cell ≡ a.cell)
 

@@ -23,7 +23,7 @@ pub record IsOfFrame (l : Rules) (bytes : List ℕ) (at x : ℕ) (said : List (�
   pub events : said ≡ Flat l at frame x
 
 -- What is read is spelled: wherever a stream says a header at p, and after it the end of its frame at q, the bytes from
--- the one to the other spell a frame value, with as many bytes more as the end tells, and what was said are its events. (A
+-- the one to the other spell a frame value, with as many bytes more as the end has, and what was said are its events. (A
 -- lenient reading says more than what is spelled.)
 abbrev pub ReadIsSpelled : Type 0
 ReadIsSpelled =

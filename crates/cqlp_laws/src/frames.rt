@@ -45,7 +45,7 @@ pub fn page_is_read(frame: &Frame, cells_len: u32, cells: &[Value])
 }
 
 /// What is read is spelled: where cells are read as their types, the bytes from a header to the end of its frame spell a
-/// frame value, with as many bytes more as the end tells, and the events there are its own.
+/// frame value, with as many bytes more as the end has, and the events there are its own.
 pub fn read_is_spelled()
     ensures stream { ReadIsSpelled }
     ensures with_gifts { ReadIsSpelledWithGifts }

@@ -17,7 +17,7 @@ pub fn goes_on()
     ensures { GoesOn }
 {}
 
-/// A stream has no more events than bytes, whatever lengths and counts it tells and whatever tables are given, and a
+/// A stream has no more events than bytes, whatever lengths and counts it has and whatever tables are given, and a
 /// decoder hands out no more, also before it refuses.
 pub fn no_more_events_than_bytes()
     ensures stream { HasNoMoreEventsThanBytes }

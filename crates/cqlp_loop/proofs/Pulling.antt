@@ -14,8 +14,8 @@ use Rattle.cqlp_loop.specs.declared.inbox.Edge.{Edge}
 use Rattle.cqlp_loop.specs.declared.inbox.Mark.{Mark}
 use Rattle.cqlp_loop.specs.declared.inbox.Mark.TheVariants as mark
 use Rattle.cqlp_loop.specs.Hearing.{Hearing, idle, amid}
-use Rattle.cqlp_loop.specs.Inboxes.{Supply, MakesCalls, InboxState, Tells, SaysAll, IsWithout, Uses, Fills, Reads, IsShort, AreNeeded, Hears, Lacks, Misses, HearsRest, Receives, StopsAt, awaiting, for_next}
-use Rattle.cqlp_loop.proofs.Seeking.{tells_none, tells_then, says_then}
+use Rattle.cqlp_loop.specs.Inboxes.{Supply, MakesCalls, InboxState, Emits, SaysAll, IsWithout, Uses, Fills, Reads, IsShort, AreNeeded, Hears, Lacks, Misses, HearsRest, Receives, StopsAt, awaiting, for_next}
+use Rattle.cqlp_loop.proofs.Seeking.{emits_none, emits_then, says_then}
 
 -- the bytes that wait, once some of them are used
 pub waiting_split : (next end used : ℕ) (piece : List ℕ) → used ≤ length (take (end - next) (drop next piece))
@@ -68,9 +68,9 @@ short_then x y z (inr w) (inl again) = inr (w.0, w.1, again ∙ w.2)
 short_then x y z (inr w) (inr v) = let within : y.under_way ≡ true = ap (λ (u : Hearing). u.under_way) w.2 in absurd (let without = v.0 in cc)
 
 -- what was needed before some of the bytes were used, and more were read
-needed_then : (old mid : InboxState) (used a b : List ℕ) (x y : Hearing) → old.waiting ++ a ≡ used ++ mid.waiting → Tells (state old.decoder) used (state mid.decoder) x y → IsShort x y → AreNeeded old a x → AreNeeded mid b y → AreNeeded old (a ++ b) x
-needed_then old mid used a b x y split tells short first (inl none) = rw (none, append-nil a) first
-needed_then old mid used a b x y split tells short first (inr n) = inr (record {
+needed_then : (old mid : InboxState) (used a b : List ℕ) (x y : Hearing) → old.waiting ++ a ≡ used ++ mid.waiting → Emits (state old.decoder) used (state mid.decoder) x y → IsShort x y → AreNeeded old a x → AreNeeded mid b y → AreNeeded old (a ++ b) x
+needed_then old mid used a b x y split emits short first (inl none) = rw (none, append-nil a) first
+needed_then old mid used a b x y split emits short first (inr n) = inr (record {
   earlier = a ++ n.earlier;
   last = n.last;
   split = ap (λ (z : List ℕ). a ++ z) n.split ∙ sym (append_assoc a n.earlier n.last);
@@ -80,7 +80,7 @@ needed_then old mid used a b x y split tells short first (inr n) = inr (record {
   says =
       let is : used ++ (mid.waiting ++ n.earlier) ≡ old.waiting ++ (a ++ n.earlier)
       = sym (append_assoc used mid.waiting n.earlier) ∙ ap (λ (z : List ℕ). z ++ n.earlier) (sym split) ∙ append_assoc old.waiting a n.earlier in
-      rw is at (says_then (state old.decoder) (state mid.decoder) used (mid.waiting ++ n.earlier) _ x y n.stands tells n.says);
+      rw is at (says_then (state old.decoder) (state mid.decoder) used (mid.waiting ++ n.earlier) _ x y n.stands emits n.says);
 })
 
 -- ---- what is heard
@@ -92,7 +92,7 @@ hears_none old from x = record {
   reads = reads_none old.reads from;
   needed = inl refl;
   split = append-nil old.waiting;
-  tells = tells_none (state old.decoder) x;
+  emits = emits_none (state old.decoder) x;
 }
 
 pub hears_then : (old mid new : InboxState) (from at left : Supply) (x y z : Hearing) → IsShort x y → Hears old from mid at x y → Hears mid at new left y z → Hears old from new left x z
@@ -100,20 +100,20 @@ hears_then old mid new from at left x y z short h k = record {
   read = h.read ++ k.read;
   used = h.used ++ k.used;
   reads = reads_then old.reads mid.reads new.reads from at left h.read k.read h.reads k.reads;
-  needed = needed_then old mid h.used h.read k.read x y h.split h.tells short h.needed k.needed;
+  needed = needed_then old mid h.used h.read k.read x y h.split h.emits short h.needed k.needed;
   split = sym (append_assoc old.waiting h.read k.read) ∙ ap (λ (l : List ℕ). l ++ k.read) h.split ∙ append_assoc h.used mid.waiting k.read ∙ ap (λ (l : List ℕ). h.used ++ l) k.split ∙ sym (append_assoc h.used k.used new.waiting);
-  tells = tells_then (state old.decoder) (state mid.decoder) (state new.decoder) h.used k.used x y z h.tells k.tells;
+  emits = emits_then (state old.decoder) (state mid.decoder) (state new.decoder) h.used k.used x y z h.emits k.emits;
 }
 
 lacks_then : (old mid : InboxState) (from at left : Supply) (v : Verdict) (n : ℕ) (x y z : Hearing) → IsShort x y → Hears old from mid at x y → Lacks mid at v n left y z → Lacks old from v n left x z
 lacks_then old mid from at left v n x y z short h k = record {
   read = h.read ++ k.read;
   reads = reads_then old.reads mid.reads n from at left h.read k.read h.reads k.reads;
-  needed = needed_then old mid h.used h.read k.read x y h.split h.tells short h.needed k.needed;
+  needed = needed_then old mid h.used h.read k.read x y h.split h.emits short h.needed k.needed;
   says =
       let is : h.used ++ (mid.waiting ++ k.read) ≡ old.waiting ++ (h.read ++ k.read)
       = sym (append_assoc h.used mid.waiting k.read) ∙ ap (λ (l : List ℕ). l ++ k.read) (sym h.split) ∙ append_assoc old.waiting h.read k.read in
-      rw is at (says_then (state old.decoder) (state mid.decoder) h.used (mid.waiting ++ k.read) v x y z h.tells k.says);
+      rw is at (says_then (state old.decoder) (state mid.decoder) h.used (mid.waiting ++ k.read) v x y z h.emits k.says);
 }
 
 pub misses_then : (e : LoopFault) (old mid : InboxState) (from at left : Supply) (x y z : Hearing) → IsShort x y → Hears old from mid at x y → Misses mid at e left y z → Misses old from e left x z
@@ -133,12 +133,12 @@ uses_hears old new from x y reads u = record {
   reads = rw reads (reads_none old.reads from);
   needed = inl refl;
   split = append-nil old.waiting ∙ u.split;
-  tells = u.tells;
+  emits = u.emits;
 }
 
 -- all that waits is used, and a read gives more
-fill_hears : (old mid new : InboxState) (from left : Supply) (x : Hearing) → mid.reads ≡ old.reads → mid.waiting ≡ [] → SaysAll (state old.decoder) old.waiting Waits x x → Tells (state old.decoder) old.waiting (state mid.decoder) x x → Fills mid from (Ok tt) new left → Hears old from new left x x
-fill_hears old mid new from left x reads waiting says tells f = record {
+fill_hears : (old mid new : InboxState) (from left : Supply) (x : Hearing) → mid.reads ≡ old.reads → mid.waiting ≡ [] → SaysAll (state old.decoder) old.waiting Waits x x → Emits (state old.decoder) old.waiting (state mid.decoder) x x → Fills mid from (Ok tt) new left → Hears old from new left x x
+fill_hears old mid new from left x reads waiting says emits f = record {
   read = new.waiting;
   used = old.waiting;
   reads = record {
@@ -158,7 +158,7 @@ fill_hears old mid new from left x reads waiting says tells f = record {
     says = rw (append-nil old.waiting) says;
   });
   split = refl;
-  tells = rw f.1 tells;
+  emits = rw f.1 emits;
 }
 
 lacks_now : (old : InboxState) (from : Supply) (v : Verdict) (n : ℕ) (x : Hearing) → n ≡ old.reads → SaysAll (state old.decoder) old.waiting v x x → Lacks old from v n from x x
@@ -179,7 +179,7 @@ fill_misses fault.WriteFault old mid new from left x reads says f = absurd f
 
 -- after what was heard before
 stops_then : (old mid new : InboxState) (m : Mark) (from at : Supply) (x y : Hearing) → Hears old from mid at x y → StopsAt mid m new → StopsAt old m new
-stops_then old mid new m from at x y h at_mark = record { stops = λ s es told. at_mark.stops (s ++ h.used) (es ++ h.tells.more) (h.tells.leads s es told); waiting = at_mark.waiting }
+stops_then old mid new m from at x y h at_mark = record { stops = λ s es emitted. at_mark.stops (s ++ h.used) (es ++ h.emits.more) (h.emits.leads s es emitted); waiting = at_mark.waiting }
 
 -- ---- what comes of waiting for an edge, after some reads that did not lead to it
 
@@ -193,8 +193,8 @@ module _ (edge : Edge) (old cur : InboxState) (from at : Supply) (so_far : (hs :
   pub refused_last : (r : Refusal) → IsWithout edge (state cur.decoder) cur.waiting (Refused r.at r.why) → (hs : List Header) → Misses old from fault.BadReply at (awaiting edge hs) (awaiting edge hs)
   refused_last r says hs = (r, cur.reads, lacks_then old cur from at at _ cur.reads _ _ _ (inl refl) (so_far hs) (lacks_now cur at _ cur.reads _ refl (says hs)))
 
-  pub filled_last : (mid new : InboxState) (left : Supply) → mid.reads ≡ cur.reads → mid.waiting ≡ [] → IsWithout edge (state cur.decoder) cur.waiting Waits → ((hs : List Header) → Tells (state cur.decoder) cur.waiting (state mid.decoder) (awaiting edge hs) (awaiting edge hs)) → Fills mid at (Ok tt) new left → (hs : List Header) → Hears old from new left (awaiting edge hs) (awaiting edge hs)
-  filled_last mid new left reads waiting says tells f hs = hears_then old cur new from at left _ _ _ (inl refl) (so_far hs) (fill_hears cur mid new at left _ reads waiting (says hs) (tells hs) f)
+  pub filled_last : (mid new : InboxState) (left : Supply) → mid.reads ≡ cur.reads → mid.waiting ≡ [] → IsWithout edge (state cur.decoder) cur.waiting Waits → ((hs : List Header) → Emits (state cur.decoder) cur.waiting (state mid.decoder) (awaiting edge hs) (awaiting edge hs)) → Fills mid at (Ok tt) new left → (hs : List Header) → Hears old from new left (awaiting edge hs) (awaiting edge hs)
+  filled_last mid new left reads waiting says emits f hs = hears_then old cur new from at left _ _ _ (inl refl) (so_far hs) (fill_hears cur mid new at left _ reads waiting (says hs) (emits hs) f)
 
   pub failed_last : (e : LoopFault) (mid new : InboxState) (left : Supply) → mid.reads ≡ cur.reads → IsWithout edge (state cur.decoder) cur.waiting Waits → Fills mid at (Err e) new left → (hs : List Header) → Misses old from e left (awaiting edge hs) (awaiting edge hs)
   failed_last e mid new left reads says f hs = misses_then e old cur from at left _ _ _ (inl refl) (so_far hs) (fill_misses e cur mid new at left _ reads (says hs) f)

@@ -1,4 +1,4 @@
--- Which messages the events of a stream tell.
+-- Which messages the events of a stream are of.
 use Rattle.std.specs.Prelude.{ℕ, Bool, true, false, if◌then◌else◌, List, [], ◌∷◌, ◌++◌}
 use Rattle.cqlp_note.specs.declared.header.Header.{Header}
 use Rattle.cqlp_grammar.specs.Events.{Event, Frame, End}

@@ -46,16 +46,16 @@ pub record InboxState : Type 0 where
   pub waiting : List ℕ
   pub reads : ℕ
 
--- ---- what a decoder tells
+-- ---- what a decoder emits
 
--- A decoder has used these bytes, told these events of them, and refused nothing.
-abbrev pub HasTold : StreamState → List ℕ → List (ℕ × Event) → Type 0
-HasTold d s es = (d.refusal ≡ None) × After d s es
+-- A decoder has used these bytes, emitted these events of them, and refused nothing.
+abbrev pub HasEmitted : StreamState → List ℕ → List (ℕ × Event) → Type 0
+HasEmitted d s es = (d.refusal ≡ None) × After d s es
 
 -- A decoder used these bytes, and their events lead from one hearing to the other.
-pub record Tells (old : StreamState) (bytes : List ℕ) (new : StreamState) (before after : Hearing) : Type 0 where
+pub record Emits (old : StreamState) (bytes : List ℕ) (new : StreamState) (before after : Hearing) : Type 0 where
   pub more : List (ℕ × Event)
-  pub leads : (s : List ℕ) (es : List (ℕ × Event)) → HasTold old s es → HasTold new (s ++ bytes) (es ++ more)
+  pub leads : (s : List ℕ) (es : List (ℕ × Event)) → HasEmitted old s es → HasEmitted new (s ++ bytes) (es ++ more)
   pub heard : with_events before more ≡ after
   pub rules : new.rules ≡ old.rules
 
@@ -63,7 +63,7 @@ pub record Tells (old : StreamState) (bytes : List ℕ) (new : StreamState) (bef
 -- waited for, or that they are refused.
 pub record SaysAll (old : StreamState) (bytes : List ℕ) (v : Verdict) (before after : Hearing) : Type 0 where
   pub more : List (ℕ × Event)
-  pub says : (s : List ℕ) (es : List (ℕ × Event)) → HasTold old s es
+  pub says : (s : List ℕ) (es : List (ℕ × Event)) → HasEmitted old s es
       → Says old.rules start (s ++ bytes) (es ++ more) v
   pub heard : with_events before more ≡ after
 
@@ -98,7 +98,7 @@ due_at mark.Tail = 0
 abbrev pub Stops : StreamState → Mark → StreamState → Type 0
 Stops old m new =
     (s : List ℕ) (es : List (ℕ × Event))
-    → HasTold old s es → IsPending new.pending [] × (ends_due new.place.symbols ≡ due_at m)
+    → HasEmitted old s es → IsPending new.pending [] × (ends_due new.place.symbols ≡ due_at m)
 
 -- All of these bytes do not lead to the mark that is waited for.
 abbrev pub IsWithout : Edge → StreamState → List ℕ → Verdict → Type 0
@@ -109,17 +109,17 @@ IsWithout edge old bytes v = (hs : List Header) → SaysAll old bytes v (awaitin
 abbrev pub Seeks : Edge → StreamState → List ℕ → Sought → StreamState → Type 0
 Seeks edge old piece (sought.Found used m) new =
     (used ≤ length piece) × IsAt edge m × Stops old m new
-    × ((hs : List Header) → Tells old (take used piece) new (awaiting edge hs) (past m hs))
+    × ((hs : List Header) → Emits old (take used piece) new (awaiting edge hs) (past m hs))
 Seeks edge old piece sought.More new =
     IsWithout edge old piece Waits
-    × ((hs : List Header) → Tells old piece new (awaiting edge hs) (awaiting edge hs))
+    × ((hs : List Header) → Emits old piece new (awaiting edge hs) (awaiting edge hs))
 Seeks edge old piece sought.Refused new = (r : Refusal) × IsWithout edge old piece (Refused r.at r.why)
 
 -- ---- what an inbox hears
 
 -- at the start of a stream, with the limits where none are given
 pub record IsNew (new : InboxState) : Type 0 where
-  pub told : HasTold (state new.decoder) [] []
+  pub emitted : HasEmitted (state new.decoder) [] []
   pub waiting : new.waiting ≡ []
   pub rules : (state new.decoder).rules ≡ rules_of DEFAULT
 
@@ -127,7 +127,7 @@ pub record IsNew (new : InboxState) : Type 0 where
 pub record Uses (old new : InboxState) (before after : Hearing) : Type 0 where
   pub used : List ℕ
   pub split : old.waiting ≡ used ++ new.waiting
-  pub tells : Tells (state old.decoder) used (state new.decoder) before after
+  pub emits : Emits (state old.decoder) used (state new.decoder) before after
 
 -- The decoder stopped at a mark, and no more bytes wait than a read may give.
 pub record StopsAt (old : InboxState) (m : Mark) (new : InboxState) : Type 0 where
@@ -142,7 +142,7 @@ Finds edge old (found.Mark m) new =
 Finds edge old found.More new =
     (new.reads ≡ old.reads) × (new.waiting ≡ []) × IsWithout edge (state old.decoder) old.waiting Waits
     × ((hs : List Header)
-    → Tells (state old.decoder) old.waiting (state new.decoder) (awaiting edge hs) (awaiting edge hs))
+    → Emits (state old.decoder) old.waiting (state new.decoder) (awaiting edge hs) (awaiting edge hs))
 Finds edge old found.Refused new =
     (new.reads ≡ old.reads) × (r : Refusal) × IsWithout edge (state old.decoder) old.waiting (Refused r.at r.why)
 
@@ -193,7 +193,7 @@ pub record IsNeeded (old : InboxState) (bytes : List ℕ) (before : Hearing) : T
 abbrev pub AreNeeded : InboxState → List ℕ → Hearing → Type 0
 AreNeeded old bytes before = (bytes ≡ []) ⊎ IsNeeded old bytes before
 
--- Of the bytes that waited and those that were read, the decoder used the first, and the others wait; what it told of
+-- Of the bytes that waited and those that were read, the decoder used the first, and the others wait; what it emitted of
 -- them leads from one hearing to the other.
 pub record Hears (old : InboxState) (from : Supply) (new : InboxState) (left : Supply) (before after : Hearing)
     : Type 0 where
@@ -202,7 +202,7 @@ pub record Hears (old : InboxState) (from : Supply) (new : InboxState) (left : S
   pub reads : Reads old.reads from read new.reads left
   pub needed : AreNeeded old read before
   pub split : old.waiting ++ read ≡ used ++ new.waiting
-  pub tells : Tells (state old.decoder) used (state new.decoder) before after
+  pub emits : Emits (state old.decoder) used (state new.decoder) before after
 
 -- All bytes that waited and that were read lead only to the other hearing; and then they wait for more, or are refused.
 -- So many reads are left.

@@ -89,7 +89,7 @@ MessageAgrees (Rows p) = MetadataAgrees p.meta
 MessageAgrees (Prepared p) = PreparedAgrees p
 MessageAgrees (Change c) = ChangeAgrees c
 MessageAgrees (UnknownResult kind) = IsNoResult (bits kind)
-MessageAgrees (Event event told) = EventAgrees event told
+MessageAgrees (Event event described) = EventAgrees event described
 MessageAgrees m = ⊤
 
 pub record FrameAgrees (f : FrameValue) : Type 0 where

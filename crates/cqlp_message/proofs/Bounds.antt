@@ -21,7 +21,7 @@ use Rattle.cqlp_message.specs.FrameValues.{Spec, Metadata, Message, Rows, Prepar
 use Rattle.cqlp_message.specs.Parts.{Part, Field_is, Type_is, Cell_is, PartSpells, PartsSpell, PartWithin, PartsWithin, parts_size}
 use Rattle.cqlp_message.specs.Bodies.{where_some, counted_keys, table_parts, paging_parts, spec_parts, specs_parts, metadata_parts, rows_parts, cell_types, message_parts}
 use Rattle.cqlp_message.specs.Bodies as body
-use Rattle.cqlp_message.specs.Frames.{FrameSpells, frame_parts, options_among, options_told, TypesWithin, IsWithin}
+use Rattle.cqlp_message.specs.Frames.{FrameSpells, frame_parts, options_among, options_described, TypesWithin, IsWithin}
 use Rattle.cqlp_message.proofs.Sizes.{field_size, part_sized, parts_long, frame_spelled}
 
 -- no limit is below this many bytes, and a part of a long content has any
@@ -108,12 +108,12 @@ among_few (c ∷ specs) =
     let one : options_in c.tree ≤ parts_size (spec_parts c) = omega (arith, parts_append (table_parts c.table) (body.text field.ColumnName c.name ∷ Type_is c.tree ∷ []), options_few false c.tree) in
     omega (arith, one, parts_append (spec_parts c) (flat_map spec_parts specs), among_few specs)
 
-told_few : (o : Option (List Spec)) → options_told o ≤ parts_size (where_some (flat_map spec_parts) o)
-told_few None = omega arith
-told_few (Some specs) = among_few specs
+described_few : (o : Option (List Spec)) → options_described o ≤ parts_size (where_some (flat_map spec_parts) o)
+described_few None = omega arith
+described_few (Some specs) = among_few specs
 
-metadata_few : (m : Metadata) → options_told m.specs ≤ parts_size (metadata_parts m)
-metadata_few m = simp parts_append (omega (arith, told_few m.specs))
+metadata_few : (m : Metadata) → options_described m.specs ≤ parts_size (metadata_parts m)
+metadata_few m = simp parts_append (omega (arith, described_few m.specs))
 
 types_within : (l : Rules) (m : Message) → parts_size (message_parts m) ≤ l.entries → TypesWithin l m
 types_within l (Rows p) le =

@@ -38,15 +38,15 @@ trivial [] = All-nil (λ a. ⊤)
 trivial (a ∷ xs) = All-cons (λ a. ⊤) a xs tt (trivial xs)
 
 -- metadata begins without types
-abbrev pub told_after : Role → Types → Types
-told_after (role.MetaFlags rows) told = NoMore
-told_after role.PreparedFlags told = NoMore
-told_after r told = told
+abbrev pub described_after : Role → Types → Types
+described_after (role.MetaFlags rows) described = NoMore
+described_after role.PreparedFlags described = NoMore
+described_after r described = described
 
--- the types of a page's cells, where those of its metadata are told
+-- the types of a page's cells, where those of its metadata are described
 abbrev pub cells_of : Role → Types → Types
-cells_of (role.PageRows flags columns) told = cond (has flags 0x04) (raw_types columns) told
-cells_of r told = raw_types 0
+cells_of (role.PageRows flags columns) described = cond (has flags 0x04) (raw_types columns) described
+cells_of r described = raw_types 0
 
 -- how many types there are, the inner ones counted
 abbrev pub nodes_in : Types → ℕ
@@ -59,24 +59,24 @@ pub record IsCell (row row' column column' : ℕ) (k k' : Kind) (inner inner' : 
   pub inner_is : inner ≡ inner'
 
 module _ (l : Rules) where
-  -- From these symbols, where metadata has told these types, come these parts and no others, up to the end of the frame.
-  abbrev pub Derives : List Part → List Symbol → (told : Types) → Type 0
-  Derives [] symbols told = symbols ≡ Extra ∷ []
-  Derives (Field_is g m v ∷ parts) (In f n r ∷ rest) told =
-      IsField g f m n × (fault_in r v ≡ None) × Derives parts (following (cells_of r told) r v ++ rest) (told_after r told)
-  Derives (Type_is t ∷ parts) (In_type ts ∷ rest) told =
-      (ts ≡ Option_at 1 ∷ []) × (nodes_in told + options_in t ≤ l.entries) × Derives parts rest (followed_by told (types_in t))
-  Derives (Cell_is row column k inner v ∷ parts) (Cell_due row' column' k' inner' ∷ rest) told =
-      IsCell row row' column column' k k' inner inner' × Derives parts rest told
-  Derives (part ∷ parts) symbols told = ⊥
+  -- From these symbols, where metadata has described these types, come these parts and no others, up to the end of the frame.
+  abbrev pub Derives : List Part → List Symbol → (described : Types) → Type 0
+  Derives [] symbols described = symbols ≡ Extra ∷ []
+  Derives (Field_is g m v ∷ parts) (In f n r ∷ rest) described =
+      IsField g f m n × (fault_in r v ≡ None) × Derives parts (following (cells_of r described) r v ++ rest) (described_after r described)
+  Derives (Type_is t ∷ parts) (In_type ts ∷ rest) described =
+      (ts ≡ Option_at 1 ∷ []) × (nodes_in described + options_in t ≤ l.entries) × Derives parts rest (followed_by described (types_in t))
+  Derives (Cell_is row column k inner v ∷ parts) (Cell_due row' column' k' inner' ∷ rest) described =
+      IsCell row row' column column' k k' inner inner' × Derives parts rest described
+  Derives (part ∷ parts) symbols described = ⊥
 
-  -- the same, whatever types were told
+  -- the same, whatever types were described
   abbrev pub D : List Part → List Symbol → Type 0
-  D parts symbols = (told : Types) → Derives parts symbols told
+  D parts symbols = (described : Types) → Derives parts symbols described
 
   -- a field that nothing follows
   pub alone_derives : (f : Field) (n : Notation) (v : FieldValue) (ps : List Part) (rest : List Symbol) → D ps rest → D (Field_is f n v ∷ ps) (plain f n ∷ rest)
-  alone_derives f n v ps rest d told = (same, refl, d told)
+  alone_derives f n v ps rest d described = (same, refl, d described)
 
   -- items one after the other come of copies of a group
   pub each_derives : {A : Type 0} (P : A → Type 0) (h : A → List Part) (g : List Symbol) (xs : List A) (ps : List Part) (rest : List Symbol) → All P xs
@@ -103,7 +103,7 @@ module _ (l : Rules) where
 
   -- a [string list]
   pub texts_derive : (f i : Field) (g : Group) (ts : List Octets) (ps : List Part) (rest : List Symbol) → group g ≡ plain i notation.Text16 ∷ [] → D ps rest → D (texts f i ts ++ ps) (productions.counted f g ∷ rest)
-  texts_derive f i g ts ps rest is d told =
+  texts_derive f i g ts ps rest is d described =
       let items : D (flat_map (λ t. text i t ∷ []) ts ++ ps) (copies (length ts) (plain i notation.Text16 ∷ []) ++ rest) =
       each_derives (λ t. ⊤) (λ t. text i t ∷ []) (plain i notation.Text16 ∷ []) ts ps rest (trivial ts) (λ t ps rest p d. alone_derives i notation.Text16 (Text t) ps rest d) d in
-      (same, refl, rw is (items told))
+      (same, refl, rw is (items described))

@@ -99,14 +99,14 @@ specs_of : (flags n : ℕ) (t : Option TableName) (specs : List Spec) → specs_
 specs_of flags n t specs e =
     columns (not (has flags 0x01)) specs (both ((length specs == n) && there_if (has flags 0x01) t) (list_all (spec_agrees (not (has flags 0x01))) specs) e).1
 
-told : (flags n : ℕ) (t : Option TableName) (specs : Option (List Spec)) → columns_agree flags n t specs ≡ true → AreFormed (where_some (flat_map spec_parts) specs)
-told flags n t None e = tt
-told flags n t (Some specs) e = specs_of flags n t specs (both (not (has flags 0x04)) (specs_agree flags n t specs) e).1
+described : (flags n : ℕ) (t : Option TableName) (specs : Option (List Spec)) → columns_agree flags n t specs ≡ true → AreFormed (where_some (flat_map spec_parts) specs)
+described flags n t None e = tt
+described flags n t (Some specs) e = specs_of flags n t specs (both (not (has flags 0x04)) (specs_agree flags n t specs) e).1
 
 metadata : (m : Metadata) → metadata_agrees m ≡ true → AreFormed (metadata_parts m)
 metadata m e =
     let c = (both (there_if (has (bits m.flags) 0x02) m.paging) (columns_agree (bits m.flags) m.columns m.table m.specs) e).1 in
-    (tt, (tt, append _ _ (append _ _ (some _ m.paging (λ s. (tt, tt))) (table m.table)) (told (bits m.flags) m.columns m.table m.specs c)))
+    (tt, (tt, append _ _ (append _ _ (some _ m.paging (λ s. (tt, tt))) (table m.table)) (described (bits m.flags) m.columns m.table m.specs c)))
 
 row : (r c : ℕ) (ts : Types) (cells : List Values) → AreFormed (row_parts r c ts cells)
 row r c NoMore cells = tt

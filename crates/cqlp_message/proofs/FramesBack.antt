@@ -33,8 +33,8 @@ parts_sound [] b range s = tt
 parts_sound (part ∷ ps) b range s = (sound part s.front (All-head PartIsInRange part ps range) s.this, parts_sound ps s.back (All-tail PartIsInRange part ps range) s.that)
 
 -- Parts that come of the symbols of a lawful header, and are spelled, are those of a frame with the header.
-pub spelled_back : (l : Rules) (h : Header) (ps : List Part) (told : Types) (b : List ℕ) → IsLawful h → All PartIsInRange ps → PartsSpell ps b → Derives l ps (message h) told → IsFrame l h ps
-spelled_back l h ps told b lawful range s d = frame_back l h ps told lawful.plain lawful.direction (parts_sound ps b range s) d
+pub spelled_back : (l : Rules) (h : Header) (ps : List Part) (described : Types) (b : List ℕ) → IsLawful h → All PartIsInRange ps → PartsSpell ps b → Derives l ps (message h) described → IsFrame l h ps
+spelled_back l h ps described b lawful range s d = frame_back l h ps described lawful.plain lawful.direction (parts_sound ps b range s) d
 
 -- ---- the frame
 

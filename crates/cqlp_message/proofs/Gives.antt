@@ -27,7 +27,7 @@ use Rattle.cqlp_message.specs.Bodies.{where_some, text, texts}
 use Rattle.cqlp_message.specs.Bodies as bodies
 use Rattle.cqlp_message.specs.Agreement.{there_if, opcode_of, message_agrees, has_its_cells}
 use Rattle.cqlp_message.specs.Frames.{TypesWithin}
-use Rattle.cqlp_message.proofs.Derives.{Derives, told_after, cells_of}
+use Rattle.cqlp_message.proofs.Derives.{Derives, described_after, cells_of}
 
 -- ---- sound parts
 
@@ -43,22 +43,22 @@ AreSound (p ∷ ps) = IsSound p × AreSound ps
 
 -- ---- what symbols give
 
--- The parts are those of an item, of which P holds, and others after it, which come of the next symbols, where these types are told.
-pub record Gives (l : Rules) (A : Type 0) (h : A → List Part) (P : A → Type 0) (told : A → Types) (next : A → List Symbol) (ps : List Part) : Type 0 where
+-- The parts are those of an item, of which P holds, and others after it, which come of the next symbols, where these types are described.
+pub record Gives (l : Rules) (A : Type 0) (h : A → List Part) (P : A → Type 0) (described : A → Types) (next : A → List Symbol) (ps : List Part) : Type 0 where
   pub item : A
   pub left : List Part
   pub whole : ps ≡ h item ++ left
   pub holds : P item
   pub sound : AreSound left
-  pub derives : Derives l left (next item) (told item)
+  pub derives : Derives l left (next item) (described item)
 
--- These symbols give such items, whatever is told and is next.
+-- These symbols give such items, whatever is described and is next.
 pub record Back (l : Rules) (A : Type 0) (h : A → List Part) (P : A → Type 0) (ss : List Symbol) : Type 0 where
-  pub run : (ps : List Part) (rest : List Symbol) (told : Types) → AreSound ps → Derives l ps (ss ++ rest) told → Gives l A h P (λ a. told) (λ a. rest) ps
+  pub run : (ps : List Part) (rest : List Symbol) (described : Types) → AreSound ps → Derives l ps (ss ++ rest) described → Gives l A h P (λ a. described) (λ a. rest) ps
 
 -- what holds of the parts after the item, with it, holds of all
-pub take : {l : Rules} {A : Type 0} {h : A → List Part} {P : A → Type 0} {told : A → Types} {next : A → List Symbol} (R : List Part → Type 0) (ps : List Part) → Gives l A h P told next ps
-    → ((a : A) (qs : List Part) → P a → AreSound qs → Derives l qs (next a) (told a) → R (h a ++ qs)) → R ps
+pub take : {l : Rules} {A : Type 0} {h : A → List Part} {P : A → Type 0} {described : A → Types} {next : A → List Symbol} (R : List Part → Type 0) (ps : List Part) → Gives l A h P described next ps
+    → ((a : A) (qs : List Part) → P a → AreSound qs → Derives l qs (next a) (described a) → R (h a ++ qs)) → R ps
 take R ps g k = rw g.whole (k g.item g.left g.holds g.sound g.derives)
 
 -- nothing is asked
@@ -124,12 +124,12 @@ inet_view (note.Inet a z) r = ((a, z), refl)
 inet_view v r = absurd r
 
 -- a field of this notation, and what follows it
-abbrev pub GivesField : (l : Rules) (n : Notation) (A : Type 0) (c : A → FieldValue) (f : Field) (r : Role) (ps : List Part) (rest : List Symbol) (told : Types) → Type 0
-GivesField l n A c f r ps rest told = Gives l A (λ a. Field_is f n (c a) ∷ []) (λ a. (fault_in r (c a) ≡ None) × IsInRange n (c a)) (λ a. told_after r told) (λ a. following (cells_of r told) r (c a) ++ rest) ps
+abbrev pub GivesField : (l : Rules) (n : Notation) (A : Type 0) (c : A → FieldValue) (f : Field) (r : Role) (ps : List Part) (rest : List Symbol) (described : Types) → Type 0
+GivesField l n A c f r ps rest described = Gives l A (λ a. Field_is f n (c a) ∷ []) (λ a. (fault_in r (c a) ≡ None) × IsInRange n (c a)) (λ a. described_after r described) (λ a. following (cells_of r described) r (c a) ++ rest) ps
 
-field_gives : (l : Rules) (n m : Notation) (A : Type 0) (c : A → FieldValue) (f g : Field) (r : Role) (v : FieldValue) (left : List Part) (rest : List Symbol) (told : Types) (a : A) → v ≡ c a → g ≡ f → m ≡ n → IsInRange m v → fault_in r v ≡ None → AreSound left
-    → Derives l left (following (cells_of r told) r v ++ rest) (told_after r told) → GivesField l n A c f r (Field_is g m v ∷ left) rest told
-field_gives l n m A c f g r v left rest told a is name notation range fault s d = record {
+field_gives : (l : Rules) (n m : Notation) (A : Type 0) (c : A → FieldValue) (f g : Field) (r : Role) (v : FieldValue) (left : List Part) (rest : List Symbol) (described : Types) (a : A) → v ≡ c a → g ≡ f → m ≡ n → IsInRange m v → fault_in r v ≡ None → AreSound left
+    → Derives l left (following (cells_of r described) r v ++ rest) (described_after r described) → GivesField l n A c f r (Field_is g m v ∷ left) rest described
+field_gives l n m A c f g r v left rest described a is name notation range fault s d = record {
   item = a;
   left = left;
   whole = rw (is, name, notation) refl;
@@ -138,19 +138,19 @@ field_gives l n m A c f g r v left rest told a is name notation range fault s d 
   derives = rw is at d;
 }
 
-pub field_back : (l : Rules) (n : Notation) {A : Type 0} (c : A → FieldValue) → View n A c → (f : Field) (r : Role) (ps : List Part) (rest : List Symbol) (told : Types) → AreSound ps → Derives l ps (In f n r ∷ rest) told → GivesField l n A c f r ps rest told
-field_back l n {A} c view f r (Field_is g m v ∷ left) rest told s d =
+pub field_back : (l : Rules) (n : Notation) {A : Type 0} (c : A → FieldValue) → View n A c → (f : Field) (r : Role) (ps : List Part) (rest : List Symbol) (described : Types) → AreSound ps → Derives l ps (In f n r ∷ rest) described → GivesField l n A c f r ps rest described
+field_back l n {A} c view f r (Field_is g m v ∷ left) rest described s d =
     let x = view v (rw d.0.notation at s.0) in
-    field_gives l n m A c f g r v left rest told x.0 x.1 d.0.name d.0.notation s.0 d.1 s.1 d.2
-field_back l n c view f r [] rest told s d = absurd cc
-field_back l n c view f r (Type_is t ∷ left) rest told s d = absurd d
-field_back l n c view f r (Cell_is row column k inner v ∷ left) rest told s d = absurd d
+    field_gives l n m A c f g r v left rest described x.0 x.1 d.0.name d.0.notation s.0 d.1 s.1 d.2
+field_back l n c view f r [] rest described s d = absurd cc
+field_back l n c view f r (Type_is t ∷ left) rest described s d = absurd d
+field_back l n c view f r (Cell_is row column k inner v ∷ left) rest described s d = absurd d
 
 -- a field that nothing follows
 plain_back : {l : Rules} (n : Notation) {A : Type 0} (c : A → FieldValue) → View n A c → (f : Field) → Back l A (λ a. Field_is f n (c a) ∷ []) sure (plain f n ∷ [])
 plain_back {l} n {A} c view f = record {
-  run = λ ps rest told s d.
-      take (Gives l A (λ a. Field_is f n (c a) ∷ []) sure (λ a. told) (λ a. rest)) ps (field_back l n c view f role.Alone ps rest told s d)
+  run = λ ps rest described s d.
+      take (Gives l A (λ a. Field_is f n (c a) ∷ []) sure (λ a. described) (λ a. rest)) ps (field_back l n c view f role.Alone ps rest described s d)
       λ a qs p s d. record { item = a; left = qs; whole = refl; holds = refl; sound = s; derives = d };
 }
 
@@ -192,34 +192,34 @@ inet_back = plain_back notation.Inet (λ a. note.Inet a.0 a.1) inet_view
 -- the same parts as those of another item
 pub other_back : {l : Rules} {A : Type 0} {h : A → List Part} {P : A → Type 0} {ss : List Symbol} {B : Type 0} (g : B → List Part) (Q : B → Type 0) (f : A → B) → ((a : A) → P a → h a ≡ g (f a)) → ((a : A) → P a → Q (f a)) → Back l A h P ss → Back l B g Q ss
 other_back {l} {A} {h} {P} {ss} {B} g Q f is on b = record {
-  run = λ ps rest told s d.
-      let x = b.run ps rest told s d in
+  run = λ ps rest described s d.
+      let x = b.run ps rest described s d in
       record { item = f x.item; left = x.left; whole = x.whole ∙ ap (λ t. t ++ x.left) (is x.item x.holds); holds = on x.item x.holds; sound = x.sound; derives = x.derives };
 }
 
 -- nothing
 pub none_back : {l : Rules} {A : Type 0} (h : A → List Part) (P : A → Type 0) (a : A) → h a ≡ [] → P a → Back l A h P []
-none_back h P a is p = record { run = λ ps rest told s d. record { item = a; left = ps; whole = ap (λ t. t ++ ps) (sym is); holds = p; sound = s; derives = d } }
+none_back h P a is p = record { run = λ ps rest described s d. record { item = a; left = ps; whole = ap (λ t. t ++ ps) (sym is); holds = p; sound = s; derives = d } }
 
 -- one item and another
 pub pair_back : {l : Rules} {A B : Type 0} {h : A → List Part} {g : B → List Part} {P : A → Type 0} {Q : B → Type 0} {ss ts : List Symbol} → Back l A h P ss → Back l B g Q ts
     → Back l (A × B) (λ p. h p.0 ++ g p.1) (λ p. P p.0 × Q p.1) (ss ++ ts)
 pair_back {l} {A} {B} {h} {g} {P} {Q} {ss} {ts} one two = record {
-  run = λ ps rest told s d.
-      let R : List Part → Type 0 = Gives l (A × B) (λ p. h p.0 ++ g p.1) (λ p. P p.0 × Q p.1) (λ a. told) (λ a. rest) in
-      take R ps (one.run ps (ts ++ rest) told s (rw (append_assoc ss ts rest) at d)) λ a qs p s d.
-      take (λ t. R (h a ++ t)) qs (two.run qs rest told s d) λ b rs q s d.
+  run = λ ps rest described s d.
+      let R : List Part → Type 0 = Gives l (A × B) (λ p. h p.0 ++ g p.1) (λ p. P p.0 × Q p.1) (λ a. described) (λ a. rest) in
+      take R ps (one.run ps (ts ++ rest) described s (rw (append_assoc ss ts rest) at d)) λ a qs p s d.
+      take (λ t. R (h a ++ t)) qs (two.run qs rest described s d) λ b rs q s d.
       record { item = (a, b); left = rs; whole = sym (append_assoc (h a) (g b) rs); holds = (p, q); sound = s; derives = d };
 }
 
 -- copies of a group are items one after the other
-copies_run : {l : Rules} {A : Type 0} (h : A → List Part) (t : A → Bool) (ss : List Symbol) → Back l A h (λ a. t a ≡ true) ss → (n : ℕ) (ps : List Part) (rest : List Symbol) (told : Types) → AreSound ps → Derives l ps (copies n ss ++ rest) told
-    → Gives l (List A) (flat_map h) (λ xs. (length xs ≡ n) × (list_all t xs ≡ true)) (λ a. told) (λ a. rest) ps
-copies_run h t ss one zero ps rest told s d = record { item = []; left = ps; whole = refl; holds = (refl, refl); sound = s; derives = d }
-copies_run {l} {A} h t ss one (suc n) ps rest told s d =
-    let R : List Part → Type 0 = Gives l (List A) (flat_map h) (λ xs. (length xs ≡ suc n) × (list_all t xs ≡ true)) (λ a. told) (λ a. rest) in
-    take R ps (one.run ps (copies n ss ++ rest) told s (rw (append_assoc ss (copies n ss) rest) at d)) λ a qs p s d.
-    take (λ z. R (h a ++ z)) qs (copies_run h t ss one n qs rest told s d) λ xs rs q s d.
+copies_run : {l : Rules} {A : Type 0} (h : A → List Part) (t : A → Bool) (ss : List Symbol) → Back l A h (λ a. t a ≡ true) ss → (n : ℕ) (ps : List Part) (rest : List Symbol) (described : Types) → AreSound ps → Derives l ps (copies n ss ++ rest) described
+    → Gives l (List A) (flat_map h) (λ xs. (length xs ≡ n) × (list_all t xs ≡ true)) (λ a. described) (λ a. rest) ps
+copies_run h t ss one zero ps rest described s d = record { item = []; left = ps; whole = refl; holds = (refl, refl); sound = s; derives = d }
+copies_run {l} {A} h t ss one (suc n) ps rest described s d =
+    let R : List Part → Type 0 = Gives l (List A) (flat_map h) (λ xs. (length xs ≡ suc n) × (list_all t xs ≡ true)) (λ a. described) (λ a. rest) in
+    take R ps (one.run ps (copies n ss ++ rest) described s (rw (append_assoc ss (copies n ss) rest) at d)) λ a qs p s d.
+    take (λ z. R (h a ++ z)) qs (copies_run h t ss one n qs rest described s d) λ xs rs q s d.
     record { item = a ∷ xs; left = rs; whole = sym (append_assoc (h a) (flat_map h xs) rs); holds = (omega (arith, q.0), rw (p, q.1) refl); sound = s; derives = d }
 
 pub copies_back : {l : Rules} {A : Type 0} {h : A → List Part} {ss : List Symbol} (t : A → Bool) → Back l A h (λ a. t a ≡ true) ss → (n : ℕ) → Back l (List A) (flat_map h) (λ xs. (length xs ≡ n) × (list_all t xs ≡ true)) (copies n ss)
@@ -227,23 +227,23 @@ copies_back {h = h} {ss = ss} t one n = record { run = copies_run h t ss one n }
 
 -- a field, and what follows it: items by its value
 pub led_back : {l : Rules} (n : Notation) {A : Type 0} (c : A → FieldValue) → View n A c → (f : Field) (r : Role) {B : Type 0} {g : A → B → List Part} {Q : A → B → Type 0} (ss : A → List Symbol)
-    → ((a : A) (types : Types) → following types r (c a) ≡ ss a) → ((told : Types) → told_after r told ≡ told) → ((a : A) → fault_in r (c a) ≡ None → IsInRange n (c a) → Back l B (g a) (Q a) (ss a))
+    → ((a : A) (types : Types) → following types r (c a) ≡ ss a) → ((described : Types) → described_after r described ≡ described) → ((a : A) → fault_in r (c a) ≡ None → IsInRange n (c a) → Back l B (g a) (Q a) (ss a))
     → Back l (A × B) (λ p. Field_is f n (c p.0) ∷ g p.0 p.1) (λ p. Q p.0 p.1) (In f n r ∷ [])
 led_back {l} n {A} c view f r {B} {g} {Q} ss due stays behind = record {
-  run = λ ps rest told s d.
-      let R : List Part → Type 0 = Gives l (A × B) (λ p. Field_is f n (c p.0) ∷ g p.0 p.1) (λ p. Q p.0 p.1) (λ a. told) (λ a. rest) in
-      take R ps (field_back l n c view f r ps rest told s d) λ a qs p s d.
-      take (λ t. R (Field_is f n (c a) ∷ t)) qs ((behind a p.0 p.1).run qs rest told s (rw (due a (cells_of r told), stays told) at d)) λ b rs q s d.
+  run = λ ps rest described s d.
+      let R : List Part → Type 0 = Gives l (A × B) (λ p. Field_is f n (c p.0) ∷ g p.0 p.1) (λ p. Q p.0 p.1) (λ a. described) (λ a. rest) in
+      take R ps (field_back l n c view f r ps rest described s d) λ a qs p s d.
+      take (λ t. R (Field_is f n (c a) ∷ t)) qs ((behind a p.0 p.1).run qs rest described s (rw (due a (cells_of r described), stays described) at d)) λ b rs q s d.
       record { item = (a, b); left = rs; whole = refl; holds = q; sound = s; derives = d };
 }
 
 -- items after their number
 pub counted_back : {l : Rules} {A : Type 0} {h : A → List Part} (t : A → Bool) (f : Field) (g : Group) → Back l A h (λ a. t a ≡ true) (group g) → Back l (List A) (bodies.counted f h) (λ xs. list_all t xs ≡ true) (productions.counted f g ∷ [])
 counted_back {h = h} t f g one =
-    let all = led_back notation.Count16 note.Count count16_view f (role.Counts g) (λ n. copies n (group g)) (λ n types. refl) (λ told. refl) (λ n p q. copies_back t one n) in
+    let all = led_back notation.Count16 note.Count count16_view f (role.Counts g) (λ n. copies n (group g)) (λ n types. refl) (λ described. refl) (λ n p q. copies_back t one n) in
     record {
-      run = λ ps rest told s d.
-          let x = all.run ps rest told s d in
+      run = λ ps rest described s d.
+          let x = all.run ps rest described s d in
           record { item = x.item.1; left = x.left; whole = rw x.holds.0 x.whole; holds = x.holds.1; sound = x.sound; derives = x.derives };
     }
 

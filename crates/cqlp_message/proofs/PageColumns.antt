@@ -13,8 +13,8 @@ use Rattle.cqlp_message.specs.declared.message.Message.{Message}
 use Rattle.cqlp_message.specs.declared.message.Message.TheVariants as message
 use Rattle.cqlp_message.specs.declared.response.Spec.{Spec}
 use Rattle.cqlp_message.specs.Owned.{message_of, spec_of}
-use Rattle.cqlp_message.specs.Bodies.{column_types, types_told}
-use Rattle.cqlp_message.specs.Pages.{columns_told, fits_column, specs_among, types_of_page}
+use Rattle.cqlp_message.specs.Bodies.{column_types, types_described}
+use Rattle.cqlp_message.specs.Pages.{columns_described, fits_column, specs_among, types_of_page}
 
 -- no value is one of a column that is not there
 pub fits_none : (ts : Types) (i : ℕ) (v : Values) → how_many ts ≤ i → fits_column ts i v ≡ false
@@ -22,18 +22,18 @@ fits_none NoMore i v le = refl
 fits_none (Type_and k inner others) zero v le = absurd (omega arith)
 fits_none (Type_and k inner others) (suc i) v le = fits_none others i v (omega arith)
 
-pub fits_told : (specs : List Spec) (i : ℕ) (s : Spec) (v : Values) → s ≡ get_or specs i s → i < length specs → fits_column (column_types (map spec_of specs)) i v ≡ values_fit (types_in (tree_of s.tree)) v
-fits_told [] i s v e lt = absurd (omega arith)
-fits_told (c ∷ specs) zero s v e lt = ap (λ (x : Spec). values_fit (types_in (tree_of x.tree)) v) (sym e)
-fits_told (c ∷ specs) (suc i) s v e lt = fits_told specs i s v e (omega arith)
+pub fits_described : (specs : List Spec) (i : ℕ) (s : Spec) (v : Values) → s ≡ get_or specs i s → i < length specs → fits_column (column_types (map spec_of specs)) i v ≡ values_fit (types_in (tree_of s.tree)) v
+fits_described [] i s v e lt = absurd (omega arith)
+fits_described (c ∷ specs) zero s v e lt = ap (λ (x : Spec). values_fit (types_in (tree_of x.tree)) v) (sym e)
+fits_described (c ∷ specs) (suc i) s v e lt = fits_described specs i s v e (omega arith)
 
 fits_among : (columns : ℕ) (o : Option (Vec Spec Global)) (i : ℕ) (s : Spec) (v : Values) → s ≡ get_or (specs_among o) i s → i < length (specs_among o)
-    → fits_column (types_told columns (option_map (λ (cs : Vec Spec Global). map spec_of cs.items) o)) i v ≡ values_fit (types_in (tree_of s.tree)) v
-fits_among columns (Some specs) i s v e lt = fits_told specs.items i s v e lt
+    → fits_column (types_described columns (option_map (λ (cs : Vec Spec Global). map spec_of cs.items) o)) i v ≡ values_fit (types_in (tree_of s.tree)) v
+fits_among columns (Some specs) i s v e lt = fits_described specs.items i s v e lt
 fits_among columns None i s v e lt = absurd (omega arith)
 
--- a value is one of a column that a page tells, where it is one of that column's type
-pub fits_spec : (m : Message) (i : ℕ) (s : Spec) (v : Values) → s ≡ get_or (columns_told m) i s → i < length (columns_told m)
+-- a value is one of a column that a page describes, where it is one of that column's type
+pub fits_spec : (m : Message) (i : ℕ) (s : Spec) (v : Values) → s ≡ get_or (columns_described m) i s → i < length (columns_described m)
     → fits_column (types_of_page (message_of m)) i v ≡ values_fit (types_in (tree_of s.tree)) v
 fits_spec (message.Rows p) i s v e lt = fits_among p.meta.columns p.meta.specs i s v e lt
 fits_spec m i s v e lt = absurd (omega arith)

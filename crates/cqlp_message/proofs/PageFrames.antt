@@ -24,7 +24,7 @@ use Rattle.cqlp_message.specs.Pages.{is_bare, page_unfit_of, filled, with_cells,
 use Rattle.cqlp_message.proofs.Agreements.{MessageAgrees, of_test}
 use Rattle.cqlp_message.proofs.Bounds.{parts_append}
 use Rattle.cqlp_message.proofs.FramesWritten.{not_false, none_left, fit_is}
-use Rattle.cqlp_message.proofs.Messages.{many_told}
+use Rattle.cqlp_message.proofs.Messages.{many_described}
 use Rattle.cqlp_message.proofs.PageCells.{and_assoc, all_append, rows_counts, rows_texts, rows_bytes, rows_size, rows_fit_more}
 use Rattle.cqlp_message.proofs.PageWalks.{rows_cut}
 
@@ -39,12 +39,12 @@ wanted_is (Rows p) = refl
 wanted_is m = refl
 
 types_are : (m : Message) → MessageAgrees m → how_many (types_of_page m) ≡ page_columns m
-types_are (Rows p) a = many_told _ p.meta.columns p.meta.table p.meta.specs a.columns
+types_are (Rows p) a = many_described _ p.meta.columns p.meta.table p.meta.specs a.columns
 types_are m a = refl
 
 -- there are as many types as columns
-pub columns_told : (f : FrameValue) → frame_agrees f ≡ true → how_many (types_of_page f.message) ≡ page_columns f.message
-columns_told f e = types_are f.message (of_test f e).message
+pub columns_described : (f : FrameValue) → frame_agrees f ≡ true → how_many (types_of_page f.message) ≡ page_columns f.message
+columns_described f e = types_are f.message (of_test f e).message
 
 -- ---- parts
 
@@ -89,7 +89,7 @@ pub one_more_fits : (f : FrameValue) (cells : List Values) (v : Values) (row col
     → cells_fit f (cells ++ v ∷ []) ≡ (cells_fit f cells && fits_column (types_of_page f.message) column v)
 one_more_fits f cells v row column agrees is lt in_rows =
     let m : Message = f.message in
-    let e : page_columns m ≡ how_many (types_of_page m) = sym (columns_told f agrees) in
+    let e : page_columns m ≡ how_many (types_of_page m) = sym (columns_described f agrees) in
     let at : length cells ≡ row * how_many (types_of_page m) + column = is ∙ ap (λ (n : ℕ). row * n + column) e in
     let more = rows_fit_more 0 (types_of_page m) (page_rows m) cells v row column at (omega (arith, e)) in_rows in
     split_all cell_fits f (cells ++ v ∷ []) ∙ ap (λ b. list_all cell_fits (front_parts f) && b) more
@@ -192,7 +192,7 @@ no_cells_fit f n e =
 
 few : (f : FrameValue) (cells : List Values) → frame_agrees f ≡ true → length cells ≤ cells_wanted f.message → length cells ≤ page_rows f.message * how_many (types_of_page f.message)
 few f cells agrees le =
-    let e : cells_wanted f.message ≡ page_rows f.message * how_many (types_of_page f.message) = wanted_is f.message ∙ ap (λ (n : ℕ). page_rows f.message * n) (sym (columns_told f agrees)) in
+    let e : cells_wanted f.message ≡ page_rows f.message * how_many (types_of_page f.message) = wanted_is f.message ∙ ap (λ (n : ℕ). page_rows f.message * n) (sym (columns_described f agrees)) in
     omega (arith, e)
 
 -- The bytes of a page with its first cells are those of the page and then those of the cells.

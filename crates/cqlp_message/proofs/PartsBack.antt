@@ -39,20 +39,20 @@ pub record IsMessage (l : Rules) (o : Opcode) (ps : List Part) : Type 0 where
   pub is : IsOf l o message
 
 -- of the end of a message comes nothing
-ended : (l : Rules) (ps : List Part) (told : Types) → Derives l ps (Extra ∷ []) told → ps ≡ []
-ended l [] told d = refl
-ended l (Field_is f n v ∷ ps) told d = absurd d
-ended l (Type_is t ∷ ps) told d = absurd d
-ended l (Cell_is row column k inner v ∷ ps) told d = absurd d
+ended : (l : Rules) (ps : List Part) (described : Types) → Derives l ps (Extra ∷ []) described → ps ≡ []
+ended l [] described d = refl
+ended l (Field_is f n v ∷ ps) described d = absurd d
+ended l (Type_is t ∷ ps) described d = absurd d
+ended l (Cell_is row column k inner v ∷ ps) described d = absurd d
 
 -- an item whose parts are all
-all_parts : (l : Rules) {A : Type 0} (h : A → List Part) (P : A → Type 0) (told : A → Types) (ps : List Part) (x : Gives l A h P told (λ a. Extra ∷ []) ps) → ps ≡ h x.item
-all_parts l h P told ps x = x.whole ∙ ap (λ t. h x.item ++ t) (ended l x.left (told x.item) x.derives) ∙ append-nil (h x.item)
+all_parts : (l : Rules) {A : Type 0} (h : A → List Part) (P : A → Type 0) (described : A → Types) (ps : List Part) (x : Gives l A h P described (λ a. Extra ∷ []) ps) → ps ≡ h x.item
+all_parts l h P described ps x = x.whole ∙ ap (λ t. h x.item ++ t) (ended l x.left (described x.item) x.derives) ∙ append-nil (h x.item)
 
-of_back : {l : Rules} {o : Opcode} {ss : List Symbol} → Back l Message message_parts (IsOf l o) ss → (ps : List Part) (told : Types) → AreSound ps → Derives l ps (ss ++ Extra ∷ []) told → IsMessage l o ps
-of_back {l} {o} b ps told s d =
-    let x = b.run ps (Extra ∷ []) told s d in
-    record { message = x.item; parts = all_parts l message_parts (IsOf l o) (λ m. told) ps x; is = x.holds }
+of_back : {l : Rules} {o : Opcode} {ss : List Symbol} → Back l Message message_parts (IsOf l o) ss → (ps : List Part) (described : Types) → AreSound ps → Derives l ps (ss ++ Extra ∷ []) described → IsMessage l o ps
+of_back {l} {o} b ps described s d =
+    let x = b.run ps (Extra ∷ []) described s d in
+    record { message = x.item; parts = all_parts l message_parts (IsOf l o) (λ m. described) ps x; is = x.holds }
 
 -- ---- results
 
@@ -72,48 +72,48 @@ kind_is z k fits is = sym (to_z-of_z w32 z fits) ∙ ap (cast_signed w32) (eqb-t
 with_kind : (z y : ℤ) (qs ps : List Part) → z ≡ y → qs ≡ ps → int field.ResultKind z ∷ qs ≡ int field.ResultKind y ∷ ps
 with_kind z y qs ps a b = ap (λ k. int field.ResultKind k ∷ qs) a ∙ ap (λ t. int field.ResultKind y ∷ t) b
 
-abbrev Beside : (l : Rules) (z : ℤ) (qs : List Part) (told : Types) → Option (List Symbol) → Type 0
-Beside l z qs told o = (beside_number (bits z) results ≡ o) × Derives l qs (or_nothing o ++ Extra ∷ []) told
+abbrev Beside : (l : Rules) (z : ℤ) (qs : List Part) (described : Types) → Option (List Symbol) → Type 0
+Beside l z qs described o = (beside_number (bits z) results ≡ o) × Derives l qs (or_nothing o ++ Extra ∷ []) described
 
 abbrev IsResult : (l : Rules) (z : ℤ) (qs : List Part) → Type 0
 IsResult l z qs = IsMessage l opcode.Result (int field.ResultKind z ∷ qs)
 
-module _ (l : Rules) (z : ℤ) (qs : List Part) (told : Types) (fits : FitsSigned w32 z) (s : AreSound qs) where
-  rows_back : (bits z == 2) ≡ true → Beside l z qs told (Some (In field.MetaFlags notation.Int (role.MetaFlags true) ∷ [])) → IsResult l z qs
+module _ (l : Rules) (z : ℤ) (qs : List Part) (described : Types) (fits : FitsSigned w32 z) (s : AreSound qs) where
+  rows_back : (bits z == 2) ≡ true → Beside l z qs described (Some (In field.MetaFlags notation.Int (role.MetaFlags true) ∷ [])) → IsResult l z qs
   rows_back is d =
-      let x = page_back l qs (Extra ∷ []) told s d.1 in
+      let x = page_back l qs (Extra ∷ []) described s d.1 in
       record { message = Rows x.item; parts = with_kind z (pos 2) _ _ (kind_is z 2 fits is) (all_parts l _ _ _ qs x); is = record { opcode = refl; agrees = x.holds.0; cells = x.holds.2; types = x.holds.1 } }
 
-  keyspace_back : (bits z == 3) ≡ true → Beside l z qs told (Some (plain field.Keyspace notation.Text16 ∷ [])) → IsResult l z qs
+  keyspace_back : (bits z == 3) ≡ true → Beside l z qs described (Some (plain field.Keyspace notation.Text16 ∷ [])) → IsResult l z qs
   keyspace_back is d =
-      let x = (text_back {l = l} field.Keyspace).run qs (Extra ∷ []) told s d.1 in
+      let x = (text_back {l = l} field.Keyspace).run qs (Extra ∷ []) described s d.1 in
       record { message = SetKeyspace x.item; parts = with_kind z (pos 3) _ _ (kind_is z 3 fits is) (all_parts l _ _ _ qs x); is = record { opcode = refl; agrees = refl; cells = refl; types = tt } }
 
-  statement_back : (bits z == 4) ≡ true → Beside l z qs told (Some (plain field.StatementId notation.Bytes16 ∷ In field.MetaFlags notation.Int role.PreparedFlags ∷ [])) → IsResult l z qs
+  statement_back : (bits z == 4) ≡ true → Beside l z qs described (Some (plain field.StatementId notation.Bytes16 ∷ In field.MetaFlags notation.Int role.PreparedFlags ∷ [])) → IsResult l z qs
   statement_back is d =
-      let x = prepared_back l qs (Extra ∷ []) told s d.1 in
+      let x = prepared_back l qs (Extra ∷ []) described s d.1 in
       record { message = Prepared x.item; parts = with_kind z (pos 4) _ _ (kind_is z 4 fits is) (all_parts l _ _ _ qs x); is = record { opcode = refl; agrees = x.holds.0; cells = refl; types = (x.holds.1, x.holds.2) } }
 
-  changed_back : (bits z == 5) ≡ true → Beside l z qs told (Some productions.schema_change) → IsResult l z qs
+  changed_back : (bits z == 5) ≡ true → Beside l z qs described (Some productions.schema_change) → IsResult l z qs
   changed_back is d =
-      let x = (change_back {l = l}).run qs (Extra ∷ []) told s d.1 in
+      let x = (change_back {l = l}).run qs (Extra ∷ []) described s d.1 in
       record { message = Change x.item; parts = with_kind z (pos 5) _ _ (kind_is z 5 fits is) (all_parts l _ _ _ qs x); is = record { opcode = refl; agrees = x.holds; cells = refl; types = tt } }
 
-  other_kind : Beside l z qs told None → IsResult l z qs
+  other_kind : Beside l z qs described None → IsResult l z qs
   other_kind d = elim (decided (bits z == 1)) [
-    | inl is ↦ record { message = Void; parts = with_kind z (pos 1) _ _ (kind_is z 1 fits is) (ended l qs told d.1); is = record { opcode = refl; agrees = refl; cells = refl; types = tt } }
-    | inr is ↦ record { message = UnknownResult z; parts = with_kind z z _ _ refl (ended l qs told d.1); is = record { opcode = refl; agrees = no_kind (bits z) d.0 is; cells = refl; types = tt } }
+    | inl is ↦ record { message = Void; parts = with_kind z (pos 1) _ _ (kind_is z 1 fits is) (ended l qs described d.1); is = record { opcode = refl; agrees = refl; cells = refl; types = tt } }
+    | inr is ↦ record { message = UnknownResult z; parts = with_kind z z _ _ refl (ended l qs described d.1); is = record { opcode = refl; agrees = no_kind (bits z) d.0 is; cells = refl; types = tt } }
   ]
 
-  of_kind : Derives l qs (or_nothing (beside_number (bits z) results) ++ Extra ∷ []) told → IsResult l z qs
-  of_kind d = by_number (bits z) results (Beside l z qs told) (IsResult l z qs) (refl, d) (rows_back, (keyspace_back, (statement_back, (changed_back, other_kind))))
+  of_kind : Derives l qs (or_nothing (beside_number (bits z) results) ++ Extra ∷ []) described → IsResult l z qs
+  of_kind d = by_number (bits z) results (Beside l z qs described) (IsResult l z qs) (refl, d) (rows_back, (keyspace_back, (statement_back, (changed_back, other_kind))))
 
-result_back : (l : Rules) (ps : List Part) (told : Types) → AreSound ps → Derives l ps (body opcode.Result ++ Extra ∷ []) told → IsMessage l opcode.Result ps
-result_back l ps told s d =
-    take (IsMessage l opcode.Result) ps (field_back l notation.Int note.Int int_view field.ResultKind role.ResultKind ps (Extra ∷ []) told s d) λ z qs p s d. of_kind l z qs told p.1 s d
+result_back : (l : Rules) (ps : List Part) (described : Types) → AreSound ps → Derives l ps (body opcode.Result ++ Extra ∷ []) described → IsMessage l opcode.Result ps
+result_back l ps described s d =
+    take (IsMessage l opcode.Result) ps (field_back l notation.Int note.Int int_view field.ResultKind role.ResultKind ps (Extra ∷ []) described s d) λ z qs p s d. of_kind l z qs described p.1 s d
 
 -- The parts that come of an opcode's body are those of a message with the opcode.
-pub message_back : (l : Rules) (o : Opcode) (ps : List Part) (told : Types) → AreSound ps → Derives l ps (body o ++ Extra ∷ []) told → IsMessage l o ps
+pub message_back : (l : Rules) (o : Opcode) (ps : List Part) (described : Types) → AreSound ps → Derives l ps (body o ++ Extra ∷ []) described → IsMessage l o ps
 message_back l opcode.Error = of_back error_back
 message_back l opcode.Startup = of_back startup_back
 message_back l opcode.Ready = of_back ready_back
@@ -198,7 +198,7 @@ framed l h ps plain direction p b qs m whole =
     }
 
 -- The parts that come of the symbols of a lawful header are those of a frame with the header.
-pub frame_back : (l : Rules) (h : Header) (ps : List Part) (told : Types) → has h.flags 0x01 ≡ false → answers h.opcode ≡ h.response → AreSound ps → Derives l ps (message h) told → IsFrame l h ps
-frame_back l h ps told plain direction s d =
-    let x = (announced_back {l = l} h).run ps (body h.opcode ++ Extra ∷ []) told s (rw (append_assoc (announced h) (body h.opcode) (Extra ∷ [])) at d) in
-    framed l h ps plain direction x.item x.holds x.left (message_back l h.opcode x.left told x.sound x.derives) x.whole
+pub frame_back : (l : Rules) (h : Header) (ps : List Part) (described : Types) → has h.flags 0x01 ≡ false → answers h.opcode ≡ h.response → AreSound ps → Derives l ps (message h) described → IsFrame l h ps
+frame_back l h ps described plain direction s d =
+    let x = (announced_back {l = l} h).run ps (body h.opcode ++ Extra ∷ []) described s (rw (append_assoc (announced h) (body h.opcode) (Extra ∷ [])) at d) in
+    framed l h ps plain direction x.item x.holds x.left (message_back l h.opcode x.left described x.sound x.derives) x.whole

@@ -43,11 +43,11 @@ announced false false false false m e = refl
 agrees_alone : (f : FrameValue) → is_directed f ≡ true → frame_agrees (with_derived_flags f) ≡ message_agrees f.message
 agrees_alone f e = announced (is_response f.message) (is_some f.tracing) (is_some f.payload) (is_some f.warnings) (message_agrees f.message) e
 
--- the second is told only where the first does not hold, and the second does
-told_second : (a b : Bool) (rest : Option Unfit) → cond a (Some unfit.Direction) (cond b (Some unfit.Parts) rest) ≡ Some unfit.Parts → ((a ≡ false) × (b ≡ true)) ⊎ (rest ≡ Some unfit.Parts)
-told_second true b rest e = cc
-told_second false true rest e = inl (refl, refl)
-told_second false false rest e = inr e
+-- the second is reported only where the first does not hold, and the second does
+second_reported : (a b : Bool) (rest : Option Unfit) → cond a (Some unfit.Direction) (cond b (Some unfit.Parts) rest) ≡ Some unfit.Parts → ((a ≡ false) × (b ≡ true)) ⊎ (rest ≡ Some unfit.Parts)
+second_reported true b rest e = cc
+second_reported false true rest e = inl (refl, refl)
+second_reported false false rest e = inr e
 
 never_after : (a b c d e : Bool) → first_of ((a, unfit.TooManyItems) ∷ (b, unfit.TextTooLong) ∷ (c, unfit.RowShape) ∷ (d, unfit.CellType) ∷ (e, unfit.BodyTooLong) ∷ []) ≡ Some unfit.Parts → ⊥
 never_after true b c d e h = absurd cc
@@ -68,7 +68,7 @@ not_true false e = refl
 refused_alone : (f : FrameValue) → unfit_of (with_derived_flags f) ≡ Some unfit.Parts → message_agrees f.message ≡ false
 refused_alone f e =
     let g = with_derived_flags f in
-    elim (told_second (not (is_directed f)) (not (frame_agrees g)) _ e) [
+    elim (second_reported (not (is_directed f)) (not (frame_agrees g)) _ e) [
       | inl at ↦ sym (agrees_alone f (not_false (is_directed f) at.0)) ∙ not_true (frame_agrees g) at.1
       | inr later ↦ absurd (never_after (not (list_all counts_fit (frame_parts g))) (not (list_all texts_fit (frame_parts g))) (not (has_its_cells g.message)) (not (list_all cell_fits (frame_parts g))) (nat_lt LONGEST_BODY (parts_size (frame_parts g))) later)
     ]

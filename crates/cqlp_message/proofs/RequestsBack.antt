@@ -47,7 +47,7 @@ all_agree a b c d e f p q r s t u = rw (p, q, r, s, t, u) refl
 
 pub params_back : {l : Rules} → Back l QueryParams params_parts (λ q. params_agree q ≡ true) parameters
 params_back = other_back _ _ params (λ p q. refl) (λ p q. all_agree _ _ _ _ _ _ q.1.0.0.0.0.0 (named_where _ p.1.1.0.0.0.0 q.1.0.0.0.0.1) q.1.0.0.0.1.0 q.1.0.0.1.0 q.1.0.1.0 q.1.1.0)
-    (pair_back (short_back field.Consistency) (led_back notation.Byte note.Byte byte_view field.QueryFlags role.QueryFlags query_parts (λ flags types. refl) (λ told. refl)
+    (pair_back (short_back field.Consistency) (led_back notation.Byte note.Byte byte_view field.QueryFlags role.QueryFlags query_parts (λ flags types. refl) (λ described. refl)
     (λ flags p q. pair_back (pair_back (pair_back (pair_back
     (where_back (counted_back (λ v. there_if (has flags 0x40) v.0) field.Values (group_of.QueryValues (has flags 0x40)) (value_back (has flags 0x40))) flags 0x01)
     (where_back (int_back field.PageSize) flags 0x04)) (where_back (bytes_back field.PagingState) flags 0x08)) (where_back (short_back field.SerialConsistency) flags 0x10)) (where_back (long_back field.Timestamp) flags 0x20))))
@@ -83,7 +83,7 @@ behind_kind_back n fault false is =
 
 entry_back : {l : Rules} → Back l BatchEntry entry_parts (λ e. any e ≡ true) (group group_of.BatchEntries)
 entry_back = other_back _ _ (λ p. p.1) (λ p q. whole_entry p.0 p.1 q) (λ p q. refl)
-    (led_back notation.Byte note.Byte byte_view field.EntryKind role.EntryKind productions.entry_parts (λ n types. refl) (λ told. refl) (λ n p q. behind_kind_back n p (n == 0) refl))
+    (led_back notation.Byte note.Byte byte_view field.EntryKind role.EntryKind productions.entry_parts (λ n types. refl) (λ described. refl) (λ n p q. behind_kind_back n p (n == 0) refl))
 
 in_line : (a c d : List Part) (x y : Part) → a ++ (x ∷ y ∷ (c ++ d)) ≡ ((a ++ (x ∷ y ∷ [])) ++ c) ++ d
 in_line a c d x y = sym (append_assoc (a ++ (x ∷ y ∷ [])) c d ∙ append_assoc a (x ∷ y ∷ []) (c ++ d))
@@ -102,7 +102,7 @@ pub batch_back : {l : Rules} → Back l Message message_parts (IsOf l opcode.Bat
 batch_back = other_back _ _ batch (λ p q. ap (λ t. bodies.byte field.BatchType p.0 ∷ t) (in_line (bodies.counted field.Entries entry_parts p.1.0) (bodies.serial_parts p.1.1.1.1.0) (bodies.timestamp_parts p.1.1.1.1.1) (bodies.short field.Consistency p.1.1.0) (bodies.byte field.BatchFlags p.1.1.1.0)))
     (λ p q. record { opcode = refl; agrees = q.1.1.1; cells = refl; types = tt })
     (pair_back (byte_back field.BatchType) (pair_back (counted_back any field.Entries group_of.BatchEntries entry_back) (pair_back (short_back field.Consistency)
-    (led_back notation.Byte note.Byte byte_view field.BatchFlags role.BatchFlags batch_parts (λ flags types. refl) (λ told. refl) (λ flags p q. ends_back flags p)))))
+    (led_back notation.Byte note.Byte byte_view field.BatchFlags role.BatchFlags batch_parts (λ flags types. refl) (λ described. refl) (λ flags p q. ends_back flags p)))))
 
 -- ---- messages
 

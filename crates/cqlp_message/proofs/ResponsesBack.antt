@@ -51,7 +51,7 @@ extra_back code = by_number code errors (λ o. beside_number code errors ≡ o) 
 
 pub error_back : {l : Rules} → Back l Message message_parts (IsOf l opcode.Error) (body opcode.Error)
 error_back = other_back _ _ (λ p. Error p.0 p.1.0 p.1.1) (λ p q. refl) (λ p q. record { opcode = refl; agrees = q.1; cells = refl; types = tt })
-    (led_back notation.Int note.Int int_view field.ErrorCode role.ErrorCode (λ code. plain field.Message notation.Text16 ∷ or_nothing (beside_number (bits code) errors)) (λ code types. refl) (λ told. refl)
+    (led_back notation.Int note.Int int_view field.ErrorCode role.ErrorCode (λ code. plain field.Message notation.Text16 ∷ or_nothing (beside_number (bits code) errors)) (λ code types. refl) (λ described. refl)
     (λ code p q. pair_back (text_back field.Message) (extra_back (bits code))))
 
 -- ---- schema changes
@@ -80,15 +80,15 @@ options_back t = by_name t targets (λ ss. by_text t targets ≡ ss) _ refl (
 
 pub change_back : {l : Rules} → Back l SchemaChange change_parts (λ c. change_agrees c ≡ true) schema_change
 change_back = other_back _ _ (λ p. record { change = p.0; target = p.1.0; options = p.1.1 }) (λ p q. refl) (λ p q. q.1)
-    (pair_back (text_back field.Change) (led_back notation.Text16 note.Text text16_view field.Target role.ChangeTarget (λ t. by_text t targets) (λ t types. refl) (λ told. refl) (λ t p q. options_back t)))
+    (pair_back (text_back field.Change) (led_back notation.Text16 note.Text text16_view field.Target role.ChangeTarget (λ t. by_text t targets) (λ t types. refl) (λ described. refl) (λ t p q. options_back t)))
 
 -- ---- events
 
 beside_event : {l : Rules} (t : Octets) (ss : List Symbol) → by_text t events ≡ ss → Back l ServerEvent event_parts (λ e. event_agrees t e ≡ true) ss → Back l ServerEvent event_parts (λ e. event_agrees t e ≡ true) (by_text t events)
 beside_event {l} t ss is b = subst (λ ss. Back l ServerEvent event_parts (λ e. event_agrees t e ≡ true) ss) (sym is) b
 
-told_back : {l : Rules} (t : Octets) → Back l ServerEvent event_parts (λ e. event_agrees t e ≡ true) (by_text t events)
-told_back t = by_name t events (λ ss. by_text t events ≡ ss) _ refl (
+described_back : {l : Rules} (t : Octets) → Back l ServerEvent event_parts (λ e. event_agrees t e ≡ true) (by_text t events)
+described_back t = by_name t events (λ ss. by_text t events ≡ ss) _ refl (
   (λ is e. beside_event t _ e (other_back _ _ (λ p. Node p.0 p.1.0 p.1.1) (λ p q. refl) (λ p q. rw is refl) (pair_back (text_back field.Change) (inet_back field.Address)))),
   (
     (λ is e. beside_event t _ e (other_back _ _ (λ p. Node p.0 p.1.0 p.1.1) (λ p q. refl) (λ p q. or_right _ _ is) (pair_back (text_back field.Change) (inet_back field.Address)))),
@@ -101,7 +101,7 @@ told_back t = by_name t events (λ ss. by_text t events ≡ ss) _ refl (
 
 pub event_back : {l : Rules} → Back l Message message_parts (IsOf l opcode.Event) (body opcode.Event)
 event_back = other_back _ _ (λ p. Event p.0 p.1) (λ p q. refl) (λ p q. record { opcode = refl; agrees = q; cells = refl; types = tt })
-    (led_back notation.Text16 note.Text text16_view field.EventType role.EventType (λ t. by_text t events) (λ t types. refl) (λ told. refl) (λ t p q. told_back t))
+    (led_back notation.Text16 note.Text text16_view field.EventType role.EventType (λ t. by_text t events) (λ t types. refl) (λ described. refl) (λ t p q. described_back t))
 
 -- ---- other messages
 

@@ -21,10 +21,10 @@ use Rattle.cqlp_message.specs.FrameValues.{TableName, Spec, Metadata, Page, Prep
 use Rattle.cqlp_grammar.specs.Productions.{Symbol, In, In_type, Cell_due, plain, copies, group, where_set, row_from, rows_from, raw_types}
 use Rattle.cqlp_grammar.specs.Productions as productions
 use Rattle.cqlp_message.specs.Parts.{Part, Field_is, Type_is, Cell_is}
-use Rattle.cqlp_message.specs.Bodies.{where_some, text, int, count, statement, table_parts, spec_parts, specs_parts, paging_parts, metadata_parts, counted_keys, column_types, types_told, cell_types, row_parts, rows_parts, page_parts, prepared_parts}
+use Rattle.cqlp_message.specs.Bodies.{where_some, text, int, count, statement, table_parts, spec_parts, specs_parts, paging_parts, metadata_parts, counted_keys, column_types, types_described, cell_types, row_parts, rows_parts, page_parts, prepared_parts}
 use Rattle.cqlp_message.specs.Bodies as bodies
 use Rattle.cqlp_message.specs.Agreement.{bits, spec_agrees, specs_agree, columns_agree, metadata_agrees, prepared_agrees}
-use Rattle.cqlp_message.specs.Frames.{options_among, options_told}
+use Rattle.cqlp_message.specs.Frames.{options_among, options_described}
 use Rattle.cqlp_message.proofs.Derives.{Derives, nodes_in}
 use Rattle.cqlp_message.proofs.Messages.{many_after}
 use Rattle.cqlp_message.proofs.Gives.{AreSound, Gives, take, sure, any, field_back, int_view, count32_view, short_back, text_back, statement_back, bytes_back, pair_back, copies_back, where_back, both}
@@ -56,53 +56,53 @@ one_in t is = many_in t ∙ eqb-true (trees_in t) 1 (one_type (trees_in t == 1) 
 
 -- ---- columns
 
-type_back : (l : Rules) (ps : List Part) (rest : List Symbol) (told : Types) → AreSound ps → Derives l ps (In_type (Option_at 1 ∷ []) ∷ rest) told
-    → Gives l Trees (λ t. Type_is t ∷ []) (λ t. (is_tree t ≡ true) × (nodes_in told + options_in t ≤ l.entries)) (λ t. followed_by told (types_in t)) (λ t. rest) ps
-type_back l (Type_is t ∷ left) rest told s d = record { item = t; left = left; whole = refl; holds = (s.0, d.1); sound = s.1; derives = d.2 }
-type_back l [] rest told s d = absurd cc
-type_back l (Field_is g m v ∷ left) rest told s d = absurd d
-type_back l (Cell_is row column k inner v ∷ left) rest told s d = absurd d
+type_back : (l : Rules) (ps : List Part) (rest : List Symbol) (described : Types) → AreSound ps → Derives l ps (In_type (Option_at 1 ∷ []) ∷ rest) described
+    → Gives l Trees (λ t. Type_is t ∷ []) (λ t. (is_tree t ≡ true) × (nodes_in described + options_in t ≤ l.entries)) (λ t. followed_by described (types_in t)) (λ t. rest) ps
+type_back l (Type_is t ∷ left) rest described s d = record { item = t; left = left; whole = refl; holds = (s.0, d.1); sound = s.1; derives = d.2 }
+type_back l [] rest described s d = absurd cc
+type_back l (Field_is g m v ∷ left) rest described s d = absurd d
+type_back l (Cell_is row column k inner v ∷ left) rest described s d = absurd d
 
 -- a column, and room for its types
-abbrev IsColumn : (l : Rules) (global : Bool) (told : Types) → Spec → Type 0
-IsColumn l global told c = (spec_agrees (not global) c ≡ true) × (how_many (types_in c.tree) ≡ 1) × (nodes_in told + options_in c.tree ≤ l.entries)
+abbrev IsColumn : (l : Rules) (global : Bool) (described : Types) → Spec → Type 0
+IsColumn l global described c = (spec_agrees (not global) c ≡ true) × (how_many (types_in c.tree) ≡ 1) × (nodes_in described + options_in c.tree ≤ l.entries)
 
-abbrev GivesColumn : (l : Rules) (global : Bool) (rest : List Symbol) (told : Types) → List Part → Type 0
-GivesColumn l global rest told ps = Gives l Spec spec_parts (IsColumn l global told) (λ c. followed_by told (types_in c.tree)) (λ c. rest) ps
+abbrev GivesColumn : (l : Rules) (global : Bool) (rest : List Symbol) (described : Types) → List Part → Type 0
+GivesColumn l global rest described ps = Gives l Spec spec_parts (IsColumn l global described) (λ c. followed_by described (types_in c.tree)) (λ c. rest) ps
 
-column_back : (l : Rules) (global : Bool) (ps : List Part) (rest : List Symbol) (told : Types) → AreSound ps → Derives l ps (group (group_of.Columns global) ++ rest) told → GivesColumn l global rest told ps
-column_back l true ps rest told s d =
-    let R : List Part → Type 0 = GivesColumn l true rest told in
-    take R ps ((text_back {l = l} field.ColumnName).run ps (In_type (Option_at 1 ∷ []) ∷ rest) told s d) λ name qs p s d.
-    take (λ z. R (text field.ColumnName name ∷ z)) qs (type_back l qs rest told s d) λ t rs q s d.
+column_back : (l : Rules) (global : Bool) (ps : List Part) (rest : List Symbol) (described : Types) → AreSound ps → Derives l ps (group (group_of.Columns global) ++ rest) described → GivesColumn l global rest described ps
+column_back l true ps rest described s d =
+    let R : List Part → Type 0 = GivesColumn l true rest described in
+    take R ps ((text_back {l = l} field.ColumnName).run ps (In_type (Option_at 1 ∷ []) ∷ rest) described s d) λ name qs p s d.
+    take (λ z. R (text field.ColumnName name ∷ z)) qs (type_back l qs rest described s d) λ t rs q s d.
     record { item = record { table = None; name = name; tree = t }; left = rs; whole = refl; holds = (q.0, one_in t q.0, q.1); sound = s; derives = d }
-column_back l false ps rest told s d =
-    let R : List Part → Type 0 = GivesColumn l false rest told in
-    take R ps ((pair_back {l = l} (text_back field.Keyspace) (pair_back (text_back field.Table) (text_back field.ColumnName))).run ps (In_type (Option_at 1 ∷ []) ∷ rest) told s d) λ n qs p s d.
-    take (λ z. R (text field.Keyspace n.0 ∷ text field.Table n.1.0 ∷ text field.ColumnName n.1.1 ∷ z)) qs (type_back l qs rest told s d) λ t rs q s d.
+column_back l false ps rest described s d =
+    let R : List Part → Type 0 = GivesColumn l false rest described in
+    take R ps ((pair_back {l = l} (text_back field.Keyspace) (pair_back (text_back field.Table) (text_back field.ColumnName))).run ps (In_type (Option_at 1 ∷ []) ∷ rest) described s d) λ n qs p s d.
+    take (λ z. R (text field.Keyspace n.0 ∷ text field.Table n.1.0 ∷ text field.ColumnName n.1.1 ∷ z)) qs (type_back l qs rest described s d) λ t rs q s d.
     record { item = record { table = Some (n.0, n.1.0); name = n.1.1; tree = t }; left = rs; whole = refl; holds = (q.0, one_in t q.0, q.1); sound = s; derives = d }
 
 -- columns, and room for their types
-abbrev AreColumns : (l : Rules) (global : Bool) (n : ℕ) (told : Types) → List Spec → Type 0
-AreColumns l global n told cs = (length cs ≡ n) × (list_all (spec_agrees (not global)) cs ≡ true) × (how_many (column_types cs) ≡ n) × (nodes_in told + options_among cs ≤ l.entries)
+abbrev AreColumns : (l : Rules) (global : Bool) (n : ℕ) (described : Types) → List Spec → Type 0
+AreColumns l global n described cs = (length cs ≡ n) × (list_all (spec_agrees (not global)) cs ≡ true) × (how_many (column_types cs) ≡ n) × (nodes_in described + options_among cs ≤ l.entries)
 
-abbrev GivesColumns : (l : Rules) (global : Bool) (n : ℕ) (rest : List Symbol) (told : Types) → List Part → Type 0
-GivesColumns l global n rest told ps = Gives l (List Spec) (flat_map spec_parts) (AreColumns l global n told) (λ cs. followed_by told (column_types cs)) (λ cs. rest) ps
+abbrev GivesColumns : (l : Rules) (global : Bool) (n : ℕ) (rest : List Symbol) (described : Types) → List Part → Type 0
+GivesColumns l global n rest described ps = Gives l (List Spec) (flat_map spec_parts) (AreColumns l global n described) (λ cs. followed_by described (column_types cs)) (λ cs. rest) ps
 
-columns_back : (l : Rules) (global : Bool) (n : ℕ) (ps : List Part) (rest : List Symbol) (told : Types) → AreSound ps → nodes_in told ≤ l.entries → Derives l ps (copies n (group (group_of.Columns global)) ++ rest) told → GivesColumns l global n rest told ps
-columns_back l global zero ps rest told s room d = record { item = []; left = ps; whole = refl; holds = (refl, refl, refl, omega arith); sound = s; derives = rw (followed_by_none told) d }
-columns_back l global (suc n) ps rest told s room d =
-    let R : List Part → Type 0 = GivesColumns l global (suc n) rest told in
-    take R ps (column_back l global ps (copies n (group (group_of.Columns global)) ++ rest) told s (rw (append_assoc (group (group_of.Columns global)) (copies n (group (group_of.Columns global))) rest) at d)) λ c qs p s d.
-    let nodes : nodes_in (followed_by told (types_in c.tree)) ≡ nodes_in told + options_in c.tree = nodes_followed told (types_in c.tree) ∙ ap (λ k. nodes_in told + k) (many_nodes c.tree) in
-    take (λ z. R (spec_parts c ++ z)) qs (columns_back l global n qs rest (followed_by told (types_in c.tree)) s (omega (arith, nodes, p.2)) d) λ cs rs q s d.
+columns_back : (l : Rules) (global : Bool) (n : ℕ) (ps : List Part) (rest : List Symbol) (described : Types) → AreSound ps → nodes_in described ≤ l.entries → Derives l ps (copies n (group (group_of.Columns global)) ++ rest) described → GivesColumns l global n rest described ps
+columns_back l global zero ps rest described s room d = record { item = []; left = ps; whole = refl; holds = (refl, refl, refl, omega arith); sound = s; derives = rw (followed_by_none described) d }
+columns_back l global (suc n) ps rest described s room d =
+    let R : List Part → Type 0 = GivesColumns l global (suc n) rest described in
+    take R ps (column_back l global ps (copies n (group (group_of.Columns global)) ++ rest) described s (rw (append_assoc (group (group_of.Columns global)) (copies n (group (group_of.Columns global))) rest) at d)) λ c qs p s d.
+    let nodes : nodes_in (followed_by described (types_in c.tree)) ≡ nodes_in described + options_in c.tree = nodes_followed described (types_in c.tree) ∙ ap (λ k. nodes_in described + k) (many_nodes c.tree) in
+    take (λ z. R (spec_parts c ++ z)) qs (columns_back l global n qs rest (followed_by described (types_in c.tree)) s (omega (arith, nodes, p.2)) d) λ cs rs q s d.
     record {
       item = c ∷ cs;
       left = rs;
       whole = sym (append_assoc (spec_parts c) (flat_map spec_parts cs) rs);
       holds = (omega (arith, q.0), rw (p.0, q.1) refl, omega (arith, many_after (types_in c.tree) (column_types cs), p.1, q.2), omega (arith, nodes, q.3));
       sound = s;
-      derives = rw (followed_assoc told (types_in c.tree) (column_types cs)) at d;
+      derives = rw (followed_assoc described (types_in c.tree) (column_types cs)) at d;
     }
 
 all_three : (a b c : Bool) → a ≡ true → b ≡ true → c ≡ true → (a && b && c) ≡ true
@@ -132,21 +132,21 @@ specs_back l flags columns ps rest s d =
 
 -- ---- metadata
 
--- the types of these columns, where they are told
-abbrev pub told_types : Option (List Spec) → Types
-told_types None = NoMore
-told_types (Some cs) = column_types cs
+-- the types of these columns, where they are described
+abbrev pub described_types : Option (List Spec) → Types
+described_types None = NoMore
+described_types (Some cs) = column_types cs
 
-abbrev AreTold : (l : Rules) (flags columns : ℕ) → Option TableName × Option (List Spec) → Type 0
-AreTold l flags columns p =
-    (columns_agree flags columns p.0 p.1 ≡ true) × (options_told p.1 ≤ l.entries) × (how_many (types_told columns p.1) ≡ columns) × (cond (has flags 0x04) (raw_types columns) (told_types p.1) ≡ types_told columns p.1)
+abbrev AreDescribed : (l : Rules) (flags columns : ℕ) → Option TableName × Option (List Spec) → Type 0
+AreDescribed l flags columns p =
+    (columns_agree flags columns p.0 p.1 ≡ true) × (options_described p.1 ≤ l.entries) × (how_many (types_described columns p.1) ≡ columns) × (cond (has flags 0x04) (raw_types columns) (described_types p.1) ≡ types_described columns p.1)
 
-abbrev GivesTold : (l : Rules) (flags columns : ℕ) (rest : List Symbol) → List Part → Type 0
-GivesTold l flags columns rest ps = Gives l (Option TableName × Option (List Spec)) (λ p. table_parts p.0 ++ where_some (flat_map spec_parts) p.1) (AreTold l flags columns) (λ p. told_types p.1) (λ p. rest) ps
+abbrev GivesDescribed : (l : Rules) (flags columns : ℕ) (rest : List Symbol) → List Part → Type 0
+GivesDescribed l flags columns rest ps = Gives l (Option TableName × Option (List Spec)) (λ p. table_parts p.0 ++ where_some (flat_map spec_parts) p.1) (AreDescribed l flags columns) (λ p. described_types p.1) (λ p. rest) ps
 
-told_back : (l : Rules) (flags columns : ℕ) (b : Bool) → has flags 0x04 ≡ b → (ps : List Part) (rest : List Symbol) → AreSound ps → Derives l ps ((if b then [] else productions.specs flags columns) ++ rest) NoMore → GivesTold l flags columns rest ps
-told_back l flags columns true is ps rest s d = record { item = (None, None); left = ps; whole = refl; holds = (rw is refl, omega arith, many_raw columns, rw is refl); sound = s; derives = d }
-told_back l flags columns false is ps rest s d =
+described_back : (l : Rules) (flags columns : ℕ) (b : Bool) → has flags 0x04 ≡ b → (ps : List Part) (rest : List Symbol) → AreSound ps → Derives l ps ((if b then [] else productions.specs flags columns) ++ rest) NoMore → GivesDescribed l flags columns rest ps
+described_back l flags columns true is ps rest s d = record { item = (None, None); left = ps; whole = refl; holds = (rw is refl, omega arith, many_raw columns, rw is refl); sound = s; derives = d }
+described_back l flags columns false is ps rest s d =
     let x = specs_back l flags columns ps rest s d in
     record { item = (x.item.0, Some x.item.1); left = x.left; whole = x.whole; holds = (rw is x.holds.0, x.holds.2, x.holds.1, rw is refl); sound = x.sound; derives = x.derives }
 
@@ -158,26 +158,26 @@ due_in_line a b c rest = simp append_assoc
 
 abbrev IsMetadata : (l : Rules) → Metadata → Type 0
 IsMetadata l m =
-    (metadata_agrees m ≡ true) × (options_told m.specs ≤ l.entries) × (how_many (cell_types m) ≡ m.columns) × (cond (has (bits m.flags) 0x04) (raw_types m.columns) (told_types m.specs) ≡ cell_types m)
+    (metadata_agrees m ≡ true) × (options_described m.specs ≤ l.entries) × (how_many (cell_types m) ≡ m.columns) × (cond (has (bits m.flags) 0x04) (raw_types m.columns) (described_types m.specs) ≡ cell_types m)
 
 -- the number of rows, after the metadata of a page
 abbrev rows_due : Bool → Metadata → List Symbol
 rows_due rows m = if rows then In field.Rows notation.Count32 (role.PageRows (bits m.flags) m.columns) ∷ [] else []
 
 abbrev GivesMetadata : (l : Rules) (rows : Bool) (rest : List Symbol) → List Part → Type 0
-GivesMetadata l rows rest ps = Gives l Metadata metadata_parts (IsMetadata l) (λ m. told_types m.specs) (λ m. rows_due rows m ++ rest) ps
+GivesMetadata l rows rest ps = Gives l Metadata metadata_parts (IsMetadata l) (λ m. described_types m.specs) (λ m. rows_due rows m ++ rest) ps
 
-metadata_back : (l : Rules) (rows : Bool) (ps : List Part) (rest : List Symbol) (told : Types) → AreSound ps → Derives l ps (In field.MetaFlags notation.Int (role.MetaFlags rows) ∷ rest) told → GivesMetadata l rows rest ps
-metadata_back l rows ps rest told s d =
+metadata_back : (l : Rules) (rows : Bool) (ps : List Part) (rest : List Symbol) (described : Types) → AreSound ps → Derives l ps (In field.MetaFlags notation.Int (role.MetaFlags rows) ∷ rest) described → GivesMetadata l rows rest ps
+metadata_back l rows ps rest described s d =
     let R : List Part → Type 0 = GivesMetadata l rows rest in
-    take R ps (field_back l notation.Int note.Int int_view field.MetaFlags (role.MetaFlags rows) ps rest told s d) λ z qs p s d.
+    take R ps (field_back l notation.Int note.Int int_view field.MetaFlags (role.MetaFlags rows) ps rest described s d) λ z qs p s d.
     let flags : ℕ = bits z in
     take (λ t. R (int field.MetaFlags z ∷ t)) qs (field_back l notation.Count32 note.Count count32_view field.Columns (role.MetaColumns rows flags) qs rest NoMore s d) λ n qs p s d.
     let state : List Symbol = where_set flags 0x02 (plain field.PagingState notation.Bytes32 ∷ []) in
     let due : List Symbol = if has flags 0x04 then [] else productions.specs flags n in
     let last : List Symbol = if rows then In field.Rows notation.Count32 (role.PageRows flags n) ∷ [] else [] in
     take (λ t. R (int field.MetaFlags z ∷ count field.Columns n ∷ t)) qs ((where_back {l = l} (bytes_back field.PagingState) flags 0x02).run qs (due ++ (last ++ rest)) NoMore s (rw (due_in_line state due last rest) at d)) λ o qs p s d.
-    take (λ t. R (int field.MetaFlags z ∷ count field.Columns n ∷ (paging_parts o ++ t))) qs (told_back l flags n (has flags 0x04) refl qs (last ++ rest) s d) λ x rs q s d.
+    take (λ t. R (int field.MetaFlags z ∷ count field.Columns n ∷ (paging_parts o ++ t))) qs (described_back l flags n (has flags 0x04) refl qs (last ++ rest) s d) λ x rs q s d.
     record {
       item = record { flags = z; columns = n; paging = o; table = x.0; specs = x.1 };
       left = rs;
@@ -189,20 +189,20 @@ metadata_back l rows ps rest told s d =
 
 -- ---- pages
 
-cell_back : (l : Rules) (row column : ℕ) (k : Kind) (inner : Types) (ps : List Part) (rest : List Symbol) (told : Types) → AreSound ps → Derives l ps (Cell_due row column k inner ∷ rest) told
-    → Gives l Values (λ v. Cell_is row column k inner v ∷ []) sure (λ v. told) (λ v. rest) ps
-cell_back l row column k inner (Cell_is row' column' k' inner' v ∷ left) rest told s d = record { item = v; left = left; whole = rw (d.0.row_is, d.0.column_is, d.0.kind_is, d.0.inner_is) refl; holds = refl; sound = s.1; derives = d.1 }
-cell_back l row column k inner [] rest told s d = absurd cc
-cell_back l row column k inner (Field_is g m v ∷ left) rest told s d = absurd d
-cell_back l row column k inner (Type_is t ∷ left) rest told s d = absurd d
+cell_back : (l : Rules) (row column : ℕ) (k : Kind) (inner : Types) (ps : List Part) (rest : List Symbol) (described : Types) → AreSound ps → Derives l ps (Cell_due row column k inner ∷ rest) described
+    → Gives l Values (λ v. Cell_is row column k inner v ∷ []) sure (λ v. described) (λ v. rest) ps
+cell_back l row column k inner (Cell_is row' column' k' inner' v ∷ left) rest described s d = record { item = v; left = left; whole = rw (d.0.row_is, d.0.column_is, d.0.kind_is, d.0.inner_is) refl; holds = refl; sound = s.1; derives = d.1 }
+cell_back l row column k inner [] rest described s d = absurd cc
+cell_back l row column k inner (Field_is g m v ∷ left) rest described s d = absurd d
+cell_back l row column k inner (Type_is t ∷ left) rest described s d = absurd d
 
-row_back : (l : Rules) (row column : ℕ) (types : Types) (ps : List Part) (rest : List Symbol) (told : Types) → AreSound ps → Derives l ps (row_from row column types ++ rest) told
-    → Gives l (List Values) (row_parts row column types) (λ vs. length vs ≡ how_many types) (λ vs. told) (λ vs. rest) ps
-row_back l row column NoMore ps rest told s d = record { item = []; left = ps; whole = refl; holds = refl; sound = s; derives = d }
-row_back l row column (Type_and k inner others) ps rest told s d =
-    let R : List Part → Type 0 = Gives l (List Values) (row_parts row column (Type_and k inner others)) (λ vs. length vs ≡ how_many (Type_and k inner others)) (λ vs. told) (λ vs. rest) in
-    take R ps (cell_back l row column k inner ps (row_from row (column + 1) others ++ rest) told s d) λ v qs p s d.
-    take (λ t. R (Cell_is row column k inner v ∷ t)) qs (row_back l row (column + 1) others qs rest told s d) λ vs rs q s d.
+row_back : (l : Rules) (row column : ℕ) (types : Types) (ps : List Part) (rest : List Symbol) (described : Types) → AreSound ps → Derives l ps (row_from row column types ++ rest) described
+    → Gives l (List Values) (row_parts row column types) (λ vs. length vs ≡ how_many types) (λ vs. described) (λ vs. rest) ps
+row_back l row column NoMore ps rest described s d = record { item = []; left = ps; whole = refl; holds = refl; sound = s; derives = d }
+row_back l row column (Type_and k inner others) ps rest described s d =
+    let R : List Part → Type 0 = Gives l (List Values) (row_parts row column (Type_and k inner others)) (λ vs. length vs ≡ how_many (Type_and k inner others)) (λ vs. described) (λ vs. rest) in
+    take R ps (cell_back l row column k inner ps (row_from row (column + 1) others ++ rest) described s d) λ v qs p s d.
+    take (λ t. R (Cell_is row column k inner v ∷ t)) qs (row_back l row (column + 1) others qs rest described s d) λ vs rs q s d.
     record { item = v ∷ vs; left = rs; whole = refl; holds = omega (arith, q); sound = s; derives = d }
 
 -- more cells change no row
@@ -214,13 +214,13 @@ row_more row column (Type_and k inner others) (v ∷ vs) ws is = ap (λ t. Cell_
 rows_more : (row : ℕ) (types : Types) (n : ℕ) (vs ws : List Values) → length vs ≡ how_many types → rows_parts row types (suc n) (vs ++ ws) ≡ row_parts row 0 types vs ++ rows_parts (row + 1) types n ws
 rows_more row types n vs ws is = rw (row_more row 0 types vs ws is, drop_at vs ws (how_many types) is) refl
 
-rows_back : (l : Rules) (row : ℕ) (types : Types) (n : ℕ) (ps : List Part) (rest : List Symbol) (told : Types) → AreSound ps → Derives l ps (rows_from row types n ++ rest) told
-    → Gives l (List Values) (rows_parts row types n) (λ vs. length vs ≡ n * how_many types) (λ vs. told) (λ vs. rest) ps
-rows_back l row types zero ps rest told s d = record { item = []; left = ps; whole = refl; holds = omega arith; sound = s; derives = d }
-rows_back l row types (suc n) ps rest told s d =
-    let R : List Part → Type 0 = Gives l (List Values) (rows_parts row types (suc n)) (λ vs. length vs ≡ suc n * how_many types) (λ vs. told) (λ vs. rest) in
-    take R ps (row_back l row 0 types ps (rows_from (row + 1) types n ++ rest) told s (rw (append_assoc (row_from row 0 types) (rows_from (row + 1) types n) rest) at d)) λ vs qs p s d.
-    take (λ t. R (row_parts row 0 types vs ++ t)) qs (rows_back l (row + 1) types n qs rest told s d) λ ws rs q s d.
+rows_back : (l : Rules) (row : ℕ) (types : Types) (n : ℕ) (ps : List Part) (rest : List Symbol) (described : Types) → AreSound ps → Derives l ps (rows_from row types n ++ rest) described
+    → Gives l (List Values) (rows_parts row types n) (λ vs. length vs ≡ n * how_many types) (λ vs. described) (λ vs. rest) ps
+rows_back l row types zero ps rest described s d = record { item = []; left = ps; whole = refl; holds = omega arith; sound = s; derives = d }
+rows_back l row types (suc n) ps rest described s d =
+    let R : List Part → Type 0 = Gives l (List Values) (rows_parts row types (suc n)) (λ vs. length vs ≡ suc n * how_many types) (λ vs. described) (λ vs. rest) in
+    take R ps (row_back l row 0 types ps (rows_from (row + 1) types n ++ rest) described s (rw (append_assoc (row_from row 0 types) (rows_from (row + 1) types n) rest) at d)) λ vs qs p s d.
+    take (λ t. R (row_parts row 0 types vs ++ t)) qs (rows_back l (row + 1) types n qs rest described s d) λ ws rs q s d.
     record {
       item = vs ++ ws;
       left = rs;
@@ -232,14 +232,14 @@ rows_back l row types (suc n) ps rest told s d =
 
 -- a page that agrees, has its cells, and room for its types
 abbrev IsPage : (l : Rules) → Page → Type 0
-IsPage l p = (metadata_agrees p.meta ≡ true) × (options_told p.meta.specs ≤ l.entries) × ((length p.cells == p.rows * p.meta.columns) ≡ true)
+IsPage l p = (metadata_agrees p.meta ≡ true) × (options_described p.meta.specs ≤ l.entries) × ((length p.cells == p.rows * p.meta.columns) ≡ true)
 
-pub page_back : (l : Rules) (ps : List Part) (rest : List Symbol) (told : Types) → AreSound ps → Derives l ps (In field.MetaFlags notation.Int (role.MetaFlags true) ∷ rest) told → Gives l Page page_parts (IsPage l) (λ p. told_types p.meta.specs) (λ p. rest) ps
-page_back l ps rest told s d =
-    let R : List Part → Type 0 = Gives l Page page_parts (IsPage l) (λ p. told_types p.meta.specs) (λ p. rest) in
-    take R ps (metadata_back l true ps rest told s d) λ m qs p s d.
-    take (λ t. R (metadata_parts m ++ t)) qs (field_back l notation.Count32 note.Count count32_view field.Rows (role.PageRows (bits m.flags) m.columns) qs rest (told_types m.specs) s d) λ n rs q s d.
-    take (λ t. R (metadata_parts m ++ (count field.Rows n ∷ t))) rs (rows_back l 0 (cell_types m) n rs rest (told_types m.specs) s (rw p.3 at d)) λ vs rs q s d.
+pub page_back : (l : Rules) (ps : List Part) (rest : List Symbol) (described : Types) → AreSound ps → Derives l ps (In field.MetaFlags notation.Int (role.MetaFlags true) ∷ rest) described → Gives l Page page_parts (IsPage l) (λ p. described_types p.meta.specs) (λ p. rest) ps
+page_back l ps rest described s d =
+    let R : List Part → Type 0 = Gives l Page page_parts (IsPage l) (λ p. described_types p.meta.specs) (λ p. rest) in
+    take R ps (metadata_back l true ps rest described s d) λ m qs p s d.
+    take (λ t. R (metadata_parts m ++ t)) qs (field_back l notation.Count32 note.Count count32_view field.Rows (role.PageRows (bits m.flags) m.columns) qs rest (described_types m.specs) s d) λ n rs q s d.
+    take (λ t. R (metadata_parts m ++ (count field.Rows n ∷ t))) rs (rows_back l 0 (cell_types m) n rs rest (described_types m.specs) s (rw p.3 at d)) λ vs rs q s d.
     record {
       item = record { meta = m; rows = n; cells = vs };
       left = rs;
@@ -253,17 +253,17 @@ page_back l ps rest told s d =
 
 -- a prepared statement that agrees, and room for its types
 abbrev IsPrepared : (l : Rules) → PreparedStatement → Type 0
-IsPrepared l p = (prepared_agrees p ≡ true) × (options_among p.specs ≤ l.entries) × (options_told p.result.specs ≤ l.entries)
+IsPrepared l p = (prepared_agrees p ≡ true) × (options_among p.specs ≤ l.entries) × (options_described p.result.specs ≤ l.entries)
 
 keys_in_line : (i : Part) (z n k : Part) (ks cs ms left : List Part) → i ∷ z ∷ n ∷ k ∷ (ks ++ (cs ++ (ms ++ left))) ≡ (i ∷ z ∷ n ∷ ((k ∷ ks ++ cs) ++ ms)) ++ left
 keys_in_line i z n k ks cs ms left = simp append_assoc
 
-pub prepared_back : (l : Rules) (ps : List Part) (rest : List Symbol) (told : Types) → AreSound ps → Derives l ps (plain field.StatementId notation.Bytes16 ∷ In field.MetaFlags notation.Int role.PreparedFlags ∷ rest) told
-    → Gives l PreparedStatement prepared_parts (IsPrepared l) (λ p. told_types p.result.specs) (λ p. rest) ps
-prepared_back l ps rest told s d =
-    let R : List Part → Type 0 = Gives l PreparedStatement prepared_parts (IsPrepared l) (λ p. told_types p.result.specs) (λ p. rest) in
-    take R ps ((statement_back {l = l}).run ps (In field.MetaFlags notation.Int role.PreparedFlags ∷ rest) told s d) λ i qs p s d.
-    take (λ t. R (statement i ∷ t)) qs (field_back l notation.Int note.Int int_view field.MetaFlags role.PreparedFlags qs rest told s d) λ z qs p s d.
+pub prepared_back : (l : Rules) (ps : List Part) (rest : List Symbol) (described : Types) → AreSound ps → Derives l ps (plain field.StatementId notation.Bytes16 ∷ In field.MetaFlags notation.Int role.PreparedFlags ∷ rest) described
+    → Gives l PreparedStatement prepared_parts (IsPrepared l) (λ p. described_types p.result.specs) (λ p. rest) ps
+prepared_back l ps rest described s d =
+    let R : List Part → Type 0 = Gives l PreparedStatement prepared_parts (IsPrepared l) (λ p. described_types p.result.specs) (λ p. rest) in
+    take R ps ((statement_back {l = l}).run ps (In field.MetaFlags notation.Int role.PreparedFlags ∷ rest) described s d) λ i qs p s d.
+    take (λ t. R (statement i ∷ t)) qs (field_back l notation.Int note.Int int_view field.MetaFlags role.PreparedFlags qs rest described s d) λ z qs p s d.
     let flags : ℕ = bits z in
     take (λ t. R (statement i ∷ int field.MetaFlags z ∷ t)) qs (field_back l notation.Count32 note.Count count32_view field.Columns (role.PreparedColumns flags) qs rest NoMore s d) λ n qs p s d.
     take (λ t. R (statement i ∷ int field.MetaFlags z ∷ count field.Columns n ∷ t)) qs (field_back l notation.Count32 note.Count count32_view field.Keys (role.PreparedKeys flags n) qs rest NoMore s d) λ k qs p s d.

@@ -18,7 +18,7 @@ use Rattle.cqlp_kind.specs.Scalars.{scalar_of}
 use Rattle.cqlp_value.specs.Values.{Values, NoValue, Null_and, Empty_and, Scalar_and, Counted_and}
 use Rattle.cqlp_message.specs.FrameValues.{FrameValue, Options, Query, Error, Void, Rows, Prepared, Event}
 use Rattle.cqlp_message.specs.FrameValues as value
-use Rattle.cqlp_grammar.specs.Events as told
+use Rattle.cqlp_grammar.specs.Events as model
 use Rattle.cqlp_message.specs.Frames.{FrameSpells, frame_bytes, Flat, IsWithin}
 
 abbrev limits : Rules
@@ -43,7 +43,7 @@ options_request_spelled = record {
   whole = refl;
 }
 
-options_request_flat : Flat limits 0 options_request 0 ≡ (0, told.Frame (record { response = false; flags = 0; stream = pos 0; opcode = opcode.Options; length = 0 })) ∷ (9, told.End 0) ∷ []
+options_request_flat : Flat limits 0 options_request 0 ≡ (0, model.Frame (record { response = false; flags = 0; stream = pos 0; opcode = opcode.Options; length = 0 })) ∷ (9, model.End 0) ∷ []
 options_request_flat = refl
 
 -- ---- a query with a value that is not set
@@ -99,9 +99,9 @@ query_request_spelled = record {
 }
 
 query_request_flat : Flat limits 0 query_request 0 ≡
-    (0, told.Frame (record { response = false; flags = 0; stream = pos 0; opcode = opcode.Query; length = 14 }))
-    ∷ (9, told.Holds field.Query (note.Text (codes "q"))) ∷ (14, told.Holds field.Consistency (note.Short 1)) ∷ (16, told.Holds field.QueryFlags (note.Byte 1))
-    ∷ (17, told.Holds field.Values (note.Count 1)) ∷ (19, told.Holds field.Value (note.Bound note.Unset)) ∷ (23, told.End 0) ∷ []
+    (0, model.Frame (record { response = false; flags = 0; stream = pos 0; opcode = opcode.Query; length = 14 }))
+    ∷ (9, model.Holds field.Query (note.Text (codes "q"))) ∷ (14, model.Holds field.Consistency (note.Short 1)) ∷ (16, model.Holds field.QueryFlags (note.Byte 1))
+    ∷ (17, model.Holds field.Values (note.Count 1)) ∷ (19, model.Holds field.Value (note.Bound note.Unset)) ∷ (23, model.End 0) ∷ []
 query_request_flat = refl
 
 -- ---- the parts before a message, in their order
@@ -117,11 +117,11 @@ announced_response = record {
 }
 
 announced_response_flat : Flat limits 0 announced_response 0 ≡
-    (0, told.Frame (record { response = true; flags = 14; stream = pos 1; opcode = opcode.Result; length = 35 }))
-    ∷ (9, told.Holds field.TraceId (note.Uuid (0 ∷ 1 ∷ 2 ∷ 3 ∷ 4 ∷ 5 ∷ 6 ∷ 7 ∷ 8 ∷ 9 ∷ 10 ∷ 11 ∷ 12 ∷ 13 ∷ 14 ∷ 15 ∷ [])))
-    ∷ (25, told.Holds field.Warnings (note.Count 1)) ∷ (27, told.Holds field.Warning (note.Text (codes "w")))
-    ∷ (30, told.Holds field.PayloadItems (note.Count 1)) ∷ (32, told.Holds field.PayloadKey (note.Text (codes "k"))) ∷ (35, told.Holds field.PayloadValue (note.Bytes (Some (255 ∷ []))))
-    ∷ (40, told.Holds field.ResultKind (note.Int (pos 1))) ∷ (44, told.End 0) ∷ []
+    (0, model.Frame (record { response = true; flags = 14; stream = pos 1; opcode = opcode.Result; length = 35 }))
+    ∷ (9, model.Holds field.TraceId (note.Uuid (0 ∷ 1 ∷ 2 ∷ 3 ∷ 4 ∷ 5 ∷ 6 ∷ 7 ∷ 8 ∷ 9 ∷ 10 ∷ 11 ∷ 12 ∷ 13 ∷ 14 ∷ 15 ∷ [])))
+    ∷ (25, model.Holds field.Warnings (note.Count 1)) ∷ (27, model.Holds field.Warning (note.Text (codes "w")))
+    ∷ (30, model.Holds field.PayloadItems (note.Count 1)) ∷ (32, model.Holds field.PayloadKey (note.Text (codes "k"))) ∷ (35, model.Holds field.PayloadValue (note.Bytes (Some (255 ∷ []))))
+    ∷ (40, model.Holds field.ResultKind (note.Int (pos 1))) ∷ (44, model.End 0) ∷ []
 announced_response_flat = refl
 
 -- ---- an error of an unknown code, and three bytes more
@@ -164,12 +164,12 @@ node_event = record {
 }
 
 node_event_flat : Flat limits 0 node_event 0 ≡
-    (0, told.Frame (record { response = true; flags = 0; stream = negsuc 0; opcode = opcode.Event; length = 28 }))
-    ∷ (9, told.Holds field.EventType (note.Text (codes "STATUS_CHANGE"))) ∷ (24, told.Holds field.Change (note.Text (codes "UP")))
-    ∷ (28, told.Holds field.Address (note.Inet (address.V4 (127 ∷ 0 ∷ 0 ∷ 1 ∷ [])) (pos 9042))) ∷ (37, told.End 0) ∷ []
+    (0, model.Frame (record { response = true; flags = 0; stream = negsuc 0; opcode = opcode.Event; length = 28 }))
+    ∷ (9, model.Holds field.EventType (note.Text (codes "STATUS_CHANGE"))) ∷ (24, model.Holds field.Change (note.Text (codes "UP")))
+    ∷ (28, model.Holds field.Address (note.Inet (address.V4 (127 ∷ 0 ∷ 0 ∷ 1 ∷ [])) (pos 9042))) ∷ (37, model.End 0) ∷ []
 node_event_flat = refl
 
--- ---- a prepared result, whose pages will not tell of their columns
+-- ---- a prepared result, whose pages will not describe their columns
 
 abbrev list_of_int : Trees
 list_of_int = Tree_and [] ListOf (Tree_and [] (PlainType kind.Int) NoTree NoTree) NoTree
@@ -303,12 +303,12 @@ prepared_result_spelled = record {
 }
 
 prepared_result_flat : Flat limits 0 prepared_result 0 ≡
-    (0, told.Frame (record { response = true; flags = 0; stream = pos 0; opcode = opcode.Result; length = 46 }))
-    ∷ (9, told.Holds field.ResultKind (note.Int (pos 4))) ∷ (13, told.Holds field.StatementId (note.Bytes (Some (0xAB ∷ []))))
-    ∷ (16, told.Holds field.MetaFlags (note.Int (pos 1))) ∷ (20, told.Holds field.Columns (note.Count 1)) ∷ (24, told.Holds field.Keys (note.Count 1)) ∷ (28, told.Holds field.KeyIndex (note.Short 0))
-    ∷ (30, told.Holds field.Keyspace (note.Text (codes "k"))) ∷ (33, told.Holds field.Table (note.Text (codes "t"))) ∷ (36, told.Holds field.ColumnName (note.Text (codes "c")))
-    ∷ (39, told.Node_of kind.List) ∷ (41, told.Node_of kind.Int)
-    ∷ (43, told.Holds field.MetaFlags (note.Int (pos 6))) ∷ (47, told.Holds field.Columns (note.Count 3)) ∷ (51, told.Holds field.PagingState (note.Bytes None)) ∷ (55, told.End 0) ∷ []
+    (0, model.Frame (record { response = true; flags = 0; stream = pos 0; opcode = opcode.Result; length = 46 }))
+    ∷ (9, model.Holds field.ResultKind (note.Int (pos 4))) ∷ (13, model.Holds field.StatementId (note.Bytes (Some (0xAB ∷ []))))
+    ∷ (16, model.Holds field.MetaFlags (note.Int (pos 1))) ∷ (20, model.Holds field.Columns (note.Count 1)) ∷ (24, model.Holds field.Keys (note.Count 1)) ∷ (28, model.Holds field.KeyIndex (note.Short 0))
+    ∷ (30, model.Holds field.Keyspace (note.Text (codes "k"))) ∷ (33, model.Holds field.Table (note.Text (codes "t"))) ∷ (36, model.Holds field.ColumnName (note.Text (codes "c")))
+    ∷ (39, model.Node_of kind.List) ∷ (41, model.Node_of kind.Int)
+    ∷ (43, model.Holds field.MetaFlags (note.Int (pos 6))) ∷ (47, model.Holds field.Columns (note.Count 3)) ∷ (51, model.Holds field.PagingState (note.Bytes None)) ∷ (55, model.End 0) ∷ []
 prepared_result_flat = refl
 
 -- two type options, one in the other, are within limits of two
@@ -472,10 +472,10 @@ page_result_written : frame_bytes page_result ≡ page_bytes
 page_result_written = refl
 
 page_result_flat : Flat limits 0 page_result 0 ≡
-    (0, told.Frame (record { response = true; flags = 0; stream = pos 0; opcode = opcode.Result; length = 53 }))
-    ∷ (9, told.Holds field.ResultKind (note.Int (pos 2))) ∷ (13, told.Holds field.MetaFlags (note.Int (pos 1))) ∷ (17, told.Holds field.Columns (note.Count 1))
-    ∷ (21, told.Holds field.Keyspace (note.Text (codes "k"))) ∷ (24, told.Holds field.Table (note.Text (codes "t"))) ∷ (27, told.Holds field.ColumnName (note.Text (codes "c")))
-    ∷ (30, told.Node_of kind.List) ∷ (32, told.Node_of kind.Int) ∷ (34, told.Holds field.Rows (note.Count 1))
-    ∷ (38, told.Cell_at 0 0 (cell.Enter 0 kind.List 3)) ∷ (46, told.Cell_at 0 0 (cell.Leaf 1 (scalar.Int (pos 1)))) ∷ (54, told.Cell_at 0 0 (cell.Null 1)) ∷ (58, told.Cell_at 0 0 (cell.Empty 1))
-    ∷ (62, told.Leave 0 3) ∷ (62, told.End 0) ∷ []
+    (0, model.Frame (record { response = true; flags = 0; stream = pos 0; opcode = opcode.Result; length = 53 }))
+    ∷ (9, model.Holds field.ResultKind (note.Int (pos 2))) ∷ (13, model.Holds field.MetaFlags (note.Int (pos 1))) ∷ (17, model.Holds field.Columns (note.Count 1))
+    ∷ (21, model.Holds field.Keyspace (note.Text (codes "k"))) ∷ (24, model.Holds field.Table (note.Text (codes "t"))) ∷ (27, model.Holds field.ColumnName (note.Text (codes "c")))
+    ∷ (30, model.Node_of kind.List) ∷ (32, model.Node_of kind.Int) ∷ (34, model.Holds field.Rows (note.Count 1))
+    ∷ (38, model.Cell_at 0 0 (cell.Enter 0 kind.List 3)) ∷ (46, model.Cell_at 0 0 (cell.Leaf 1 (scalar.Int (pos 1)))) ∷ (54, model.Cell_at 0 0 (cell.Null 1)) ∷ (58, model.Cell_at 0 0 (cell.Empty 1))
+    ∷ (62, model.Leave 0 3) ∷ (62, model.End 0) ∷ []
 page_result_flat = refl

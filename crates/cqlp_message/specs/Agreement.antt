@@ -71,7 +71,7 @@ options_agree target UnknownTarget = is_unknown target targets
 abbrev pub change_agrees : SchemaChange → Bool
 change_agrees c = options_agree c.target c.options
 
--- Section 4.2.6: what an event tells is of its type.
+-- Section 4.2.6: what an event reports is of its type.
 abbrev pub event_agrees : (event : Octets) → ServerEvent → Bool
 event_agrees event (Node c a port) = bytes_eq event (codes "TOPOLOGY_CHANGE") || bytes_eq event (codes "STATUS_CHANGE")
 event_agrees event (Schema c) = bytes_eq event (codes "SCHEMA_CHANGE") && change_agrees c
@@ -91,7 +91,7 @@ specs_agree flags columns table specs =
     (length specs == columns) && there_if (has flags 0x01) table
     && list_all (spec_agrees (not (has flags 0x01))) specs
 
--- Section 4.2.5.2: the columns are told where 4 is not set.
+-- Section 4.2.5.2: the columns are described where 4 is not set.
 abbrev pub columns_agree : (flags columns : ℕ) → Option TableName → Option (List Spec) → Bool
 columns_agree flags columns table None = has flags 0x04 && not (is_some table)
 columns_agree flags columns table (Some specs) = not (has flags 0x04) && specs_agree flags columns table specs
@@ -118,7 +118,7 @@ message_agrees (Rows p) = metadata_agrees p.meta
 message_agrees (Prepared p) = prepared_agrees p
 message_agrees (Change c) = change_agrees c
 message_agrees (UnknownResult kind) = is_no_result (bits kind)
-message_agrees (Event event told) = event_agrees event told
+message_agrees (Event event described) = event_agrees event described
 message_agrees m = true
 
 -- Section 2.4: the opcode of a message.
@@ -141,7 +141,7 @@ opcode_of (Rows p) = opcode.Result
 opcode_of (Prepared p) = opcode.Result
 opcode_of (Change c) = opcode.Result
 opcode_of (UnknownResult kind) = opcode.Result
-opcode_of (Event event told) = opcode.Event
+opcode_of (Event event described) = opcode.Event
 opcode_of (AuthChallenge token) = opcode.AuthChallenge
 opcode_of (AuthSuccess token) = opcode.AuthSuccess
 

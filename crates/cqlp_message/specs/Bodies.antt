@@ -139,7 +139,7 @@ spec_parts c = table_parts c.table ++ text field.ColumnName c.name ∷ Type_is c
 abbrev pub specs_parts : Option TableName → List Spec → List Part
 specs_parts table specs = table_parts table ++ flat_map spec_parts specs
 
--- Section 4.2.5.2: what is told of a page's columns.
+-- Section 4.2.5.2: the description of a page's columns.
 abbrev pub metadata_parts : Metadata → List Part
 metadata_parts m =
     int field.MetaFlags m.flags ∷ count field.Columns m.columns ∷ []
@@ -158,13 +158,13 @@ abbrev pub column_types : List Spec → Types
 column_types [] = NoMore
 column_types (c ∷ specs) = followed_by (types_in c.tree) (column_types specs)
 
--- the types of a page's cells: those of its columns, or cells as they are where no columns are told
-abbrev pub types_told : (columns : ℕ) → Option (List Spec) → Types
-types_told columns None = raw_types columns
-types_told columns (Some specs) = column_types specs
+-- the types of a page's cells: those of its columns, or cells as they are where no columns are described
+abbrev pub types_described : (columns : ℕ) → Option (List Spec) → Types
+types_described columns None = raw_types columns
+types_described columns (Some specs) = column_types specs
 
 abbrev pub cell_types : Metadata → Types
-cell_types m = types_told m.columns m.specs
+cell_types m = types_described m.columns m.specs
 
 -- a cell of each of these columns, the first of which has this number
 abbrev pub row_parts : (row column : ℕ) → Types → List Values → List Part
@@ -203,7 +203,7 @@ options_parts UnknownTarget = []
 abbrev pub change_parts : SchemaChange → List Part
 change_parts c = text field.Change c.change ∷ text field.Target c.target ∷ options_parts c.options
 
--- Section 4.2.6: what an event tells.
+-- Section 4.2.6: what an event reports.
 abbrev pub event_parts : ServerEvent → List Part
 event_parts (Node change address port) =
     text field.Change change ∷ Field_is field.Address notation.Inet (note.Inet address port) ∷ []
@@ -238,7 +238,7 @@ message_parts (Rows p) = int field.ResultKind (pos code.rows) ∷ page_parts p
 message_parts (Prepared p) = int field.ResultKind (pos code.prepared) ∷ prepared_parts p
 message_parts (Change c) = int field.ResultKind (pos code.schema_change) ∷ change_parts c
 message_parts (UnknownResult kind) = int field.ResultKind kind ∷ []
-message_parts (Event event told) = text field.EventType event ∷ event_parts told
+message_parts (Event event described) = text field.EventType event ∷ event_parts described
 message_parts (AuthChallenge token) = bytes field.Token token ∷ []
 message_parts (AuthSuccess token) = bytes field.Token token ∷ []
 

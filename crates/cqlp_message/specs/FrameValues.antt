@@ -62,7 +62,7 @@ pub record Spec : Type 0 where
   pub name : Octets
   pub tree : Trees
 
--- Section 4.2.5.2: what is told of a page's columns.
+-- Section 4.2.5.2: the description of a page's columns.
 pub record Metadata : Type 0 where
   pub flags : ℤ
   pub columns : ℕ
@@ -70,14 +70,14 @@ pub record Metadata : Type 0 where
   pub table : Option TableName
   pub specs : Option (List Spec)
 
--- Section 4.2.5.2: a page: what is told of its columns, how many rows it has, and its cells, row after row.
+-- Section 4.2.5.2: a page: the description of its columns, how many rows it has, and its cells, row after row.
 pub record Page : Type 0 where
   pub meta : Metadata
   pub rows : ℕ
   pub cells : List Values
 
 -- Section 4.2.5.4: a prepared statement: its id, the values that are to be bound, which of them are the partition key,
--- and what its pages will tell of their columns.
+-- and what its pages will describe of their columns.
 pub record PreparedStatement : Type 0 where
   pub id : Octets
   pub flags : ℤ
@@ -87,7 +87,7 @@ pub record PreparedStatement : Type 0 where
   pub specs : List Spec
   pub result : Metadata
 
--- Section 4.2.6: what an event tells.
+-- Section 4.2.6: what an event reports.
 pub data ServerEvent : Type 0 where
   Node : (change : Octets) → Address → (port : ℤ) → ServerEvent
   Schema : SchemaChange → ServerEvent

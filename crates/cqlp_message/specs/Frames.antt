@@ -75,7 +75,7 @@ frame_size f x = 9 + (parts_size (frame_parts f) + x)
 abbrev pub frame_bytes : FrameValue → List ℕ
 frame_bytes f = header_bytes (header_of f (parts_size (frame_parts f))) ++ parts_bytes (frame_parts f)
 
--- What is in the way of a frame whatever its cells, each with its name, in the order in which it is told.
+-- What is in the way of a frame whatever its cells, each with its name, in the order in which it is reported.
 abbrev pub first_obstacles : FrameValue → List (Bool × Unfit)
 first_obstacles f =
     (not (is_directed f), unfit.Direction)
@@ -84,7 +84,7 @@ first_obstacles f =
     ∷ (not (list_all texts_fit (frame_parts f)), unfit.TextTooLong)
     ∷ []
 
--- What keeps a frame from being spelled, each with its name, in the order in which it is told.
+-- What keeps a frame from being spelled, each with its name, in the order in which it is reported.
 abbrev pub obstacles : FrameValue → List (Bool × Unfit)
 obstacles f =
     first_obstacles f
@@ -139,14 +139,14 @@ abbrev pub options_among : List Spec → ℕ
 options_among [] = 0
 options_among (c ∷ specs) = options_in c.tree + options_among specs
 
-abbrev pub options_told : Option (List Spec) → ℕ
-options_told None = 0
-options_told (Some specs) = options_among specs
+abbrev pub options_described : Option (List Spec) → ℕ
+options_described None = 0
+options_described (Some specs) = options_among specs
 
 -- the type options of one metadata are no more than the caller's limit
 abbrev pub TypesWithin : Rules → Message → Type 0
-TypesWithin l (Rows p) = options_told p.meta.specs ≤ l.entries
-TypesWithin l (Prepared p) = (options_among p.specs ≤ l.entries) × (options_told p.result.specs ≤ l.entries)
+TypesWithin l (Rows p) = options_described p.meta.specs ≤ l.entries
+TypesWithin l (Prepared p) = (options_among p.specs ≤ l.entries) × (options_described p.result.specs ≤ l.entries)
 TypesWithin l m = Unit {0}
 
 -- A frame is within the caller's limits.

@@ -31,7 +31,7 @@ cells_wanted (Rows p) = p.rows * p.meta.columns
 cells_wanted m = 0
 
 -- What keeps a frame from being written with cells of this many bytes after it, each with its name, in the order in
--- which it is told.
+-- which it is reported.
 abbrev pub page_obstacles : FrameValue → (cells : ℕ) → List (Bool × Unfit)
 page_obstacles f n =
     first_obstacles f
@@ -73,10 +73,10 @@ abbrev pub specs_among : Option (Vec Spec Global) → List Spec
 specs_among (Some specs) = specs.items
 specs_among None = []
 
--- the columns that a page tells; none where it tells none, and where it is no page
-abbrev pub columns_told : OwnedMessage → List Spec
-columns_told (owned.Rows p) = specs_among p.meta.specs
-columns_told m = []
+-- the columns that a page describes; none where it describes none, and where it is no page
+abbrev pub columns_described : OwnedMessage → List Spec
+columns_described (owned.Rows p) = specs_among p.meta.specs
+columns_described m = []
 
 -- the types of a page's columns
 abbrev pub types_of_page : Message → Types

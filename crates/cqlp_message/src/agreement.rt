@@ -130,7 +130,7 @@ impl SchemaChange {
 }
 
 impl ServerEvent {
-    /// Whether it is what an event of this type tells.
+    /// Whether it is what an event of this type reports.
     fn agrees(&self, event: &str) -> bool
         ensures { result ≡ agreement.event_agrees event.now (event_of self.now) }
     {
@@ -183,7 +183,7 @@ impl Metadata {
         same(has(self.flags.cast_unsigned(), 0x02), self.paging.is_some()) && self.columns_agree()
     }
 
-    /// Whether the columns are told where the flags say so.
+    /// Whether the columns are described where the flags say so.
     fn columns_agree(&self) -> bool
         ensures { let m = metadata_of self.now in
             result ≡ agreement.columns_agree (agreement.bits m.flags) m.columns m.table m.specs }

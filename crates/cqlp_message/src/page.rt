@@ -67,10 +67,10 @@ impl Frame {
         }
     }
 
-    /// The columns of its page; none where they are not told, and where it is no page.
+    /// The columns of its page; none where they are not described, and where it is no page.
     #[must_use]
     pub fn specs(&self) -> &[Spec]
-        ensures { result.now ≡ pages.columns_told self.now.message }
+        ensures { result.now ≡ pages.columns_described self.now.message }
     {
         match &self.message {
             Message::Rows(page) => match &page.meta.specs {
@@ -103,7 +103,7 @@ impl Frame {
         }
     }
 
-    /// Whether a value is one of the type of this column of its page, the first of which is 0. Where no columns are told, it is
+    /// Whether a value is one of the type of this column of its page, the first of which is 0. Where no columns are described, it is
     /// Null, Empty or a Raw leaf. False past the last column, and where it is no page.
     #[must_use]
     pub fn fits_column(&self, column: usize, value: &Value) -> bool
@@ -159,7 +159,7 @@ impl Metadata {
     }
 }
 
-/// The same of the type that is told of this column.
+/// The same of the type that is described of this column.
 #[inline]
 fn spec_size(specs: &[Spec], column: usize, value: &Value) -> Option<u64>
     ensures fits { is_some result ≡ pages.fits_column (column_types (map spec_of specs.now)) column (value_of value.now) }

@@ -34,7 +34,7 @@ fn walk_rows<V: TakesParts>(meta: &Metadata, rows: u32, cells: &[Value], visitor
     ensures { Takes V.taken visitor.old visitor.new
         (body.rows_parts 0 (body.cell_types (metadata_of meta.now)) rows (map value_of cells.now)) }
 {
-    let columns = meta.columns_told();
+    let columns = meta.columns_described();
     let mut rest = cells;
     for row in 0..rows {
         if columns == 0 || rest.is_empty() {
@@ -77,7 +77,7 @@ fn walk_typed<V: TakesParts>(row: u32, specs: &[Spec], cells: &[Value], visitor:
     }
 }
 
-/// Hands over a cell of each of this many columns, of which no types are told.
+/// Hands over a cell of each of this many columns, whose types are not described.
 fn walk_raw<V: TakesParts>(row: u32, columns: u32, cells: &[Value], visitor: &mut V)
     ensures { Takes V.taken visitor.old visitor.new
         (body.row_parts row 0 (raw_types columns) (map value_of cells.now)) }
@@ -96,8 +96,8 @@ fn walk_raw<V: TakesParts>(row: u32, columns: u32, cells: &[Value], visitor: &mu
 }
 
 impl Metadata {
-    /// How many columns the cells are of: those that are told, or as many as are said to be there.
-    fn columns_told(&self) -> usize
+    /// How many columns the cells are of: those that are described, or as many as are said to be there.
+    fn columns_described(&self) -> usize
         ensures { result ≡ how_many (body.cell_types (metadata_of self.now)) }
     {
         match &self.specs {

@@ -39,7 +39,7 @@ pub enum PartRef<'a> {
     Inet(Field, Address, i32),
     /// A type option.
     Type(&'a TypeTree),
-    /// The cell of a row and a column, both from 0, and the type of the column, if columns are told.
+    /// The cell of a row and a column, both from 0, and the type of the column, if columns are described.
     Cell {
         /// The row, counted from 0, less than the rows of the page.
         row: u32,

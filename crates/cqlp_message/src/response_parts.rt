@@ -235,7 +235,7 @@ impl Metadata {
         visitor.take(PartRef::Count32(Field::Columns, self.columns as usize));
     }
 
-    /// Hands over the columns, if they are told.
+    /// Hands over the columns, if they are described.
     fn walk_specs<V: TakesParts>(&self, visitor: &mut V)
         ensures { Takes V.taken visitor.old visitor.new
             (body.where_some (flat_map body.spec_parts) (metadata_of self.now).specs) }

@@ -10,7 +10,7 @@ use Rattle.cqlp_note.specs.declared.prim.Primitive.{Primitive}
 use Rattle.cqlp_note.specs.Partial.{IsPlain}
 use Rattle.cqlp_note.specs.Reader.{Gives, Takes, More, Bad, Got, says, fits, number_of}
 use Rattle.cqlp_note.specs.Field.{Inet, field_of, content_of, inet_of, is_negative, signed, address_of}
-use Rattle.cqlp_note.specs.Head.{fixed_of, after_fixed, front_of, made, reader_of, value_of, Tells}
+use Rattle.cqlp_note.specs.Head.{fixed_of, after_fixed, front_of, made, reader_of, value_of, Determines}
 use Rattle.cqlp_note.specs.declared.head.Wanted.{Wanted}
 use Rattle.cqlp_note.specs.declared.head.ContentForm.TheVariants as form
 use Rattle.cqlp_note.specs.declared.head.Head.{Head}
@@ -49,21 +49,21 @@ module _ (n : Notation) (limit room : ℕ) (bytes : List ℕ) where
       let enough : fixed_of n ≤ length (bytes ++ t) = omega (arith, length-append bytes t) in
       rw (fixed_first n limit room (bytes ++ t), le-ltb _ _ le, le-ltb _ _ enough, take-append-le _ bytes t long, drop-append-le _ bytes t long, zero-add)
 
--- what the bytes after the fixed part tell, they tell of the field
-pub fixed_tells : (w : Wanted) (bytes : List ℕ) (r : Result Head Stop) → fixed_of w.notation ≤ w.room → fixed_of w.notation ≤ length bytes
-    → Tells w (after_fixed w.notation w.limit w.room (take (fixed_of w.notation) bytes)) (fixed_of w.notation) (drop (fixed_of w.notation) bytes) r → Tells w (reader_of w) 0 bytes r
-fixed_tells w bytes (Ok (head.Whole used v)) le long h =
+-- what the bytes after the fixed part determine, they determine of the field
+pub fixed_determines : (w : Wanted) (bytes : List ℕ) (r : Result Head Stop) → fixed_of w.notation ≤ w.room → fixed_of w.notation ≤ length bytes
+    → Determines w (after_fixed w.notation w.limit w.room (take (fixed_of w.notation) bytes)) (fixed_of w.notation) (drop (fixed_of w.notation) bytes) r → Determines w (reader_of w) 0 bytes r
+fixed_determines w bytes (Ok (head.Whole used v)) le long h =
     (omega (arith, length-drop (fixed_of w.notation) bytes, h.0), λ t. fixed_taken w.notation w.limit w.room bytes le long t ∙ h.1 t, h.2)
-fixed_tells w bytes (Ok (head.Content behind len f)) le long h =
+fixed_determines w bytes (Ok (head.Content behind len f)) le long h =
     let n = fixed_of w.notation in
     let count : (behind - n) + n ≡ behind = omega (arith, h.1) in
     let none : behind - 0 ≡ behind = omega arith in
     let same : drop (behind - n) (drop n bytes) ≡ drop (behind - 0) bytes = rw (drop-drop (behind - n) n bytes, add_comm n (behind - n), count, none) refl in
     (h.0, omega arith, omega (arith, length-drop n bytes, h.2), h.3, λ t. rw same at (fixed_taken w.notation w.limit w.room bytes le long t ∙ h.4 t))
-fixed_tells w bytes (Err stop.Wanting) le long h =
+fixed_determines w bytes (Err stop.Wanting) le long h =
     let all = rw (append-nil bytes, append-nil (drop (fixed_of w.notation) bytes)) at (fixed_taken w.notation w.limit w.room bytes le long []) in
     (omega (arith, length-drop (fixed_of w.notation) bytes, h.0), all ∙ h.1)
-fixed_tells w bytes (Err (stop.Refused why)) le long h = λ t. fixed_taken w.notation w.limit w.room bytes le long t ∙ h t
+fixed_determines w bytes (Err (stop.Refused why)) le long h = λ t. fixed_taken w.notation w.limit w.room bytes le long t ∙ h t
 
 -- a field that is no more than its fixed part
 pub plain_is : (w : Wanted) (bytes : List ℕ) (used : ℕ) (v : Primitive) → IsPlain w bytes used v → says (reader_of w) 0 bytes ≡ Got (value_of v) used
@@ -114,5 +114,5 @@ natural_some n m e = elim (is_negative n) as (λ t. is_negative n ≡ t → (t �
   | false ↦ λ is. let some : ◌≡◌ {A = Option ℕ} (Some m) (Some n) = rw is at e in (refl, cc)
 ] refl
 
--- what the front of a field tells by its first bytes
-pub ruleset of_first_bytes = (fixed_overruns, fixed_wanting, fixed_short, fixed_tells)
+-- what the front of a field determines by its first bytes
+pub ruleset of_first_bytes = (fixed_overruns, fixed_wanting, fixed_short, fixed_determines)

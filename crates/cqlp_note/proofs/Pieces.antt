@@ -16,21 +16,21 @@ use Rattle.cqlp_note.specs.Field.{FieldValue}
 use Rattle.cqlp_note.specs.declared.prim.Primitive.{Primitive}
 use Rattle.cqlp_note.specs.declared.prim.Primitive.TheVariants as prim
 use Rattle.cqlp_note.specs.declared.prim.BoundValue.TheVariants as bound
-use Rattle.cqlp_note.specs.Head.{fixed_of, made, reader_of, value_of, HasNoContent, Tells}
+use Rattle.cqlp_note.specs.Head.{fixed_of, made, reader_of, value_of, HasNoContent, Determines}
 use Rattle.cqlp_note.specs.declared.advance.FieldStage.{FieldStage}
 use Rattle.cqlp_note.specs.declared.advance.FieldStage.TheVariants as stage
 use Rattle.cqlp_note.specs.Partial.{HasContent, LeadsToContent, accepts, content_value, content_bytes, is_under_way, seen_of}
 use Rattle.cqlp_note.specs.Field.{content_length, content_of}
 use Rattle.cqlp_note.proofs.Fronts.{fixed_short, fixed_taken}
 
--- what a front tells, it tells whatever follows, if nothing follows one that is wanting
-tells_on : (w : Wanted) (xs ys : List ℕ) (told : Result Head Stop) → (length xs < 24 → ys ≡ []) → Tells w (reader_of w) 0 xs told → Tells w (reader_of w) 0 (xs ++ ys) told
-tells_on w xs ys (Ok (head.Whole used v)) none h = (omega (arith, length-append xs ys, h.0), λ t. rw (append_assoc xs ys t) (h.1 (ys ++ t)), h.2)
-tells_on w xs ys (Ok (head.Content behind len f)) none h =
+-- what a front determines, it determines whatever follows, if nothing follows one that is wanting
+determines_on : (w : Wanted) (xs ys : List ℕ) (determined : Result Head Stop) → (length xs < 24 → ys ≡ []) → Determines w (reader_of w) 0 xs determined → Determines w (reader_of w) 0 (xs ++ ys) determined
+determines_on w xs ys (Ok (head.Whole used v)) none h = (omega (arith, length-append xs ys, h.0), λ t. rw (append_assoc xs ys t) (h.1 (ys ++ t)), h.2)
+determines_on w xs ys (Ok (head.Content behind len f)) none h =
     let front : behind - 0 ≤ length xs = omega (arith, h.2) in
     (h.0, omega arith, omega (arith, length-append xs ys, h.2), h.3, λ t. rw (append_assoc xs ys t, drop-append-le (behind - 0) xs ys front, append_assoc (drop (behind - 0) xs) ys t) (h.4 (ys ++ t)))
-tells_on w xs ys (Err stop.Wanting) none h = rw (none (omega (arith, h.0, (fixed_short w.notation).1)), append-nil xs) h
-tells_on w xs ys (Err (stop.Refused why)) none h = λ t. rw (append_assoc xs ys t) (h (ys ++ t))
+determines_on w xs ys (Err stop.Wanting) none h = rw (none (omega (arith, h.0, (fixed_short w.notation).1)), append-nil xs) h
+determines_on w xs ys (Err (stop.Refused why)) none h = λ t. rw (append_assoc xs ys t) (h (ys ++ t))
 
 length_none : (zs : List ℕ) → length zs ≡ 0 → zs ≡ []
 length_none [] e = refl
@@ -39,15 +39,15 @@ length_none (z ∷ zs) e = absurd (omega arith)
 no_more : (n : ℕ) (ys : List ℕ) → length ys ≤ n → drop n ys ≡ []
 no_more n ys le = length_none (drop n ys) (omega (arith, length-drop n ys))
 
-pub tells_pieces : (w : Wanted) (front input : List ℕ) (told : Result Head Stop) → Tells w (reader_of w) 0 (front ++ take (24 - length front) input) told → Tells w (reader_of w) 0 (front ++ input) told
-tells_pieces w front input told h =
+pub determines_pieces : (w : Wanted) (front input : List ℕ) (determined : Result Head Stop) → Determines w (reader_of w) 0 (front ++ take (24 - length front) input) determined → Determines w (reader_of w) 0 (front ++ input) determined
+determines_pieces w front input determined h =
     let n = 24 - length front in
     let none : length (front ++ take n input) < 24 → drop n input ≡ [] = λ lt. elim (cases_lt (length input) n) [
       | inl short ↦ no_more n input (omega arith)
       | inr long ↦ absurd (omega (arith, length-append front (take n input), length-take-le n input long))
     ] in
     let all : (front ++ take n input) ++ drop n input ≡ front ++ input = append_assoc front (take n input) (drop n input) ∙ ap (λ (x : List ℕ). front ++ x) (take-append-drop n input) in
-    rw all at (tells_on w (front ++ take n input) (drop n input) told none h)
+    rw all at (determines_on w (front ++ take n input) (drop n input) determined none h)
 
 -- a value is given after the bytes taken
 got_from : {A F : Type 0} (r : Reader A F) (taken : ℕ) (bytes : List ℕ) (v : A) (k : ℕ) → says r taken bytes ≡ Got v k → taken ≤ k
@@ -98,20 +98,20 @@ module _ (f : ContentForm) (len k : ℕ) (rest : List ℕ) where
   content_bad le t = rw (le-ltb _ _ le) (refuses f (take len rest) _ _ t)
 
 -- what is said after a front, where a content of len bytes comes
-module _ (w : Wanted) (seen input : List ℕ) (start len : ℕ) (f : ContentForm) (told : (t : List ℕ) → says (reader_of w) 0 ((seen ++ input) ++ t) ≡ says (Takes len (made f)) (length seen + start) (drop start input ++ t)) where
-  told_now : says (reader_of w) 0 (seen ++ input) ≡ says (Takes len (made f)) (length seen + start) (drop start input)
-  told_now = rw (append-nil (seen ++ input), append-nil (drop start input)) at (told [])
+module _ (w : Wanted) (seen input : List ℕ) (start len : ℕ) (f : ContentForm) (determined : (t : List ℕ) → says (reader_of w) 0 ((seen ++ input) ++ t) ≡ says (Takes len (made f)) (length seen + start) (drop start input ++ t)) where
+  determined_now : says (reader_of w) 0 (seen ++ input) ≡ says (Takes len (made f)) (length seen + start) (drop start input)
+  determined_now = rw (append-nil (seen ++ input), append-nil (drop start input)) at (determined [])
 
   pub whole_waits : length (drop start input) < len → says (reader_of w) 0 (seen ++ input) ≡ More
-  whole_waits lt = told_now ∙ content_waits f len _ _ lt
+  whole_waits lt = determined_now ∙ content_waits f len _ _ lt
 
   pub whole_got : len ≤ length (drop start input) → accepts f (take len (drop start input)) ≡ true → says (reader_of w) 0 (seen ++ input) ≡ Got (content_value f (take len (drop start input))) (length seen + (start + len))
   whole_got le t =
       let count : (length seen + start) + len ≡ length seen + (start + len) = omega arith in
-      rw (← count) (told_now ∙ content_got f len (length seen + start) _ le t)
+      rw (← count) (determined_now ∙ content_got f len (length seen + start) _ le t)
 
   pub whole_bad : len ≤ length (drop start input) → accepts f (take len (drop start input)) ≡ false → says (reader_of w) 0 (seen ++ input) ≡ Bad BadUtf8
-  whole_bad le t = told_now ∙ content_bad f len _ _ le t
+  whole_bad le t = determined_now ∙ content_bad f len _ _ le t
 
 pub seen_is_front : (s : FieldStage) (front content : List ℕ) → is_under_way s ≡ true → content ≡ [] → seen_of s front content ≡ front
 seen_is_front stage.Idle front content u e = absurd cc
@@ -130,12 +130,12 @@ pub split_goes_on : (w : Wanted) (seen input : List ℕ) (start len : ℕ) (f : 
     → ((t : List ℕ) → says (reader_of w) 0 ((seen ++ input) ++ t) ≡ says (Takes len (made f)) (length seen + start) (drop start input ++ t))
     → start ≤ length input → length seen + start ≤ 24 → front ≡ seen ++ take (24 - length seen) (take start input) → content ≡ drop start input
     → (t : List ℕ) → says (reader_of w) 0 ((front ++ content) ++ t) ≡ says (Takes len (made f)) (length front) (content ++ t)
-split_goes_on w seen input start len f front content told le short is rest t =
+split_goes_on w seen input start len f front content determined le short is rest t =
     let all : front ++ content ≡ seen ++ input = rw (is, rest) (split_all seen input start le short) in
     let size : length (take start input) ≡ start = length-take-le start input le in
     let whole : take (24 - length seen) (take start input) ≡ take start input = take_all (24 - length seen) (take start input) (omega arith) in
     let long : length front ≡ length seen + start = rw (is, whole) (omega (arith, length-append seen (take start input))) in
-    rw (all, long, rest) (told t)
+    rw (all, long, rest) (determined t)
 
 pub front_fits : (front input : List ℕ) (start : ℕ) → start ≤ length input → length front + start ≤ 24 → length (front ++ take (24 - length front) (take start input)) ≤ 24
 front_fits front input start le short =
@@ -173,29 +173,29 @@ same_content form.Bound c = refl
 
 module _ (w : Wanted) (front input : List ℕ) where
   pub whole_beyond : (v : FieldValue) (k : ℕ) → (0 < length front → says (reader_of w) 0 front ≡ More) → ((t : List ℕ) → says (reader_of w) 0 ((front ++ input) ++ t) ≡ Got v k) → length front ≤ k
-  whole_beyond v k more told =
-      let now : says (reader_of w) 0 (front ++ input) ≡ Got v k = rw (append-nil (front ++ input)) at (told []) in
+  whole_beyond v k more determined =
+      let now : says (reader_of w) 0 (front ++ input) ≡ Got v k = rw (append-nil (front ++ input)) at (determined []) in
       elim (cases_lt 0 (length front)) [
         | inl lt ↦ omega (arith, got_beyond (reader_of w) 0 front input v k (more lt) now)
         | inr le ↦ omega arith
       ]
 
   pub whole_now : (v : FieldValue) (k : ℕ) → length front ≤ k → ((t : List ℕ) → says (reader_of w) 0 ((front ++ input) ++ t) ≡ Got v k) → says (reader_of w) 0 (front ++ input) ≡ Got v (length front + (k - length front))
-  whole_now v k le told =
+  whole_now v k le determined =
       let count : length front + (k - length front) ≡ k = omega arith in
-      rw count (rw (append-nil (front ++ input)) at (told []))
+      rw count (rw (append-nil (front ++ input)) at (determined []))
 
   pub content_front : (behind len : ℕ) (f : ContentForm) → length front ≤ behind
       → ((t : List ℕ) → says (reader_of w) 0 ((front ++ input) ++ t) ≡ says (Takes len (made f)) behind (drop (behind - 0) (front ++ input) ++ t))
       → (t : List ℕ) → says (reader_of w) 0 ((front ++ input) ++ t) ≡ says (Takes len (made f)) (length front + (behind - length front)) (drop (behind - length front) input ++ t)
-  content_front behind len f le told t =
+  content_front behind len f le determined t =
       let count : length front + (behind - length front) ≡ behind = omega arith in
       let zero : behind - 0 ≡ length front + (behind - length front) = omega arith in
-      rw count (rw (zero, drop-append-add front input (behind - length front)) at (told t))
+      rw count (rw (zero, drop-append-add front input (behind - length front)) at (determined t))
 
 -- ---- contents in pieces
 
-module _ (w : Wanted) (front content input : List ℕ) (len : ℕ) (f : ContentForm) (told : (t : List ℕ) → says (reader_of w) 0 ((front ++ content) ++ t) ≡ says (Takes len (made f)) (length front) (content ++ t)) (less : length content < len) (enough : len - length content ≤ length input) where
+module _ (w : Wanted) (front content input : List ℕ) (len : ℕ) (f : ContentForm) (determined : (t : List ℕ) → says (reader_of w) 0 ((front ++ content) ++ t) ≡ says (Takes len (made f)) (length front) (content ++ t)) (less : length content < len) (enough : len - length content ≤ length input) where
   pub gathered_len : length (content ++ take (len - length content) input) ≡ len
   gathered_len = omega (arith, length-append content (take (len - length content) input), length-take-le (len - length content) input enough)
 
@@ -211,12 +211,12 @@ module _ (w : Wanted) (front content input : List ℕ) (len : ℕ) (f : ContentF
   gathered_got t =
       let all : len ≤ length (content ++ input) = omega (arith, length-append content input) in
       let got = content_got f len (length front) (content ++ input) all (rw gathered_is t) in
-      rw (← gathered_used, ← gathered_is) (told input ∙ got)
+      rw (← gathered_used, ← gathered_is) (determined input ∙ got)
 
   pub gathered_bad : accepts f (content ++ take (len - length content) input) ≡ false → says (reader_of w) 0 ((front ++ content) ++ input) ≡ Bad BadUtf8
   gathered_bad t =
       let all : len ≤ length (content ++ input) = omega (arith, length-append content input) in
-      told input ∙ content_bad f len (length front) (content ++ input) all (rw gathered_is t)
+      determined input ∙ content_bad f len (length front) (content ++ input) all (rw gathered_is t)
 
 pub content_size : (f : ContentForm) (c : List ℕ) → content_length (content_value f c) ≡ length c
 content_size form.Text c = refl

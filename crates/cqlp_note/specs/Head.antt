@@ -1,4 +1,4 @@
--- What the front of a field tells of it.
+-- What the front of a field determines of it.
 use Rattle.std.specs.Prelude.{◌≡◌, ℕ, ◌+◌, ◌-◌, ◌^◌, ◌++◌, ◌<◌, ◌≤◌, ◌==◌, ◌||◌, List, length, take, drop, Some, None, Result, Ok}
 use Rattle.std.specs.Prelude.{Err, if◌then◌else◌, ⊤}
 use Rattle.std.specs.Int.{w8, w16, w32, w64, from_be_bytes, cast_signed}
@@ -102,19 +102,19 @@ abbrev pub front_of : Notation → ℕ
 front_of notation.Inet = 21
 front_of n = fixed_of n
 
--- ---- what a front tells
+-- ---- what a front determines
 
--- What the reader of a field says after k bytes, of the rest and of whatever follows, is what this tells.
-abbrev pub Tells : Wanted → FieldReader → (k : ℕ) → (rest : List ℕ) → Result Head Stop → Type 0
-Tells w r k rest (Ok (head.Whole used v)) =
+-- What the reader of a field says after k bytes, of the rest and of whatever follows, is what this determines.
+abbrev pub Determines : Wanted → FieldReader → (k : ℕ) → (rest : List ℕ) → Result Head Stop → Type 0
+Determines w r k rest (Ok (head.Whole used v)) =
     (used ≤ k + length rest) × ((t : List ℕ) → says r k (rest ++ t) ≡ Got (value_of v) used) × HasNoContent v
-Tells w r k rest (Ok (head.Content after len f)) =
+Determines w r k rest (Ok (head.Content after len f)) =
     (after ≡ front_of w.notation) × (k ≤ after) × (after ≤ k + length rest) × (len ≤ w.limit)
     × ((t : List ℕ) → says r k (rest ++ t) ≡ says (Takes len (made f)) after (drop (after - k) rest ++ t))
-Tells w r k rest (Err stop.Wanting) = (k + length rest < front_of w.notation) × (says r k rest ≡ More)
-Tells w r k rest (Err (stop.Refused why)) = (t : List ℕ) → says r k (rest ++ t) ≡ Bad why
+Determines w r k rest (Err stop.Wanting) = (k + length rest < front_of w.notation) × (says r k rest ≡ More)
+Determines w r k rest (Err (stop.Refused why)) = (t : List ℕ) → says r k (rest ++ t) ≡ Bad why
 
--- what the bytes after its fixed part tell of a field in this notation
-abbrev pub TellsAfterFixed : Wanted → Notation → (bytes : List ℕ) → Result Head Stop → Type 0
-TellsAfterFixed w n bytes r =
-    Tells w (after_fixed n w.limit w.room (take (fixed_of n) bytes)) (fixed_of n) (drop (fixed_of n) bytes) r
+-- what the bytes after its fixed part determine of a field in this notation
+abbrev pub DeterminesAfterFixed : Wanted → Notation → (bytes : List ℕ) → Result Head Stop → Type 0
+DeterminesAfterFixed w n bytes r =
+    Determines w (after_fixed n w.limit w.room (take (fixed_of n) bytes)) (fixed_of n) (drop (fixed_of n) bytes) r

@@ -1,10 +1,10 @@
-//! What the front of a field tells of it.
+//! What the front of a field determines of it.
 
 ghost use Rattle.std.specs.Prelude.{◌≡◌, ◌≤◌, ◌==◌, ◌||◌, ℕ, List, IsTrue, length, take};
 ghost use Rattle.std.specs.Prelude.{if◌then◌else◌};
 ghost use Rattle.std.specs.Int.{w16, w32, from_be_bytes};
 ghost use Rattle.cqlp_note.specs.Field.{address_of, content_of, inet_of, is_negative};
-ghost use Rattle.cqlp_note.specs.Head.{Tells, TellsAfterFixed, fixed_of, front_of, made, reader_of};
+ghost use Rattle.cqlp_note.specs.Head.{Determines, DeterminesAfterFixed, fixed_of, front_of, made, reader_of};
 
 use crate::field::Notation;
 use crate::prim::{Address, BoundValue, Primitive};
@@ -31,7 +31,7 @@ pub enum ContentForm {
     Bound,
 }
 
-/// What the front of a field tells.
+/// What the front of a field determines.
 #[derive(Clone, Copy)]
 pub(crate) enum Head {
     /// The whole field, of this many bytes.
@@ -47,7 +47,7 @@ pub(crate) enum Head {
     },
 }
 
-/// Why the front of a field tells nothing.
+/// Why the front of a field determines nothing.
 #[derive(Clone, Copy)]
 pub(crate) enum Stop {
     /// More bytes are wanted.
@@ -80,7 +80,7 @@ impl Notation {
 /// Reads the front of a field in its first bytes, which may be too few or go on after it.
 #[tactic(auto, using(crate::proofs::Fronts::of_first_bytes))]
 pub(crate) fn read_head(wanted: Wanted, bytes: &[u8]) -> Result<Head, Stop>
-    ensures { Tells wanted (reader_of wanted) 0 bytes.now result }
+    ensures { Determines wanted (reader_of wanted) 0 bytes.now result }
 {
     let fixed = wanted.notation.fixed();
     if wanted.room < fixed as u64 {
@@ -95,7 +95,7 @@ pub(crate) fn read_head(wanted: Wanted, bytes: &[u8]) -> Result<Head, Stop>
 /// Reads on after the fixed part.
 fn read_after_fixed(wanted: Wanted, bytes: &[u8]) -> Result<Head, Stop>
     requires { fixed_of wanted.notation ≤ length bytes.now }
-    ensures { TellsAfterFixed wanted wanted.notation bytes.now result }
+    ensures { DeterminesAfterFixed wanted wanted.notation bytes.now result }
 {
     match wanted.notation {
         Notation::Byte => end_field(1, Primitive::Byte(u8::from_be_bytes(read_array(bytes)))),
@@ -118,7 +118,7 @@ fn read_after_fixed(wanted: Wanted, bytes: &[u8]) -> Result<Head, Stop>
 /// Reads a count of four bytes.
 fn read_count(bytes: &[u8]) -> Result<Head, Stop>
     requires { 4 ≤ length bytes.now }
-    ensures { (wanted : _) → TellsAfterFixed wanted Notation.Count32 bytes.now result }
+    ensures { (wanted : _) → DeterminesAfterFixed wanted Notation.Count32 bytes.now result }
 {
     match read_natural(bytes) {
         Some(count) => end_field(4, Primitive::Count(count)),
@@ -130,7 +130,7 @@ fn read_count(bytes: &[u8]) -> Result<Head, Stop>
 fn read_long_text(wanted: Wanted, bytes: &[u8]) -> Result<Head, Stop>
     requires enough { 4 ≤ length bytes.now }
     requires notation { wanted.notation ≡ Notation.Text32 }
-    ensures { TellsAfterFixed wanted Notation.Text32 bytes.now result }
+    ensures { DeterminesAfterFixed wanted Notation.Text32 bytes.now result }
 {
     match read_natural(bytes) {
         Some(len) => admit_content(wanted, 4, len, ContentForm::Text),
@@ -142,7 +142,7 @@ fn read_long_text(wanted: Wanted, bytes: &[u8]) -> Result<Head, Stop>
 fn read_bytes(wanted: Wanted, bytes: &[u8]) -> Result<Head, Stop>
     requires enough { 4 ≤ length bytes.now }
     requires notation { wanted.notation ≡ Notation.Bytes32 }
-    ensures { TellsAfterFixed wanted Notation.Bytes32 bytes.now result }
+    ensures { DeterminesAfterFixed wanted Notation.Bytes32 bytes.now result }
 {
     match read_natural(bytes) {
         Some(len) => admit_content(wanted, 4, len, ContentForm::Bytes),
@@ -154,7 +154,7 @@ fn read_bytes(wanted: Wanted, bytes: &[u8]) -> Result<Head, Stop>
 fn read_value(wanted: Wanted, bytes: &[u8]) -> Result<Head, Stop>
     requires enough { 4 ≤ length bytes.now }
     requires notation { wanted.notation ≡ Notation.Bound }
-    ensures { TellsAfterFixed wanted Notation.Bound bytes.now result }
+    ensures { DeterminesAfterFixed wanted Notation.Bound bytes.now result }
 {
     match read_natural(bytes) {
         Some(len) => admit_content(wanted, 4, len, ContentForm::Bound),
@@ -170,7 +170,7 @@ fn read_value(wanted: Wanted, bytes: &[u8]) -> Result<Head, Stop>
 fn read_inet(wanted: Wanted, bytes: &[u8]) -> Result<Head, Stop>
     requires enough { 1 ≤ length bytes.now }
     requires notation { wanted.notation ≡ Notation.Inet }
-    ensures { TellsAfterFixed wanted Notation.Inet bytes.now result }
+    ensures { DeterminesAfterFixed wanted Notation.Inet bytes.now result }
 {
     match u8::from_be_bytes(read_array(bytes)) {
         4 => read_address_and_port(wanted, 4, &bytes[1..]),
@@ -185,7 +185,7 @@ fn admit_content(wanted: Wanted, after: usize, len: u32, form: ContentForm) -> R
     requires few { after ≤ 4 }
     requires front { front_of wanted.notation ≡ after }
     ensures { (rest : List ℕ) →
-        Tells wanted (content_of after len wanted.limit wanted.room (made form)) after rest result }
+        Determines wanted (content_of after len wanted.limit wanted.room (made form)) after rest result }
 {
     if wanted.room < after as u64 + u64::from(len) {
         Err(Stop::Refused(Reason::Overrun))
@@ -200,7 +200,7 @@ fn admit_content(wanted: Wanted, after: usize, len: u32, form: ContentForm) -> R
 fn read_address_and_port(wanted: Wanted, size: usize, rest: &[u8]) -> Result<Head, Stop>
     requires sizes { IsTrue ((size == 4) || (size == 16)) }
     requires notation { wanted.notation ≡ Notation.Inet }
-    ensures { Tells wanted (inet_of size wanted.room) 1 rest.now result }
+    ensures { Determines wanted (inet_of size wanted.room) 1 rest.now result }
 {
     if wanted.room < size as u64 + 5 {
         return Err(Stop::Refused(Reason::Overrun));

@@ -4,7 +4,7 @@ ghost use Rattle.std.specs.Prelude.{◌≡◌, ◌+◌, ◌-◌, ◌<◌, ◌≤
 ghost use Rattle.std.specs.Prelude.{List, [], ℕ, true, false, length, min, drop, is_err, IfOk, IfSome, IsTrue};
 ghost use denote.RawPtr.{◌+ₚ◌};
 ghost use Rattle.std.specs.Borrow.{sem};
-ghost use Rattle.cqlp_note.specs.Head.{Tells, front_of, reader_of, value_of};
+ghost use Rattle.cqlp_note.specs.Head.{Determines, front_of, reader_of, value_of};
 ghost use Rattle.cqlp_note.specs.Partial.{IsContentHead, LeadsToContent};
 ghost use Rattle.cqlp_note.specs.Streams.{ReadsPiece, counted, counted_up};
 ghost use Rattle.cqlp_note.specs.Reader.{More, says};
@@ -130,7 +130,7 @@ impl<A: Allocator> Partial<A> {
         }
     }
 
-    /// Does what `push` does, but tells where a content lies in place of lending it, so that a reader around this one
+    /// Does what `push` does, but says where a content lies in place of lending it, so that a reader around this one
     /// can go on before it lends.
     pub fn advance(&mut self, input: &[u8]) -> FieldAdvance
         requires { self.old.under_way ≡ true }
@@ -485,9 +485,9 @@ impl ContentForm {
 }
 
 /// Reads the front of a field of which the first bytes came before.
-#[tactic(auto, using(crate::proofs::Pieces::tells_pieces))]
+#[tactic(auto, using(crate::proofs::Pieces::determines_pieces))]
 fn read_head_of_pieces(wanted: Wanted, front: &FieldFront, input: &[u8]) -> Result<Head, Stop>
-    ensures { Tells wanted (reader_of wanted) 0 (front.now ++ input.now) result }
+    ensures { Determines wanted (reader_of wanted) 0 (front.now ++ input.now) result }
 {
     if front.as_slice().is_empty() {
         read_head(wanted, input)

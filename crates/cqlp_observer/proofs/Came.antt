@@ -14,7 +14,7 @@ use Rattle.cqlp_observer.specs.declared.heads.Stage.{Stage}
 use Rattle.cqlp_observer.specs.declared.heads.Stage.TheVariants as stage
 use Rattle.cqlp_observer.specs.Heads.{head_of, head_within}
 use Rattle.cqlp_observer.specs.Directions.{Closes, Steps, after_gap, anew, begun_if, end_in, filled, heard, heard_in, heard_some, hears, passed, passed_in, shortened, sought, sought_as}
-use Rattle.cqlp_observer.specs.Whole.{Came, CameSoFar, CameWhole, EndsWhole, EndsWith, Knows, KnowsIn, TellsWholeFrames, used_of}
+use Rattle.cqlp_observer.specs.Whole.{Came, CameSoFar, CameWhole, EndsWhole, EndsWith, Knows, KnowsIn, ReportsWholeFrames, used_of}
 
 -- ---- bytes that come
 
@@ -42,7 +42,7 @@ take_long (suc k) (x ∷ b) = ap (λ (r : List ℕ). x ∷ r) (take_long k b)
 abbrev Right : (responses : Bool) → Came → List ℕ → Steps → Type 0
 Right responses came b x = Knows (came ++ used_of x.step b) x.after × EndsWhole responses came x.step.heard
 
--- so many bytes of it are told, and no end
+-- so many bytes of it are reported, and no end
 right_hears : (came : Came) (b : List ℕ) (s : Heads) (used : ℕ) (what : Heard) (g : Stage) → s.position ≡ length came → used ≤ length b → length came + length b < 2 ^ 64 → KnowsIn g s.responses (came ++ map Some (take used b)) → EndsWhole s.responses came what → Right s.responses came b (hears used what g s)
 right_hears came b s used what g at le fits knows ends =
     let long : length (came ++ map Some (take used b)) ≡ length came + used = length-append came (map Some (take used b)) ∙ ap (λ (n : ℕ). length came + n) (used_long used b le) in
@@ -152,7 +152,7 @@ right_heard came time begins b responses position (stage.Body f (suc left)) at k
 -- ---- a gap, and the end
 
 abbrev Ends : (responses : Bool) → Came → Option Frame → Type 0
-Ends responses came told = IfSome told (λ f. f.extent ≡ Whole → CameWhole responses came f)
+Ends responses came reported = IfSome reported (λ f. f.extent ≡ Whole → CameWhole responses came f)
 
 -- all of it came
 over_whole : (responses : Bool) (came : Came) (f : Frame) → (f.extent ≡ Whole → CameSoFar responses came f 0) → f.extent ≡ Whole → CameWhole responses came f
@@ -211,10 +211,10 @@ new_known : (responses from_start : Bool) → Knows [] (anew responses from_star
 new_known responses true = record { position = refl; stands = tt }
 new_known responses false = record { position = refl; stands = tt }
 
-pub tells_whole : TellsWholeFrames
-tells_whole = (
+pub reports_whole : ReportsWholeFrames
+reports_whole = (
   new_known,
   λ came time begins b old new step e k fits. subst (λ (x : Steps). Right old.responses came b x) (sym e) (right_heard came time begins b old.responses old.position old.stage k.position k.stands fits),
-  λ came n time old new told e k fits. subst (λ (x : Closes). AfterGap old.responses came n x) (sym e) (right_gap came n time old.responses old.position old.stage k.position k.stands fits),
-  λ came old new told e k. subst (λ (x : Closes). Ends old.responses came x.frame) (sym e) (right_end came old.responses old.stage k.stands),
+  λ came n time old new reported e k fits. subst (λ (x : Closes). AfterGap old.responses came n x) (sym e) (right_gap came n time old.responses old.position old.stage k.position k.stands fits),
+  λ came old new reported e k. subst (λ (x : Closes). Ends old.responses came x.frame) (sym e) (right_end came old.responses old.stage k.stands),
 )

@@ -138,7 +138,7 @@ pair_some first m room w hr isnt some k =
 
 pair_within : (m : Message Kept) (room : WatchRoom) (w : Watched) (hr : Bool) → (hr ≡ true → length w.waiting < room.messages) → IsCounted w → StaysWithin room w (taken_by hr (settled m hr room w)).after
 pair_within m room w hr few k = elim (cases_Bool (is_event m)) [
-  | inl is ↦ by_fate m room w hr fate_is.IsTold (rw is refl) (within_same room w _ k (rw is refl) refl refl refl)
+  | inl is ↦ by_fate m room w hr fate_is.IsReported (rw is refl) (within_same room w _ k (rw is refl) refl refl refl)
   | inr isnt ↦ elim (cases_Option (under (id_of m) w.waiting)) [
     | inl none ↦ pair_none m room w hr few isnt none k
     | inr some ↦ pair_some some.0 m room w hr isnt some.1 k

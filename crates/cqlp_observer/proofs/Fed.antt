@@ -1,4 +1,4 @@
--- A reader of headers tells each frame that is sent.
+-- A reader of headers reports each frame that is sent.
 use Rattle.std.proofs.Common.{inl, inr, ◌≡◌, ℕ, zero, suc, ◌+◌, ◌-◌, ◌<◌, ◌≤◌, Bool, false, cond, List, [], ◌∷◌, ◌++◌, length, take, drop, refl, sym, ap, subst, ◌∙◌, arith, append_assoc, length-append, Option, Some}
 use Rattle.std.specs.Prelude.{min, nat_lt}
 use Rattle.std.proofs.Math.Dec.{eqb-suc-zero}
@@ -13,7 +13,7 @@ use Rattle.cqlp_observer.specs.declared.heads.Stage.{Stage}
 use Rattle.cqlp_observer.specs.declared.heads.Stage.TheVariants as stage
 use Rattle.cqlp_observer.specs.Heads.{head_of, head_within}
 use Rattle.cqlp_observer.specs.Directions.{Steps, begun_if, filled, heard, heard_in, heard_some, hears, passed}
-use Rattle.cqlp_observer.specs.Sent.{GoesOn, IsAt, IsInBody, Sent, TellsEachFrame, bytes_of}
+use Rattle.cqlp_observer.specs.Sent.{GoesOn, IsAt, IsInBody, Sent, ReportsEachFrame, bytes_of}
 use Rattle.cqlp_observer.proofs.Came.{take_long}
 
 abbrev Goes : {responses : Bool} → List ℕ → (more : List ℕ) → List (Sent responses) → Steps → Type 0
@@ -41,7 +41,7 @@ goes_headed {responses} b more s front used at first last (x ∷ sent) same nine
     let P : Option Header → Type 0 = λ o. Goes b more (x ∷ sent) (begun_if o used at first last s) in
     subst P (sym head) (record {
       after = x ∷ sent;
-      told = refl;
+      reported = refl;
       stands = record { first = x; others = sent; is = refl; header = refl; whole = refl; body = x.body; ahead = cut.1; long = x.long };
     })
 
@@ -61,7 +61,7 @@ goes_filled front at first last b more s sent same few e =
     ∙ sym (append_assoc front (take k b) (drop used b ++ more)) in
     let ahead : full ++ (drop used b ++ more) ≡ bytes_of sent = sym whole ∙ e in
     elim (cases_Bool (nat_lt (length full) 9)) [
-      | inl short ↦ rw short (record { after = sent; told = refl; stands = (ltb-true (length full) 9 short, ahead) })
+      | inl short ↦ rw short (record { after = sent; reported = refl; stands = (ltb-true (length full) 9 short, ahead) })
       | inr long ↦
           let nine : length full ≡ 9 = let least = ltb-false (length full) 9 long in omega (arith, size, cut) in
           let P : Bool → Type 0 = λ c. Goes b more sent (cond c (hears used heard_as.More (stage.Header full at first) s) (begun_if (head_within s.responses full) used at first last s)) in
@@ -77,7 +77,7 @@ goes_passed f left time b more s sent p =
     let there : used ≤ length p.body = omega (arith, p.long) in
     record {
       after = sent;
-      told = refl;
+      reported = refl;
       stands = record {
         first = p.first;
         others = p.others;
@@ -101,7 +101,7 @@ goes_in {responses} time begins b more position (stage.Body f left) sent p =
     goes_passed f left time b more s sent p
 
 goes_some : {responses : Bool} (time : Option ℕ) (begins : Bool) (b more : List ℕ) (position : ℕ) (g : Stage) (sent : List (Sent responses)) → IsAt g (b ++ more) sent → (let s : Heads = record { responses = responses; position = position; stage = g } in Goes b more sent (heard_some time begins b s))
-goes_some time begins [] more position g sent p = record { after = sent; told = refl; stands = p }
+goes_some time begins [] more position g sent p = record { after = sent; reported = refl; stands = p }
 goes_some time begins (x ∷ b) more position g sent p = rw (eqb-suc-zero (length b)) (goes_in time begins (x ∷ b) more position g sent p)
 
 no_bytes : (b rest : List ℕ) → length b ≡ 0 → b ++ rest ≡ rest
@@ -114,13 +114,13 @@ goes_heard time begins b more position stage.Between sent p = goes_some time beg
 goes_heard time begins b more position (stage.Header front at first) sent p = goes_some time begins b more position (stage.Header front at first) sent p
 goes_heard time begins b more position (stage.Body f zero) sent p = record {
   after = p.others;
-  told = (p.first, p.is, p.header, p.whole);
+  reported = (p.first, p.is, p.header, p.whole);
   stands = p.ahead ∙ no_bytes p.body (bytes_of p.others) p.long;
 }
 goes_heard time begins b more position (stage.Body f (suc left)) sent p = rw (eqb-suc-zero left) (goes_some time begins b more position (stage.Body f (suc left)) sent p)
 
-pub tells_each : TellsEachFrame
-tells_each = (
+pub reports_each : ReportsEachFrame
+reports_each = (
   λ responses sent. refl,
   λ time begins b more old new step sent e p. subst (λ (x : Steps). Goes b more sent x) (sym e) (goes_heard time begins b more old.position old.stage sent p),
 )

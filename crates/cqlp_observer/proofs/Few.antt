@@ -115,6 +115,6 @@ pub takes_few : TakesFewSteps
 takes_few = (
   new_short,
   λ time begins b old new step e k. subst (λ (x : Steps). On b old x) (sym e) (on_heard time begins b old.responses old.position old.stage k),
-  λ n time old new told e k. subst (λ (x : Closes). IsShort x.after.stage) (sym e) (after_gap_short n time old.responses old.position old.stage k),
-  λ old new told e. subst (λ (x : Closes). IsShort x.after.stage) (sym e) tt,
+  λ n time old new reported e k. subst (λ (x : Closes). IsShort x.after.stage) (sym e) (after_gap_short n time old.responses old.position old.stage k),
+  λ old new reported e. subst (λ (x : Closes). IsShort x.after.stage) (sym e) tt,
 )

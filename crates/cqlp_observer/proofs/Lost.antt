@@ -9,12 +9,12 @@ use Rattle.std.proofs.lemmas.Map.Lookups.{exact_signed}
 use Rattle.cqlp_observer.specs.declared.message.Message.{Message}
 use Rattle.cqlp_observer.specs.Messages.{id_of, is_event, is_request, is_under, meets}
 use Rattle.cqlp_observer.specs.Waiting.{exchange_with, exchanges, last_said, last_under, said, turned, unmet, waits, waits_under}
-use Rattle.cqlp_observer.specs.Pairings.{Waiting, after_all, fate_under, is_overtaken, none_wait, overtakes, taken, told_of, told_or_none, under}
+use Rattle.cqlp_observer.specs.Pairings.{Waiting, after_all, fate_under, is_overtaken, none_wait, overtakes, taken, reported_of, reported_or_none, under}
 use Rattle.cqlp_observer.specs.Laws.{CountsTheMissing, exchanges_in, is_of, messages, overtaken_of}
 use Rattle.cqlp_observer.proofs.Entries.{own_key, same_key}
 use Rattle.cqlp_observer.proofs.Exchanged.{Pairs, exchanges_event, exchanges_more, waits_event, waits_more}
-use Rattle.cqlp_observer.proofs.Taken.{IsInOrder, is_id, is_own, stays, taken_told, taken_under}
-use Rattle.cqlp_observer.proofs.Stood.{AreLast, Stands, now, stands_new, stands_one, told_then}
+use Rattle.cqlp_observer.proofs.Taken.{IsInOrder, is_id, is_own, stays, taken_reported, taken_under}
+use Rattle.cqlp_observer.proofs.Stood.{AreLast, Stands, now, stands_new, stands_one, reported_then}
 
 -- ---- what waits by the whole list is the last that was said
 
@@ -55,7 +55,7 @@ lag None held = 0
 lag (Some x) None = 1
 lag (Some x) (Some y) = 0
 
--- a message is told alone for want of room
+-- a message is reported alone for want of room
 abbrev over_in : {T : Type 0} → (has_room : Bool) → (held : Option (Message T)) → ℕ
 over_in has_room None = if has_room then 0 else 1
 over_in has_room (Some y) = 0
@@ -91,7 +91,7 @@ exchange_count j m (Some first) own =
       ]
     ]
 
--- ---- messages told alone for want of room
+-- ---- messages reported alone for want of room
 
 abbrev alone_now : {T : Type 0} → Message T → Bool → Waiting T → List (Message T)
 alone_now m has_room w = if overtakes m has_room w then m ∷ [] else []
@@ -118,17 +118,17 @@ counted p xs ys = sum_by-append (λ x. cond (p x) 1 0) xs ys
 last_is_own : {T : Type 0} (h : List (Message T)) (id : ℤ) (x : Message T) → last_said id h ≡ Some x → is_under id x ≡ true
 last_is_own h id x e = find_is (is_under id) (turned (said h) []) x e
 
--- what is told and missing of one message more
+-- what is reported and missing of one message more
 exchanges_count : {T : Type 0} (j : ℤ) (h : List (Message T)) (m : Message T) → is_event m ≡ false → count_by (is_of j) (exchanges (h ++ m ∷ [])) ≡ count_by (is_of j) (exchanges h) + cond (is_under j m) (met_in m (waits (id_of m) h)) 0
 exchanges_count {T} j h m isnt =
     ap (λ (r : Pairs T). count_by (is_of j) r) (exchanges_more h m isnt)
     ∙ counted (is_of j) (exchanges h) (exchange_with m (waits (id_of m) h))
     ∙ ap (λ (n : ℕ). count_by (is_of j) (exchanges h) + n) (exchange_count j m (waits (id_of m) h) (λ x e. last_is_own h (id_of m) x (waits_last (id_of m) (turned (said h) []) x e)))
 
-told_count : {T : Type 0} (j : ℤ) (h : List (Message T)) (m : Message T) (room : Bool) (w : Waiting T) (done : Pairs T) → is_event m ≡ false → AreLast h w → count_by (is_of j) (done ++ now m room w) ≡ count_by (is_of j) done + cond (is_under j m) (met_in m (under (id_of m) w)) 0
-told_count {T} j h m room w done isnt are =
+reported_count : {T : Type 0} (j : ℤ) (h : List (Message T)) (m : Message T) (room : Bool) (w : Waiting T) (done : Pairs T) → is_event m ≡ false → AreLast h w → count_by (is_of j) (done ++ now m room w) ≡ count_by (is_of j) done + cond (is_under j m) (met_in m (under (id_of m) w)) 0
+reported_count {T} j h m room w done isnt are =
     counted (is_of j) done (now m room w)
-    ∙ ap (λ (r : Pairs T). count_by (is_of j) done + count_by (is_of j) r) (taken_told m room w isnt)
+    ∙ ap (λ (r : Pairs T). count_by (is_of j) done + count_by (is_of j) r) (taken_reported m room w isnt)
     ∙ ap (λ (n : ℕ). count_by (is_of j) done + n) (exchange_count j m (under (id_of m) w) (λ x e. last_is_own h (id_of m) x (are (id_of m) x e)))
 
 alone_count : {T : Type 0} (j : ℤ) (m : Message T) (room : Bool) (w : Waiting T) (over : List (Message T)) → is_event m ≡ false → count_by (is_under j) (over ++ alone_now m room w) ≡ count_by (is_under j) over + cond (is_under j m) (over_in room (under (id_of m) w)) 0
@@ -151,8 +151,8 @@ behind_own {T} j h m room w done over isnt same sorted are le =
     let jb : under (id_of m) w ≡ b = ap (λ (i : ℤ). under i w) (sym same) in
     let exchanged : count_by (is_of j) (exchanges (h ++ m ∷ [])) ≡ count_by (is_of j) (exchanges h) + met_in m a =
     exchanges_count j h m isnt ∙ rw here (ap (λ (o : Option (Message T)). count_by (is_of j) (exchanges h) + met_in m o) ja) in
-    let told : count_by (is_of j) (done ++ now m room w) ≡ count_by (is_of j) done + met_in m b =
-    told_count j h m room w done isnt are ∙ rw here (ap (λ (o : Option (Message T)). count_by (is_of j) done + met_in m o) jb) in
+    let reported : count_by (is_of j) (done ++ now m room w) ≡ count_by (is_of j) done + met_in m b =
+    reported_count j h m room w done isnt are ∙ rw here (ap (λ (o : Option (Message T)). count_by (is_of j) done + met_in m o) jb) in
     let alone : count_by (is_under j) (over ++ alone_now m room w) ≡ count_by (is_under j) over + over_in room b =
     alone_count j m room w over isnt ∙ rw here (ap (λ (o : Option (Message T)). count_by (is_under j) over + over_in room o) jb) in
     let waits_now : waits j (h ++ m ∷ []) ≡ unmet m a = waits_more j h m isnt ∙ rw here refl in
@@ -161,19 +161,19 @@ behind_own {T} j h m room w done over isnt same sorted are le =
     let lags : lag (waits j (h ++ m ∷ [])) (under j (taken m room w).after) ≡ lag (unmet m a) (stays m room b) =
     ap (λ (o : Option (Message T)). lag o (under j (taken m room w).after)) waits_now ∙ ap (λ (o : Option (Message T)). lag (unmet m a) o) under_now in
     let step = lag_step m room a b (count_by (is_of j) (exchanges h)) (count_by (is_of j) done) (count_by (is_under j) over) (same_last h w j are) le in
-    omega (arith, exchanged, told, alone, lags, step)
+    omega (arith, exchanged, reported, alone, lags, step)
 
 behind_other : {T : Type 0} (j : ℤ) (h : List (Message T)) (m : Message T) (room : Bool) (w : Waiting T) (done : Pairs T) (over : List (Message T)) → is_event m ≡ false → is_id j (id_of m) ≡ false → IsInOrder w → AreLast h w → Behind j h w done over → Behind j (h ++ m ∷ []) (taken m room w).after (done ++ now m room w) (over ++ alone_now m room w)
 behind_other {T} j h m room w done over isnt other sorted are le =
     let there : is_under j m ≡ false = is_own j m ∙ other in
     let exchanged = rw there at (exchanges_count j h m isnt) in
-    let told = rw there at (told_count j h m room w done isnt are) in
+    let reported = rw there at (reported_count j h m room w done isnt are) in
     let alone = rw there at (alone_count j m room w over isnt) in
     let waits_now : waits j (h ++ m ∷ []) ≡ waits j h = waits_more j h m isnt ∙ rw there refl in
     let under_now : under j (taken m room w).after ≡ under j w = taken_under m room w j isnt sorted ∙ rw other refl in
     let lags : lag (waits j (h ++ m ∷ [])) (under j (taken m room w).after) ≡ lag (waits j h) (under j w) =
     ap (λ (o : Option (Message T)). lag o (under j (taken m room w).after)) waits_now ∙ ap (λ (o : Option (Message T)). lag (waits j h) o) under_now in
-    omega (arith, exchanged, told, alone, lags, le)
+    omega (arith, exchanged, reported, alone, lags, le)
 
 behind_event : {T : Type 0} (j : ℤ) (h : List (Message T)) (m : Message T) (room : Bool) (w : Waiting T) (done : Pairs T) (over : List (Message T)) → is_event m ≡ true → Behind j h w done over → Behind j (h ++ m ∷ []) (taken m room w).after (done ++ now m room w) (over ++ alone_now m room w)
 behind_event {T} j h m room w done over is le =
@@ -190,21 +190,21 @@ behind_one j h m room w done over p le = elim (cases_Bool (is_event m)) [
 
 -- ---- all messages
 
-behind_all : {T : Type 0} (j : ℤ) (ms : List (Message T × Bool)) (h : List (Message T)) (w : Waiting T) (done : Pairs T) (over : List (Message T)) → Stands h w done → Behind j h w done over → Behind j (h ++ messages ms) (after_all ms w) (done ++ exchanges_in (told_of ms w)) (over ++ overtaken_of ms w)
+behind_all : {T : Type 0} (j : ℤ) (ms : List (Message T × Bool)) (h : List (Message T)) (w : Waiting T) (done : Pairs T) (over : List (Message T)) → Stands h w done → Behind j h w done over → Behind j (h ++ messages ms) (after_all ms w) (done ++ exchanges_in (reported_of ms w)) (over ++ overtaken_of ms w)
 behind_all j [] h w done over p le = rw (append-nil h, append-nil done, append-nil over) le
 behind_all {T} j (m ∷ ms) h w done over p le =
     let next = taken m.0 m.1 w in
     let first = now m.0 m.1 w in
     let alone = alone_now m.0 m.1 w in
     let rest = behind_all j ms (h ++ m.0 ∷ []) next.after (done ++ first) (over ++ alone) (stands_one h m.0 m.1 w done p) (behind_one j h m.0 m.1 w done over p le) in
-    let told : (done ++ first) ++ exchanges_in (told_of ms next.after) ≡ done ++ exchanges_in (told_or_none next.told ++ told_of ms next.after) =
-    append_assoc done first (exchanges_in (told_of ms next.after)) ∙ ap (λ (r : Pairs T). done ++ r) (sym (told_then next.told (told_of ms next.after))) in
+    let reported : (done ++ first) ++ exchanges_in (reported_of ms next.after) ≡ done ++ exchanges_in (reported_or_none next.reported ++ reported_of ms next.after) =
+    append_assoc done first (exchanges_in (reported_of ms next.after)) ∙ ap (λ (r : Pairs T). done ++ r) (sym (reported_then next.reported (reported_of ms next.after))) in
     let alones : (over ++ alone) ++ overtaken_of ms next.after ≡ over ++ (alone ++ overtaken_of ms next.after) = append_assoc over alone (overtaken_of ms next.after) in
-    let told_long = ap (λ (r : Pairs T). count_by (is_of j) r) told in
+    let reported_long = ap (λ (r : Pairs T). count_by (is_of j) r) reported in
     let alone_long = ap (λ (r : List (Message T)). count_by (is_under j) r) alones in
     let joined : (h ++ m.0 ∷ []) ++ messages ms ≡ h ++ m.0 ∷ messages ms = append_assoc h (m.0 ∷ []) (messages ms) in
-    let P : List (Message T) → Type 0 = λ r. Behind j r (after_all ms next.after) (done ++ exchanges_in (told_or_none next.told ++ told_of ms next.after)) (over ++ (alone ++ overtaken_of ms next.after)) in
-    subst P joined (omega (arith, rest, told_long, alone_long))
+    let P : List (Message T) → Type 0 = λ r. Behind j r (after_all ms next.after) (done ++ exchanges_in (reported_or_none next.reported ++ reported_of ms next.after)) (over ++ (alone ++ overtaken_of ms next.after)) in
+    subst P joined (omega (arith, rest, reported_long, alone_long))
 
 pub counts : (T : Type 0) → CountsTheMissing T
 counts T ms id = let all = behind_all id ms [] none_wait [] [] stands_new (omega arith) in omega (arith, all)

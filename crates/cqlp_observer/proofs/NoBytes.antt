@@ -1,4 +1,4 @@
--- No bytes tell nothing between two frames, and change nothing.
+-- No bytes report nothing between two frames, and change nothing.
 use Rattle.std.proofs.Common.{◌≡◌, ℕ, Bool, true, false, cond, List, [], ◌∷◌, length, refl, sym, ap, ◌∙◌, arith}
 use Rattle.std.specs.Prelude.{◌&&◌, ◌==◌, Option, None}
 use Rattle.std.proofs.lemmas.Bool.Decides.{nat_tests}
@@ -45,20 +45,20 @@ opens_frames : (responses : Bool) (w : Watched) → opening_of responses [] w �
 opens_frames responses w = either_frames _
 
 -- the connection after no bytes
-abbrev nothing_told : Watched → Steps
-nothing_told w = record { used = 0; is_done = true; opening = begins.Frames; told = None; after = w }
+abbrev nothing_reported : Watched → Steps
+nothing_reported w = record { used = 0; is_done = true; opening = begins.Frames; reported = None; after = w }
 
-heard_none : (responses : Bool) (time : Option ℕ) (at_begin : Bool) (room : WatchRoom) (w : Watched) → is_between (side_of responses w).heads.stage ≡ true → heard responses time at_begin [] room w ≡ nothing_told w
+heard_none : (responses : Bool) (time : Option ℕ) (at_begin : Bool) (room : WatchRoom) (w : Watched) → is_between (side_of responses w).heads.stage ≡ true → heard responses time at_begin [] room w ≡ nothing_reported w
 heard_none responses time at_begin room w between =
     ap (λ (o : Opening). heard_by o (read responses time at_begin [] room (opened o w)) room) (opens_frames responses w)
     ∙ ap (λ (h : Hears). heard_by begins.Frames (read_by responses h room w) room) (side_hears_nothing time at_begin (has_text_room room w) (side_of responses w) between)
-    ∙ ap (λ (u : Watched). nothing_told u) (changed_same responses room w)
+    ∙ ap (λ (u : Watched). nothing_reported u) (changed_same responses room w)
 
 left_of : (a b : Bool) → (a && b) ≡ true → a ≡ true
 left_of true b both = refl
 left_of false b both = both
 
-pub heard_nothing : (responses : Bool) (time : Option ℕ) (at_begin : Bool) (b : List ℕ) (room : WatchRoom) (w : Watched) → has_nothing responses b w ≡ true → nothing_told w ≡ heard responses time at_begin b room w
+pub heard_nothing : (responses : Bool) (time : Option ℕ) (at_begin : Bool) (b : List ℕ) (room : WatchRoom) (w : Watched) → has_nothing responses b w ≡ true → nothing_reported w ≡ heard responses time at_begin b room w
 heard_nothing responses time at_begin [] room w nothing = sym (heard_none responses time at_begin room w nothing)
 heard_nothing responses time at_begin (x ∷ b) room w nothing =
     let empty : (length (x ∷ b) == 0) ≡ true = left_of (length (x ∷ b) == 0) (is_between (side_of responses w).heads.stage) nothing in

@@ -1,4 +1,4 @@
--- Each message is told once, or waits.
+-- Each message is reported once, or waits.
 use Rattle.std.proofs.Common.{inl, inr, ◌≡◌, Bool, true, false, List, [], ◌∷◌, ◌++◌, refl, sym, ap, subst, ◌∙◌, append_assoc, append-nil, Option, Some, None}
 use Rattle.std.specs.List.Sorted.{IsPermutation, IsStrictlySortedBy}
 use Rattle.std.specs.Map.{values_of}
@@ -8,14 +8,14 @@ use Rattle.std.proofs.lemmas.List.Sorted.{IsPermutation-refl, IsPermutation-appe
 use Rattle.cqlp_observer.specs.declared.message.Message.{Message}
 use Rattle.cqlp_observer.specs.declared.paired.Paired.{Paired}
 use Rattle.cqlp_observer.specs.Messages.{id_of, is_event, is_request, meets}
-use Rattle.cqlp_observer.specs.Pairings.{Pairs, Waiting, after_all, alone, awaited, met, none_wait, taken, told_of, told_or_none, under, without}
-use Rattle.cqlp_observer.specs.Laws.{TellsEachMessage, messages, messages_in, messages_of}
+use Rattle.cqlp_observer.specs.Pairings.{Pairs, Waiting, after_all, alone, awaited, met, none_wait, taken, reported_of, reported_or_none, under, without}
+use Rattle.cqlp_observer.specs.Laws.{ReportsEachMessage, messages, messages_in, messages_of}
 use Rattle.cqlp_observer.proofs.Entries.{cases_Option, swapped, values_with, values_without, without_none}
 use Rattle.cqlp_observer.proofs.Taken.{IsInOrder, is_id, taken_in_order, under_gone}
 
--- what a step tells, and those that wait then
+-- what a step reports, and those that wait then
 abbrev Moves : {T : Type 0} → (before : List (Message T)) → Pairs T → Type 0
-Moves before p = IsPermutation before (messages_in (told_or_none p.told) ++ values_of p.after)
+Moves before p = IsPermutation before (messages_in (reported_or_none p.reported) ++ values_of p.after)
 
 alone_is : {T : Type 0} (m : Message T) → messages_of (alone m) ≡ m ∷ []
 alone_is m = elim (cases_Bool (is_request m)) [ inl is ↦ rw is refl | inr isnt ↦ rw isnt refl ]
@@ -51,30 +51,30 @@ moves_one m has_room w sorted = elim (cases_Bool (is_event m)) [
   ]
 ]
 
-told_then : {T : Type 0} (o : Option (Paired T)) (told : List (Paired T)) → messages_in (told_or_none o ++ told) ≡ messages_in (told_or_none o) ++ messages_in told
-told_then None told = refl
-told_then {T} (Some t) told = ap (λ (r : List (Message T)). r ++ messages_in told) (sym (append-nil (messages_of t)))
+reported_then : {T : Type 0} (o : Option (Paired T)) (reported : List (Paired T)) → messages_in (reported_or_none o ++ reported) ≡ messages_in (reported_or_none o) ++ messages_in reported
+reported_then None reported = refl
+reported_then {T} (Some t) reported = ap (λ (r : List (Message T)). r ++ messages_in reported) (sym (append-nil (messages_of t)))
 
-moves_all : {T : Type 0} (ms : List (Message T × Bool)) (w : Waiting T) → IsInOrder w → IsPermutation (values_of w ++ messages ms) (messages_in (told_of ms w) ++ values_of (after_all ms w))
+moves_all : {T : Type 0} (ms : List (Message T × Bool)) (w : Waiting T) → IsInOrder w → IsPermutation (values_of w ++ messages ms) (messages_in (reported_of ms w) ++ values_of (after_all ms w))
 moves_all [] w sorted = rw (append-nil (values_of w)) (IsPermutation-refl (values_of w))
 moves_all {T} (m ∷ ms) w sorted =
     let next = taken m.0 m.1 w in
-    let now = messages_in (told_or_none next.told) in
+    let now = messages_in (reported_or_none next.reported) in
     let rest = moves_all ms next.after (taken_in_order m.0 m.1 w sorted) in
-    let all = messages_in (told_of ms next.after) ++ values_of (after_all ms next.after) in
+    let all = messages_in (reported_of ms next.after) ++ values_of (after_all ms next.after) in
     let first : IsPermutation ((values_of w ++ m.0 ∷ []) ++ messages ms) ((now ++ values_of next.after) ++ messages ms) = IsPermutation-append_left (messages ms) _ _ (moves_one m.0 m.1 w sorted) in
     let then : IsPermutation (now ++ (values_of next.after ++ messages ms)) (now ++ all) = IsPermutation-append_right now _ _ rest in
     let both : IsPermutation (values_of w ++ m.0 ∷ messages ms) (now ++ all) =
     IsPermutation-trans _ _ _ (subst (λ (r : List (Message T)). IsPermutation r ((now ++ values_of next.after) ++ messages ms)) (append_assoc (values_of w) (m.0 ∷ []) (messages ms)) first)
     (subst (λ (r : List (Message T)). IsPermutation r (now ++ all)) (sym (append_assoc now (values_of next.after) (messages ms))) then) in
-    let end : now ++ all ≡ messages_in (told_or_none next.told ++ told_of ms next.after) ++ values_of (after_all ms next.after) =
-    sym (append_assoc now (messages_in (told_of ms next.after)) (values_of (after_all ms next.after)))
-    ∙ ap (λ (r : List (Message T)). r ++ values_of (after_all ms next.after)) (sym (told_then next.told (told_of ms next.after))) in
+    let end : now ++ all ≡ messages_in (reported_or_none next.reported ++ reported_of ms next.after) ++ values_of (after_all ms next.after) =
+    sym (append_assoc now (messages_in (reported_of ms next.after)) (values_of (after_all ms next.after)))
+    ∙ ap (λ (r : List (Message T)). r ++ values_of (after_all ms next.after)) (sym (reported_then next.reported (reported_of ms next.after))) in
     subst (λ (r : List (Message T)). IsPermutation (values_of w ++ m.0 ∷ messages ms) r) end both
 
 none_in_order : (T : Type 0) → IsInOrder {T = T} none_wait
 unfolding IsStrictlySortedBy
 none_in_order T = tt
 
-pub tells_each_message : (T : Type 0) → TellsEachMessage T
-tells_each_message T ms = moves_all ms none_wait (none_in_order T)
+pub reports_each_message : (T : Type 0) → ReportsEachMessage T
+reports_each_message T ms = moves_all ms none_wait (none_in_order T)

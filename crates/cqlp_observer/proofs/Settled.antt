@@ -10,7 +10,7 @@ use Rattle.cqlp_observer.specs.Keeping.{Kept}
 use Rattle.cqlp_observer.specs.Messages.{id_of}
 use Rattle.cqlp_observer.specs.Misses.{with_overtaken}
 use Rattle.cqlp_observer.specs.Pairings.{Pairs, Waiting, fate_of, paired, taken, under}
-use Rattle.cqlp_observer.specs.Watches.{Fits, Watched, fitted, fitted_as, fitting, paired_by, settled, taken_by, telling, text_in, watched, with_count, with_missed}
+use Rattle.cqlp_observer.specs.Watches.{Fits, Watched, fitted, fitted_as, fitting, paired_by, settled, taken_by, report_then, text_in, watched, with_count, with_missed}
 
 -- by what becomes of it
 pub settled_as : (m : Message Kept) (hr : Bool) (room : WatchRoom) (w : Watched) (o : Option (Message Kept)) (f : Fate) → o ≡ under (id_of m) w.waiting → f ≡ fate_of o m hr → settled m hr room w ≡ fitted_as f m room w
@@ -32,8 +32,8 @@ settled_waits m hr room w o left beside found left_is is fate =
 pub settled_overtaken : (m : Message Kept) (hr : Bool) (room : WatchRoom) (w : Watched) (o : Option (Message Kept)) → o ≡ under (id_of m) w.waiting → fate_is.IsOvertaken ≡ fate_of o m hr → fitting m (with_missed (with_overtaken w.missed) w) ≡ settled m hr room w
 settled_overtaken m hr room w o found fate = sym (settled_as m hr room w o fate_is.IsOvertaken found fate)
 
-pub paired_settled : {E : Type 0} (r : Result (Option (Paired Kept)) E) (after : Waiting Kept) (hr known : Bool) (m settled_m : Message Kept) (room : WatchRoom) (w settled_w : Watched) → hr ≡ known → fitting settled_m settled_w ≡ settled m hr room w → IfOk r (λ told. paired told after ≡ taken settled_m hr settled_w.waiting) → IfOk r (λ told. telling told (watched settled_w.requests settled_w.responses after settled_w.text settled_w.missed) ≡ taken_by known (settled m known room w))
-paired_settled (Ok told) after hr known m settled_m room w settled_w same settles takes =
+pub paired_settled : {E : Type 0} (r : Result (Option (Paired Kept)) E) (after : Waiting Kept) (hr known : Bool) (m settled_m : Message Kept) (room : WatchRoom) (w settled_w : Watched) → hr ≡ known → fitting settled_m settled_w ≡ settled m hr room w → IfOk r (λ reported. paired reported after ≡ taken settled_m hr settled_w.waiting) → IfOk r (λ reported. report_then reported (watched settled_w.requests settled_w.responses after settled_w.text settled_w.missed) ≡ taken_by known (settled m known room w))
+paired_settled (Ok reported) after hr known m settled_m room w settled_w same settles takes =
     ap (λ (p : Pairs Kept). paired_by p settled_w) takes
     ∙ ap (λ (x : Fits). taken_by hr x) settles
     ∙ ap (λ (b : Bool). taken_by b (settled m b room w)) same

@@ -1,4 +1,4 @@
--- A message that is taken: which wait then, and which exchange is told.
+-- A message that is taken: which wait then, and which exchange is reported.
 use Rattle.std.proofs.Common.{inl, inr, ◌≡◌, Bool, true, false, cond, [], ◌∷◌, refl, sym, subst, ◌∙◌, Option, Some, None, ℤ}
 use Rattle.std.specs.Prelude.{if◌then◌else◌}
 use Rattle.std.specs.BTreeMap.{is_at}
@@ -11,7 +11,7 @@ use Rattle.std.proofs.lemmas.Map.Lookups.{exact_signed}
 use Rattle.cqlp_observer.specs.declared.message.Message.{Message}
 use Rattle.cqlp_observer.specs.Messages.{id_of, is_event, is_request, is_under, meets}
 use Rattle.cqlp_observer.specs.Waiting.{as_exchange, exchange_with, unmet}
-use Rattle.cqlp_observer.specs.Pairings.{Waiting, alone, awaited, exchange, met, taken, taken_after, told_or_none, under, without}
+use Rattle.cqlp_observer.specs.Pairings.{Waiting, alone, awaited, exchange, met, taken, taken_after, reported_or_none, under, without}
 use Rattle.cqlp_observer.specs.Laws.{exchange_of, exchanges_in}
 use Rattle.cqlp_observer.proofs.Entries.{cases_Option, lookup_with, lookup_without, own_key, same_key, sorted_with, sorted_without, without_none}
 
@@ -106,27 +106,27 @@ taken_in_order m has_room w sorted = elim (cases_Bool (is_event m)) [
   | inr isnt ↦ rw isnt (order_after (under (id_of m) w) m has_room (without (id_of m) w) (sorted_without int_cmp (is_id (id_of m)) w sorted))
 ]
 
--- ---- the exchange that is told
+-- ---- the exchange that is reported
 
 no_exchange : {T : Type 0} (m : Message T) → exchange_of (alone m) ≡ []
 no_exchange m = elim (cases_Bool (is_request m)) [ inl is ↦ rw is refl | inr isnt ↦ rw isnt refl ]
 
-told_exchange : {T : Type 0} (first m : Message T) → exchange_of (exchange first m) ≡ as_exchange first m ∷ []
-told_exchange first m = elim (cases_Bool (is_request first)) [ inl is ↦ rw is refl | inr isnt ↦ rw isnt refl ]
+reported_exchange : {T : Type 0} (first m : Message T) → exchange_of (exchange first m) ≡ as_exchange first m ∷ []
+reported_exchange first m = elim (cases_Bool (is_request first)) [ inl is ↦ rw is refl | inr isnt ↦ rw isnt refl ]
 
-told_alone : {T : Type 0} (m : Message T) (has_room : Bool) (w : Waiting T) → exchanges_in (told_or_none (awaited m has_room w).told) ≡ []
-told_alone m true w = refl
-told_alone m false w = rw (no_exchange m) refl
+reported_alone : {T : Type 0} (m : Message T) (has_room : Bool) (w : Waiting T) → exchanges_in (reported_or_none (awaited m has_room w).reported) ≡ []
+reported_alone m true w = refl
+reported_alone m false w = rw (no_exchange m) refl
 
-told_met : {T : Type 0} (first m : Message T) (others : Waiting T) → exchanges_in (told_or_none (met first m others).told) ≡ exchange_with m (Some first)
-told_met first m others = elim (cases_Bool (meets first m)) [
-  | inl meet ↦ rw (meet, told_exchange first m) refl
+reported_met : {T : Type 0} (first m : Message T) (others : Waiting T) → exchanges_in (reported_or_none (met first m others).reported) ≡ exchange_with m (Some first)
+reported_met first m others = elim (cases_Bool (meets first m)) [
+  | inl meet ↦ rw (meet, reported_exchange first m) refl
   | inr apart ↦ rw (apart, no_exchange first) refl
 ]
 
-told_after : {T : Type 0} (o : Option (Message T)) (m : Message T) (has_room : Bool) (others : Waiting T) → exchanges_in (told_or_none (taken_after o m has_room others).told) ≡ exchange_with m o
-told_after None m has_room others = told_alone m has_room others
-told_after (Some first) m has_room others = told_met first m others
+reported_after : {T : Type 0} (o : Option (Message T)) (m : Message T) (has_room : Bool) (others : Waiting T) → exchanges_in (reported_or_none (taken_after o m has_room others).reported) ≡ exchange_with m o
+reported_after None m has_room others = reported_alone m has_room others
+reported_after (Some first) m has_room others = reported_met first m others
 
-pub taken_told : {T : Type 0} (m : Message T) (has_room : Bool) (w : Waiting T) → is_event m ≡ false → exchanges_in (told_or_none (taken m has_room w).told) ≡ exchange_with m (under (id_of m) w)
-taken_told m has_room w isnt = rw isnt (told_after (under (id_of m) w) m has_room (without (id_of m) w))
+pub taken_reported : {T : Type 0} (m : Message T) (has_room : Bool) (w : Waiting T) → is_event m ≡ false → exchanges_in (reported_or_none (taken m has_room w).reported) ≡ exchange_with m (under (id_of m) w)
+taken_reported m has_room w isnt = rw isnt (reported_after (under (id_of m) w) m has_room (without (id_of m) w))

@@ -81,7 +81,7 @@ heard_in stage.Between time begins b s = filled [] s.position time time b s
 heard_in (stage.Header front at first) time begins b s = filled front at first time b s
 heard_in (stage.Body f left) time begins b s = passed f left time b s
 
--- A frame ends once nothing of its body is left. Else the first bytes of the piece are told, if there are any.
+-- A frame ends once nothing of its body is left. Else the first bytes of the piece are reported, if there are any.
 abbrev pub is_over : Stage → Bool
 is_over stage.Lost = false
 is_over stage.Between = false
@@ -112,7 +112,7 @@ passed_in f left time = if left == 0 then f else record f { ended = option_or ti
 abbrev pub shortened : Frame → (left : ℕ) → Frame
 shortened f left = if left == 0 then f else record f { extent = Short }
 
--- the frame that is told, and the direction after it
+-- the frame that is reported, and the direction after it
 pub record Closes : Type 0 where
   pub frame : Option Frame
   pub after : Heads

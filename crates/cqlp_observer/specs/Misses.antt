@@ -7,7 +7,7 @@ use Rattle.cqlp_observer.specs.declared.opening.Opening.TheVariants as opening
 abbrev pub none_missed : Missed
 none_missed = record { overtaken = 0; texts = 0; gaps = 0; other_versions = 0; tls = 0; http = 0 }
 
--- one message more that is told alone since there is no room for it
+-- one message more that is reported alone since there is no room for it
 abbrev pub with_overtaken : Missed → Missed
 with_overtaken m = record m { overtaken = counted_up 1 m.overtaken }
 

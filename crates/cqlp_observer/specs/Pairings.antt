@@ -1,4 +1,4 @@
--- The messages that wait, and what is told of each message.
+-- The messages that wait, and what is reported of each message.
 use Rattle.std.specs.Prelude.{◌≡◌, ℕ, ◌<◌, ◌≤◌, Bool, true, false, ℤ, List, [], ◌∷◌, ◌++◌, length, map, slice_index_or, Option, Some, None, if◌then◌else◌}
 use Rattle.std.specs.declared.cmp.Ordering.TheVariants.{Less, Greater}
 use Rattle.std.specs.Ordering.{int_cmp}
@@ -43,14 +43,14 @@ without id w = remove_entry (is_at (int_cmp id)) w
 abbrev pub with_message : {T : Type 0} → Message T → Waiting T → Waiting T
 with_message m w = insert_entry int_cmp w (id_of m) m
 
--- ---- what is told, and which wait then
+-- ---- what is reported, and which wait then
 
 pub record Pairs (T : Type 0) : Type 0 where
-  pub told : Option (Paired T)
+  pub reported : Option (Paired T)
   pub after : Waiting T
 
 abbrev pub paired : {T : Type 0} → Option (Paired T) → Waiting T → Pairs T
-paired told w = record { told = told; after = w }
+paired reported w = record { reported = reported; after = w }
 
 -- of a message alone, or of two that meet
 abbrev pub alone : {T : Type 0} → Message T → Paired T
@@ -59,7 +59,7 @@ alone m = if is_request m then Unanswered m else Unasked m
 abbrev pub exchange : {T : Type 0} → (first second : Message T) → Paired T
 exchange first second = if is_request first then Exchange first second else Exchange second first
 
--- Where none waits under its id, a message waits, if there is room, or is told alone.
+-- Where none waits under its id, a message waits, if there is room, or is reported alone.
 abbrev pub awaited : {T : Type 0} → Message T → (has_room : Bool) → Waiting T → Pairs T
 awaited m has_room w = if has_room then paired None (with_message m w) else paired (Some (alone m)) w
 
@@ -79,7 +79,7 @@ taken m has_room w =
     if is_event m then paired (Some (Event m)) w
     else taken_after (under (id_of m) w) m has_room (without (id_of m) w)
 
--- Where no more come, the one under the least id is told.
+-- Where no more come, the one under the least id is reported.
 abbrev pub ended : {T : Type 0} → Waiting T → Pairs T
 ended [] = paired None []
 ended (e ∷ w) = paired (Some (alone e.1)) w
@@ -98,10 +98,10 @@ fate_under (Some first) m has_room = fate_after first m
 
 -- after the one that waits under its id
 abbrev pub fate_of : {T : Type 0} → Option (Message T) → Message T → (has_room : Bool) → Fate
-fate_of first m has_room = if is_event m then fate_is.IsTold else fate_under first m has_room
+fate_of first m has_room = if is_event m then fate_is.IsReported else fate_under first m has_room
 
 abbrev pub is_overtaken : Fate → Bool
-is_overtaken fate_is.IsTold = false
+is_overtaken fate_is.IsReported = false
 is_overtaken fate_is.Meets = false
 is_overtaken fate_is.Waits = false
 is_overtaken fate_is.IsOvertaken = true
@@ -115,11 +115,11 @@ abbrev pub after_all : {T : Type 0} → List (Message T × Bool) → Waiting T �
 after_all [] w = w
 after_all (m ∷ ms) w = after_all ms (taken m.0 m.1 w).after
 
--- what is told of them, in their order
-abbrev pub told_or_none : {T : Type 0} → Option (Paired T) → List (Paired T)
-told_or_none None = []
-told_or_none (Some t) = t ∷ []
+-- what is reported of them, in their order
+abbrev pub reported_or_none : {T : Type 0} → Option (Paired T) → List (Paired T)
+reported_or_none None = []
+reported_or_none (Some t) = t ∷ []
 
-abbrev pub told_of : {T : Type 0} → List (Message T × Bool) → Waiting T → List (Paired T)
-told_of [] w = []
-told_of (m ∷ ms) w = told_or_none (taken m.0 m.1 w).told ++ told_of ms (taken m.0 m.1 w).after
+abbrev pub reported_of : {T : Type 0} → List (Message T × Bool) → Waiting T → List (Paired T)
+reported_of [] w = []
+reported_of (m ∷ ms) w = reported_or_none (taken m.0 m.1 w).reported ++ reported_of ms (taken m.0 m.1 w).after

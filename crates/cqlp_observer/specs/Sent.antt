@@ -1,4 +1,4 @@
--- Frames as they are sent, one after the other, and what a reader of their bytes tells, in whatever pieces they come.
+-- Frames as they are sent, one after the other, and what a reader of their bytes reports, in whatever pieces they come.
 use Rattle.std.specs.Prelude.{◌≡◌, ℕ, ◌<◌, Bool, true, List, [], ◌∷◌, ◌++◌, length, drop, Option, Some}
 use Rattle.cqlp_note.specs.declared.header.Header.{Header}
 use Rattle.cqlp_observer.specs.declared.message.Extent.TheVariants.{Whole}
@@ -43,21 +43,21 @@ IsAt stage.Between rest sent = rest ≡ bytes_of sent
 IsAt (stage.Header front at first) rest sent = (length front < 9) × (front ++ rest ≡ bytes_of sent)
 IsAt (stage.Body f left) rest sent = IsInBody f left rest sent
 
--- The next of the frames is told where it ends, as whole; and nothing is stray.
-abbrev pub TellsNext : {responses : Bool} → Heard → (sent after : List (Sent responses)) → Type 0
-TellsNext {responses} (heard_as.Ends f) sent after =
+-- The next of the frames is reported where it ends, as whole; and nothing is stray.
+abbrev pub ReportsNext : {responses : Bool} → Heard → (sent after : List (Sent responses)) → Type 0
+ReportsNext {responses} (heard_as.Ends f) sent after =
     (x : Sent responses) × (sent ≡ x ∷ after) × (f.header ≡ x.header) × (f.extent ≡ Whole)
-TellsNext heard_as.Stray sent after = ⊥
-TellsNext h sent after = after ≡ sent
+ReportsNext heard_as.Stray sent after = ⊥
+ReportsNext h sent after = after ≡ sent
 
 pub record GoesOn {responses : Bool} (step : HeardStep) (new : Heads) (b more : List ℕ) (sent : List (Sent responses)) : Type 0 where
   pub after : List (Sent responses)
-  pub told : TellsNext step.heard sent after
+  pub reported : ReportsNext step.heard sent after
   pub stands : IsAt new.stage (drop step.used b ++ more) after
 
--- So of frames that are sent from the start of a direction each is told, in order and as whole, in whatever pieces their bytes come.
-abbrev pub TellsEachFrame : Type 0
-TellsEachFrame =
+-- So of frames that are sent from the start of a direction each is reported, in order and as whole, in whatever pieces their bytes come.
+abbrev pub ReportsEachFrame : Type 0
+ReportsEachFrame =
     ((responses : Bool) (sent : List (Sent responses)) → IsAt (anew responses true).stage (bytes_of sent) sent)
     × ((time : Option ℕ) (begins : Bool) (b more : List ℕ) (old new : Heads) (step : HeardStep) (sent : List (Sent old.responses))
     → stepping step new ≡ heard time begins b old → IsAt old.stage (b ++ more) sent

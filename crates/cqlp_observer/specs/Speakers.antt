@@ -65,7 +65,7 @@ heard_by x time b has_room s = heard_of x.step.heard x.step.used time x.after b 
 abbrev pub heard : (time : Option ℕ) → (begins : Bool) → List ℕ → (has_room : Bool) → Speaker → Hears
 heard time begins b has_room s = heard_by (direction.heard time begins b s.heads) time b has_room s
 
--- ---- a gap, and the end: the frame that is told, and the side after it
+-- ---- a gap, and the end: the frame that is reported, and the side after it
 
 pub record Endings : Type 0 where
   pub message : Option (Message Kept)

@@ -1,4 +1,4 @@
--- How many steps a piece takes, until all of it is told.
+-- How many steps a piece takes, until all of it is reported.
 use Rattle.std.specs.Prelude.{◌≡◌, ℕ, ◌+◌, ◌*◌, ◌<◌, Bool, true, false, List, length, drop, Option, if◌then◌else◌, ⊤}
 use Rattle.cqlp_observer.specs.declared.message.Frame.{Frame}
 use Rattle.cqlp_observer.specs.declared.heads.Heads.{Heads}
@@ -23,11 +23,11 @@ is_more (heard_as.Ends f) = false
 is_more heard_as.Stray = false
 is_more heard_as.More = true
 
--- at most so many steps tell something of these bytes: two of each, and one of a frame that is over
+-- at most so many steps report something of these bytes: two of each, and one of a frame that is over
 abbrev pub steps_of : List ℕ → Heads → ℕ
 steps_of b s = 2 * length b + (if is_over s.stage then 1 else 0)
 
--- A step that tells something leaves fewer.
+-- A step that reports something leaves fewer.
 pub record StepsOn (b : List ℕ) (old new : Heads) (step : HeardStep) : Type 0 where
   pub short : IsShort new.stage
   pub fewer : is_more step.heard ≡ false → steps_of (drop step.used b) new < steps_of b old
@@ -37,6 +37,6 @@ TakesFewSteps =
     ((responses from_start : Bool) → IsShort (anew responses from_start).stage)
     × ((time : Option ℕ) (begins : Bool) (b : List ℕ) (old new : Heads) (step : HeardStep)
     → stepping step new ≡ heard time begins b old → IsShort old.stage → StepsOn b old new step)
-    × ((n : ℕ) (time : Option ℕ) (old new : Heads) (told : Option Frame)
-    → closing told new ≡ after_gap n time old → IsShort old.stage → IsShort new.stage)
-    × ((old new : Heads) (told : Option Frame) → closing told new ≡ after_end old → IsShort new.stage)
+    × ((n : ℕ) (time : Option ℕ) (old new : Heads) (reported : Option Frame)
+    → closing reported new ≡ after_gap n time old → IsShort old.stage → IsShort new.stage)
+    × ((old new : Heads) (reported : Option Frame) → closing reported new ≡ after_end old → IsShort new.stage)

@@ -106,24 +106,24 @@ fitted m beside room w =
     if nat_le (cost_of m.kept) (room.text - beside) then fitting m (with_count (beside + cost_of m.kept) w)
     else fitting (bare m) (with_count beside (with_missed (with_text w.missed) w))
 
--- ---- a message that has ended is paired: what is told, and the connection after it
+-- ---- a message that has ended is paired: what is reported, and the connection after it
 
-pub record Tells : Type 0 where
-  pub told : Option (Paired Kept)
+pub record Reporting : Type 0 where
+  pub reported : Option (Paired Kept)
   pub after : Watched
 
-abbrev pub telling : Option (Paired Kept) → Watched → Tells
-telling told w = record { told = told; after = w }
+abbrev pub report_then : Option (Paired Kept) → Watched → Reporting
+report_then reported w = record { reported = reported; after = w }
 
-abbrev pub paired_by : Pairs Kept → Watched → Tells
-paired_by p w = telling p.told (watched w.requests w.responses p.after w.text w.missed)
+abbrev pub paired_by : Pairs Kept → Watched → Reporting
+paired_by p w = report_then p.reported (watched w.requests w.responses p.after w.text w.missed)
 
-abbrev pub taken_by : (has_room : Bool) → Fits → Tells
+abbrev pub taken_by : (has_room : Bool) → Fits → Reporting
 taken_by has_room x = paired_by (pairing.taken x.message has_room x.after.waiting) x.after
 
 -- As it waits, if it does; one for which there is no room is counted.
 abbrev pub fitted_as : Fate → Message Kept → WatchRoom → Watched → Fits
-fitted_as fate_is.IsTold m room w = fitting m w
+fitted_as fate_is.IsReported m room w = fitting m w
 fitted_as fate_is.Meets m room w = fitting m (with_count (text_beside m w) w)
 fitted_as fate_is.Waits m room w = fitted m (text_beside m w) room w
 fitted_as fate_is.IsOvertaken m room w = fitting m (with_missed (with_overtaken w.missed) w)
@@ -134,18 +134,18 @@ settled m has_room room w = fitted_as (fate_of (under (id_of m) w.waiting) m has
 abbrev pub has_room : WatchRoom → Watched → Bool
 has_room room w = nat_lt (length w.waiting) room.messages
 
-abbrev pub paired_if : Option (Message Kept) → WatchRoom → Watched → Tells
-paired_if None room w = telling None w
+abbrev pub paired_if : Option (Message Kept) → WatchRoom → Watched → Reporting
+paired_if None room w = report_then None w
 paired_if (Some m) room w = taken_by (has_room room w) (settled m (has_room room w) room w)
 
-abbrev pub ended_by : (responses : Bool) → Endings → WatchRoom → Watched → Tells
+abbrev pub ended_by : (responses : Bool) → Endings → WatchRoom → Watched → Reporting
 ended_by responses e room w = paired_if e.message room (changed responses e.after room w)
 
-abbrev pub after_gap : (responses : Bool) → ℕ → (time : Option ℕ) → WatchRoom → Watched → Tells
+abbrev pub after_gap : (responses : Bool) → ℕ → (time : Option ℕ) → WatchRoom → Watched → Reporting
 after_gap responses n time room w =
     ended_by responses (side.after_gap n time (side_of responses w)) room (with_missed (with_gap w.missed) w)
 
-abbrev pub after_end : (responses : Bool) → WatchRoom → Watched → Tells
+abbrev pub after_end : (responses : Bool) → WatchRoom → Watched → Reporting
 after_end responses room w = ended_by responses (side.after_end (side_of responses w)) room w
 
 -- ---- bytes of a piece
@@ -154,14 +154,14 @@ pub record Steps : Type 0 where
   pub used : ℕ
   pub is_done : Bool
   pub opening : Opening
-  pub told : Option (Paired Kept)
+  pub reported : Option (Paired Kept)
   pub after : Watched
 
 abbrev pub stepping : {A : Type 0} → WatchStep A → Watched → Steps
-stepping step w = record { used = step.used; is_done = step.is_done; opening = step.opening; told = step.told; after = w }
+stepping step w = record { used = step.used; is_done = step.is_done; opening = step.opening; reported = step.reported; after = w }
 
-abbrev pub told_by : ℕ → (is_done : Bool) → Opening → Tells → Steps
-told_by used is_done opening t = record { used = used; is_done = is_done; opening = opening; told = t.told; after = t.after }
+abbrev pub reported_by : ℕ → (is_done : Bool) → Opening → Reporting → Steps
+reported_by used is_done opening t = record { used = used; is_done = is_done; opening = opening; reported = t.reported; after = t.after }
 
 abbrev pub opening_of : (responses : Bool) → List ℕ → Watched → Opening
 opening_of responses b w = opening_in b (side_of responses w).heads
@@ -195,7 +195,7 @@ read responses time begins b room w =
     read_by responses (side.heard time begins b (has_text_room room w) (side_of responses w)) room w
 
 abbrev pub heard_by : Opening → Reads → WatchRoom → Steps
-heard_by opening r room = told_by r.used r.is_done opening (paired_if r.message room r.after)
+heard_by opening r room = reported_by r.used r.is_done opening (paired_if r.message room r.after)
 
 abbrev pub heard : (responses : Bool) → (time : Option ℕ) → (begins : Bool) → List ℕ → WatchRoom → Watched → Steps
 heard responses time begins b room w =
@@ -204,16 +204,16 @@ heard responses time begins b room w =
 
 -- ---- the end of the connection: the message under the least id
 
--- the text of a message that is told alone
+-- the text of a message that is reported alone
 abbrev pub alone_text : Paired Kept → ℕ
 alone_text (Exchange request response) = 0
 alone_text (Unanswered request) = cost_of request.kept
 alone_text (Unasked response) = cost_of response.kept
 alone_text (Event event) = 0
 
-abbrev pub told_text : Option (Paired Kept) → ℕ
-told_text None = 0
-told_text (Some t) = alone_text t
+abbrev pub reported_text : Option (Paired Kept) → ℕ
+reported_text None = 0
+reported_text (Some t) = alone_text t
 
-abbrev pub finished : Watched → Tells
-finished w = let p = pairing.ended w.waiting in paired_by p (with_count (w.text - told_text p.told) w)
+abbrev pub finished : Watched → Reporting
+finished w = let p = pairing.ended w.waiting in paired_by p (with_count (w.text - reported_text p.reported) w)

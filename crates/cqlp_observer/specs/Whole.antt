@@ -1,4 +1,4 @@
--- What came of a direction, and what its reader knows of it: a frame that is told as whole came whole.
+-- What came of a direction, and what its reader knows of it: a frame that is reported as whole came whole.
 use Rattle.std.specs.Prelude.{◌≡◌, ℕ, ◌+◌, ◌^◌, ◌<◌, Bool, List, [], ◌++◌, length, map, take, replicate, Option, Some, None, IfSome, ⊤}
 use Rattle.cqlp_observer.specs.declared.message.Extent.TheVariants.{Whole}
 use Rattle.cqlp_observer.specs.declared.message.Frame.{Frame}
@@ -61,15 +61,15 @@ EndsWhole responses came h = ⊤
 abbrev pub used_of : HeardStep → List ℕ → Came
 used_of step b = map Some (take step.used b)
 
-abbrev pub TellsWholeFrames : Type 0
-TellsWholeFrames =
+abbrev pub ReportsWholeFrames : Type 0
+ReportsWholeFrames =
     ((responses from_start : Bool) → Knows [] (anew responses from_start))
     × ((came : Came) (time : Option ℕ) (begins : Bool) (b : List ℕ) (old new : Heads) (step : HeardStep)
     → stepping step new ≡ heard time begins b old → Knows came old → length came + length b < 2 ^ 64
     → Knows (came ++ used_of step b) new × EndsWhole old.responses came step.heard)
-    × ((came : Came) (n : ℕ) (time : Option ℕ) (old new : Heads) (told : Option Frame)
-    → closing told new ≡ after_gap n time old → Knows came old → length came + n < 2 ^ 64
-    → Knows (came ++ replicate n None) new × IfSome told (λ f. f.extent ≡ Whole → CameWhole old.responses came f))
-    × ((came : Came) (old new : Heads) (told : Option Frame)
-    → closing told new ≡ after_end old → Knows came old
-    → IfSome told (λ f. f.extent ≡ Whole → CameWhole old.responses came f))
+    × ((came : Came) (n : ℕ) (time : Option ℕ) (old new : Heads) (reported : Option Frame)
+    → closing reported new ≡ after_gap n time old → Knows came old → length came + n < 2 ^ 64
+    → Knows (came ++ replicate n None) new × IfSome reported (λ f. f.extent ≡ Whole → CameWhole old.responses came f))
+    × ((came : Came) (old new : Heads) (reported : Option Frame)
+    → closing reported new ≡ after_end old → Knows came old
+    → IfSome reported (λ f. f.extent ≡ Whole → CameWhole old.responses came f))

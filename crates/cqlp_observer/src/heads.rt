@@ -40,7 +40,7 @@ pub enum Heard {
     Ends(Frame),
     /// Bytes that are no header of this direction, or lie where no frame is known to begin.
     Stray,
-    /// All bytes were used, and nothing more is told of them.
+    /// All bytes were used, and nothing more is reported of them.
     More,
 }
 
@@ -93,7 +93,7 @@ impl Heads {
     /// with the bytes that were not used, until it says `More`.
     #[inline(always)]
     pub fn take(&mut self, piece: &[u8], time: Option<u64>, begins: bool) -> HeardStep
-        ensures told { stepping result self.new ≡ heard time begins piece.now self.old }
+        ensures reported { stepping result self.new ≡ heard time begins piece.now self.old }
         ensures within { result.used ≤ length piece.now }
     {
         let stage = self.stage.take();
@@ -142,7 +142,7 @@ impl Heads {
     }
 
     /// So many bytes did not come, which passed at this time, where that is known. The frame that ends there, or past which no frame is known to begin,
-    /// is told, as `Holed`, unless all its bytes came before.
+    /// is reported, as `Holed`, unless all its bytes came before.
     pub fn gap(&mut self, length: u64, time: Option<u64>) -> Option<Frame>
         ensures { closing result self.new ≡ after_gap length time self.old }
     {
@@ -170,7 +170,7 @@ impl Heads {
         }
     }
 
-    /// No more bytes come. The frame of which some did is told, as `Short`, unless all its bytes came.
+    /// No more bytes come. The frame of which some did is reported, as `Short`, unless all its bytes came.
     pub fn end(&mut self) -> Option<Frame>
         ensures { closing result self.new ≡ after_end self.old }
     {
@@ -208,7 +208,7 @@ impl Heads {
     /// Looks for a frame where a segment begins.
     #[inline(never)]
     fn seek(&mut self, piece: &[u8], time: Option<u64>, begins: bool) -> HeardStep
-        ensures told { stepping result self.new ≡ sought time begins piece.now self.old }
+        ensures reported { stepping result self.new ≡ sought time begins piece.now self.old }
         ensures within { result.used ≤ length piece.now }
     {
         match self.head_at_begin(piece, begins) {
@@ -232,7 +232,7 @@ impl Heads {
     /// So many bytes are stray.
     #[inline(never)]
     fn stray(&mut self, used: usize) -> HeardStep
-        ensures told { stepping result self.new ≡ hears used Heard.Stray Stage.Lost self.old }
+        ensures reported { stepping result self.new ≡ hears used Heard.Stray Stage.Lost self.old }
         ensures within { result.used ≡ used }
     {
         self.count(used as u64);
@@ -253,7 +253,7 @@ impl Heads {
         piece: &[u8],
         time: Option<u64>,
     ) -> HeardStep
-        ensures told { stepping result self.new ≡ filled front at begun time piece.now self.old }
+        ensures reported { stepping result self.new ≡ filled front at begun time piece.now self.old }
         ensures within { result.used ≤ length piece.now }
     {
         let more = front.with(piece);
@@ -286,7 +286,7 @@ impl Heads {
         first: Option<u64>,
         last: Option<u64>,
     ) -> HeardStep
-        ensures told { stepping result self.new ≡ begun used header at first last self.old }
+        ensures reported { stepping result self.new ≡ begun used header at first last self.old }
         ensures within { result.used ≡ used }
     {
         self.count(used as u64);
@@ -310,7 +310,7 @@ impl Heads {
     /// Takes bytes of a body.
     #[inline(always)]
     fn pass(&mut self, frame: Frame, left: u32, piece: &[u8], time: Option<u64>) -> HeardStep
-        ensures told { stepping result self.new ≡ passed frame left time piece.now self.old }
+        ensures reported { stepping result self.new ≡ passed frame left time piece.now self.old }
         ensures within { result.used ≤ length piece.now }
     {
         let used = piece.len().min(left as usize);

@@ -1,10 +1,10 @@
-//! Laws of what is told of requests and responses. No code needs them.
+//! Laws of what is reported of requests and responses. No code needs them.
 
-ghost use Rattle.cqlp_observer.specs.Laws.{CountsTheMissing, KeepsThoseThatWait, OneAnswerOfSubject, TellsEachMessage, TellsTheExchanges};
+ghost use Rattle.cqlp_observer.specs.Laws.{CountsTheMissing, KeepsThoseThatWait, OneAnswerOfSubject, ReportsEachMessage, ReportsTheExchanges};
 ghost use Rattle.cqlp_observer.specs.Rooms.{KeepsWithinRoom};
-ghost use Rattle.cqlp_observer.specs.Sent.{TellsEachFrame};
+ghost use Rattle.cqlp_observer.specs.Sent.{ReportsEachFrame};
 ghost use Rattle.cqlp_observer.specs.Steps.{TakesFewSteps};
-ghost use Rattle.cqlp_observer.specs.Whole.{TellsWholeFrames};
+ghost use Rattle.cqlp_observer.specs.Whole.{ReportsWholeFrames};
 
 /// Of any messages in any order: those that a [`Pairing`](crate::Pairing) holds are those that wait, which met none that waited under their
 /// stream id and under which nothing was said since, where there was room always. Each is the last that was said under its id, and at most one waits
@@ -13,22 +13,22 @@ pub fn waiting<T>()
     ensures { KeepsThoseThatWait T }
 {}
 
-/// The exchanges that it tells are those of the messages, in their order, where there was room always: each message with the one that waits under
+/// The exchanges that it reports are those of the messages, in their order, where there was room always: each message with the one that waits under
 /// its stream id, if they are a request and its response. Where there was not, each is still of a message and the last before it under its id, and
-/// none is told twice.
+/// none is reported twice.
 pub fn exchanges<T>()
-    ensures { TellsTheExchanges T }
+    ensures { ReportsTheExchanges T }
 {}
 
-/// Under each stream id no more of those exchanges are missing than messages were told alone for want of room, which
+/// Under each stream id no more of those exchanges are missing than messages were reported alone for want of room, which
 /// [`Missed::overtaken`](crate::Missed::overtaken) counts. So none is missing where that is 0.
 pub fn missing<T>()
     ensures { CountsTheMissing T }
 {}
 
-/// Each message is told once or waits, whether there was room or not.
+/// Each message is reported once or waits, whether there was room or not.
 pub fn each_message<T>()
-    ensures { TellsEachMessage T }
+    ensures { ReportsEachMessage T }
 {}
 
 /// After each call of a [`Watch`](crate::Watch) no more messages wait, and their texts and those of the messages that pass take no more room, than there
@@ -37,20 +37,20 @@ pub fn room()
     ensures { KeepsWithinRoom }
 {}
 
-/// A frame that [`Heads`](crate::Heads) tells as whole came whole: its header and the bytes of its body lie one after the other from its offset
+/// A frame that [`Heads`](crate::Heads) reports as whole came whole: its header and the bytes of its body lie one after the other from its offset
 /// on, and none in a gap.
 pub fn whole_frames()
-    ensures { TellsWholeFrames }
+    ensures { ReportsWholeFrames }
 {}
 
-/// Of frames that are sent from the start of a direction on, [`Heads`](crate::Heads) tells each where it ends, in order and as whole, in
-/// whatever pieces their bytes come, and tells nothing else.
+/// Of frames that are sent from the start of a direction on, [`Heads`](crate::Heads) reports each where it ends, in order and as whole, in
+/// whatever pieces their bytes come, and reports nothing else.
 pub fn each_frame()
-    ensures { TellsEachFrame }
+    ensures { ReportsEachFrame }
 {}
 
 /// Each call of [`Heads::take`](crate::Heads::take) that does not say `More` leaves fewer to be made: it uses some byte of the piece, or ends a frame that is
-/// over. So all of a piece of n bytes is told by 2 n + 2 calls.
+/// over. So all of a piece of n bytes is reported by 2 n + 2 calls.
 pub fn few_steps()
     ensures { TakesFewSteps }
 {}

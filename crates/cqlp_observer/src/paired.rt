@@ -1,10 +1,10 @@
-//! What is told of requests and responses.
+//! What is reported of requests and responses.
 
 ghost use Rattle.std.specs.Prelude.{◌≡◌};
 
 use crate::message::Message;
 
-/// What is told of a request, a response, or both.
+/// What is reported of a request, a response, or both.
 #[derive(Clone, Copy, Debug, PartialEq, Eq, Drop)]
 pub enum Paired<T> {
     /// A request and its response, the one next to the other under their stream id. The response came first only where the packets of a

@@ -17,7 +17,7 @@ use std::marker::Model;
 /// The messages of one connection that wait for the other of their exchange: requests for their responses, and responses that came before
 /// their requests.
 ///
-/// It takes the frames of both directions in the order in which they ended, and tells of each request which response it has: the next under
+/// It takes the frames of both directions in the order in which they ended, and reports of each request which response it has: the next under
 /// its stream id, or the one before it under that id, if that still waits and the request was begun no later by the capture's times. It has no
 /// limit of its own: who calls it says of each message whether there is room for one more. It has memory for at most four times as many messages as
 /// wait, and none where none does.
@@ -30,13 +30,13 @@ pub struct Pairing<T, A: Allocator = Global> {
 /// What becomes of the next message.
 #[derive(Clone, Copy, Debug, PartialEq, Eq)]
 pub(crate) enum Fate {
-    /// It is an event, which is told at once.
-    IsTold,
+    /// It is an event, which is reported at once.
+    IsReported,
     /// It and the one that waits under its stream id are a request and its response.
     Meets,
     /// It waits, in the place of the one under its stream id, if one does.
     Waits,
-    /// It is told alone, since none waits under its stream id and there is no room.
+    /// It is reported alone, since none waits under its stream id and there is no room.
     IsOvertaken,
 }
 
@@ -98,7 +98,7 @@ impl<T: Drop, A: Allocator + Clone> Pairing<T, A> {
         }
     }
 
-    /// Whether `take` tells this message alone for want of room: none waits under its stream id, and there is no room for one more.
+    /// Whether `take` reports this message alone for want of room: none waits under its stream id, and there is no room for one more.
     pub fn overtakes(&self, message: &Message<T>, has_room: bool) -> bool
         ensures { result ≡ overtakes message.now has_room self.now }
     {
@@ -106,10 +106,10 @@ impl<T: Drop, A: Allocator + Clone> Pairing<T, A> {
     }
 
     /// Takes the next frame of either direction. If it and the one that waits under its stream id are a request and its response, that
-    /// exchange is told.
+    /// exchange is reported.
     ///
-    /// Else it takes the place of that one, and what is told is that the other of its exchange was not seen. Where none waits under its id, and there
-    /// is no room for one more, it is itself told alone.
+    /// Else it takes the place of that one, and what is reported is that the other of its exchange was not seen. Where none waits under its id, and there
+    /// is no room for one more, it is itself reported alone.
     ///
     /// # Errors
     ///
@@ -119,7 +119,7 @@ impl<T: Drop, A: Allocator + Clone> Pairing<T, A> {
         message: Message<T>,
         has_room: bool,
     ) -> Result<Option<Paired<T>>, AllocError>
-        ensures { IfOk result (λ told. paired told self.new ≡ taken message has_room self.old) }
+        ensures { IfOk result (λ reported. paired reported self.new ≡ taken message has_room self.old) }
     {
         if message.is_event() {
             return Ok(Some(Paired::Event { event: message }));
@@ -147,7 +147,7 @@ impl<T: Drop, A: Allocator + Clone> Pairing<T, A> {
     /// A message comes after one that waited under its stream id.
     #[inline]
     fn meet(&mut self, first: Message<T>, second: Message<T>) -> Result<Paired<T>, AllocError>
-        ensures { IfOk result (λ told. paired (Some told) self.new ≡ met first second self.old) }
+        ensures { IfOk result (λ reported. paired (Some reported) self.new ≡ met first second self.old) }
     {
         if first.meets(&second) {
             Ok(Paired::exchange(first, second))
@@ -233,7 +233,7 @@ pub(crate) fn fate_of<T>(
     ensures { result ≡ fate_of (option_copied first.entry) message.now has_room }
 {
     if message.is_event() {
-        return Fate::IsTold;
+        return Fate::IsReported;
     }
     match first {
         Some(first) => fate_after(first, message),
@@ -265,12 +265,12 @@ fn fate_alone(has_room: bool) -> Fate
     }
 }
 
-/// Whether a message is told alone for want of room.
+/// Whether a message is reported alone for want of room.
 fn is_overtaken(fate: Fate) -> bool
     ensures { result ≡ is_overtaken fate }
 {
     match fate {
         Fate::IsOvertaken => true,
-        Fate::IsTold | Fate::Meets | Fate::Waits => false,
+        Fate::IsReported | Fate::Meets | Fate::Waits => false,
     }
 }

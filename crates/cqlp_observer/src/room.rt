@@ -3,7 +3,7 @@
 /// How much of a connection may wait in all. A caller that has many connections gives each what is left of its own limits and what that one holds.
 #[derive(Clone, Copy, Debug, PartialEq, Eq)]
 pub struct WatchRoom {
-    /// How many messages: where as many wait, one under a further stream id is told alone.
+    /// How many messages: where as many wait, one under a further stream id is reported alone.
     pub messages: usize,
     /// How many bytes of texts: where that of a message is too much beside the others, the message goes on with its header alone. The text of a
     /// message that waits takes 128 bytes and its first bytes, that of one that passes in several pieces 512.

@@ -7,7 +7,7 @@ ghost use Rattle.cqlp_observer.specs.Subjects.{SaysSubject, subject_notation};
 use crate::kept::LONGEST_FRONT;
 use cqlp_note::{Header, Notation, Opcode, WholeField, front_field};
 
-/// The first field of a message, if that tells what the message is about, and lies whole in the message's first bytes: of a QUERY or a PREPARE its
+/// The first field of a message, if that says what the message is about, and lies whole in the message's first bytes: of a QUERY or a PREPARE its
 /// text, of an EXECUTE the id of its statement, of an ERROR its code and of a RESULT its kind. Sections 4.1.4, 4.1.5, 4.1.6, 4.2.1 and 4.2.5 of
 /// `native_protocol_v4.spec`. `None` also where the body is compressed, by the header's flags.
 pub fn subject_of<'a>(header: &Header, front: &'a [u8]) -> Option<WholeField<'a>>

@@ -2,7 +2,7 @@
 
 ghost use Rattle.std.specs.Prelude.{◌≡◌, ◌≤◌, IfOk, length};
 ghost use Rattle.std.specs.Option.{option_copied};
-ghost use Rattle.cqlp_observer.specs.Watches.{recounted, text_in, told_text};
+ghost use Rattle.cqlp_observer.specs.Watches.{recounted, text_in, reported_text};
 
 use crate::frame_record::MessageRecord;
 use crate::kept::Kept;
@@ -19,11 +19,11 @@ use std::marker::Model;
 
 /// What both sides of one connection say to each other, out of the bytes and gaps of its two directions, as they come.
 ///
-/// `begin` says of each direction whether its beginning was seen. `take` tells at most one thing of each call; it is to be called again with the
-/// bytes that it did not use, until `is_done`. At the end of a direction `end` tells of its last frame, and at that of the connection `finish`
+/// `begin` says of each direction whether its beginning was seen. `take` reports at most one thing of each call; it is to be called again with the
+/// bytes that it did not use, until `is_done`. At the end of a direction `end` reports of its last frame, and at that of the connection `finish`
 /// of the messages that still wait, until it says `None`.
 ///
-/// It has no limit of its own: each call is told how much may wait ([`WatchRoom`]). Memory is taken for what waits and for the texts of the two messages
+/// It has no limit of its own: each call is given how much may wait ([`WatchRoom`]). Memory is taken for what waits and for the texts of the two messages
 /// that pass, and given back with them; and once more than 65,535 of one kind were missed. After a call that was refused memory it is not to be used again.
 #[derive(Drop)]
 pub struct Watch<A: Allocator = Global> {
@@ -35,17 +35,17 @@ pub struct Watch<A: Allocator = Global> {
     missed: MissedRecord<A>,
 }
 
-/// What the first so many bytes of a piece tell.
+/// What the first so many bytes of a piece report.
 #[derive(Drop)]
 pub struct WatchStep<A: Allocator = Global> {
     /// How many bytes of the piece were used.
     pub used: usize,
-    /// Whether nothing more is told of the piece, all of which was used.
+    /// Whether nothing more is reported of the piece, all of which was used.
     pub is_done: bool,
     /// What the direction begins with, where these are its first bytes; else `Frames`.
     pub opening: Opening,
     /// The exchange, the message without a partner or the event that these bytes complete, if they complete one.
-    pub told: Option<Paired<Kept<A>>>,
+    pub reported: Option<Paired<Kept<A>>>,
 }
 
 impl<A: Allocator> Model for Watch<A> {
@@ -60,7 +60,7 @@ impl<A: Allocator + Clone> Watch<A> {
     ghost use Rattle.std.specs.Prelude.{Some};
     ghost use Rattle.cqlp_observer.specs.Watches.{after_end, after_gap, begun, finished, fitted, fitting, heard};
     ghost use Rattle.cqlp_observer.specs.Nothing.{has_nothing};
-    ghost use Rattle.cqlp_observer.specs.Watches.{is_keeping_on, new_watched, opening_of, paired_if, read, reading, settled, stepping, telling, with_recount};
+    ghost use Rattle.cqlp_observer.specs.Watches.{is_keeping_on, new_watched, opening_of, paired_if, read, reading, settled, stepping, report_then, with_recount};
 
     /// A connection of which nothing was seen. Takes no memory beside what clones of `alloc` do.
     ///
@@ -93,7 +93,7 @@ impl<A: Allocator + Clone> Watch<A> {
         self.text = recounted(0, self.text, was_keeping, false);
     }
 
-    /// What the next bytes of a direction tell, which came at this time. `begins` says whether the first of them begins a segment.
+    /// What the next bytes of a direction report, which came at this time. `begins` says whether the first of them begins a segment.
     ///
     /// # Errors
     ///
@@ -107,7 +107,7 @@ impl<A: Allocator + Clone> Watch<A> {
         begins: bool,
         room: WatchRoom,
     ) -> Result<WatchStep<A>, AllocError>
-        ensures told { IfOk result (λ step. stepping step self.new ≡ heard responses time begins piece.now room self.old) }
+        ensures reported { IfOk result (λ step. stepping step self.new ≡ heard responses time begins piece.now room self.old) }
         ensures within { IfOk result (λ step. step.used ≤ length piece.now) }
     {
         if self.is_done(responses, piece) {
@@ -120,7 +120,7 @@ impl<A: Allocator + Clone> Watch<A> {
             used: step.used,
             is_done: step.is_done,
             opening,
-            told: self.pair(step.message, room)?,
+            reported: self.pair(step.message, room)?,
         })
     }
 
@@ -136,7 +136,7 @@ impl<A: Allocator + Clone> Watch<A> {
         time: Option<u64>,
         room: WatchRoom,
     ) -> Result<Option<Paired<Kept<A>>>, AllocError>
-        ensures { IfOk result (λ told. telling told self.new ≡ after_gap responses length time room self.old) }
+        ensures { IfOk result (λ reported. report_then reported self.new ≡ after_gap responses length time room self.old) }
     {
         self.missed.count_gap()?;
         let was_keeping = self.is_keeping(responses);
@@ -159,7 +159,7 @@ impl<A: Allocator + Clone> Watch<A> {
         responses: bool,
         room: WatchRoom,
     ) -> Result<Option<Paired<Kept<A>>>, AllocError>
-        ensures { IfOk result (λ told. telling told self.new ≡ after_end responses room self.old) }
+        ensures { IfOk result (λ reported. report_then reported self.new ≡ after_end responses room self.old) }
     {
         let was_keeping = self.is_keeping(responses);
         let message = if responses {
@@ -173,11 +173,11 @@ impl<A: Allocator + Clone> Watch<A> {
 
     /// The connection is over: the message under the least stream id, which waits no more. `None` once none waits.
     pub fn finish(&mut self) -> Option<Paired<Kept<A>>>
-        ensures { telling result self.new ≡ finished self.old }
+        ensures { report_then result self.new ≡ finished self.old }
     {
-        let told = self.pairing.end();
-        self.text = self.text.saturating_sub(told_text(&told));
-        told
+        let reported = self.pairing.end();
+        self.text = self.text.saturating_sub(reported_text(&reported));
+        reported
     }
 
     /// How many messages wait.
@@ -201,7 +201,7 @@ impl<A: Allocator + Clone> Watch<A> {
         self.missed.missed()
     }
 
-    /// Whether these are no bytes, and the direction is between two frames: then nothing more is told.
+    /// Whether these are no bytes, and the direction is between two frames: then nothing more is reported.
     #[inline(always)]
     fn is_done(&self, responses: bool, piece: &[u8]) -> bool
         ensures { result ≡ has_nothing responses piece.now self.now }
@@ -285,7 +285,7 @@ impl<A: Allocator + Clone> Watch<A> {
         message: Option<Message<Kept<A>>>,
         room: WatchRoom,
     ) -> Result<Option<Paired<Kept<A>>>, AllocError>
-        ensures { IfOk result (λ told. telling told self.new ≡ paired_if message room self.old) }
+        ensures { IfOk result (λ reported. report_then reported self.new ≡ paired_if message room self.old) }
     {
         match message {
             Some(message) => self.pair_one(message, room),
@@ -300,7 +300,7 @@ impl<A: Allocator + Clone> Watch<A> {
         message: Message<Kept<A>>,
         room: WatchRoom,
     ) -> Result<Option<Paired<Kept<A>>>, AllocError>
-        ensures { IfOk result (λ told. telling told self.new ≡ paired_if (Some message) room self.old) }
+        ensures { IfOk result (λ reported. report_then reported self.new ≡ paired_if (Some message) room self.old) }
     {
         let has_room = self.pairing.len() < room.messages;
         let message = self.settle(message, has_room, room)?;
@@ -320,7 +320,7 @@ impl<A: Allocator + Clone> Watch<A> {
         let first = self.pairing.under(message.stream());
         let beside = self.text.saturating_sub(text_in(first));
         match fate_of(first, &message, has_room) {
-            Fate::IsTold => Ok(message),
+            Fate::IsReported => Ok(message),
             Fate::Meets => {
                 self.text = beside;
                 Ok(message)
@@ -361,16 +361,16 @@ impl<A: Allocator + Clone> Watch<A> {
 impl<A: Allocator> WatchStep<A> {
     ghost use Rattle.std.specs.Prelude.{None, true};
 
-    /// Nothing is told of no bytes.
+    /// Nothing is reported of no bytes.
     #[inline(always)]
     fn done() -> Self
-        ensures { result ≡ record { used = 0; is_done = true; opening = Opening.Frames; told = None } }
+        ensures { result ≡ record { used = 0; is_done = true; opening = Opening.Frames; reported = None } }
     {
         WatchStep {
             used: 0,
             is_done: true,
             opening: Opening::Frames,
-            told: None,
+            reported: None,
         }
     }
 }
@@ -406,11 +406,11 @@ fn text_in<A: Allocator>(message: Option<&MessageRecord<Kept<A>>>) -> usize
     }
 }
 
-/// How much room the text of a message took that is told alone.
-fn told_text<A: Allocator>(told: &Option<Paired<Kept<A>>>) -> usize
-    ensures { result ≡ told_text told.now }
+/// How much room the text of a message took that is reported alone.
+fn reported_text<A: Allocator>(reported: &Option<Paired<Kept<A>>>) -> usize
+    ensures { result ≡ reported_text reported.now }
 {
-    match told {
+    match reported {
         Some(Paired::Unanswered { request }) => request.kept.cost(),
         Some(Paired::Unasked { response }) => response.kept.cost(),
         Some(Paired::Exchange { .. } | Paired::Event { .. }) | None => 0,

@@ -1,4 +1,4 @@
-//! What is told of a message.
+//! What is known of a message.
 
 ghost use Rattle.std.specs.Prelude.{◌≡◌};
 ghost use Rattle.cqlp_observer_facts.specs.Facts.{known_or};

@@ -180,7 +180,7 @@ pairs_answer view is h m r a found p =
     let v = viewed view m in
     let before = exchanges (map (viewed view) h) in
     let pair : exchange_with v (Some (shown view r)) ≡ (shown view r, v) ∷ [] = rw (meets_seen view is m r a, asks_seen view is r) refl in
-    let told : exchanges (map (viewed view) (h ++ m ∷ [])) ≡ before ++ (shown view r, v) ∷ [] =
+    let reported : exchanges (map (viewed view) (h ++ m ∷ [])) ≡ before ++ (shown view r, v) ∷ [] =
     ap (λ (ms : Views). exchanges ms) (map_push (viewed view) h m)
     ∙ exchanges_then (map (viewed view) h) v (no_event_seen view is m (no_event a.kind m.seen.opcode a.fits))
     ∙ ap (λ (o : Option (Seen (Option Request))). before ++ exchange_with v o) (asking_seen view is h m r found)
@@ -189,7 +189,7 @@ pairs_answer view is h m r a found p =
     answers_push view h m
     ∙ ap (λ (b : Both). answers_in view h ++ b) answer
     ∙ ap (λ (b : Both). b ++ (shown view r, v) ∷ []) p
-    ∙ sym told
+    ∙ sym reported
 
 sees_answer : (view : Said → Frame) (is : IsView view) (h : List Said) (m : Said) (r : Request) (slots : List (Option OpenRequest)) → m.tag ≡ Some r → IsAnswerTo slots m.seen r → Sees view h slots → Sees view (h ++ m ∷ []) (put slots m.seen.stream None)
 sees_answer view is h m r slots tagged a p =

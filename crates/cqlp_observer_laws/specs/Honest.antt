@@ -1,5 +1,5 @@
 -- What passes one end of the wires between an honest client and an honest server (the cores of cqlp_session), and what an observer there
--- tells of it.
+-- reports of it.
 use Rattle.std.specs.Prelude.{◌≡◌, ℕ, ℤ, List, [], ◌∷◌, ◌++◌, map, take, Option, Some, None, Result, Ok, Err, if◌then◌else◌}
 use Rattle.cqlp_note.specs.declared.opcode.Opcode.{Opcode}
 use Rattle.cqlp_session.specs.declared.kind.RequestKind.{RequestKind}

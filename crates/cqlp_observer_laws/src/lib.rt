@@ -1,4 +1,4 @@
-//! Laws of what an observer keeps of messages, and tells of an honest client and an honest server. No code needs them.
+//! Laws of what an observer keeps of messages, and reports of an honest client and an honest server. No code needs them.
 #![tactic(auto)]
 
 pub mod fronts;

@@ -1,4 +1,4 @@
--- What a word's needs and conflicts leave of what the parser is told.
+-- What a word's needs and conflicts leave of what the parser is given.
 use Rattle.std.proofs.Common.{suc, ◌||◌, ◌+◌, ◌<◌, drop, get_or, map, append-nil, append_assoc, ◌≡◌, ℕ, Bool, true, false, List, [], ◌∷◌, ◌++◌, ◌&&◌, ◌==◌, not, length, refl, sym, ap, ap₂, ◌∙◌, arith}
 use Rattle.std.proofs.lemmas.Bool.{false≢true, ne_eqb}
 use Rattle.std.proofs.lemmas.List.{at_drop_more}
@@ -81,7 +81,7 @@ bound_rule a m r f names xs more conflicts free =
     ∙ ap (λ (b : Bool). record (rule_of a) { is_free = b })
     (bound_free a m r (map f names) xs more conflicts free ∙ ap (λ (n : ℕ). is_empty xs && (n == 0)) (length_mapped f names))
 
--- each form is free before its needs and conflicts are told
+-- each form is free before its needs and conflicts are given
 pub rule_in_free : (name : Text) (f : Form) → (rule_in name f).is_free ≡ true
 rule_in_free name form.File = refl
 rule_in_free name (form.Count range) = refl
@@ -105,24 +105,24 @@ with_rules_all a (r ∷ rs) =
 
 -- ---- a turn of a loop
 
-pub word_told : (a next : App) (ws : List Word) (i : ℕ) (d : Word) (r : Rule) → i < length ws → next ≡ with_rule a r → r ≡ rule_for (get_or ws i d)
+pub word_added : (a next : App) (ws : List Word) (i : ℕ) (d : Word) (r : Rule) → i < length ws → next ≡ with_rule a r → r ≡ rule_for (get_or ws i d)
     → with_rules next (map rule_for (drop (i + 1) ws)) ≡ with_rules a (map rule_for (drop i ws))
-word_told a next ws i d r lt is rule =
+word_added a next ws i d r lt is rule =
     ap (λ (b : App). with_rules b (map rule_for (drop (i + 1) ws))) (is ∙ ap (with_rule a) rule)
     ∙ sym (at_drop_more (λ rest. with_rules a (map rule_for rest)) ws i d lt)
 
-pub words_told : (a next : App) (gs : List (Bor (List Word))) (i : ℕ) (d : Bor (List Word)) → i < length gs
+pub words_added : (a next : App) (gs : List (Bor (List Word))) (i : ℕ) (d : Bor (List Word)) → i < length gs
     → next ≡ with_rules a (map rule_for (get_or gs i d).now)
     → with_rules next (flat_map (λ words. map rule_for words.now) (drop (i + 1) gs)) ≡ with_rules a (flat_map (λ words. map rule_for words.now) (drop i gs))
-words_told a next gs i d lt is =
+words_added a next gs i d lt is =
     let left : List Rule = flat_map (λ words. map rule_for words.now) (drop (i + 1) gs) in
     ap (λ (b : App). with_rules b left) is
     ∙ sym (with_rules_more a (map rule_for (get_or gs i d).now) left)
     ∙ sym (at_drop_more (λ rest. with_rules a (flat_map (λ words. map rule_for words.now) rest)) gs i d lt)
 
-pub task_told : (a next : App) (ts : List Task) (i : ℕ) (d : Task) → i < length ts → next ≡ with_subcommand a (shape_for (get_or ts i d))
+pub task_added : (a next : App) (ts : List Task) (i : ℕ) (d : Task) → i < length ts → next ≡ with_subcommand a (shape_for (get_or ts i d))
     → with_tasks next (drop (i + 1) ts) ≡ with_tasks a (drop i ts)
-task_told a next ts i d lt is =
+task_added a next ts i d lt is =
     ap (λ (b : App). with_tasks b (drop (i + 1) ts)) is ∙ sym (at_drop_more (with_tasks a) ts i d lt)
 
 pub or_false : (b : Bool) → (b || false) ≡ b

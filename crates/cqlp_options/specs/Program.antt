@@ -1,4 +1,4 @@
--- The program's command line as its parser is told of it: the words of each task, and how each is given.
+-- The program's command line as its parser is given it: the words of each task, and how each is given.
 use Rattle.std.specs.Prelude.{ℕ, true, false, List, [], ◌∷◌, ◌++◌, Some, codes, pos}
 use Rattle.clap.specs.Simple.{new_shape}
 use Rattle.clap.specs.Words.{App, Rule, Shape, Text, new_rule}
@@ -82,7 +82,7 @@ tasks =
     ∷ task (codes "capture") capture
     ∷ []
 
--- the program itself, to which one of its tasks is told
+-- the program itself, to which one of its tasks is given
 abbrev pub without_tasks : App
 without_tasks = record {
   top = record (new_shape (codes "cqlp")) {

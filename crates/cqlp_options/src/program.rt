@@ -1,4 +1,4 @@
-//! The program's command line, as its parser is told of it.
+//! The program's command line, as its parser is given it.
 
 ghost use Rattle.std.specs.Prelude.{◌≡◌, IfOk, false, map};
 ghost use Rattle.clap.specs.Words.{app_of, new_rule, rule_of, with_subcommand};
@@ -93,7 +93,7 @@ fn with_words<'a>(
     Ok(task)
 }
 
-/// A word as the parser is told of it.
+/// A word as the parser is given it.
 fn word_of<'a>(alloc: Global, word: &Word) -> Result<Arg<'a>, AllocError>
     ensures rule { IfOk result (λ arg. rule_of arg ≡ rule_for word.now) }
     ensures local { IfOk result (λ arg. arg.global ≡ false) }
@@ -214,7 +214,7 @@ const TASKS: [Task; 5] = [
     },
 ];
 
-/// What each task with a stream takes. The help of a limit tells its range and what the number is where it is not given, and docs/check
+/// What each task with a stream takes. The help of a limit has its range and what the number is where it is not given, and docs/check
 /// compares both with `Limits`.
 const READING: [Word; 9] = [
     Word {
@@ -331,7 +331,7 @@ const ALL: LimitRange = LimitRange {
     greatest: u32::MAX,
 };
 
-/// What `capture` takes. The help of a limit tells its range and what the number is where it is not given, and docs/check compares both
+/// What `capture` takes. The help of a limit has its range and what the number is where it is not given, and docs/check compares both
 /// with `CaptureLimits`.
 const CAPTURE: [Word; 16] = [
     Word {

@@ -98,20 +98,20 @@ sort_among (Ok c) = sort_in c.content
 sort_among (Err why) = 4
 
 module _ (l : Rules) (k : Kind) (b : List ℕ) where
-  abbrev told : Result PageCell Reason → CellSaid
-  told r = cell_says l k NoMore b (start k b) 0 [] r
+  abbrev emitted : Result PageCell Reason → CellSaid
+  emitted r = cell_says l k NoMore b (start k b) 0 [] r
 
-  content_sort : (used : ℕ) (c : CellContent) → Lies k b used c → sort_of (told (Ok (record { used = used; content = c }))) ≡ sort_in c
+  content_sort : (used : ℕ) (c : CellContent) → Lies k b used c → sort_of (emitted (Ok (record { used = used; content = c }))) ≡ sort_in c
   content_sort used content.Null h = refl
   content_sort used content.Empty h = refl
   content_sort used (content.Scalar s) h = refl
   content_sort used (content.Items c) h = items_sort l b k (length c.now) h.0
 
-  said_sort : (r : Result PageCell Reason) → LiesWithin k b r → sort_of (told r) ≡ sort_among r
+  said_sort : (r : Result PageCell Reason) → LiesWithin k b r → sort_of (emitted r) ≡ sort_among r
   said_sort (Ok c) h = content_sort c.used c.content h.1
   said_sort (Err why) h = refl
 
-  both : (r s : Result PageCell Reason) → IsCell l k b r → IsCell l k b s → told r ≡ told s
+  both : (r s : Result PageCell Reason) → IsCell l k b r → IsCell l k b s → emitted r ≡ emitted s
   both r s a c = sym (a.1 NoMore 0 0 []) ∙ c.1 NoMore 0 0 []
 
   same_sort : (r s : Result PageCell Reason) → IsCell l k b r → IsCell l k b s → sort_among r ≡ sort_among s
@@ -122,10 +122,10 @@ module _ (l : Rules) (k : Kind) (b : List ℕ) where
       let long : length c.now ≡ length d.now = sym a.3.is ∙ e.3.is in
       (a.2 ∙ ap (λ (n : ℕ). 4 + n) long ∙ sym e.2, a.4 ∙ ap (λ (n : ℕ). take n (drop 4 b)) long ∙ sym e.4)
 
-  same_scalar : (s t : Scalar) (u w : ℕ) → told (Ok (record { used = u; content = content.Scalar s })) ≡ told (Ok (record { used = w; content = content.Scalar t })) → value_of s ≡ value_of t
+  same_scalar : (s t : Scalar) (u w : ℕ) → emitted (Ok (record { used = u; content = content.Scalar s })) ≡ emitted (Ok (record { used = w; content = content.Scalar t })) → value_of s ≡ value_of t
   same_scalar s t u w e = let some : ◌≡◌ {A = Option ScalarValue} (Some (value_of s)) (Some (value_of t)) = ap scalar_of e in cc
 
-  same_contents : (u w : ℕ) (x y : CellContent) → sort_in x ≡ sort_in y → Lies k b u x → Lies k b w y → told (Ok (record { used = u; content = x })) ≡ told (Ok (record { used = w; content = y }))
+  same_contents : (u w : ℕ) (x y : CellContent) → sort_in x ≡ sort_in y → Lies k b u x → Lies k b w y → emitted (Ok (record { used = u; content = x })) ≡ emitted (Ok (record { used = w; content = y }))
       → AreSameCells (Ok (record { used = u; content = x })) (Ok (record { used = w; content = y }))
   same_contents u w content.Null content.Null h a c e = (ap used_of e, tt)
   same_contents u w content.Null content.Empty h a c e = absurd cc
@@ -150,7 +150,7 @@ module _ (l : Rules) (k : Kind) (b : List ℕ) where
   never_refused (content.Scalar s) e = absurd cc
   never_refused (content.Items c) e = absurd cc
 
-  same_reason : (why other : Reason) → told (Err why) ≡ told (Err other) → why ≡ other
+  same_reason : (why other : Reason) → emitted (Err why) ≡ emitted (Err other) → why ≡ other
   same_reason why other e = let some : ◌≡◌ {A = Option Reason} (Some why) (Some other) = ap reason_of e in cc
 
   same_cells : (r s : Result PageCell Reason) → IsCell l k b r → IsCell l k b s → AreSameCells r s

@@ -67,33 +67,33 @@ module _ (l : Rules) (whole : l.parts ≡ false) (strict : l.lenient ≡ false) 
   abbrev here : CellPlace
   here = value_at at k inner b level rest
 
-  abbrev told : CellSaid
-  told = says (cell_step l here) 0 b
+  abbrev emitted : CellSaid
+  emitted = says (cell_step l here) 0 b
 
   room_is : at + length b - at ≡ length b
   room_is = omega arith
 
-  pub says_short : length b < 4 → told ≡ Bad (at, Overrun)
+  pub says_short : length b < 4 → emitted ≡ Bad (at, Overrun)
   unfolding number_of
   says_short lt = rw (room_is, lt-ltb (length b) 4 lt) refl
 
   module _ (n : ℕ) (is : IsNumber 4 w32 n (take 4 b)) (first : 4 ≤ length b) where
-    says_sized : told ≡ says (sized_step l here rest k inner level (length b) n) 4 (drop 4 b)
+    says_sized : emitted ≡ says (sized_step l here rest k inner level (length b) n) 4 (drop 4 b)
     unfolding number_of
     says_sized = rw (room_is, le-ltb (length b) 4 first, le-ltb (length b) 4 first, is.is) refl
 
-    pub says_null : 2 ^ 31 ≤ n → told ≡ Got (record { at = at; event = Null level; after = place_after here rest [] }) 4
+    pub says_null : 2 ^ 31 ≤ n → emitted ≡ Got (record { at = at; event = Null level; after = place_after here rest [] }) 4
     says_null le = says_sized ∙ rw (lt-ltb (2 ^ 31 - 1) n (omega arith)) refl
 
-    pub says_empty : n ≡ 0 → told ≡ Got (record { at = at; event = Empty level; after = place_after here rest [] }) 4
+    pub says_empty : n ≡ 0 → emitted ≡ Got (record { at = at; event = Empty level; after = place_after here rest [] }) 4
     says_empty e = says_sized ∙ rw e refl
 
     module _ (low : n < 2 ^ 31) (some : n ≢ 0) where
-      pub says_past : length b < 4 + n → told ≡ Bad (at, Overrun)
+      pub says_past : length b < 4 + n → emitted ≡ Bad (at, Overrun)
       says_past past = says_sized ∙ rw (le-ltb (2 ^ 31 - 1) n (omega arith), ne_eqb n 0 some, lt-ltb (length b) (4 + n) past) refl
 
       module _ (there : 4 + n ≤ length b) where
-        pub says_content : told ≡ says (content_step l here rest level k inner n) 4 (drop 4 b)
+        pub says_content : emitted ≡ says (content_step l here rest level k inner n) 4 (drop 4 b)
         says_content = says_sized ∙ rw (le-ltb (2 ^ 31 - 1) n (omega arith), ne_eqb n 0 some, le-ltb (length b) (4 + n) there) refl
 
         pub left : n ≤ length (drop 4 b)
@@ -103,21 +103,21 @@ module _ (l : Rules) (whole : l.parts ≡ false) (strict : l.lenient ≡ false) 
         content_long = length-take-le n (drop 4 b) left
 
         module _ (scalar : has_no_items k ≡ true) where
-          says_scalar_step : told ≡ says (scalar_step l here rest level k n) 4 (drop 4 b)
+          says_scalar_step : emitted ≡ says (scalar_step l here rest level k n) 4 (drop 4 b)
           says_scalar_step = says_content ∙ ap (λ (s : Step CellEvent CellPlace). says s 4 (drop 4 b)) (scalar_step_is l here rest level k inner n scalar)
 
-          pub says_long : (ltb l.cell n && allows_size k n) ≡ true → told ≡ Bad (at, TooLong)
+          pub says_long : (ltb l.cell n && allows_size k n) ≡ true → emitted ≡ Bad (at, TooLong)
           says_long t = let both = both_true (ltb l.cell n) (allows_size k n) t in says_scalar_step ∙ rw (strict, both.1, whole, both.0) refl
 
           module _ (short : (ltb l.cell n && allows_size k n) ≡ false) where
-            pub says_scalar : (v : ScalarValue) → Ok v ≡ scalar_in k (take n (drop 4 b)) → told ≡ Got (record { at = at; event = Leaf level v; after = place_after here rest [] }) (4 + n)
+            pub says_scalar : (v : ScalarValue) → Ok v ≡ scalar_in k (take n (drop 4 b)) → emitted ≡ Got (record { at = at; event = Leaf level v; after = place_after here rest [] }) (4 + n)
             says_scalar v is =
                 let s = ok_is k (take n (drop 4 b)) v (allows_size k (length (take n (drop 4 b)))) (scalar_of k (take n (drop 4 b))) refl refl is in
                 let size : allows_size k n ≡ true = rw content_long at s.0 in
                 let fits = first_false (ltb l.cell n) (allows_size k n) short size in
                 says_scalar_step ∙ rw (strict, size, whole, fits, le-ltb (length (drop 4 b)) n left, s.1) refl
 
-            bad_content : (why : Reason) (size : Bool) (o : Option ScalarValue) → allows_size k (length (take n (drop 4 b))) ≡ size → scalar_of k (take n (drop 4 b)) ≡ o → Err why ≡ scalar_in k (take n (drop 4 b)) → told ≡ Bad (at, why)
+            bad_content : (why : Reason) (size : Bool) (o : Option ScalarValue) → allows_size k (length (take n (drop 4 b))) ≡ size → scalar_of k (take n (drop 4 b)) ≡ o → Err why ≡ scalar_in k (take n (drop 4 b)) → emitted ≡ Bad (at, why)
             bad_content why false o s e is =
                 let size : allows_size k n ≡ false = rw content_long at s in
                 let same = same_why why BadSize (rw s at is) in
@@ -129,5 +129,5 @@ module _ (l : Rules) (whole : l.parts ≡ false) (strict : l.lenient ≡ false) 
                 says_scalar_step ∙ rw (strict, size, whole, fits, le-ltb (length (drop 4 b)) n left, e) (ap (λ (w : Reason). Bad (at, w)) same)
             bad_content why true (Some v) s e is = let no = rw (s, e) at is in absurd cc
 
-            pub says_bad : (why : Reason) → Err why ≡ scalar_in k (take n (drop 4 b)) → told ≡ Bad (at, why)
+            pub says_bad : (why : Reason) → Err why ≡ scalar_in k (take n (drop 4 b)) → emitted ≡ Bad (at, why)
             says_bad why is = bad_content why (allows_size k (length (take n (drop 4 b)))) (scalar_of k (take n (drop 4 b))) refl refl is

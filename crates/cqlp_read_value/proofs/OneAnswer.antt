@@ -105,9 +105,9 @@ module _ (l : Rules) where
       let no : ◌≡◌ {A = Said (Emitted CellEvent CellPlace) (ℕ × Reason)} More (Bad (r.at, r.why)) = sym (λ i. says (cell_step l (places i)) 0 (bytes i)) ∙ refused.refused in
       absurd cc
 
-  -- what is told on the way to the end is told of the value
-  told_before : (p q there : CellPlace) (b left : List ℕ) (all es : Events) → Runs (cell_step l) p b all q [] → Runs (cell_step l) p b es there left → Stuck q [] → take_memory es ≡ true → take_memory all ≡ true
-  told_before p q there b left all es a c stuck takes = elim (cases_lt (length all) (length es)) [
+  -- what is emitted on the way to the end is emitted of the value
+  emitted_before : (p q there : CellPlace) (b left : List ℕ) (all es : Events) → Runs (cell_step l) p b all q [] → Runs (cell_step l) p b es there left → Stuck q [] → take_memory es ≡ true → take_memory all ≡ true
+  emitted_before p q there b left all es a c stuck takes = elim (cases_lt (length all) (length es)) [
     | inl lt ↦
         let r = runs_compare (cell_step l) p q there b [] left all es a c (omega arith) in
         absurd (no_more q there left r.0 (length all) (length es) stuck r.2 (ap length r.1 ∙ length-append all r.0) lt)
@@ -120,20 +120,20 @@ module _ (l : Rules) where
   no_items level at NoMore = refl
   no_items level at (Type_and k inner ts) = refl
 
-  tells_none : (k : Kind) (inner : Types) (v : Values) (b : List ℕ) → l.parts ≡ false → owns_memory v ≡ false → ValueSpells k inner v b → take_memory (whole_events k inner v b) ≡ false
-  tells_none k inner NoValue b whole e s = absurd s
-  tells_none k inner (Null_and vs) b whole e s = refl
-  tells_none k inner (Empty_and vs) b whole e s = refl
-  tells_none k inner (Scalar_and v vs) b whole e s = rw (whole, e) refl
-  tells_none k inner (Counted_and j n NoValue vs) b whole e s =
+  emits_none : (k : Kind) (inner : Types) (v : Values) (b : List ℕ) → l.parts ≡ false → owns_memory v ≡ false → ValueSpells k inner v b → take_memory (whole_events k inner v b) ≡ false
+  emits_none k inner NoValue b whole e s = absurd s
+  emits_none k inner (Null_and vs) b whole e s = refl
+  emits_none k inner (Empty_and vs) b whole e s = refl
+  emits_none k inner (Scalar_and v vs) b whole e s = rw (whole, e) refl
+  emits_none k inner (Counted_and j n NoValue vs) b whole e s =
       take_neither (values_items l 1 8 (type_copies n inner) NoValue ++ (8, Leave 0 n) ∷ []) ((0 + length b, Leave 0 1) ∷ []) (take_neither (values_items l 1 8 (type_copies n inner) NoValue) ((8, Leave 0 n) ∷ []) (no_items 1 8 (type_copies n inner)) refl) refl
-  tells_none k inner (Fields_and j NoValue vs) b whole e s = refl
-  tells_none k inner v b whole e s = absurd cc
+  emits_none k inner (Fields_and j NoValue vs) b whole e s = refl
+  emits_none k inner v b whole e s = absurd cc
 
   wants_some : (k : Kind) (inner : Types) (v : Values) (b : List ℕ) → l.parts ≡ false → owns_memory v ≡ false → ValueSpells k inner v b → AreWithin l v → WantsMemory l (whole_value (Type_and k inner NoMore) (length b)) b → ⊥
   wants_some k inner v b whole e spelled within h =
-      let told = told_before (whole_value (Type_and k inner NoMore) (length b)) (done b) h.there b h.left (whole_events k inner v b) h.events (whole_run k inner v b spelled within) h.runs tt h.takes in
-      let both = sym told ∙ tells_none k inner v b whole e spelled in
+      let emitted = emitted_before (whole_value (Type_and k inner NoMore) (length b)) (done b) h.there b h.left (whole_events k inner v b) h.events (whole_run k inner v b spelled within) h.runs tt h.takes in
+      let both = sym emitted ∙ emits_none k inner v b whole e spelled in
       absurd cc
 
   one_whole : (k : Kind) (inner : Types) (b : List ℕ) (r s : Result Value ReadError) → let ts = Type_and k inner NoMore in ReadsAll l ts b r → ReadsAll l ts b s → AreSame r s

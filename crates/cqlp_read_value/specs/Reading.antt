@@ -43,7 +43,7 @@ has_bytes (scalar.Varint c) = true
 has_bytes (scalar.Raw c) = true
 has_bytes _ = false
 
--- What this event tells is kept in memory: the bytes of a scalar, or a value in another once it is read.
+-- What this event holds is kept in memory: the bytes of a scalar, or a value in another once it is read.
 abbrev pub takes_memory : CellEvent → Bool
 takes_memory (event.Leaf level v) = nat_lt 0 level || has_bytes v
 takes_memory (event.Null level) = nat_lt 0 level
@@ -54,7 +54,7 @@ takes_memory _ = false
 abbrev pub take_memory : List (ℕ × CellEvent) → Bool
 take_memory events = list_any (λ e. takes_memory e.1) events
 
--- The steps of a cell's reading lead from p over the first of these bytes, and what they tell on the way takes memory.
+-- The steps of a cell's reading lead from p over the first of these bytes, and what they emit on the way takes memory.
 pub record WantsMemory (l : Rules) (p : CellPlace) (b : List ℕ) : Type 0 where
   pub events : List (ℕ × CellEvent)
   pub there : CellPlace
@@ -83,7 +83,7 @@ abbrev pub is_formed : Option TypeTree → Bool
 is_formed None = true
 is_formed (Some t) = are_trees (tree_of t)
 
--- The same of a caller's type, or of a cell without a type. A type that is not formed is told, whatever the bytes are.
+-- The same of a caller's type, or of a cell without a type. A type that is not formed is reported, whatever the bytes are.
 abbrev pub Reads : Rules → Option TypeTree → List ℕ → Result Value ReadError → Type 0
 Reads l t b (Err error.Unformed) = is_formed t ≡ false
 Reads l t b r = (is_formed t ≡ true) × ReadsAll l (cell_type t) b r

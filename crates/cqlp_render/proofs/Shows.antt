@@ -125,8 +125,8 @@ feeds_front old new xs left before after p = record {
 module _ (old new : StreamState) (xs : List ℕ) (left : Option (List ℕ)) (before after : Rendering) (fresh : After old [] []) where
   -- what a run that stopped after its turns has written
   module _ (turns : ℕ) (ran : RunsTo with_event FallsShortAtEvent turns outcome.Turns old new xs left before after) where
-    pub tells_on : IsSome before.output.given → IsSome after.output.given
-    tells_on known =
+    pub reports_on : IsSome before.output.given → IsSome after.output.given
+    reports_on known =
         let wrote = (renders_to turns outcome.Turns old new xs left before after ran).0.events [] [] [] fresh in
         subst (λ (g : Option (List ℕ)). IsSome g) (sym (ap (λ o. o.given) wrote.written)) (known_still before.output.given (text before.form wrote.more) known)
 
@@ -180,27 +180,27 @@ module _ (form : TextForm) (turns : ℕ) (o : Outcome) (old new : StreamState) (
   pub failed_in : o ≡ outcome.SinkFault → RendersFront form old new xs (output given f) (output b.given b.failures)
   failed_in is = front_of_front form old new xs (output given f) b.given b.waiting b.failures (subst (λ (p : Outcome). RendersOrFails form turns p old new xs left (output given f) (output (taken b) b.failures)) is ran_from)
 
-  tells_taken : IsSome given → o ≢ outcome.SinkFault → IsSome (taken b)
-  tells_taken known sound =
+  reports_taken : IsSome given → o ≢ outcome.SinkFault → IsSome (taken b)
+  reports_taken known sound =
       let wrote = ((all_events form turns o old new xs left _ _ sound ran_from).events [] [] [] fresh) in
       subst (λ (g : Option (List ℕ)). IsSome g) (sym (ap (λ x. x.given) wrote.written)) (known_still given (text form wrote.more) known)
 
-  pub tells_given : IsSome given → o ≢ outcome.SinkFault → IsSome b.given
-  tells_given known sound = known_taken b.given b.waiting (tells_taken known sound)
+  pub reports_given : IsSome given → o ≢ outcome.SinkFault → IsSome b.given
+  reports_given known sound = known_taken b.given b.waiting (reports_taken known sound)
 
   -- the target failed as the buffer was flushed
   pub failed_later : (c : Written) → IsSome given → o ≢ outcome.SinkFault → BreaksOff b [] c → RendersFront form old new xs (output given f) (output c.given c.failures)
   failed_later c known sound breaks =
-      all_is_front form old new xs (output given f) (output (taken b) b.failures) (output c.given c.failures) (breaks_short b c [] breaks (tells_given known sound)) (all_events form turns o old new xs left _ _ sound ran_from)
+      all_is_front form old new xs (output given f) (output (taken b) b.failures) (output c.given c.failures) (breaks_short b c [] breaks (reports_given known sound)) (all_events form turns o old new xs left _ _ sound ran_from)
 
   -- all was passed on
   pub passed_through : (c : Written) → IsSome given → o ≢ outcome.SinkFault → Receives b [] c → c.waiting ≡ [] → RendersOrFails form turns o old new xs left (output given f) (output c.given c.failures)
   passed_through c known sound takes none =
-      subst (λ (x : Output). RendersOrFails form turns o old new xs left (output given f) x) (flushes b c takes none (tells_given known sound)) ran_from
+      subst (λ (x : Output). RendersOrFails form turns o old new xs left (output given f) x) (flushes b c takes none (reports_given known sound)) ran_from
 
--- the buffer tells what it was given
-pub tells_at_first : (a : Written) (given : Option (List ℕ)) (f : ℕ) → a ≡ bare given f → IsSome given → IsSome (taken a)
-tells_at_first a given f starts known = subst (λ (w : Written). IsSome (taken w)) (sym starts) (known_still given [] known)
+-- the buffer reports what it was given
+pub reports_at_first : (a : Written) (given : Option (List ℕ)) (f : ℕ) → a ≡ bare given f → IsSome given → IsSome (taken a)
+reports_at_first a given f starts known = subst (λ (w : Written). IsSome (taken w)) (sym starts) (known_still given [] known)
 
 pub shows_by : (form : TextForm) (limits : Rules) (turns : ℕ) (o : Outcome) (old new : StreamState) (xs : List ℕ) (left : Option (List ℕ)) (before after : Output) → After old [] [] → old.refusal ≡ None → old.rules ≡ limits → new.rules ≡ old.rules → RendersOrFails form turns o old new xs left before after → ShowsTo form limits turns (ending_of o) xs left before after
 shows_by form limits turns (outcome.Finished f) old new xs left before after fresh unrefused rules same ran = record { old = old; new = new; fresh = fresh; unrefused = unrefused; rules = rules; same_rules = same; renders = ran }
@@ -217,9 +217,9 @@ reads_by turns outcome.SinkFault old new reads = (outcome.SinkFault, reads)
 
 -- ---- how a check ends
 
--- the output of a stream that was read tells what it got
-pub tells_read : (form : TextForm) (limits : Rules) (turns : ℕ) (f : Finish) (xs : List ℕ) (left : Option (List ℕ)) (before after : Output) → IsSome before.given → ShowsTo form limits turns (ending.Finished f) xs left before after → IsSome after.given
-tells_read form limits turns f xs left before after known shows =
+-- the output of a stream that was read reports what it got
+pub reports_read : (form : TextForm) (limits : Rules) (turns : ℕ) (f : Finish) (xs : List ℕ) (left : Option (List ℕ)) (before after : Output) → IsSome before.given → ShowsTo form limits turns (ending.Finished f) xs left before after → IsSome after.given
+reports_read form limits turns f xs left before after known shows =
     let wrote = (texts_to form turns (outcome.Finished f) shows.old shows.new xs left before after shows.renders).0.events [] [] [] shows.fresh in
     subst (λ (g : Option (List ℕ)). IsSome g) (sym (ap (λ o. o.given) wrote.written)) (known_still before.given (text form wrote.more) known)
 

@@ -65,7 +65,7 @@ impl<W: Target, A: Allocator, F: Form> Sink for BufferedSink<W, A, F> {
 
     ghost view = { rendered };
 
-    ghost tells = { λ s. IsSome s.written.given };
+    ghost reports = { λ s. IsSome s.written.given };
 
     ghost after = { with_event };
 

@@ -57,7 +57,7 @@ impl<W: Target, F: Form> Sink for TextSink<W, F> {
 
     ghost view = { λ s. s };
 
-    ghost tells = { λ s. IsSome s.output.given };
+    ghost reports = { λ s. IsSome s.output.given };
 
     ghost after = { with_event };
 

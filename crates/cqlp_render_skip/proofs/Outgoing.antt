@@ -11,8 +11,8 @@ use Rattle.cqlp_render.specs.Forms.{text, text_of, form_after, form_after_all}
 use Rattle.cqlp_render.specs.Rendering.{Rendering, FallsShort, GoesOn, rendering, with_event}
 use Rattle.cqlp_render.proofs.Renders.{fold-text, text-last}
 use Rattle.cqlp_render.proofs.Buffering.{goes_nowhere, goes_then}
-use Rattle.cqlp_skip.specs.Stretches.{told, told_at}
-use Rattle.cqlp_skip.proofs.Folding.{told-append}
+use Rattle.cqlp_skip.specs.Stretches.{emitted, stream_offset}
+use Rattle.cqlp_skip.proofs.Folding.{emitted-append}
 use Rattle.cqlp_text.specs.Outputs.{Output, output, with_text, StopsWithin}
 use Rattle.cqlp_text.proofs.Writing.{known_then}
 use Rattle.cqlp_render_skip.specs.Reporting.{Reporting, KeepsOnAtEvent}
@@ -74,21 +74,21 @@ module _ (o : Output) (a : List ℕ) (form : TextForm) where
 
   module _ (base : ℕ) (es more : List (ℕ × Event)) where
     -- one piece after the other
-    pub fold_told : fold_events with_event at_first (told base (es ++ more)) ≡ fold_events with_event (fold_events with_event at_first (told base es)) (told base more)
-    fold_told = ap (λ (z : List (ℕ × Event)). fold_events with_event at_first z) (told-append base es more) ∙ fold_append with_event at_first (told base es) (told base more)
+    pub fold_emitted : fold_events with_event at_first (emitted base (es ++ more)) ≡ fold_events with_event (fold_events with_event at_first (emitted base es)) (emitted base more)
+    fold_emitted = ap (λ (z : List (ℕ × Event)). fold_events with_event at_first z) (emitted-append base es more) ∙ fold_append with_event at_first (emitted base es) (emitted base more)
 
     -- the target failed at one more event
-    pub short_at : (before : Rendering) (at : ℕ) (e : Event) (new : Output) → before ≡ fold_events with_event at_first (told base es) → let v = fold_events with_event before (told base more) in FallsShort v.output (text_of v.form (told_at base at) e) new
-        → FallsShort o (a ++ text form (told base (es ++ more ++ (at, e) ∷ []))) new
+    pub short_at : (before : Rendering) (at : ℕ) (e : Event) (new : Output) → before ≡ fold_events with_event at_first (emitted base es) → let v = fold_events with_event before (emitted base more) in FallsShort v.output (text_of v.form (stream_offset base at) e) new
+        → FallsShort o (a ++ text form (emitted base (es ++ more ++ (at, e) ∷ []))) new
     short_at before at e new is short =
-        let both = told base (es ++ more) in
-        let here : fold_events with_event before (told base more) ≡ rendering (with_text o (a ++ text form both)) (form_after_all form both) = ap (λ v. fold_events with_event v (told base more)) is ∙ sym fold_told ∙ shown both in
-        let there : FallsShort (with_text o (a ++ text form both)) (text_of (form_after_all form both) (told_at base at) e) new = subst (λ (v : Rendering). FallsShort v.output (text_of v.form (told_at base at) e) new) here short in
-        let all : told base (es ++ more ++ (at, e) ∷ []) ≡ both ++ (told_at base at, e) ∷ [] = told-append base (es ++ more) ((at, e) ∷ []) in
-        let whole : (a ++ text form both) ++ text_of (form_after_all form both) (told_at base at) e ≡ a ++ text form (told base (es ++ more ++ (at, e) ∷ [])) =
-        append_assoc a (text form both) (text_of (form_after_all form both) (told_at base at) e)
-        ∙ ap (λ (z : List ℕ). a ++ z) (sym (text-last form both (told_at base at) e) ∙ ap (text form) (sym all)) in
-        subst (λ (z : List ℕ). FallsShort o z new) whole (short_then o (a ++ text form both) (text_of (form_after_all form both) (told_at base at) e) new there)
+        let both = emitted base (es ++ more) in
+        let here : fold_events with_event before (emitted base more) ≡ rendering (with_text o (a ++ text form both)) (form_after_all form both) = ap (λ v. fold_events with_event v (emitted base more)) is ∙ sym fold_emitted ∙ shown both in
+        let there : FallsShort (with_text o (a ++ text form both)) (text_of (form_after_all form both) (stream_offset base at) e) new = subst (λ (v : Rendering). FallsShort v.output (text_of v.form (stream_offset base at) e) new) here short in
+        let all : emitted base (es ++ more ++ (at, e) ∷ []) ≡ both ++ (stream_offset base at, e) ∷ [] = emitted-append base (es ++ more) ((at, e) ∷ []) in
+        let whole : (a ++ text form both) ++ text_of (form_after_all form both) (stream_offset base at) e ≡ a ++ text form (emitted base (es ++ more ++ (at, e) ∷ [])) =
+        append_assoc a (text form both) (text_of (form_after_all form both) (stream_offset base at) e)
+        ∙ ap (λ (z : List ℕ). a ++ z) (sym (text-last form both (stream_offset base at) e) ∙ ap (text form) (sym all)) in
+        subst (λ (z : List ℕ). FallsShort o z new) whole (short_then o (a ++ text form both) (text_of (form_after_all form both) (stream_offset base at) e) new there)
 
 -- ---- what a report keeps
 

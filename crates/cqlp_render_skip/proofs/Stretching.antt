@@ -19,14 +19,14 @@ use Rattle.cqlp_decode.specs.declared.feeding.Fed.{Fed}
 use Rattle.cqlp_decode.specs.declared.feeding.Fed.TheVariants as fed
 use Rattle.cqlp_skip.specs.Skipping.{Skipping, AfterSkips, Feeds, Hands, BeginsAnew, RefusesBy, SkipsOn, rules_in, skip_by, skip_of, skip_to, stream, stretch_given_up}
 use Rattle.cqlp_skip.specs.Skipping as skipping
-use Rattle.cqlp_skip.specs.Stretches.{Stretch, base_after, end_within, told, told_at}
+use Rattle.cqlp_skip.specs.Stretches.{Stretch, base_after, end_within, emitted, stream_offset}
 use Rattle.cqlp_skip.proofs.Skips.{end_there}
 use Rattle.cqlp_text.specs.Outputs.{Output, output, with_text}
 use Rattle.cqlp_text.proofs.Writing.{known_then}
 use Rattle.cqlp_render_skip.specs.declared.feeding.Handed.TheVariants as handed
 use Rattle.cqlp_render_skip.specs.Reporting.{GoOn, HandsTo, Reporting, Outputs, AreKnown, EndsStretch, Fails, Reports, SaysAll, StandsAt, ended, outputs}
 use Rattle.cqlp_render_skip.specs.Texts.{IsLast, afresh, break_of, lines_before, skipped_line, text_before, text_cut, text_with}
-use Rattle.cqlp_render_skip.proofs.Outgoing.{afresh_after, fold_told, short_at, short_of_waiting, short_then, shown, stops_short}
+use Rattle.cqlp_render_skip.proofs.Outgoing.{afresh_after, fold_emitted, short_at, short_of_waiting, short_then, shown, stops_short}
 
 -- ---- a skip
 
@@ -38,14 +38,14 @@ pub record IsSkipped (o : Option Refusal) (frame : Option OpenFrame) (base used 
   pub refused : o ≡ Some r
   pub under_way : frame ≡ Some f
   pub there : end_within f base used ≡ Some end
-  pub at : x.at ≡ told_at base f.at
+  pub at : x.at ≡ stream_offset base f.at
   pub refusal : x.refusal ≡ refusal_from base r
   pub rest : x.rest ≡ end - used
 
 skipped_to : (r : Refusal) (f : OpenFrame) (base used : ℕ) (x : Skipped) (e : Option ℕ) → end_within f base used ≡ e → skip_to e r f base used ≡ Ok x → IsSkipped (Some r) (Some f) base used x
 skipped_to r f base used x None there is = absurd cc
 skipped_to r f base used x (Some end) there is =
-    let same : ◌≡◌ {A = Skipped} (record { at = told_at base f.at; header = f.header; refusal = refusal_from base r; rest = end - used }) x = cc in
+    let same : ◌≡◌ {A = Skipped} (record { at = stream_offset base f.at; header = f.header; refusal = refusal_from base r; rest = end - used }) x = cc in
     record {
       r = r;
       f = f;
@@ -86,8 +86,8 @@ same_refusal f g o a b = let e : ◌≡◌ {A = Option Refusal} (Some f) (Some g
 module _ (form : TextForm) (l : Rules) (xs : List ℕ) (first : Outputs) where
   module _ (d : Skipping) (s : List ℕ) (now : Reporting) (r : Reports form l xs first d s now) where
     -- all that was taken
-    pub taken_is : rendered now.text ≡ rendering (with_text first.out (text_with form r.stretches r.events)) (form_after_all form (told (base_after r.stretches) r.events))
-    taken_is = r.text ∙ shown first.out (text_before form r.stretches) form (told (base_after r.stretches) r.events)
+    pub taken_is : rendered now.text ≡ rendering (with_text first.out (text_with form r.stretches r.events)) (form_after_all form (emitted (base_after r.stretches) r.events))
+    taken_is = r.text ∙ shown first.out (text_before form r.stretches) form (emitted (base_after r.stretches) r.events)
 
     pub still_known : AreKnown first → IsSome now.text.written.given × IsSome now.err.given
     still_known known = (
@@ -106,9 +106,9 @@ module _ (form : TextForm) (l : Rules) (xs : List ℕ) (first : Outputs) where
             events = r.events ++ h.more;
             stands = record { after = h.stands; plain = r.stands.plain; rules = rules ∙ r.stands.rules; last = subst (IsLast r.stretches) (sym last) r.stands.last };
             text =
-                h.got ∙ ap (λ (n : ℕ). fold_events with_event (rendered now.text) (told n h.more)) base
-                ∙ ap (λ v. fold_events with_event v (told b h.more)) r.text
-                ∙ sym (fold_told first.out (text_before form r.stretches) form b r.events h.more);
+                h.got ∙ ap (λ (n : ℕ). fold_events with_event (rendered now.text) (emitted n h.more)) base
+                ∙ ap (λ v. fold_events with_event v (emitted b h.more)) r.text
+                ∙ sym (fold_emitted first.out (text_before form r.stretches) form b r.events h.more);
             err = err ∙ r.err;
             passed = passed ∙ r.passed;
           }
@@ -117,7 +117,7 @@ module _ (form : TextForm) (l : Rules) (xs : List ℕ) (first : Outputs) where
       pub fails_more : (h : skipping.Fails with_event xs d' s' r.stretches [] r.events FallsShortAtEvent (rendered now.text) (rendered now'.text)) → rules_in d' ≡ rules_in d → d'.last ≡ d.last → now'.err ≡ now.err → now'.passed ≡ now.passed → Fails form l xs first now'.passed (outputs now')
       fails_more h rules last err passed =
           let base : d'.base ≡ base_after r.stretches = h.stands.base in
-          let fault = subst (λ (n : ℕ). FallsShortAtEvent (fold_events with_event (rendered now.text) (told n h.more)) (told_at n h.at) h.event (rendered now'.text)) base h.fault in
+          let fault = subst (λ (n : ℕ). FallsShortAtEvent (fold_events with_event (rendered now.text) (emitted n h.more)) (stream_offset n h.at) h.event (rendered now'.text)) base h.fault in
           inl (record {
             d = d';
             s = s';
@@ -126,7 +126,7 @@ module _ (form : TextForm) (l : Rules) (xs : List ℕ) (first : Outputs) where
             stands = record { after = h.stands; plain = r.stands.plain; rules = rules ∙ r.stands.rules; last = subst (IsLast r.stretches) (sym last) r.stands.last };
             out = short_of_waiting first.out _ now'.text.written.given now'.text.written.waiting now'.text.written.failures
                 (short_at first.out (text_before form r.stretches) form (base_after r.stretches) r.events h.more (rendered now.text) h.at h.event (rendered now'.text).output r.text fault);
-            told = r.stretches;
+            emitted = r.stretches;
             but_last = inl refl;
             err = err ∙ r.err;
             any_passed = passed ∙ r.passed;
@@ -144,7 +144,7 @@ module _ (form : TextForm) (l : Rules) (xs : List ℕ) (first : Outputs) where
             let t = text_with form r.stretches r.events in
             subst (λ (z : List ℕ). FallsShort first.out z (outputs now').out) (append-nil t)
             (short_then first.out t [] (outputs now').out (subst (λ (v : Rendering). FallsShort v.output [] (outputs now').out) taken_is short));
-        told = r.stretches;
+        emitted = r.stretches;
         but_last = inl refl;
         err = err ∙ r.err;
         any_passed = passed ∙ r.passed;
@@ -167,11 +167,11 @@ module _ (form : TextForm) (l : Rules) (xs : List ℕ) (first : Outputs) where
         stands_over : StandsAt l xs d' s (y ∷ r.stretches) []
         stands_over = record { after = goes_over; plain = (refl, r.stands.plain); rules = anew.5 ∙ r.stands.rules; last = anew.3 ∙ k.at }
 
-        here : told d.base r.events ≡ told (base_after r.stretches) r.events
-        here = ap (λ (n : ℕ). told n r.events) r.stands.after.base
+        here : emitted d.base r.events ≡ emitted (base_after r.stretches) r.events
+        here = ap (λ (n : ℕ). emitted n r.events) r.stands.after.base
 
         abbrev E : List (ℕ × Event)
-        E = told (base_after r.stretches) r.events
+        E = emitted (base_after r.stretches) r.events
 
         form_is : now.text.form ≡ form_after_all form E
         form_is = ap (λ (v : Rendering). v.form) taken_is
@@ -200,7 +200,7 @@ module _ (form : TextForm) (l : Rules) (xs : List ℕ) (first : Outputs) where
             ap (λ (z : Output). with_text z (skipped_line x.at x.refusal)) is
             ∙ ap (λ g. output g first.err.failures) (known_then first.err.given (lines_before r.stretches) (skipped_line x.at x.refusal))
             ∙ ap (λ (n : ℕ). with_text first.err (lines_before r.stretches ++ skipped_line n x.refusal)) k.at
-            ∙ ap (λ (q : Refusal). with_text first.err (lines_before r.stretches ++ skipped_line (told_at d.base k.f.at) q)) k.refusal
+            ∙ ap (λ (q : Refusal). with_text first.err (lines_before r.stretches ++ skipped_line (stream_offset d.base k.f.at) q)) k.refusal
 
         pub reports_over : EndsStretch now x.at x.refusal (Ok tt) now' → Reports form l xs first d' s now'
         reports_over ends = record {
@@ -230,7 +230,7 @@ module _ (form : TextForm) (l : Rules) (xs : List ℕ) (first : Outputs) where
               (short_then first.out (text_before form r.stretches ++ text form E) B (outputs now').out
               (subst (λ (z : List ℕ). FallsShort (with_text first.out (text_before form r.stretches ++ text form E)) z (outputs now').out) break_is
               (subst (λ (v : Rendering). FallsShort v.output (break_of now.text.form) (outputs now').out) taken_is out.0)));
-          told = r.stretches;
+          emitted = r.stretches;
           but_last = inr (y, refl, refl);
           err = out.1 ∙ r.err;
           any_passed = passed;
@@ -242,9 +242,9 @@ module _ (form : TextForm) (l : Rules) (xs : List ℕ) (first : Outputs) where
           stands = stands_over;
           out = err.0 ∙ ended_is ∙ ap (λ (z : List ℕ). with_text first.out z) (sym nothing_more);
           err =
-              let line = skipped_line (told_at d.base k.f.at) (refusal_from d.base k.r) in
+              let line = skipped_line (stream_offset d.base k.f.at) (refusal_from d.base k.r) in
               let stops = stops_short now.err (skipped_line x.at x.refusal) now'.err err.1 in
-              let stops' : FallsShort now.err line now'.err = subst (λ (q : Refusal). FallsShort now.err (skipped_line (told_at d.base k.f.at) q) now'.err) k.refusal (subst (λ (n : ℕ). FallsShort now.err (skipped_line n x.refusal) now'.err) k.at stops) in
+              let stops' : FallsShort now.err line now'.err = subst (λ (q : Refusal). FallsShort now.err (skipped_line (stream_offset d.base k.f.at) q) now'.err) k.refusal (subst (λ (n : ℕ). FallsShort now.err (skipped_line n x.refusal) now'.err) k.at stops) in
               short_then first.err (lines_before r.stretches) line now'.err (subst (λ (o : Output). FallsShort o line now'.err) r.err stops');
           any_passed = passed;
         })

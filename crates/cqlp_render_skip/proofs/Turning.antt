@@ -325,7 +325,7 @@ module _ (form : TextForm) (l : Rules) (xs : List ℕ) (first : Outputs) (known 
   finished_known (finish.Refused r) x = shows_known x.0
 
   failed_known : Fails form l xs first passed after → AreKnown after
-  failed_known (inl x) = (known_short first.out after.out (text_with form x.stretches x.events) known.0 x.out, known_with first.err after.err (lines_before x.told) known.1 x.err)
+  failed_known (inl x) = (known_short first.out after.out (text_with form x.stretches x.events) known.0 x.out, known_with first.err after.err (lines_before x.emitted) known.1 x.err)
   failed_known (inr x) = (known_with first.out after.out (text_with form x.stretches []) known.0 x.out, known_short first.err after.err (lines_before x.stretches) known.1 x.err)
 
   pub ends_known : (e : Ending) → ShowsTo form l xs first e passed after left → AreKnown after

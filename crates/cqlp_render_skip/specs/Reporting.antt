@@ -10,7 +10,7 @@ use Rattle.cqlp_render.specs.Rendering.{Buffering, FallsShort, GoesOn, rendered,
 use Rattle.cqlp_skip.specs.declared.fed.NotSkippable.{NotSkippable}
 use Rattle.cqlp_skip.specs.Pieces.{refusal_from}
 use Rattle.cqlp_skip.specs.Skipping.{Skipping, AfterSkips, rules_in, skip_of, stream}
-use Rattle.cqlp_skip.specs.Stretches.{Stretch, base_after, told}
+use Rattle.cqlp_skip.specs.Stretches.{Stretch, base_after, emitted}
 use Rattle.cqlp_text.specs.Outputs.{Output, output, StopsWithin, with_text}
 use Rattle.cqlp_render_skip.specs.declared.feeding.Handed.{Handed}
 use Rattle.cqlp_render_skip.specs.declared.feeding.Handed.TheVariants as handed
@@ -74,7 +74,7 @@ pub record StandsAt (l : Rules) (xs : List ℕ) (d : Skipping) (s : List ℕ) (s
 abbrev pub SaysAll : Rules → Skipping → (s : List ℕ) → List (ℕ × Event) → Type 0
 SaysAll l d s events = Says l (start_with []) (drop d.base s) events Waits
 
--- It is refused for good, as the verdict tells it: the frame cannot be passed over.
+-- It is refused for good, as the verdict has it: the frame cannot be passed over.
 abbrev pub IsRefusedForGood : Skipping → (verdict : Refusal) → Type 0
 IsRefusedForGood d verdict =
     (own : Refusal) × ((stream d).refusal ≡ Some own) × (verdict ≡ refusal_from d.base own)
@@ -87,7 +87,7 @@ module _ (form : TextForm) (l : Rules) (xs : List ℕ) (first : Outputs) where
     pub events : List (ℕ × Event)
     pub stands : StandsAt l xs d s stretches events
     pub text : rendered now.text ≡ fold_events with_event
-        (rendering (with_text first.out (text_before form stretches)) form) (told (base_after stretches) events)
+        (rendering (with_text first.out (text_before form stretches)) form) (emitted (base_after stretches) events)
     pub err : now.err ≡ with_text first.err (lines_before stretches)
     pub passed : now.passed ≡ any stretches
 
@@ -100,9 +100,9 @@ module _ (form : TextForm) (l : Rules) (xs : List ℕ) (first : Outputs) where
     pub events : List (ℕ × Event)
     pub stands : StandsAt l xs d s stretches events
     pub out : FallsShort first.out (text_with form stretches events) now.out
-    pub told : List Stretch
-    pub but_last : (told ≡ stretches) ⊎ ((x : Stretch) × (stretches ≡ x ∷ told) × (events ≡ []))
-    pub err : now.err ≡ with_text first.err (lines_before told)
+    pub emitted : List Stretch
+    pub but_last : (emitted ≡ stretches) ⊎ ((x : Stretch) × (stretches ≡ x ∷ emitted) × (events ≡ []))
+    pub err : now.err ≡ with_text first.err (lines_before emitted)
     pub any_passed : passed ≡ any stretches
 
   -- The error output failed within the line of the frame passed over last, after all text of the frames so far.

@@ -121,17 +121,17 @@ outputs_of s = record { out = s.out; err = s.err }
 abbrev pub ShowsBytes : TextForm → Rules → (turns : ℕ) → List ℕ
     → (before : Streams) → (status : ℕ) → (after : Streams) → Type 0
 ShowsBytes form limits turns xs before status after =
-    (e : Ending) × (passed : Bool) × (told : Outputs)
-    × Reads form limits xs (outputs_of before) turns e passed before.input after.input told
-    × (after.out ≡ told.out) × ConcludesAfter passed e told.err status after.err
+    (e : Ending) × (passed : Bool) × (emitted : Outputs)
+    × Reads form limits xs (outputs_of before) turns e passed before.input after.input emitted
+    × (after.out ≡ emitted.out) × ConcludesAfter passed e emitted.err status after.err
 
 -- The bytes xs of the input were read and nothing of them written but the lines of frames passed over, and how it ended
 -- was reported.
 abbrev pub ChecksBytes : Rules → (turns : ℕ) → List ℕ → (before : Streams) → (status : ℕ) → (after : Streams) → Type 0
 ChecksBytes limits turns xs before status after =
-    (e : Ending) × (passed : Bool) × (told : Outputs)
-    × Reads forms.Nothing limits xs (outputs_of before) turns e passed before.input after.input told
-    × (own : ℕ) × ConcludesCheck e told.out told.err own after.out after.err × (status ≡ status_after passed own)
+    (e : Ending) × (passed : Bool) × (emitted : Outputs)
+    × Reads forms.Nothing limits xs (outputs_of before) turns e passed before.input after.input emitted
+    × (own : ℕ) × ConcludesCheck e emitted.out emitted.err own after.out after.err × (status ≡ status_after passed own)
 
 -- A stream was shown, and how it ended was reported.
 abbrev pub ShowsAndReports : TextForm → Rules → (turns : ℕ)

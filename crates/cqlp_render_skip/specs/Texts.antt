@@ -6,7 +6,7 @@ use Rattle.cqlp_render.specs.declared.text_form.TextForm.{TextForm}
 use Rattle.cqlp_render.specs.declared.text_form.TextForm.TheVariants as forms
 use Rattle.cqlp_render.specs.Forms.{form_after_all, text}
 use Rattle.cqlp_skip.specs.Pieces.{refusal_from}
-use Rattle.cqlp_skip.specs.Stretches.{Stretch, base_after, told, told_at}
+use Rattle.cqlp_skip.specs.Stretches.{Stretch, base_after, emitted, stream_offset}
 use Rattle.cqlp_text.specs.Lines.{spaced}
 use Rattle.cqlp_text.specs.Names.{reason_name}
 use Rattle.cqlp_text.specs.PageText.{no_page}
@@ -42,11 +42,11 @@ text_cut form events = text form events ++ break_of (form_after_all form events)
 -- the text of stretches that were given up, of which the last stands first
 abbrev pub text_before : TextForm → List Stretch → List ℕ
 text_before form [] = []
-text_before form (x ∷ earlier) = text_before form earlier ++ text_cut form (told x.from x.events)
+text_before form (x ∷ earlier) = text_before form earlier ++ text_cut form (emitted x.from x.events)
 
 -- the text of these, and of the events of the stretch that comes after them
 abbrev pub text_with : TextForm → List Stretch → List (ℕ × Event) → List ℕ
-text_with form stretches events = text_before form stretches ++ text form (told (base_after stretches) events)
+text_with form stretches events = text_before form stretches ++ text form (emitted (base_after stretches) events)
 
 -- ---- to the error output
 
@@ -58,13 +58,13 @@ skipped_line at r =
 -- where the header is of the frame that was passed over last
 abbrev pub IsLast : List Stretch → (at : ℕ) → Type 0
 IsLast [] at = Unit {0}
-IsLast (x ∷ earlier) at = at ≡ told_at x.from x.frame.at
+IsLast (x ∷ earlier) at = at ≡ stream_offset x.from x.frame.at
 
 -- the lines of the frames that were passed over
 abbrev pub lines_before : List Stretch → List ℕ
 lines_before [] = []
 lines_before (x ∷ earlier) =
-    lines_before earlier ++ skipped_line (told_at x.from x.frame.at) (refusal_from x.from x.refusal)
+    lines_before earlier ++ skipped_line (stream_offset x.from x.frame.at) (refusal_from x.from x.refusal)
 
 -- no table of types was given over these stretches
 abbrev pub AreGivenNothing : List Stretch → Type 0

@@ -35,20 +35,20 @@ pub(crate) fn hand_piece<O: Target, E: Target, A: Allocator, B: Allocator>(
     ensures goes_on { GoOn report result.1 }
 {
     let mut rest = piece;
-    let mut told = report;
+    let mut reporter = report;
     'stretches: loop {
-        let (fed, next) = decoder.feed(rest, told);
-        told = next;
+        let (fed, next) = decoder.feed(rest, reporter);
+        reporter = next;
         match fed {
-            Fed::More => return (Handed::More, told),
-            Fed::Fault { .. } => return (Handed::Fault, told),
+            Fed::More => return (Handed::More, reporter),
+            Fed::Fault { .. } => return (Handed::Fault, reporter),
             Fed::Refused { used, refusal } => {
                 let skipped = match decoder.skip() {
                     Ok(skipped) => skipped,
-                    Err(_) => return (Handed::Refused(refusal), told),
+                    Err(_) => return (Handed::Refused(refusal), reporter),
                 };
-                if let Err(SinkFault) = told.end_stretch(&skipped) {
-                    return (Handed::Fault, told);
+                if let Err(SinkFault) = reporter.end_stretch(&skipped) {
+                    return (Handed::Fault, reporter);
                 }
                 rest = &rest[used..];
             }

@@ -125,27 +125,27 @@ fn read_stream<R: Source, O: Target, E: Target, A: Allocator, B: Allocator>(
         → Reads form l xs first TURNS result.0 result.1.passed (unread R.Source input.old) (unread R.Source input.new)
         (outputs result.1) }
 {
-    let mut told = report;
+    let mut reporter = report;
     let mut buffer = [0; 4096];
     for turn in 0..TURNS {
         let count = match input.read(&mut buffer) {
             Ok(count) => count,
-            Err(IoFault) => return (Ending::ReadFault, told),
+            Err(IoFault) => return (Ending::ReadFault, reporter),
         };
         if count == 0 {
-            return (Ending::Finished(decoder.finish()), told);
+            return (Ending::Finished(decoder.finish()), reporter);
         }
-        let (handed, next) = hand_piece(decoder, &buffer[..count], told);
-        told = next;
+        let (handed, next) = hand_piece(decoder, &buffer[..count], reporter);
+        reporter = next;
         if let Handed::Fault = handed {
-            return (Ending::WriteFault, told);
+            return (Ending::WriteFault, reporter);
         }
-        if let Err(SinkFault) = told.flush() {
-            return (Ending::WriteFault, told);
+        if let Err(SinkFault) = reporter.flush() {
+            return (Ending::WriteFault, reporter);
         }
         if let Handed::Refused(refusal) = handed {
-            return (Ending::Finished(Finish::Refused(refusal)), told);
+            return (Ending::Finished(Finish::Refused(refusal)), reporter);
         }
     }
-    (Ending::TooManyTurns, told)
+    (Ending::TooManyTurns, reporter)
 }

@@ -117,7 +117,7 @@ impl<O: Target, E: Target, A: Allocator> Sink for Report<O, E, A> {
 
     ghost view = { λ r. rendered r.text };
 
-    ghost tells = { λ r. IsSome r.text.written.given };
+    ghost reports = { λ r. IsSome r.text.written.given };
 
     ghost after = { with_event };
 

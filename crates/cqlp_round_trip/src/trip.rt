@@ -58,10 +58,10 @@ pub fn write_and_read<A: Allocator + Clone, S: Sink>(
 ) -> Result<(Vec<u8, A>, Finish), RoundTripError>
     ensures written { IfOk result (λ r.
         CanTravel (frame_of frame.now) limits × (r.0.items ≡ frame_bytes (frame_of frame.now))) }
-    ensures back { S.tells sink.old → MatchResult result
+    ensures back { S.reports sink.old → MatchResult result
         (λ r. ComesBack S.after limits (frame_of frame.now) r.1 (S.view sink.old) (S.view sink.new))
         (λ e. FailsWithin S.after S.faulted limits (frame_of frame.now) e (S.view sink.old) (S.view sink.new)) }
-    ensures read { S.tells sink.old → MatchResult result
+    ensures read { S.reports sink.old → MatchResult result
         (λ r. ReadsAll S.after (rules_of limits) (frame_bytes (frame_of frame.now)) r.1 (S.view sink.old) (S.view sink.new))
         (λ e. StopsReading S.after S.faulted (rules_of limits) (frame_bytes (frame_of frame.now)) e
         (S.view sink.old) (S.view sink.new)) }
@@ -123,7 +123,7 @@ fn read<A: Allocator, S: Sink>(
     sink: &mut S,
 ) -> Result<Finish, SinkFault>
     requires { length bytes.now < 2 ^ 64 - 1 }
-    ensures { (limits : Given) → IsNew limits decoder.old → S.tells sink.old → MatchResult result
+    ensures { (limits : Given) → IsNew limits decoder.old → S.reports sink.old → MatchResult result
         (λ end. ReadsAll S.after (rules_of limits) bytes.now end (S.view sink.old) (S.view sink.new))
         (λ e. FailsReading S.after S.faulted (rules_of limits) bytes.now (S.view sink.old) (S.view sink.new)) }
 {

@@ -191,28 +191,28 @@ abbrev pub answer_ticket : Result Reply Stray → Option Ticket
 answer_ticket (Ok r) = reply_ticket r
 answer_ticket (Err why) = None
 
-ticket_told : (t : Ticket) (k : RequestKind) (fits cancelled : Bool) (r : Reply) → answer_to t k fits cancelled ≡ Ok r → reply_ticket r ≡ Some t
-ticket_told t k true true r e = sym (ap answer_ticket e)
-ticket_told t k true false r e = sym (ap answer_ticket e)
-ticket_told t k false cancelled r e = cc
+ticket_reported : (t : Ticket) (k : RequestKind) (fits cancelled : Bool) (r : Reply) → answer_to t k fits cancelled ≡ Ok r → reply_ticket r ≡ Some t
+ticket_reported t k true true r e = sym (ap answer_ticket e)
+ticket_reported t k true false r e = sym (ap answer_ticket e)
+ticket_reported t k false cancelled r e = cc
 
--- the request that a reply is told of
-record IsTold (s : Signal) (slot : Option OpenRequest) (r : Reply) : Type 0 where
+-- the request that a reply is of
+record IsReported (s : Signal) (slot : Option OpenRequest) (r : Reply) : Type 0 where
   pub entry : OpenRequest
   pub there : slot ≡ Some entry
   pub ticket : reply_ticket r ≡ Some (record { id = s.stream; number = entry.number })
 
-told_for : (s : Signal) (slot : Option OpenRequest) (r : Reply) → reply_for s slot ≡ Ok r → IsTold s slot r
-told_for s None r e = cc
-told_for s (Some o) r e = record { entry = o; there = refl; ticket = ticket_told (record { id = s.stream; number = o.number }) o.kind (answers o.kind s.opcode) o.cancelled r e }
+reported_for : (s : Signal) (slot : Option OpenRequest) (r : Reply) → reply_for s slot ≡ Ok r → IsReported s slot r
+reported_for s None r e = cc
+reported_for s (Some o) r e = record { entry = o; there = refl; ticket = ticket_reported (record { id = s.stream; number = o.number }) o.kind (answers o.kind s.opcode) o.cancelled r e }
 
-told_to : (c : ClientCore) (s : Signal) (r : Reply) → reply_to c s ≡ Ok r → is_to_request r ≡ true → IsTold s (under c.slots s.stream) r
-told_to c s r e one = elim (cases_Bool (is_pushed s)) [
+reported_to : (c : ClientCore) (s : Signal) (r : Reply) → reply_to c s ≡ Ok r → is_to_request r ≡ true → IsReported s (under c.slots s.stream) r
+reported_to c s r e one = elim (cases_Bool (is_pushed s)) [
   | inl is ↦ let event = event_only r (rw is at e) in absurd (cc (event, one))
   | inr isnt ↦
       let plain = rw isnt at e in
       elim (cases_Bool s.response) [
-        | inl response ↦ told_for s (under c.slots s.stream) r (rw response at plain)
+        | inl response ↦ reported_for s (under c.slots s.stream) r (rw response at plain)
         | inr request ↦ let refused = rw request at plain in absurd (cc refused)
       ]
 ]
@@ -220,15 +220,15 @@ told_to c s r e one = elim (cases_Bool (is_pushed s)) [
 some_ticket : (t u : Ticket) → ◌≡◌ {A = Option Ticket} (Some t) (Some u) → u ≡ t
 some_ticket t u e = cc
 
-given_back : {T : Type 0} (w : Carriage T) (s : Signal) (r : Reply) (t : Ticket) → Carries w → IsTold s (under w.client.core.slots s.stream) r → reply_ticket r ≡ Some t → IsGivenUnder w.given t (under w.client.carried s.stream)
-given_back w s r t p told is =
-    renamed w.given (record { id = s.stream; number = told.entry.number }) t (under w.client.carried s.stream) (under w.client.carried s.stream) (some_ticket t _ (sym is ∙ told.ticket)) refl (p.given s.stream told.entry told.there)
+given_back : {T : Type 0} (w : Carriage T) (s : Signal) (r : Reply) (t : Ticket) → Carries w → IsReported s (under w.client.core.slots s.stream) r → reply_ticket r ≡ Some t → IsGivenUnder w.given t (under w.client.carried s.stream)
+given_back w s r t p reported is =
+    renamed w.given (record { id = s.stream; number = reported.entry.number }) t (under w.client.carried s.stream) (under w.client.carried s.stream) (some_ticket t _ (sym is ∙ reported.ticket)) refl (p.given s.stream reported.entry reported.there)
 
 pub returned_for : {T : Type 0} (w : Carriage T) (s : Signal) (r : Result Reply Stray) → reply_to w.client.core s ≡ r → Carries w → IfOk r (IsReturned w.given (under w.client.carried s.stream))
 returned_for w s (Err why) e p = tt
 returned_for w s (Ok reply.ServerEvent) e p = none_is (under w.client.carried s.stream) (p.stands.there s.stream ∙ replied_open w.client.core s reply.ServerEvent e)
-returned_for w s (Ok (reply.Answer t k)) e p = given_back w s (reply.Answer t k) t p (told_to w.client.core s (reply.Answer t k) e refl) refl
-returned_for w s (Ok (reply.Dropped t)) e p = given_back w s (reply.Dropped t) t p (told_to w.client.core s (reply.Dropped t) e refl) refl
+returned_for w s (Ok (reply.Answer t k)) e p = given_back w s (reply.Answer t k) t p (reported_to w.client.core s (reply.Answer t k) e refl) refl
+returned_for w s (Ok (reply.Dropped t)) e p = given_back w s (reply.Dropped t) t p (reported_to w.client.core s (reply.Dropped t) e refl) refl
 
 pub values_come_back : (T : Type 0) (slots : ℕ) (calls : List (ClientCall T)) → ValuesComeBack T slots calls
 values_come_back T slots calls =

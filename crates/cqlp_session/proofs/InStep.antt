@@ -120,13 +120,13 @@ abbrev pub accepts_all : Phase → List (Message Request) → Phase
 accepts_all p [] = p
 accepts_all p (m ∷ rest) = accepts_all (phase_begun p m.tag.kind) rest
 
-abbrev pub told_phase : Phase → Opcode → Option Request → Phase
-told_phase p o None = p
-told_phase p o (Some r) = phase_answered p r.kind o
+abbrev pub reported_phase : Phase → Opcode → Option Request → Phase
+reported_phase p o None = p
+reported_phase p o (Some r) = phase_answered p r.kind o
 
 abbrev pub replies_all : Phase → List (Message (Option Request)) → Phase
 replies_all p [] = p
-replies_all p (m ∷ rest) = replies_all (told_phase p m.seen.opcode m.tag) rest
+replies_all p (m ∷ rest) = replies_all (reported_phase p m.seen.opcode m.tag) rest
 
 -- each may begin in its turn
 abbrev pub MayAll : Phase → List (Message Request) → Type 0
@@ -141,9 +141,9 @@ accepts_push : (p : Phase) (up : List (Message Request)) (m : Message Request) �
 accepts_push p [] m = refl
 accepts_push p (x ∷ up) m = accepts_push (phase_begun p x.tag.kind) up m
 
-replies_push : (p : Phase) (down : List (Message (Option Request))) (m : Message (Option Request)) → replies_all p (down ++ m ∷ []) ≡ told_phase (replies_all p down) m.seen.opcode m.tag
+replies_push : (p : Phase) (down : List (Message (Option Request))) (m : Message (Option Request)) → replies_all p (down ++ m ∷ []) ≡ reported_phase (replies_all p down) m.seen.opcode m.tag
 replies_push p [] m = refl
-replies_push p (x ∷ down) m = replies_push (told_phase p x.seen.opcode x.tag) down m
+replies_push p (x ∷ down) m = replies_push (reported_phase p x.seen.opcode x.tag) down m
 
 none_may : (up : List (Message Request)) → MayAll Opening up → up ≡ []
 none_may [] h = refl
@@ -180,13 +180,13 @@ not_handshake slots r quiet k = elim (cases_Bool (is_handshake r.kind)) [
   | inr isnt ↦ isnt
 ]
 
-quiet_told : (slots : List (Option OpenRequest)) (p : Phase) (s : Signal) (tag : Option Request) → count is_busy slots ≡ 0 → IsComingAs slots s tag → told_phase p s.opcode tag ≡ p
-quiet_told slots p s None quiet h = refl
-quiet_told slots p s (Some r) quiet h = phase_kept p r.kind s.opcode (not_handshake slots r quiet h.known)
+quiet_reported : (slots : List (Option OpenRequest)) (p : Phase) (s : Signal) (tag : Option Request) → count is_busy slots ≡ 0 → IsComingAs slots s tag → reported_phase p s.opcode tag ≡ p
+quiet_reported slots p s None quiet h = refl
+quiet_reported slots p s (Some r) quiet h = phase_kept p r.kind s.opcode (not_handshake slots r quiet h.known)
 
 quiet_replies : (slots : List (Option OpenRequest)) (p : Phase) (down : List (Message (Option Request))) → count is_busy slots ≡ 0 → AllByRecursion (IsComing slots) down → replies_all p down ≡ p
 quiet_replies slots p [] quiet h = refl
-quiet_replies slots p (m ∷ down) quiet h = ap (λ q. replies_all q down) (quiet_told slots p m.seen m.tag quiet h.0) ∙ quiet_replies slots p down quiet h.1
+quiet_replies slots p (m ∷ down) quiet h = ap (λ q. replies_all q down) (quiet_reported slots p m.seen m.tag quiet h.0) ∙ quiet_replies slots p down quiet h.1
 
 -- ---- a request begins
 
@@ -275,11 +275,11 @@ in_step_answered w id o k t s found =
     let there = ap is_busy_kind found.there in
     let put = rw there at (count_put is_busy_kind served id None (has_taken served id k found.there)) in
     let m = answer_message id o (last_under id w.taken) in
-    let told : told_phase (replies_all w.client.phase w.down) o (last_under id w.taken) ≡ phase_answered (accepts_all q w.up) k o =
-    ap (told_phase (replies_all w.client.phase w.down) o) t.last
+    let reported : reported_phase (replies_all w.client.phase w.down) o (last_under id w.taken) ≡ phase_answered (accepts_all q w.up) k o =
+    ap (reported_phase (replies_all w.client.phase w.down) o) t.last
     ∙ ap (λ k. phase_answered (replies_all w.client.phase w.down) k o) t.kind
     ∙ ap (λ r. phase_answered r k o) (sym s.same) in
-    let ends = replies_push w.client.phase w.down m ∙ told in
+    let ends = replies_push w.client.phase w.down m ∙ reported in
     record {
       room = rw (length_put served id None) s.room;
       may = elim (cases_Bool (is_handshake k)) [
@@ -323,7 +323,7 @@ in_step_came w m rest None s e tagged came =
     subst (λ (c : ClientCore). IsInStep (record w { client = c; down = rest; waiting = w.waiting })) (sym same) (record {
       room = s.room;
       may = s.may;
-      same = s.same ∙ ap (replies_all w.client.phase) e ∙ ap (λ t. replies_all (told_phase w.client.phase m.seen.opcode t) rest) tagged;
+      same = s.same ∙ ap (replies_all w.client.phase) e ∙ ap (λ t. replies_all (reported_phase w.client.phase m.seen.opcode t) rest) tagged;
       client_opening = s.client_opening;
       server_opening = s.server_opening;
     })
@@ -337,7 +337,7 @@ in_step_came w m rest (Some r) s e tagged came =
     subst (λ (c : ClientCore). IsInStep (record w { client = c; down = rest; waiting = without (Some r) w.waiting })) (sym (replied_freed w.client m.seen r came)) (record {
       room = rw (length_put slots id None) s.room;
       may = s.may;
-      same = s.same ∙ ap (replies_all w.client.phase) e ∙ ap (λ t. replies_all (told_phase w.client.phase m.seen.opcode t) rest) tagged
+      same = s.same ∙ ap (replies_all w.client.phase) e ∙ ap (λ t. replies_all (reported_phase w.client.phase m.seen.opcode t) rest) tagged
           ∙ ap (λ k. replies_all (phase_answered w.client.phase k m.seen.opcode) rest) (sym came.known.kind);
       client_opening = opening_less w.client.phase entry.kind m.seen.opcode _ _ fits s.client_opening (omega (arith, put));
       server_opening = s.server_opening;

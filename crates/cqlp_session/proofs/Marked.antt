@@ -1,4 +1,4 @@
--- Which ids the bits tell to be free.
+-- Which ids are free by their bits.
 use Rattle.std.proofs.Common.{◌≡◌, ℕ, ◌+◌, ◌-◌, ◌/◌, ◌%◌, ◌^◌, ◌<◌, Bool, true, false, List, Option, Some, None, length, get_or, set, take, drop, ◌++◌, replicate, cond, arith, refl, ap, ◌∙◌, sym, inl, inr, get_or-set_same, get_or-set_other}
 use Rattle.std.specs.Prelude.{is_none}
 use Rattle.std.proofs.lemmas.List.{length-set, length-replicate, get_or-replicate, get_or_past, take_at}

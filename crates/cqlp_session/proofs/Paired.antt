@@ -480,11 +480,11 @@ no_event kind.AuthResponse opcode.Event e = cc e
 no_event k o e = refl
 
 -- what a client answers to the reply to this request
-abbrev pub told : Signal → OpenRequest → Reply
-told s o = let ticket : Ticket = record { id = s.stream; number = o.number } in cond o.cancelled (reply.Dropped ticket) (reply.Answer ticket o.kind)
+abbrev pub reported : Signal → OpenRequest → Reply
+reported s o = let ticket : Ticket = record { id = s.stream; number = o.number } in cond o.cancelled (reply.Dropped ticket) (reply.Answer ticket o.kind)
 
-pub reply_told : (c : ClientCore) (s : Signal) (r : Request) (a : IsAnswerTo c.slots s r) → reply_to c s ≡ Ok (told s a.known.entry)
-reply_told c s r a =
+pub reply_reported : (c : ClientCore) (s : Signal) (r : Request) (a : IsAnswerTo c.slots s r) → reply_to c s ≡ Ok (reported s a.known.entry)
+reply_reported c s r a =
     let event = no_event r.kind s.opcode a.fits in
     let there : under c.slots s.stream ≡ Some a.known.entry = ap (under c.slots) a.stream ∙ a.known.there in
     let fits : answers a.known.entry.kind s.opcode ≡ true = ap (λ k. answers k s.opcode) a.known.kind ∙ a.fits in
@@ -494,14 +494,14 @@ reply_told c s r a =
 abbrev pub freed : ClientCore → Signal → OpenRequest → ClientCore
 freed c s o = record { phase = phase_answered c.phase o.kind s.opcode; begun = c.begun; slots = put c.slots s.stream None }
 
-replied_told : (c : ClientCore) (s : Signal) (o : OpenRequest) (cancelled : Bool) → o.cancelled ≡ cancelled → replied c s (Ok (told s o)) ≡ closed c s (under c.slots s.stream)
-replied_told c s o true e = rw e refl
-replied_told c s o false e = rw e refl
+replied_reported : (c : ClientCore) (s : Signal) (o : OpenRequest) (cancelled : Bool) → o.cancelled ≡ cancelled → replied c s (Ok (reported s o)) ≡ closed c s (under c.slots s.stream)
+replied_reported c s o true e = rw e refl
+replied_reported c s o false e = rw e refl
 
 pub replied_freed : (c : ClientCore) (s : Signal) (r : Request) (a : IsAnswerTo c.slots s r) → replied c s (reply_to c s) ≡ freed c s a.known.entry
 replied_freed c s r a =
     let there : under c.slots s.stream ≡ Some a.known.entry = ap (under c.slots) a.stream ∙ a.known.there in
-    ap (replied c s) (reply_told c s r a) ∙ replied_told c s a.known.entry a.known.entry.cancelled refl ∙ ap (closed c s) there
+    ap (replied c s) (reply_reported c s r a) ∙ replied_reported c s a.known.entry a.known.entry.cancelled refl ∙ ap (closed c s) there
 
 other_id : (a id : ℤ) → int_eq a id ≡ false → a ≢ id
 other_id a id isnt e = absurd (cc (ap (λ i. int_eq i id) e ∙ int_eq_same id, isnt))

@@ -192,16 +192,16 @@ begun_through old core k items new n value t h after written size =
     through core.slots items new n size (ap length written ∙ length_put items t.id (Some value)) (rw (after, written) (begun_stands old k items value (Ok t) h))
 
 pub replied_through : {T : Type 0} (old core : ClientCore) (s : Signal) (items new : List (Option T)) (n : ℕ) (r : Reply) → StandWith old.slots items → reply_to old s ≡ Ok r → core ≡ replied old s (Ok r) → new ≡ put items s.stream None → n ≡ length items → StandWith core.slots (take n (new ++ drop (length new) items))
-replied_through old core s items new n r h told after written size =
-    through core.slots items new n size (ap length written ∙ length_put items s.stream None) (rw (after, written) (replied_stands old s items (Ok r) told h))
+replied_through old core s items new n r h reported after written size =
+    through core.slots items new n size (ap length written ∙ length_put items s.stream None) (rw (after, written) (replied_stands old s items (Ok r) reported h))
 
 pub replied_view : {T : Type 0} (old : CarryingClient T) (core : ClientCore) (s : Signal) (new : List (Option T)) (n : ℕ) (r : Reply) → reply_to old.core s ≡ Ok r → core ≡ replied old.core s (Ok r) → new ≡ put old.carried s.stream None → n ≡ length old.carried
     → ◌≡◌ {A = CarryingClient T} (record { core = core; carried = take n (new ++ drop (length new) old.carried) }) (replied_with old s)
-replied_view {T} old core s new n r told after written size =
+replied_view {T} old core s new n r reported after written size =
     let through_it = take_at new (drop (length new) old.carried) n (ap length written ∙ length_put old.carried s.stream None ∙ sym size) in
     let both : ◌≡◌ {A = CarryingClient T} (record { core = core; carried = take n (new ++ drop (length new) old.carried) }) (record { core = replied old.core s (Ok r); carried = put old.carried s.stream None }) =
     λ i. record { core = after i; carried = (through_it ∙ written) i } in
-    both ∙ ap (λ (q : Result Reply Stray). record { core = replied old.core s q; carried = handed_out old.carried s.stream q }) (sym told)
+    both ∙ ap (λ (q : Result Reply Stray). record { core = replied old.core s q; carried = handed_out old.carried s.stream q }) (sym reported)
 
 -- ---- the server
 

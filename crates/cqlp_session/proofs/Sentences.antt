@@ -16,12 +16,12 @@ use Rattle.cqlp_session.specs.Client.{ClientCore, reply_to, replied, ticket_for}
 use Rattle.cqlp_session.specs.World.{World, Request, Message, delivered_down, event_message}
 use Rattle.cqlp_session.specs.Pairing.{EventsChangeNothing, HaveOtherIds, HaveOtherNumbers, IdsAreApart, IfNext, IsEventAlone, IsReplyAbout, RepliesArePaired}
 use Rattle.cqlp_session.proofs.Under.{all_pairs, each_weaker}
-use Rattle.cqlp_session.proofs.Paired.{IsComing, IsComingAs, IsPaired, known_apart, no_event, reply_told, ticket_found}
+use Rattle.cqlp_session.proofs.Paired.{IsComing, IsComingAs, IsPaired, known_apart, no_event, reply_reported, ticket_found}
 
 -- ---- the next reply
 
-event_told : (c : ClientCore) (s : Signal) → s ≡ event_message.seen → reply_to c s ≡ Ok reply.ServerEvent
-event_told c s e = ap (reply_to c) e
+event_reported : (c : ClientCore) (s : Signal) → s ≡ event_message.seen → reply_to c s ≡ Ok reply.ServerEvent
+event_reported c s e = ap (reply_to c) e
 
 about : (s : Signal) (o : OpenRequest) (r : Request) (cancelled : Bool) → s.stream ≡ r.ticket.id → o.number ≡ r.ticket.number → o.kind ≡ r.kind
     → (let ticket : Ticket = record { id = s.stream; number = o.number } in IsReplyAbout (Some r) (Ok (cond cancelled (reply.Dropped ticket) (reply.Answer ticket o.kind))))
@@ -29,9 +29,9 @@ about s o r true id number kind = λ i. record { id = sym id i; number = sym num
 about s o r false id number kind = λ i. Some (record { ticket = record { id = sym id i; number = sym number i }; kind = sym kind i })
 
 reply_about : (c : ClientCore) (s : Signal) (tag : Option Request) → IsComingAs c.slots s tag → IsReplyAbout tag (reply_to c s)
-reply_about c s None h = subst (IsReplyAbout None) (sym (event_told c s h)) refl
+reply_about c s None h = subst (IsReplyAbout None) (sym (event_reported c s h)) refl
 reply_about c s (Some r) h =
-    subst (IsReplyAbout (Some r)) (sym (reply_told c s r h)) (about s h.known.entry r h.known.entry.cancelled h.stream h.known.number h.known.kind)
+    subst (IsReplyAbout (Some r)) (sym (reply_reported c s r h)) (about s h.known.entry r h.known.entry.cancelled h.stream h.known.number h.known.kind)
 
 next_reply : (w : World) (ms : List (Message (Option Request))) → AllByRecursion (IsComing w.client.slots) ms → IfNext ms (λ m. IsReplyAbout m.tag (reply_to w.client m.seen))
 next_reply w [] h = tt
@@ -44,7 +44,7 @@ replies_paired w p = next_reply w w.down p.down
 
 event_alone : (w : World) (m : Message (Option Request)) (rest : List (Message (Option Request))) (tag : Option Request) → w.down ≡ m ∷ rest → IsComingAs w.client.slots m.seen tag → m.seen.opcode ≡ opcode.Event → IsEventAlone w m
 event_alone w m rest None e h event = record {
-  told = event_told w.client m.seen h;
+  reported = event_reported w.client m.seen h;
   client = ap (λ d. (delivered_down w d).client) e ∙ ap (λ s. replied w.client s (reply_to w.client s)) h;
   server = ap (λ d. (delivered_down w d).server) e;
 }
@@ -76,8 +76,8 @@ ids_apart w p = record {
 -- ---- no reply is refused
 
 reply_taken : (c : ClientCore) (s : Signal) (tag : Option Request) → IsComingAs c.slots s tag → IsOk (reply_to c s)
-reply_taken c s None h = subst (λ (r : Result Reply Stray). IsOk r) (sym (event_told c s h)) refl
-reply_taken c s (Some r) h = subst (λ (r : Result Reply Stray). IsOk r) (sym (reply_told c s r h)) refl
+reply_taken c s None h = subst (λ (r : Result Reply Stray). IsOk r) (sym (event_reported c s h)) refl
+reply_taken c s (Some r) h = subst (λ (r : Result Reply Stray). IsOk r) (sym (reply_reported c s r h)) refl
 
 next_taken : (w : World) (ms : List (Message (Option Request))) → AllByRecursion (IsComing w.client.slots) ms → IfNext ms (λ m. IsOk (reply_to w.client m.seen))
 next_taken w [] h = tt

@@ -59,7 +59,7 @@ reply_for s (Some o) =
     let ticket : Ticket = record { id = s.stream; number = o.number } in
     if answers o.kind s.opcode then Ok (if o.cancelled then Dropped ticket else Answer ticket o.kind) else Err WrongOpcode
 
--- What `reply` answers: an event is told as one; any other message has to be a response, to a request that is open,
+-- What `reply` answers: an event is reported as one; any other message has to be a response, to a request that is open,
 -- which its opcode answers.
 abbrev pub reply_to : ClientCore → Signal → Result Reply Stray
 reply_to c s =

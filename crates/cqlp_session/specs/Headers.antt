@@ -35,7 +35,7 @@ event_header b = record { response = true; flags = b.flags; stream = negsuc 0; o
 abbrev pub with_request_header : {E : Type 0} → RequestKind → Body → Result Ticket E → Result (Ticket × Header) E
 with_request_header k b result = result_map_both (λ t. (t, request_header k t b)) (λ why. why) result
 
--- the header of a response beside what is told of the request
+-- the header of a response beside what is known of the request
 abbrev pub with_response_header : {R E : Type 0} → ℤ → Opcode → Body → Result R E → Result (Header × R) E
 with_response_header id o b result = result_map_both (λ r. (response_header id o b, r)) (λ why. why) result
 
@@ -68,7 +68,7 @@ abbrev pub ResponsesAreSeen : Type 0
 ResponsesAreSeen = (id : ℤ) (o : Opcode) (b : Body) (r : Option Request)
     → signal_of (response_header id o b) ≡ (answer_message id o r).seen
 
--- The header of an event is the event that is pushed, and a client's core tells it as one, whatever it did before.
+-- The header of an event is the event that is pushed, and a client's core reports it as one, whatever it did before.
 abbrev pub EventsAreSeen : Type 0
 EventsAreSeen = (c : ClientCore) (b : Body)
     → (signal_of (event_header b) ≡ event_message.seen) × (reply_to c (signal_of (event_header b)) ≡ Ok ServerEvent)

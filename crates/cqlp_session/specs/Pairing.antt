@@ -27,9 +27,9 @@ IsReplyAbout tag (Err e) = ⊥
 abbrev pub RepliesArePaired : World → Type 0
 RepliesArePaired w = IfNext w.down (λ m. IsReplyAbout m.tag (reply_to w.client m.seen))
 
--- an event is told as one, and changes no core
+-- an event is reported as one, and changes no core
 pub record IsEventAlone (w : World) (m : Message (Option Request)) : Type 0 where
-  pub told : reply_to w.client m.seen ≡ Ok reply.ServerEvent
+  pub reported : reply_to w.client m.seen ≡ Ok reply.ServerEvent
   pub client : (happens w Deliver_down).client ≡ w.client
   pub server : (happens w Deliver_down).server ≡ w.server
 

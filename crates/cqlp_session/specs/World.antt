@@ -98,7 +98,7 @@ last_under id taken = option_map (λ m. m.tag) (find (λ m. int_eq m.seen.stream
 abbrev pub answer_message : ℤ → Opcode → Option Request → Message (Option Request)
 answer_message id o r = record { seen = record { response = true; stream = id; opcode = o }; tag = r }
 
--- the requests but one, which its number tells
+-- the requests but one, which is known by its number
 abbrev pub without : Option Request → List Request → List Request
 without None rs = rs
 without (Some r) rs = filter (λ q. not (q.ticket.number == r.ticket.number)) rs

@@ -113,7 +113,7 @@ impl<T: Drop, A: Allocator> ServerOf<T, A> {
 }
 
 /// The header of an EVENT that a server pushes, whose stream id is -1 (section 4.2.6 of `native_protocol_v4.spec`). It is
-/// lawful, and what a client's core tells as [`Reply::ServerEvent`](crate::Reply::ServerEvent).
+/// lawful, and what a client's core reports as [`Reply::ServerEvent`](crate::Reply::ServerEvent).
 #[must_use]
 pub fn event_header(body: Body) -> Header
     ensures is { result ≡ event_header body }

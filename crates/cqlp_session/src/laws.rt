@@ -15,7 +15,7 @@ pub fn pairing()
     // A reply has the ticket and the kind of the request that its response answers.
     ensures replies { (client server : ℕ) → AfterAnySteps client server RepliesArePaired }
 
-    // An event is told as one, and changes no core.
+    // An event is reported as one, and changes no core.
     ensures events { (client server : ℕ) → AfterAnySteps client server EventsChangeNothing }
 
     // Open requests of one core have different ids, and no id is given out while a request is open under it.

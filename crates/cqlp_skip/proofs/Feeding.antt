@@ -16,7 +16,7 @@ use Rattle.cqlp_decode.specs.Draining.{DrainsBy, DrainsPiece, DrainsTo, EndsAtEv
 use Rattle.cqlp_decode.specs.declared.feeding.Fed.{Fed}
 use Rattle.cqlp_decode.specs.declared.feeding.Fed.TheVariants as fed
 use Rattle.cqlp_skip.specs.declared.frame.OpenFrame.{OpenFrame}
-use Rattle.cqlp_skip.specs.Stretches.{Stretch, GivenUp, frame_from, told}
+use Rattle.cqlp_skip.specs.Stretches.{Stretch, GivenUp, frame_from, emitted}
 use Rattle.cqlp_skip.specs.Shifted.{Shifted, shifted, with_event, FailsAtEvent}
 use Rattle.cqlp_skip.specs.Pieces.{fed_from}
 use Rattle.cqlp_skip.specs.Skipping.{Skipping, AfterSkips, Hands, HandsAll, HandsUpTo, Fails, FeedsTo}
@@ -77,10 +77,10 @@ module _ (d d' : Decoding) (base used used' last : ℕ) (frame frame' : Option O
 
     -- what the sink sees, and the frame under way
     module _ (more : List (ℕ × Event)) (got : shifted w base' frame' ≡ fold_events (with_event f) (shifted v base frame) more) where
-      same : shifted w base' frame' ≡ shifted (fold_events f v (told base more)) base (frame_from frame more)
+      same : shifted w base' frame' ≡ shifted (fold_events f v (emitted base more)) base (frame_from frame more)
       same = got ∙ fold_shifted f v base frame more
 
-      seen : w ≡ fold_events f v (told base more)
+      seen : w ≡ fold_events f v (emitted base more)
       seen = ap (λ (x : Shifted V). x.view) same
 
       framed : frame' ≡ frame_from frame more

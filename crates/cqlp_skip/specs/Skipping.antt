@@ -15,7 +15,7 @@ use Rattle.cqlp_skip.specs.declared.fed.NotSkippable.{NotSkippable}
 use Rattle.cqlp_skip.specs.declared.fed.NotSkippable.TheVariants.{NotRefused, InHeader, TooFar}
 use Rattle.cqlp_skip.specs.declared.frame.OpenFrame.{OpenFrame}
 use Rattle.cqlp_skip.specs.Pieces.{refusal_from}
-use Rattle.cqlp_skip.specs.Stretches.{Stretch, GivenUp, base_after, end_within, frame_under_way, told, told_at}
+use Rattle.cqlp_skip.specs.Stretches.{Stretch, GivenUp, base_after, end_within, frame_under_way, emitted, stream_offset}
 
 -- What contracts see of a decoder that skips: the decoder of the present stretch, where that begins, how many bytes of the whole stream were used, the frame
 -- under way, and where the header of the frame is that was passed over last.
@@ -61,7 +61,7 @@ module _ {V : Type 0} (f : V → ℕ → Event → V) (xs : List ℕ) (new : Ski
   pub record Hands (before after : V) : Type 0 where
     pub more : List (ℕ × Event)
     pub stands : AfterSkips xs new s stretches gifts (events ++ more)
-    pub got : after ≡ fold_events f before (told new.base more)
+    pub got : after ≡ fold_events f before (emitted new.base more)
 
   -- they are all that the bytes of the present stretch say
   abbrev pub HandsAll : (before after : V) → Type 0
@@ -80,7 +80,7 @@ module _ {V : Type 0} (f : V → ℕ → Event → V) (xs : List ℕ) (new : Ski
     pub at : ℕ
     pub event : Event
     pub stands : AfterSkips xs new s stretches gifts (events ++ more ++ (at, event) ∷ [])
-    pub fault : faulted (fold_events f before (told new.base more)) (told_at new.base at) event after
+    pub fault : faulted (fold_events f before (emitted new.base more)) (stream_offset new.base at) event after
     pub ends : (q : Place) × Reads (rules_in new) (start_with gifts) (drop new.base s) (events ++ more ++ (at, event) ∷ []) q []
 
 -- What handing on a piece leaves, by how it ends.
@@ -103,7 +103,7 @@ module _ {V : Type 0} (f : V → ℕ → Event → V) (faulted : V → ℕ → E
 abbrev pub skip_to : Option ℕ → Refusal → OpenFrame → (base used : ℕ) → Result Skipped NotSkippable
 skip_to None r f base used = Err TooFar
 skip_to (Some end) r f base used =
-    Ok (record { at = told_at base f.at; header = f.header; refusal = refusal_from base r; rest = end - used })
+    Ok (record { at = stream_offset base f.at; header = f.header; refusal = refusal_from base r; rest = end - used })
 
 abbrev pub skip_by : Option Refusal → Option OpenFrame → (base used : ℕ) → Result Skipped NotSkippable
 skip_by None f base used = Err NotRefused
@@ -138,7 +138,7 @@ BeginsAnew (Ok x) old new =
 -- how a stream ends of which the present stretch ends so
 abbrev pub finish_from : Skipping → Finish → Finish
 finish_from d (finish.Whole bytes) = finish.Whole d.used
-finish_from d (finish.Cut frame_at bytes) = finish.Cut (told_at d.base frame_at) d.used
+finish_from d (finish.Cut frame_at bytes) = finish.Cut (stream_offset d.base frame_at) d.used
 finish_from d (finish.Refused r) = finish.Refused (refusal_from d.base r)
 
 -- It ends within the frame that was passed over last, while bytes of that are missing, and else as its present stretch does.

@@ -34,13 +34,13 @@ end_within f base used =
 
 -- ---- offsets
 
--- The offset in the whole stream of what lies at an offset from where its stretch begins. It is told as the greatest number where it is greater.
-abbrev pub told_at : (base at : ℕ) → ℕ
-told_at base at = min (base + at) (2 ^ 64 - 1)
+-- The offset in the whole stream of what lies at an offset from where its stretch begins. Where it is greater than the greatest number, it is that number.
+abbrev pub stream_offset : (base at : ℕ) → ℕ
+stream_offset base at = min (base + at) (2 ^ 64 - 1)
 
-abbrev pub told : (base : ℕ) → List (ℕ × Event) → List (ℕ × Event)
-told base [] = []
-told base (e ∷ es) = (told_at base e.0, e.1) ∷ told base es
+abbrev pub emitted : (base : ℕ) → List (ℕ × Event) → List (ℕ × Event)
+emitted base [] = []
+emitted base (e ∷ es) = (stream_offset base e.0, e.1) ∷ emitted base es
 
 -- ---- stretches that were given up
 
@@ -65,9 +65,9 @@ base_after [] = 0
 base_after (x ∷ earlier) = x.from + end_of x.frame
 
 -- the events of these stretches, in order
-abbrev pub told_before : List Stretch → List (ℕ × Event)
-told_before [] = []
-told_before (x ∷ earlier) = told_before earlier ++ told x.from x.events
+abbrev pub emitted_before : List Stretch → List (ℕ × Event)
+emitted_before [] = []
+emitted_before (x ∷ earlier) = emitted_before earlier ++ emitted x.from x.events
 
 -- Of the stream xs these stretches were given up, of which the last stands first.
 abbrev pub GivenUp : Rules → (xs : List ℕ) → List Stretch → Type 0

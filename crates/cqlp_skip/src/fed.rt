@@ -1,10 +1,10 @@
-//! What calls of a decoder that skips tell.
+//! What calls of a decoder that skips return.
 
 ghost use Rattle.std.specs.Prelude.{◌≡◌, ◌+◌, ◌-◌, ◌<◌, ◌^◌, min};
 ghost use Rattle.cqlp_decode.specs.Draining as draining;
 ghost use Rattle.cqlp_skip.specs.Pieces as pieces;
 
-use crate::frame::told_at;
+use crate::frame::stream_offset;
 use cqlp_decode::Fed;
 use cqlp_note::{Header, Refusal};
 use thiserror::Error;
@@ -50,7 +50,7 @@ pub(crate) fn refusal_from(base: u64, refusal: Refusal) -> Refusal
     ensures { result ≡ pieces.refusal_from base refusal }
 {
     Refusal {
-        at: told_at(base, refusal.at),
+        at: stream_offset(base, refusal.at),
         why: refusal.why,
     }
 }

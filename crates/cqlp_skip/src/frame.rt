@@ -2,7 +2,7 @@
 
 ghost use Rattle.std.specs.Prelude.{◌≡◌, ◌+◌, ◌^◌, ◌-◌, min};
 ghost use Rattle.cqlp_grammar.specs.Events.{event_of};
-ghost use Rattle.cqlp_skip.specs.Stretches.{end_within, frame_after, told_at};
+ghost use Rattle.cqlp_skip.specs.Stretches.{end_within, frame_after, stream_offset};
 
 use cqlp_grammar::Event;
 use cqlp_note::Header;
@@ -48,8 +48,8 @@ pub(crate) fn frame_after(frame: Option<OpenFrame>, at: u64, event: &Event<'_>) 
 
 /// The offset in the whole stream of what lies at an offset from where a stretch begins.
 #[inline]
-pub(crate) fn told_at(base: u64, at: u64) -> u64
-    ensures { result ≡ told_at base at }
+pub(crate) fn stream_offset(base: u64, at: u64) -> u64
+    ensures { result ≡ stream_offset base at }
 {
     base.saturating_add(at)
 }

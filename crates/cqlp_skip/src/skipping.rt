@@ -7,7 +7,7 @@ ghost use Rattle.cqlp_decode.specs.Draining.{Passes};
 ghost use Rattle.cqlp_decode.specs.Streams.{HoldsNothing};
 
 use crate::fed::{NotSkippable, Skipped, fed_from, passed_of, refusal_from, used_of};
-use crate::frame::{OpenFrame, told_at};
+use crate::frame::{OpenFrame, stream_offset};
 use crate::shifting::Shifting;
 use cqlp_decode::{Capacity, Decoder, Fed, Finish, GiveError, Held, NewError, Sink};
 use cqlp_note::Limits;
@@ -15,7 +15,7 @@ use cqlp_type::TypeTable;
 use std::alloc::{Allocator, Global};
 use std::marker::Model;
 
-/// Reads a stream of frames from pieces of any size, as a `Decoder` does, and tells offsets in the whole stream. Where it
+/// Reads a stream of frames from pieces of any size, as a `Decoder` does, with offsets in the whole stream. Where it
 /// is refused in the body of a frame it can pass over the rest of that frame, and go on with the next header. It takes all
 /// its memory when it is made.
 #[derive(Drop)]
@@ -62,7 +62,7 @@ impl<A: Allocator + Clone> SkippingDecoder<A> {
         }
     }
 
-    /// The same, for a lenient reading, as [`Decoder::lenient`] has it: a content that its type does not have is told as a raw scalar, and
+    /// The same, for a lenient reading, as [`Decoder::lenient`] has it: a content that its type does not have is emitted as a raw scalar, and
     /// the frame is read on.
     ///
     /// # Errors
@@ -112,9 +112,9 @@ impl<A: Allocator> SkippingDecoder<A> {
     pub fn feed<S: Sink>(&mut self, input: &[u8], sink: S) -> (Fed, S)
         ensures within { draining.used_of (length input.now) result.0 ≤ length input.now }
         ensures refusal { RefusesBy result.0 self.new }
-        ensures feeds { S.tells sink →
+        ensures feeds { S.reports sink →
             Feeds S.after S.faulted self.old self.new input.now result.0 (S.view sink) (S.view result.1) }
-        ensures tells { S.tells sink → result.0 ≡ Fed.More → S.tells result.1 }
+        ensures reports { S.reports sink → result.0 ≡ Fed.More → S.reports result.1 }
         ensures also { Passes S.also sink result.1 }
         ensures used { self.new.used ≡ min (self.old.used + draining.used_of (length input.now) result.0) (2 ^ 64 - 1) }
         ensures place { (self.new.base ≡ self.old.base) × (self.new.last ≡ self.old.last) }
@@ -195,7 +195,7 @@ impl<A: Allocator> SkippingDecoder<A> {
             return Err(NotSkippable::TooFar);
         };
         let skipped = Skipped {
-            at: told_at(self.base, frame.at),
+            at: stream_offset(self.base, frame.at),
             header: frame.header,
             refusal: refusal_from(self.base, refusal),
             rest: end - self.used,
@@ -220,7 +220,7 @@ impl<A: Allocator> SkippingDecoder<A> {
         match self.decoder.finish() {
             Finish::Whole { .. } => Finish::Whole { bytes: self.used },
             Finish::Cut { frame_at, .. } => Finish::Cut {
-                frame_at: told_at(self.base, frame_at),
+                frame_at: stream_offset(self.base, frame_at),
                 bytes: self.used,
             },
             Finish::Refused(refusal) => Finish::Refused(refusal_from(self.base, refusal)),

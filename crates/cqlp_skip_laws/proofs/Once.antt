@@ -11,7 +11,7 @@ use Rattle.cqlp_laws.proofs.Whole.{says_once}
 use Rattle.cqlp_skip.specs.declared.frame.OpenFrame.{OpenFrame}
 use Rattle.cqlp_decode.specs.declared.feeding.Fed.{Fed}
 use Rattle.cqlp_decode.specs.declared.feeding.Fed.TheVariants as fed
-use Rattle.cqlp_skip.specs.Stretches.{Stretch, IsGivenUp, base_after, frame_under_way, told}
+use Rattle.cqlp_skip.specs.Stretches.{Stretch, IsGivenUp, base_after, frame_under_way, emitted}
 use Rattle.cqlp_skip.specs.Skipping.{Skipping, AfterSkips, FeedsTo, rules_in, stream}
 use Rattle.cqlp_skip.specs.Pieces.{refusal_from}
 use Rattle.cqlp_skip.proofs.Feeding.{still_refused}
@@ -67,16 +67,16 @@ module _ {V : Type 0} (f : V → ℕ → Event → V) (faulted : V → ℕ → E
   first = omega (arith, a.used, a.near)
 
   -- what the bytes of the present stretch say, by its end
-  abbrev Told : Skipping → List (ℕ × Event) → Verdict → Type 0
-  Told d more v = Says (rules_in old) (start_with gifts) (drop old.base (s ++ input)) (events ++ more) v
+  abbrev Emitted : Skipping → List (ℕ × Event) → Verdict → Type 0
+  Emitted d more v = Says (rules_in old) (start_with gifts) (drop old.base (s ++ input)) (events ++ more) v
 
-  same_more : (more more' : List (ℕ × Event)) (v v' : Verdict) → Told new more v → Told new' more' v' → (more' ≡ more) × (v' ≡ v)
+  same_more : (more more' : List (ℕ × Event)) (v v' : Verdict) → Emitted new more v → Emitted new' more' v' → (more' ≡ more) × (v' ≡ v)
   same_more more more' v v' p q =
       let one = says_once (rules_in old) (start_with gifts) (drop old.base (s ++ input)) (events ++ more) (events ++ more') v v' p q in
       (append_cancel_left events more' more one.0, one.1)
 
-  same_view : (m m' : List (ℕ × Event)) → m' ≡ m → new.base ≡ old.base → new'.base ≡ old.base → after ≡ fold_events f before (told new.base m) → after' ≡ fold_events f before (told new'.base m') → after' ≡ after
-  same_view m m' is b b' g g' = g' ∙ ap (λ (n : ℕ). fold_events f before (told n m')) (b' ∙ sym b) ∙ ap (λ (z : List (ℕ × Event)). fold_events f before (told new.base z)) is ∙ sym g
+  same_view : (m m' : List (ℕ × Event)) → m' ≡ m → new.base ≡ old.base → new'.base ≡ old.base → after ≡ fold_events f before (emitted new.base m) → after' ≡ fold_events f before (emitted new'.base m') → after' ≡ after
+  same_view m m' is b b' g g' = g' ∙ ap (λ (n : ℕ). fold_events f before (emitted n m')) (b' ∙ sym b) ∙ ap (λ (z : List (ℕ × Event)). fold_events f before (emitted new.base z)) is ∙ sym g
 
   to_old : (d : Skipping) (es : List (ℕ × Event)) (v : Verdict) → d.base ≡ old.base → rules_in d ≡ rules_in old → Says (rules_in d) (start_with gifts) (drop d.base (s ++ input)) es v → Says (rules_in old) (start_with gifts) (drop old.base (s ++ input)) es v
   to_old d es v base same says =

@@ -5,7 +5,7 @@ ghost use Rattle.cqlp_skip_laws.specs.Laws.{GoesOn, IsGivenUpOnce, IsOneAnswerOf
 use cqlp_grammar::Sink;
 
 /// Of one stream, and as many tables given over each of its stretches, there is one list of stretches that were given up. So what
-/// is told of them does not depend on how the stream was cut into pieces.
+/// is emitted for them does not depend on how the stream was cut into pieces.
 pub fn given_up_once()
     ensures { IsGivenUpOnce }
 {}

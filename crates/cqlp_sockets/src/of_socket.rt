@@ -27,7 +27,7 @@ pub struct OfSocket<X> {
     pub writes: u64,
     /// Why the last of the calls that failed did; None where none has failed.
     pub cause: Option<Cause>,
-    ghost told: { 0 < failures → is_some cause ≡ true },
+    ghost has_cause: { 0 < failures → is_some cause ≡ true },
 }
 
 impl<X> OfSocket<X> {

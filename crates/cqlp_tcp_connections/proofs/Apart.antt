@@ -5,12 +5,12 @@ use Rattle.cqlp_tcp_segment.specs.declared.segments.SegmentHead.{SegmentHead}
 use Rattle.cqlp_tcp_segment.specs.Segment.{Seen}
 use Rattle.cqlp_tcp_connections.specs.declared.ends.Way.{Way}
 use Rattle.cqlp_tcp_connections.specs.declared.ends.Way.TheVariants.{Requests, Responses}
-use Rattle.cqlp_tcp_connections.specs.declared.told.Told.{Told}
+use Rattle.cqlp_tcp_connections.specs.declared.delivery.Delivery.{Delivery}
 use Rattle.cqlp_tcp_connections.specs.Ends.{ends_of, first_way, other}
 use Rattle.cqlp_tcp_connections.specs.Totals.{counted}
 use Rattle.cqlp_tcp_connections.specs.Known as one
-use Rattle.cqlp_tcp_connections.specs.Known.{Flows, Known, Telling, begins_anew, closed, counted_on, known, new_flows}
-use Rattle.cqlp_tcp_connections.specs.Tables.{Departing, Pulling, Table, Taking, begun, crowded, crowded_by, first_becomes, first_tells, found_in, left_by, left_in, pulled_on, room_in, seen_in, taken_by, taken_in, taken_turned, to_front, way_of_first, with_known}
+use Rattle.cqlp_tcp_connections.specs.Known.{Flows, Known, Delivering, begins_anew, closed, counted_on, known, new_flows}
+use Rattle.cqlp_tcp_connections.specs.Tables.{Departing, Pulling, Table, Taking, begun, crowded, crowded_by, first_becomes, first_delivers, found_in, left_by, left_in, pulled_on, room_in, seen_in, taken_by, taken_in, taken_turned, to_front, way_of_first, with_known}
 use Rattle.cqlp_tcp_connections.specs.Laws.{ChangesNoStream, Keeps, LeavesTheOthers, OneAnswerOfNew, OthersStay, pair_of, pairs}
 use Rattle.cqlp_tcp_connections.specs.Laws.Keeps.{same, front, begun as begun_by}
 
@@ -59,11 +59,11 @@ pub changes_none : ChangesNoStream
 changes_none h s old new e =
     subst (λ (z : Taking). Keeps old z.after) (sym e) (keeps_by (first_way old.ports h) h old)
 
--- ---- the calls that tell
+-- ---- the calls that deliver
 
-tells : (f : Flows → Telling) (ks : List Known) → (drop 1 (first_tells f ks).after ≡ drop 1 ks) × (length ks ≤ length (first_tells f ks).after)
-tells f [] = (refl, omega arith)
-tells f (k ∷ ks) = (refl, omega arith)
+delivers : (f : Flows → Delivering) (ks : List Known) → (drop 1 (first_delivers f ks).after ≡ drop 1 ks) × (length ks ≤ length (first_delivers f ks).after)
+delivers f [] = (refl, omega arith)
+delivers f (k ∷ ks) = (refl, omega arith)
 
 becomes : (f : Flows → Flows) (ks : List Known) → (drop 1 (first_becomes f ks) ≡ drop 1 ks) × (length ks ≤ length (first_becomes f ks))
 becomes f [] = (refl, omega arith)
@@ -71,20 +71,20 @@ becomes f (k ∷ ks) = (refl, omega arith)
 
 pulls : (o : Option Way) (g : Seen) (time : Option ℕ) (t : Table) → OthersStay t (pulled_on o g time t).after
 pulls None g time t = (refl, omega arith)
-pulls (Some way) g time t = tells (one.pulled way g time (room_in t.limits t.known)) t.known
+pulls (Some way) g time t = delivers (one.pulled way g time (room_in t.limits t.known)) t.known
 
-leaves_by : (o : Option Told) (k : Known) (ks : List Known) (t : Table)
+leaves_by : (o : Option Delivery) (k : Known) (ks : List Known) (t : Table)
     → ((drop 1 (left_by o k ks t).after.known ≡ ks) × (suc (length ks) ≤ length (left_by o k ks t).after.known)) ⊎ ((left_by o k ks t).after.known ≡ ks)
-leaves_by (Some told) k ks t = inl (refl, omega arith)
+leaves_by (Some delivered) k ks t = inl (refl, omega arith)
 leaves_by None k ks t = inr refl
 
 leaves : (t : Table) (ks : List Known) → t.known ≡ ks → ((drop 1 (left_in ks t).after.known ≡ drop 1 ks) × (length ks ≤ length (left_in ks t).after.known)) ⊎ ((left_in ks t).after.known ≡ drop 1 ks)
 leaves t [] e = inl (ap (λ (x : List Known). drop 1 x) e, omega arith)
-leaves t (k ∷ ks) e = leaves_by (closed k.flows).told (known k.ends (closed k.flows).after) ks t
+leaves t (k ∷ ks) e = leaves_by (closed k.flows).delivered (known k.ends (closed k.flows).after) ks t
 
 pub leaves_others : LeavesTheOthers
 leaves_others = (
-  (λ g time told old new e. subst (λ (z : Pulling). OthersStay old z.after) (sym e) (pulls (way_of_first g.head old.known) g time old)),
+  (λ g time delivered old new e. subst (λ (z : Pulling). OthersStay old z.after) (sym e) (pulls (way_of_first g.head old.known) g time old)),
   (λ way old new e. subst (λ (z : Table). OthersStay old z) (sym e) (becomes (one.passed way) old.known)),
   (λ d old new e. subst (λ (z : Departing). OthersStay old z.after ⊎ (z.after.known ≡ drop 1 old.known)) (sym e) (leaves old old.known refl)),
 )

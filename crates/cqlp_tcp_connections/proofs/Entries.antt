@@ -16,9 +16,9 @@ use Rattle.cqlp_tcp_connections.specs.contracts.ends.EndsPartialEq.TheImpl.{eq-v
 use Rattle.cqlp_tcp_connections.specs.declared.ends.Ends.{Ends}
 use Rattle.cqlp_tcp_connections.specs.Ends.{same_address, same_end, same_ends}
 use Rattle.cqlp_tcp_connections.specs.declared.limits.ConnectionLimits.{ConnectionLimits}
-use Rattle.cqlp_tcp_connections.specs.declared.told.Told.{Told}
-use Rattle.cqlp_tcp_connections.specs.Known.{Flows, Known, Telling, known, size_of, telling}
-use Rattle.cqlp_tcp_connections.specs.Tables.{early_of, first_becomes, first_telling, first_tells, found_in, last_first, to_front}
+use Rattle.cqlp_tcp_connections.specs.declared.delivery.Delivery.{Delivery}
+use Rattle.cqlp_tcp_connections.specs.Known.{Flows, Known, Delivering, known, size_of, delivering}
+use Rattle.cqlp_tcp_connections.specs.Tables.{early_of, first_becomes, first_delivering, first_delivers, found_in, last_first, to_front}
 use Rattle.cqlp_tcp_connections.specs.Pools.{PoolState, bringing, brought, first_of, known_of, pool}
 
 -- `==` of ends, by which the cache finds them
@@ -321,21 +321,21 @@ call_becomes f es k v w c e =
     ∙ ap (λ (x : Flows). known k x ∷ known_of c.rest) e
     ∙ sym (ap (λ (x : List Entry). first_becomes f (known_of x)) c.is)
 
-pub call_tells : (f : Flows → Telling) (es : List Entry) (k : Ends) (v w : Flows) (told : Option Told) → IsCall es k v → telling told w ≡ f v
-    → first_telling told (known_of (set_value (eq_ends k) es w)) ≡ first_tells f (known_of es)
-call_tells f es k v w told c e =
-    ap (λ (x : List Entry). first_telling told (known_of x)) (call_set es k v w c)
-    ∙ ap (λ (t : Telling). first_telling t.told (known k t.after ∷ known_of c.rest)) e
-    ∙ sym (ap (λ (x : List Entry). first_tells f (known_of x)) c.is)
+pub call_delivers : (f : Flows → Delivering) (es : List Entry) (k : Ends) (v w : Flows) (delivered : Option Delivery) → IsCall es k v → delivering delivered w ≡ f v
+    → first_delivering delivered (known_of (set_value (eq_ends k) es w)) ≡ first_delivers f (known_of es)
+call_delivers f es k v w delivered c e =
+    ap (λ (x : List Entry). first_delivering delivered (known_of x)) (call_set es k v w c)
+    ∙ ap (λ (t : Delivering). first_delivering t.delivered (known k t.after ∷ known_of c.rest)) e
+    ∙ sym (ap (λ (x : List Entry). first_delivers f (known_of x)) c.is)
 
-pub call_tells_ok : {E : Type 0} (r : Result (Option Told) E) (f : Flows → Telling) (es : List Entry) (k : Ends) (v w : Flows) → IsCall es k v → IfOk r (λ told. telling told w ≡ f v)
-    → IfOk r (λ told. first_telling told (known_of (set_value (eq_ends k) es w)) ≡ first_tells f (known_of es))
-call_tells_ok (Ok told) f es k v w c e = call_tells f es k v w told c e
-call_tells_ok (Err x) f es k v w c e = tt
+pub call_delivers_ok : {E : Type 0} (r : Result (Option Delivery) E) (f : Flows → Delivering) (es : List Entry) (k : Ends) (v w : Flows) → IsCall es k v → IfOk r (λ delivered. delivering delivered w ≡ f v)
+    → IfOk r (λ delivered. first_delivering delivered (known_of (set_value (eq_ends k) es w)) ≡ first_delivers f (known_of es))
+call_delivers_ok (Ok delivered) f es k v w c e = call_delivers f es k v w delivered c e
+call_delivers_ok (Err x) f es k v w c e = tt
 
-pub call_becomes_err : {E : Type 0} (r : Result (Option Told) E) (f : Flows → Flows) (es : List Entry) (k : Ends) (v w : Flows) → IsCall es k v → OnErr r (w ≡ f v)
+pub call_becomes_err : {E : Type 0} (r : Result (Option Delivery) E) (f : Flows → Flows) (es : List Entry) (k : Ends) (v w : Flows) → IsCall es k v → OnErr r (w ≡ f v)
     → OnErr r (known_of (set_value (eq_ends k) es w) ≡ first_becomes f (known_of es))
-call_becomes_err (Ok told) f es k v w c e = tt
+call_becomes_err (Ok delivered) f es k v w c e = tt
 call_becomes_err (Err x) f es k v w c e = call_becomes f es k v w c e
 
 -- the sum before and after it

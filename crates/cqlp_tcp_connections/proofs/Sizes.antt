@@ -6,12 +6,12 @@ use Rattle.cqlp_tcp_reassembly.specs.Segments.{Segment}
 use Rattle.cqlp_tcp_reassembly.proofs.Bounds.{size_acknowledgement, size_close, size_passed, size_segment}
 use Rattle.cqlp_tcp_connections.specs.declared.ends.Way.{Way}
 use Rattle.cqlp_tcp_connections.specs.declared.ends.Way.TheVariants.{Requests, Responses}
-use Rattle.cqlp_tcp_connections.specs.declared.told.Told.{Told}
+use Rattle.cqlp_tcp_connections.specs.declared.delivery.Delivery.{Delivery}
 use Rattle.cqlp_tcp_connections.specs.Ends.{other}
 use Rattle.cqlp_tcp_connections.specs.Sides as sides
 use Rattle.cqlp_tcp_connections.specs.Sides.{SideState}
 use Rattle.cqlp_tcp_connections.specs.Laws.{SharesRoom}
-use Rattle.cqlp_tcp_connections.specs.Known.{Flows, Telling, acknowledged, answered, closed, closed_way, counted_on, or_next_as, own_of, passed as one_passed, pull_refused, pulled, side_of, size_of, taken, telling, with_side}
+use Rattle.cqlp_tcp_connections.specs.Known.{Flows, Delivering, acknowledged, answered, closed, closed_way, counted_on, or_next_as, own_of, passed as one_passed, pull_refused, pulled, side_of, size_of, taken, delivering, with_side}
 
 with_size : (way : Way) (s : SideState) (f : Flows) (more : ℕ) → sides.size_of s ≤ more + sides.size_of (side_of way f) → size_of (with_side way s f) ≤ more + size_of f
 with_size Requests s f more h = omega (arith, h)
@@ -25,13 +25,13 @@ acknowledged_size : (way : Way) (n : ℕ) (f : Flows) → size_of (acknowledged 
 acknowledged_size way n f =
     with_less way (sides.acknowledged (side_of way f) n).after f (size_acknowledgement (side_of way f).stream n)
 
-answered_if : (b : Bool) (x y : Telling) (n : ℕ) → size_of x.after ≤ n → size_of y.after ≤ n → size_of (cond b x y).after ≤ n
+answered_if : (b : Bool) (x y : Delivering) (n : ℕ) → size_of x.after ≤ n → size_of y.after ≤ n → size_of (cond b x y).after ≤ n
 answered_if true x y n p q = p
 answered_if false x y n p q = q
 
-next_size : (o : Option Told) (t : Telling) (next : Flows → Telling) (n : ℕ) → size_of t.after ≤ n → size_of (next t.after).after ≤ n → size_of (or_next_as o t next).after ≤ n
+next_size : (o : Option Delivery) (t : Delivering) (next : Flows → Delivering) (n : ℕ) → size_of t.after ≤ n → size_of (next t.after).after ≤ n → size_of (or_next_as o t next).after ≤ n
 next_size None t next n p q = q
-next_size (Some told) t next n p q = p
+next_size (Some delivered) t next n p q = p
 
 taken_size : (way : Way) (g : Segment) (room : ℕ) (f : Flows) → size_of (taken way g room f).after ≤ room + size_of f
 taken_size way g room f =
@@ -39,14 +39,14 @@ taken_size way g room f =
 
 answered_size : (way : Way) (g : Seen) (f : Flows) → size_of (answered way g.head f).after ≤ size_of f
 answered_size way g f =
-    answered_if g.head.flags.ack (acknowledged (other way) g.head.acknowledgement f) (telling None f) (size_of f) (acknowledged_size (other way) g.head.acknowledgement f) (omega arith)
+    answered_if g.head.flags.ack (acknowledged (other way) g.head.acknowledgement f) (delivering None f) (size_of f) (acknowledged_size (other way) g.head.acknowledgement f) (omega arith)
 
 pub pulled_size : (way : Way) (g : Seen) (time : Option ℕ) (room : ℕ) (f : Flows) → size_of (pulled way g time room f).after ≤ room + size_of f
 pulled_size way g time room f =
     let a = answered way g.head f in
     let h = answered_size way g f in
     let t = taken_size way (own_of g time) room a.after in
-    next_size a.told a (λ c. taken way (own_of g time) room c) (room + size_of f) (omega (arith, h)) (omega (arith, h, t))
+    next_size a.delivered a (λ c. taken way (own_of g time) room c) (room + size_of f) (omega (arith, h)) (omega (arith, h, t))
 
 pub refused_size : (way : Way) (g : Seen) (time : Option ℕ) (f : Flows) → size_of (pull_refused way g time f) ≤ size_of f
 refused_size way g time f =
@@ -63,7 +63,7 @@ pub closed_size : (f : Flows) → size_of (closed f).after ≤ size_of f
 closed_size f =
     let h = closed_way_size Requests f in
     let t = closed_way_size Responses (closed_way Requests f).after in
-    next_size (closed_way Requests f).told (closed_way Requests f) (λ c. closed_way Responses c) (size_of f) h (omega (arith, h, t))
+    next_size (closed_way Requests f).delivered (closed_way Requests f) (λ c. closed_way Responses c) (size_of f) h (omega (arith, h, t))
 
 pub passed_size : (way : Way) (f : Flows) → size_of (one_passed way f) ≤ size_of f
 passed_size way f = with_less way (sides.passed (side_of way f)) f (size_passed (side_of way f).stream)
@@ -72,10 +72,10 @@ pub counted_size : (way : Way) (f : Flows) → size_of (counted_on way f) ≡ si
 counted_size Requests f = refl
 counted_size Responses f = refl
 
-pub pull_sized : {E : Type 0} (r : Result (Option Told) E) (way : Way) (g : Seen) (time : Option ℕ) (room : ℕ) (old new : Flows)
-    → IfOk r (λ told. telling told new ≡ pulled way g time room old) → OnErr r (new ≡ pull_refused way g time old) → size_of new ≤ room + size_of old
-pull_sized (Ok told) way g time room old new e f =
-    subst (λ (t : Telling). size_of t.after ≤ room + size_of old) (sym e) (pulled_size way g time room old)
+pub pull_sized : {E : Type 0} (r : Result (Option Delivery) E) (way : Way) (g : Seen) (time : Option ℕ) (room : ℕ) (old new : Flows)
+    → IfOk r (λ delivered. delivering delivered new ≡ pulled way g time room old) → OnErr r (new ≡ pull_refused way g time old) → size_of new ≤ room + size_of old
+pull_sized (Ok delivered) way g time room old new e f =
+    subst (λ (t : Delivering). size_of t.after ≤ room + size_of old) (sym e) (pulled_size way g time room old)
 pull_sized (Err x) way g time room old new e f =
     let h = refused_size way g time old in
     subst (λ (t : Flows). size_of t ≤ room + size_of old) (sym f) (omega (arith, h))
@@ -89,20 +89,20 @@ side_with Requests Responses s f n h q = q
 side_with Responses Requests s f n h q = q
 side_with Responses Responses s f n h q = h q
 
-answered_side : (b : Bool) (way of : Way) (number : ℕ) (f : Flows) (n : ℕ) → sides.size_of (side_of of f) ≤ n → sides.size_of (side_of of (cond b (acknowledged way number f) (telling None f)).after) ≤ n
+answered_side : (b : Bool) (way of : Way) (number : ℕ) (f : Flows) (n : ℕ) → sides.size_of (side_of of f) ≤ n → sides.size_of (side_of of (cond b (acknowledged way number f) (delivering None f)).after) ≤ n
 answered_side true way of number f n q =
     let h = size_acknowledgement (side_of way f).stream number in
     side_with way of (sides.acknowledged (side_of way f) number).after f n (λ p. omega (arith, h, p)) q
 answered_side false way of number f n q = q
 
-next_side : (o : Option Told) (t : Telling) (next : Flows → Telling) (of : Way) (n : ℕ)
+next_side : (o : Option Delivery) (t : Delivering) (next : Flows → Delivering) (of : Way) (n : ℕ)
     → sides.size_of (side_of of t.after) ≤ n → sides.size_of (side_of of (next t.after).after) ≤ n → sides.size_of (side_of of (or_next_as o t next).after) ≤ n
 next_side None t next of n p q = q
-next_side (Some told) t next of n p q = p
+next_side (Some delivered) t next of n p q = p
 
 pub shares_room : SharesRoom
 shares_room way of g time room f n most now =
     let a = answered way g.head f in
     let h = answered_side g.head.flags.ack (other way) of g.head.acknowledgement f n now in
     let t = side_with way of (sides.taken (side_of way a.after) (own_of g time) room).after a.after n (λ p. size_segment (side_of way a.after).stream (own_of g time) room n most p) h in
-    next_side a.told a (λ c. taken way (own_of g time) room c) of n h t
+    next_side a.delivered a (λ c. taken way (own_of g time) room c) of n h t

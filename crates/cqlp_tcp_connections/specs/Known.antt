@@ -11,7 +11,7 @@ use Rattle.cqlp_tcp_connections.specs.declared.ends.Ends.{Ends}
 use Rattle.cqlp_tcp_connections.specs.declared.ends.Way.{Way}
 use Rattle.cqlp_tcp_connections.specs.declared.ends.Way.TheVariants.{Requests, Responses}
 use Rattle.cqlp_tcp_connections.specs.declared.side.SideStep.{SideStep}
-use Rattle.cqlp_tcp_connections.specs.declared.told.Told.{Told}
+use Rattle.cqlp_tcp_connections.specs.declared.delivery.Delivery.{Delivery}
 use Rattle.cqlp_tcp_connections.specs.declared.totals.Begin.{Begin}
 use Rattle.cqlp_tcp_connections.specs.declared.totals.Begin.TheVariants as begin
 use Rattle.cqlp_tcp_connections.specs.declared.totals.End.{End}
@@ -21,7 +21,7 @@ use Rattle.cqlp_tcp_connections.specs.declared.totals.DirectionTotals.{Direction
 use Rattle.cqlp_tcp_connections.specs.Ends.{other}
 use Rattle.cqlp_tcp_connections.specs.Totals.{one_more}
 use Rattle.cqlp_tcp_connections.specs.Sides as sides
-use Rattle.cqlp_tcp_connections.specs.Sides.{SideState, SideTold, side}
+use Rattle.cqlp_tcp_connections.specs.Sides.{SideState, SideDelivery, side}
 
 -- its number, and both directions
 pub record Flows : Type 0 where
@@ -40,7 +40,7 @@ pub record Known : Type 0 where
 abbrev pub known : Ends → Flows → Known
 known e f = record { ends = e; flows = f }
 
--- Nothing was told of it.
+-- It delivered nothing.
 abbrev pub new_flows : ℕ → Flows
 new_flows n = flows n sides.new_side sides.new_side
 
@@ -94,15 +94,15 @@ abbrev pub begins_anew : Way → SegmentHead → Flows → Bool
 begins_anew way h k =
     h.flags.syn && not (may_begin (side_of way k).totals (side_of (other way) k).totals h.sequence)
 
--- ---- what is told of it
+-- ---- what is delivered of it
 
--- what is told, and the connection after it
-pub record Telling : Type 0 where
-  pub told : Option Told
+-- what is delivered, and the connection after it
+pub record Delivering : Type 0 where
+  pub delivered : Option Delivery
   pub after : Flows
 
-abbrev pub telling : Option Told → Flows → Telling
-telling t k = record { told = t; after = k }
+abbrev pub delivering : Option Delivery → Flows → Delivering
+delivering t k = record { delivered = t; after = k }
 
 abbrev pub is_done : StreamStep → Bool
 is_done (step.Began syn) = false
@@ -114,24 +114,24 @@ is_done step.Ended = false
 is_done step.Reset = false
 is_done step.Done = true
 
-abbrev pub tell : (number : ℕ) → Way → SideStep → Option Told
-tell n way s = if is_done s.step then None else Some (record { number = n; way = way; at = s.at; step = s.step })
+abbrev pub deliver : (number : ℕ) → Way → SideStep → Option Delivery
+deliver n way s = if is_done s.step then None else Some (record { number = n; way = way; at = s.at; step = s.step })
 
-abbrev pub told_of : Way → SideTold → Flows → Telling
-told_of way t k = telling (tell k.number way t.what) (with_side way t.after k)
+abbrev pub delivered_of : Way → SideDelivery → Flows → Delivering
+delivered_of way t k = delivering (deliver k.number way t.what) (with_side way t.after k)
 
--- if nothing is told, what comes next is
-abbrev pub or_next_as : Option Told → Telling → (Flows → Telling) → Telling
+-- if nothing is delivered, what comes next is
+abbrev pub or_next_as : Option Delivery → Delivering → (Flows → Delivering) → Delivering
 or_next_as None t next = next t.after
-or_next_as (Some told) t next = t
+or_next_as (Some delivered) t next = t
 
-abbrev pub or_next : Telling → (Flows → Telling) → Telling
-or_next t next = or_next_as t.told t next
+abbrev pub or_next : Delivering → (Flows → Delivering) → Delivering
+or_next t next = or_next_as t.delivered t next
 
 -- the bytes that it names lie in a payload of this length
-abbrev pub IsToldWithin : Option Told → (len : ℕ) → Type 0
-IsToldWithin None len = ⊤
-IsToldWithin (Some t) len = IsWithin t.step len
+abbrev pub IsDeliveryWithin : Option Delivery → (len : ℕ) → Type 0
+IsDeliveryWithin None len = ⊤
+IsDeliveryWithin (Some t) len = IsWithin t.step len
 
 -- what the header says, with how many bytes of the payload were not captured (as numbers of a sequence, which wrap)
 abbrev pub control_of : SegmentHead → (missing : ℕ) → Control
@@ -143,23 +143,23 @@ control_of h missing = record {
   missing = missing % 2 ^ 32;
 }
 
--- An acknowledgement tells of the other way, and then the segment of its own, for which there is so much room.
-abbrev pub acknowledged : Way → (number : ℕ) → Flows → Telling
-acknowledged way n f = told_of way (sides.acknowledged (side_of way f) n) f
+-- An acknowledgement delivers of the other way, and then the segment of its own, for which there is so much room.
+abbrev pub acknowledged : Way → (number : ℕ) → Flows → Delivering
+acknowledged way n f = delivered_of way (sides.acknowledged (side_of way f) n) f
 
-abbrev pub answered : Way → SegmentHead → Flows → Telling
-answered way h f = if h.flags.ack then acknowledged (other way) h.acknowledgement f else telling None f
+abbrev pub answered : Way → SegmentHead → Flows → Delivering
+answered way h f = if h.flags.ack then acknowledged (other way) h.acknowledgement f else delivering None f
 
-abbrev pub taken : Way → Segment → (room : ℕ) → Flows → Telling
-taken way g room f = told_of way (sides.taken (side_of way f) g room) f
+abbrev pub taken : Way → Segment → (room : ℕ) → Flows → Delivering
+taken way g room f = delivered_of way (sides.taken (side_of way f) g room) f
 
 abbrev pub own_of : Seen → (time : Option ℕ) → Segment
 own_of g time = record { control = control_of g.head g.missing; bytes = g.payload; time = time }
 
-abbrev pub pulled : Way → Seen → (time : Option ℕ) → (room : ℕ) → Flows → Telling
+abbrev pub pulled : Way → Seen → (time : Option ℕ) → (room : ℕ) → Flows → Delivering
 pulled way g time room f = or_next (answered way g.head f) (λ c. taken way (own_of g time) room c)
 
--- Where memory is refused nothing is told, and no more of its own way changes than that FIN is noted.
+-- Where memory is refused nothing is delivered, and no more of its own way changes than that FIN is noted.
 abbrev pub refused : Way → Segment → Flows → Flows
 refused way g f = with_side way (sides.refused (side_of way f) g) f
 
@@ -167,10 +167,10 @@ abbrev pub pull_refused : Way → Seen → (time : Option ℕ) → Flows → Flo
 pull_refused way g time f = refused way (own_of g time) (answered way g.head f).after
 
 -- Where no more segments come: first of the requests.
-abbrev pub closed_way : Way → Flows → Telling
-closed_way way f = told_of way (sides.closed (side_of way f)) f
+abbrev pub closed_way : Way → Flows → Delivering
+closed_way way f = delivered_of way (sides.closed (side_of way f)) f
 
-abbrev pub closed : Flows → Telling
+abbrev pub closed : Flows → Delivering
 closed f = or_next (closed_way Requests f) (λ c. closed_way Responses c)
 
 -- Bytes of this way that came early are passed.

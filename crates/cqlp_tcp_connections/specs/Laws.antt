@@ -7,9 +7,9 @@ use Rattle.cqlp_tcp_connections.specs.declared.ends.TheConstants.{DEFAULT_PORT}
 use Rattle.cqlp_tcp_connections.specs.declared.ends.Way.{Way}
 use Rattle.cqlp_tcp_connections.specs.declared.limits.TheConstants.ConnectionLimits.{DEFAULT}
 use Rattle.cqlp_tcp_connections.specs.declared.limits.ConnectionLimits.{ConnectionLimits}
-use Rattle.cqlp_tcp_connections.specs.declared.told.Departure.{Departure}
-use Rattle.cqlp_tcp_connections.specs.declared.told.Sight.{Sight}
-use Rattle.cqlp_tcp_connections.specs.declared.told.Told.{Told}
+use Rattle.cqlp_tcp_connections.specs.declared.delivery.Departure.{Departure}
+use Rattle.cqlp_tcp_connections.specs.declared.delivery.Admission.{Admission}
+use Rattle.cqlp_tcp_connections.specs.declared.delivery.Delivery.{Delivery}
 use Rattle.cqlp_tcp_connections.specs.Sides as sides
 use Rattle.cqlp_tcp_connections.specs.Known as one
 use Rattle.cqlp_tcp_connections.specs.Known.{Flows, Known, side_of}
@@ -43,15 +43,15 @@ pub data Keeps (old new : Table) : Type 0 where
   begun : pairs new.known ≡ record { requests = unseen; responses = unseen } ∷ pairs old.known → Keeps old new
 
 abbrev pub ChangesNoStream : Type 0
-ChangesNoStream = (h : SegmentHead) (s : Sight) (old new : Table) → taking s new ≡ taken old h → Keeps old new
+ChangesNoStream = (h : SegmentHead) (s : Admission) (old new : Table) → taking s new ≡ taken old h → Keeps old new
 
--- The calls that tell leave all connections but the first as they are.
+-- The calls that deliver leave all connections but the first as they are.
 abbrev pub OthersStay : (old new : Table) → Type 0
 OthersStay old new = (drop 1 new.known ≡ drop 1 old.known) × (length old.known ≤ length new.known)
 
 abbrev pub LeavesTheOthers : Type 0
 LeavesTheOthers =
-    ((g : Seen) (time : Option ℕ) (told : Option Told) (old new : Table) → pulling told new ≡ pulled g time old → OthersStay old new)
+    ((g : Seen) (time : Option ℕ) (delivered : Option Delivery) (old new : Table) → pulling delivered new ≡ pulled g time old → OthersStay old new)
     × ((way : Way) (old new : Table) → new ≡ passed way old → OthersStay old new)
     × ((d : Departure) (old new : Table)
     → departing d new ≡ left old → OthersStay old new ⊎ (new.known ≡ drop 1 old.known))

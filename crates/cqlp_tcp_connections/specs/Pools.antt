@@ -5,7 +5,7 @@ use Rattle.cqlp_tcp_connections.specs.declared.ends.Ends.{Ends}
 use Rattle.cqlp_tcp_connections.specs.declared.limits.ConnectionLimits.{ConnectionLimits}
 use Rattle.cqlp_tcp_connections.specs.declared.ends.Way.{Way}
 use Rattle.cqlp_tcp_connections.specs.Known.{Flows, Known, known, pulled}
-use Rattle.cqlp_tcp_connections.specs.Tables.{FirstTelling, first_tells, found_in, room_in, to_front}
+use Rattle.cqlp_tcp_connections.specs.Tables.{FirstDelivering, first_delivers, found_in, room_in, to_front}
 
 pub record PoolState : Type 0 where
   pub limits : ConnectionLimits
@@ -44,5 +44,5 @@ first_of [] = None
 first_of (k ∷ ks) = Some (k.ends, k.flows)
 
 -- what a segment that goes this way of the first reports, with the room that there is, and the connections after it
-abbrev pub pulled_first : Way → Seen → (time : Option ℕ) → PoolState → FirstTelling
-pulled_first way g time p = first_tells (pulled way g time (room_in p.limits p.known)) p.known
+abbrev pub pulled_first : Way → Seen → (time : Option ℕ) → PoolState → FirstDelivering
+pulled_first way g time p = first_delivers (pulled way g time (room_in p.limits p.known)) p.known

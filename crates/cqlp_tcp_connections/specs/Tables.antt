@@ -12,17 +12,17 @@ use Rattle.cqlp_tcp_connections.specs.declared.ends.Ends.{Ends}
 use Rattle.cqlp_tcp_connections.specs.declared.ends.Way.{Way}
 use Rattle.cqlp_tcp_connections.specs.declared.ends.Way.TheVariants.{Requests, Responses}
 use Rattle.cqlp_tcp_connections.specs.declared.limits.ConnectionLimits.{ConnectionLimits}
-use Rattle.cqlp_tcp_connections.specs.declared.told.Departure.{Departure}
-use Rattle.cqlp_tcp_connections.specs.declared.told.Departure.TheVariants as departure
-use Rattle.cqlp_tcp_connections.specs.declared.told.Sight.{Sight}
-use Rattle.cqlp_tcp_connections.specs.declared.told.Sight.TheVariants.{Foreign, Taken, Crowded}
-use Rattle.cqlp_tcp_connections.specs.declared.told.Told.{Told}
+use Rattle.cqlp_tcp_connections.specs.declared.delivery.Departure.{Departure}
+use Rattle.cqlp_tcp_connections.specs.declared.delivery.Departure.TheVariants as departure
+use Rattle.cqlp_tcp_connections.specs.declared.delivery.Admission.{Admission}
+use Rattle.cqlp_tcp_connections.specs.declared.delivery.Admission.TheVariants.{Foreign, Taken, Crowded}
+use Rattle.cqlp_tcp_connections.specs.declared.delivery.Delivery.{Delivery}
 use Rattle.cqlp_tcp_connections.specs.declared.totals.ConnectionCounts.{ConnectionCounts}
 use Rattle.cqlp_tcp_connections.specs.Ends.{ends_of, first_way, other, same_ends, way_between}
 use Rattle.cqlp_tcp_connections.specs.Totals.{counted}
 use Rattle.cqlp_tcp_connections.specs.Ports.{no_ports, passed_by}
 use Rattle.cqlp_tcp_connections.specs.Known as one
-use Rattle.cqlp_tcp_connections.specs.Known.{Flows, Known, Telling, begins_anew, closed, counted_on, known, new_flows, side_of, size_of, totals_of}
+use Rattle.cqlp_tcp_connections.specs.Known.{Flows, Known, Delivering, begins_anew, closed, counted_on, known, new_flows, side_of, size_of, totals_of}
 
 -- the connections that are there, the one whose segment came last first; for each port how many segments went by that had it; and
 -- whether the first connection has begun to leave
@@ -70,25 +70,25 @@ abbrev pub first_becomes : (Flows → Flows) → List Known → List Known
 first_becomes f [] = []
 first_becomes f (k ∷ ks) = known k.ends (f k.flows) ∷ ks
 
-pub record FirstTelling : Type 0 where
-  pub told : Option Told
+pub record FirstDelivering : Type 0 where
+  pub delivered : Option Delivery
   pub after : List Known
 
-abbrev pub first_telling : Option Told → List Known → FirstTelling
-first_telling told ks = record { told = told; after = ks }
+abbrev pub first_delivering : Option Delivery → List Known → FirstDelivering
+first_delivering delivered ks = record { delivered = delivered; after = ks }
 
-abbrev pub first_tells : (Flows → Telling) → List Known → FirstTelling
-first_tells f [] = first_telling None []
-first_tells f (k ∷ ks) = first_telling (f k.flows).told (known k.ends (f k.flows).after ∷ ks)
+abbrev pub first_delivers : (Flows → Delivering) → List Known → FirstDelivering
+first_delivers f [] = first_delivering None []
+first_delivers f (k ∷ ks) = first_delivering (f k.flows).delivered (known k.ends (f k.flows).after ∷ ks)
 
 -- ---- whose a segment is
 
 pub record Taking : Type 0 where
-  pub sight : Sight
+  pub admission : Admission
   pub after : Table
 
-abbrev pub taking : Sight → Table → Taking
-taking s t = record { sight = s; after = t }
+abbrev pub taking : Admission → Table → Taking
+taking s t = record { admission = s; after = t }
 
 -- the place of the connection between these ends
 abbrev pub found_in : Ends → List Known → Option ℕ
@@ -124,7 +124,7 @@ crowded_by (k ∷ ks) t = taking (Crowded k.flows.number true) (with_known (k �
 abbrev pub crowded : Table → Taking
 crowded t = crowded_by (last_first t.known) t
 
--- It is sought between the ends that the segment's ports tell, and then the other way round.
+-- It is sought between the ends that the segment's ports name, and then the other way round.
 abbrev pub brought : (at : ℕ) → Way → SegmentHead → Table → Taking
 brought at way h t = seen_first way h (with_known (to_front at t.known) t)
 
@@ -146,16 +146,16 @@ taken_by (Some way) h t = taken_in (found_in (ends_of way h) t.known) way h t
 abbrev pub taken : Table → SegmentHead → Taking
 taken t h = taken_by (first_way t.ports h) h t
 
--- ---- what the first connection tells
+-- ---- what the first connection delivers
 
 pub record Pulling : Type 0 where
-  pub told : Option Told
+  pub delivered : Option Delivery
   pub after : Table
 
-abbrev pub pulling : Option Told → Table → Pulling
-pulling told t = record { told = told; after = t }
+abbrev pub pulling : Option Delivery → Table → Pulling
+pulling delivered t = record { delivered = delivered; after = t }
 
--- A gap that a segment tells of its own way was declared since there was no room; one of the other way, by its acknowledgement.
+-- A gap that a segment reports of its own way was declared since there was no room; one of the other way, by its acknowledgement.
 abbrev pub is_lost : StreamStep → Bool
 is_lost (step.Began syn) = false
 is_lost (step.Payload from count) = false
@@ -173,7 +173,7 @@ is_way Requests Responses = false
 is_way Responses Requests = false
 is_way Responses Responses = true
 
-abbrev pub gives_up : Way → Option Told → Bool
+abbrev pub gives_up : Way → Option Delivery → Bool
 gives_up way None = false
 gives_up way (Some t) = is_way way t.way && is_lost t.step
 
@@ -188,8 +188,8 @@ way_of_first h (k ∷ ks) = way_between k.ends h
 abbrev pub pulled_on : Option Way → Seen → (time : Option ℕ) → Table → Pulling
 pulled_on None g time t = pulling None t
 pulled_on (Some way) g time t =
-    let f = first_tells (one.pulled way g time (room_in t.limits t.known)) t.known in
-    pulling f.told (with_given_up (gives_up way f.told) (with_known f.after t))
+    let f = first_delivers (one.pulled way g time (room_in t.limits t.known)) t.known in
+    pulling f.delivered (with_given_up (gives_up way f.delivered) (with_known f.after t))
 
 abbrev pub pulled : Seen → (time : Option ℕ) → Table → Pulling
 pulled g time t = pulled_on (way_of_first g.head t.known) g time t
@@ -222,13 +222,13 @@ departing d t = record { departure = d; after = t }
 abbrev pub with_leaving : Bool → Table → Table
 with_leaving b t = record t { leaving = b }
 
--- The first one tells what it still has, and then it is not there any more.
-abbrev pub left_by : Option Told → Known → List Known → Table → Departing
-left_by (Some told) k ks t = departing (departure.Told told) (with_leaving true (with_known (k ∷ ks) t))
+-- The first one delivers what it still has, and then it is not there any more.
+abbrev pub left_by : Option Delivery → Known → List Known → Table → Departing
+left_by (Some delivered) k ks t = departing (departure.Delivery delivered) (with_leaving true (with_known (k ∷ ks) t))
 left_by None k ks t = departing (departure.Left (totals_of k)) (with_leaving false (with_known ks t))
 
-abbrev pub left_as : Telling → Ends → List Known → Table → Departing
-left_as f e ks t = left_by f.told (known e f.after) ks t
+abbrev pub left_as : Delivering → Ends → List Known → Table → Departing
+left_as f e ks t = left_by f.delivered (known e f.after) ks t
 
 abbrev pub left_in : List Known → Table → Departing
 left_in [] t = departing departure.Empty t

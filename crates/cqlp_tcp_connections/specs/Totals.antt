@@ -1,4 +1,4 @@
--- What was told of a direction, in numbers.
+-- What a direction delivered, in numbers.
 use Rattle.std.specs.Prelude.{ℕ, ◌+◌, ◌-◌, ◌^◌, Bool, min, if◌then◌else◌}
 use Rattle.cqlp_tcp_reassembly.specs.declared.step.GapCause.{GapCause}
 use Rattle.cqlp_tcp_reassembly.specs.declared.step.GapCause.TheVariants.{Lost, Snapped}
@@ -34,8 +34,8 @@ begin_of kind.Unseen first = Unseen
 begin_of kind.Syn first = Syn first
 begin_of kind.Middle first = Middle first
 
-abbrev pub none_told : DirectionTotals
-none_told = direction_totals 0 0 0 0 0 0 Unseen Open
+abbrev pub none_delivered : DirectionTotals
+none_delivered = direction_totals 0 0 0 0 0 0 Unseen Open
 
 abbrev pub one_more : DirectionTotals → DirectionTotals
 one_more t = record t { segments = counted t.segments 1 }
@@ -63,6 +63,6 @@ noted step.Ended t = record t { end = Fin }
 noted step.Reset t = record t { end = Reset }
 noted step.Done t = t
 
--- how many bytes and bytes of gaps were told
+-- how many bytes and bytes of gaps were delivered
 abbrev pub position : DirectionTotals → ℕ
 position t = counted (counted t.bytes t.missing) t.snapped_bytes

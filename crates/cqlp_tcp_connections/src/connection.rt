@@ -4,11 +4,11 @@ ghost use Rattle.std.specs.Prelude.{◌≡◌, ◌+◌, ◌<◌, ◌^◌, ℕ, I
 ghost use Rattle.cqlp_tcp_reassembly.specs.Segments.{captured};
 ghost use Rattle.cqlp_tcp_reassembly.specs.Streams.{held};
 ghost use Rattle.cqlp_tcp_segment.specs.Segment.{seen};
-ghost use Rattle.cqlp_tcp_connections.specs.Known.{IsToldWithin, control_of, tell};
+ghost use Rattle.cqlp_tcp_connections.specs.Known.{IsDeliveryWithin, control_of, deliver};
 
+use crate::delivery::Delivery;
 use crate::ends::{Ends, Way};
 use crate::side::{Side, SideStep};
-use crate::told::Told;
 use crate::totals::{Begin, ConnectionTotals, DirectionTotals, End};
 use cqlp_tcp_reassembly::{Control, StreamSegment, StreamStep};
 use cqlp_tcp_segment::{Segment, SegmentHead};
@@ -33,7 +33,7 @@ impl<A: Allocator> Model for Connection<A> {
 
 impl<A: Allocator> Connection<A> {
     ghost use Rattle.cqlp_tcp_connections.specs.Known.{acknowledged, answered, begins_anew, closed, closed_way, counted_on, known, new_flows, passed};
-    ghost use Rattle.cqlp_tcp_connections.specs.Known.{pull_refused, pulled, refused, side_of, size_of, taken, telling, totals_of};
+    ghost use Rattle.cqlp_tcp_connections.specs.Known.{pull_refused, pulled, refused, side_of, size_of, taken, delivering, totals_of};
 
     /// A connection of which nothing was reported. It takes no memory.
     pub(crate) fn new(alloc: A, number: u64) -> Result<Self, AllocError>
@@ -114,18 +114,18 @@ impl<A: Allocator> Connection<A> {
         segment: &Segment<'_>,
         time: Option<u64>,
         room: usize,
-    ) -> Result<Option<Told>, AllocError>
+    ) -> Result<Option<Delivery>, AllocError>
     where
         A: Clone,
-        ensures told { IfOk result (λ told. telling told self.new ≡ pulled way (seen segment.now) time room self.old) }
-        ensures within { IfOk result (λ told. IsToldWithin told (length segment.now.payload.now)) }
+        ensures delivered { IfOk result (λ delivered. delivering delivered self.new ≡ pulled way (seen segment.now) time room self.old) }
+        ensures within { IfOk result (λ delivered. IsDeliveryWithin delivered (length segment.now.payload.now)) }
         ensures refused { OnErr result (self.new ≡ pull_refused way (seen segment.now) time self.old) }
     {
         let head = &segment.head;
         if head.flags.ack {
-            let told = self.acknowledge(way.other(), head.acknowledgement);
-            if told.is_some() {
-                return Ok(told);
+            let delivered = self.acknowledge(way.other(), head.acknowledgement);
+            if delivered.is_some() {
+                return Ok(delivered);
             }
         }
         let own = StreamSegment {
@@ -141,7 +141,7 @@ impl<A: Allocator> Connection<A> {
     #[tactic(auto, using(crate::proofs::Idle::pulled_idle))]
     #[inline]
     pub(crate) fn is_done(&self, way: Way, segment: &Segment<'_>, time: Option<u64>) -> bool
-        ensures { result ≡ true → (room : ℕ) → pulled way (seen segment.now) time room self.now ≡ telling None self.now }
+        ensures { result ≡ true → (room : ℕ) → pulled way (seen segment.now) time room self.now ≡ delivering None self.now }
     {
         let own = StreamSegment {
             control: control_of(&segment.head, segment.missing),
@@ -154,7 +154,7 @@ impl<A: Allocator> Connection<A> {
     /// That the acknowledgement of a segment which goes this way reports nothing and changes nothing.
     #[inline]
     fn is_answered(&self, way: Way, head: &SegmentHead) -> bool
-        ensures { result ≡ true → answered way head.now self.now ≡ telling None self.now }
+        ensures { result ≡ true → answered way head.now self.now ≡ delivering None self.now }
     {
         if head.flags.ack {
             self.ignores_acknowledgements(way.other())
@@ -163,10 +163,10 @@ impl<A: Allocator> Connection<A> {
         }
     }
 
-    #[tactic(auto, using(crate::proofs::Idle::told_idle))]
+    #[tactic(auto, using(crate::proofs::Idle::delivered_idle))]
     #[inline]
     fn is_behind(&self, way: Way, segment: &StreamSegment<'_>) -> bool
-        ensures { result ≡ true → (room : ℕ) → taken way (captured segment.now) room self.now ≡ telling None self.now }
+        ensures { result ≡ true → (room : ℕ) → taken way (captured segment.now) room self.now ≡ delivering None self.now }
     {
         match way {
             Way::Requests => self.requests.is_behind(segment),
@@ -174,10 +174,10 @@ impl<A: Allocator> Connection<A> {
         }
     }
 
-    #[tactic(auto, using(crate::proofs::Idle::told_idle))]
+    #[tactic(auto, using(crate::proofs::Idle::delivered_idle))]
     #[inline]
     fn ignores_acknowledgements(&self, way: Way) -> bool
-        ensures { result ≡ true → (number : ℕ) → acknowledged way number self.now ≡ telling None self.now }
+        ensures { result ≡ true → (number : ℕ) → acknowledged way number self.now ≡ delivering None self.now }
     {
         match way {
             Way::Requests => self.requests.ignores_acknowledgements(),
@@ -192,50 +192,50 @@ impl<A: Allocator> Connection<A> {
         way: Way,
         segment: &StreamSegment<'_>,
         room: usize,
-    ) -> Result<Option<Told>, AllocError>
+    ) -> Result<Option<Delivery>, AllocError>
     where
         A: Clone,
-        ensures told { IfOk result (λ told. telling told self.new ≡ taken way (captured segment.now) room self.old) }
-        ensures within { IfOk result (λ told. IsToldWithin told (length segment.now.payload.now)) }
+        ensures delivered { IfOk result (λ delivered. delivering delivered self.new ≡ taken way (captured segment.now) room self.old) }
+        ensures within { IfOk result (λ delivered. IsDeliveryWithin delivered (length segment.now.payload.now)) }
         ensures refused { OnErr result (self.new ≡ refused way (captured segment.now) self.old) }
     {
         let step = match way {
             Way::Requests => self.requests.take(segment, room)?,
             Way::Responses => self.responses.take(segment, room)?,
         };
-        Ok(tell(self.number, way, step))
+        Ok(deliver(self.number, way, step))
     }
 
     /// The next report of this way for an acknowledgement.
-    fn acknowledge(&mut self, way: Way, number: u32) -> Option<Told>
-        ensures { telling result self.new ≡ acknowledged way number self.old }
+    fn acknowledge(&mut self, way: Way, number: u32) -> Option<Delivery>
+        ensures { delivering result self.new ≡ acknowledged way number self.old }
     {
         let step = match way {
             Way::Requests => self.requests.acknowledge(number),
             Way::Responses => self.responses.acknowledge(number),
         };
-        tell(self.number, way, step)
+        deliver(self.number, way, step)
     }
 
     /// The next report where no more segments come: first of the requests.
-    pub(crate) fn close(&mut self) -> Option<Told>
-        ensures { telling result self.new ≡ closed self.old }
+    pub(crate) fn close(&mut self) -> Option<Delivery>
+        ensures { delivering result self.new ≡ closed self.old }
     {
-        let told = self.close_way(Way::Requests);
-        if told.is_some() {
-            return told;
+        let delivered = self.close_way(Way::Requests);
+        if delivered.is_some() {
+            return delivered;
         }
         self.close_way(Way::Responses)
     }
 
-    fn close_way(&mut self, way: Way) -> Option<Told>
-        ensures { telling result self.new ≡ closed_way way self.old }
+    fn close_way(&mut self, way: Way) -> Option<Delivery>
+        ensures { delivering result self.new ≡ closed_way way self.old }
     {
         let step = match way {
             Way::Requests => self.requests.close(),
             Way::Responses => self.responses.close(),
         };
-        tell(self.number, way, step)
+        deliver(self.number, way, step)
     }
 
     /// The next bytes of this way, which came before.
@@ -291,13 +291,13 @@ fn control_of(head: &SegmentHead, missing: usize) -> Control
 }
 
 /// What is reported of this way of the connection with this number, if that is not `Done`.
-fn tell(number: u64, way: Way, step: SideStep) -> Option<Told>
-    ensures { result ≡ tell number way step }
+fn deliver(number: u64, way: Way, step: SideStep) -> Option<Delivery>
+    ensures { result ≡ deliver number way step }
 {
     if matches!(step.step, StreamStep::Done) {
         return None;
     }
-    Some(Told {
+    Some(Delivery {
         number,
         way,
         at: step.at,

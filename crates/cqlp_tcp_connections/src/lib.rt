@@ -2,6 +2,7 @@
 #![tactic(auto)]
 
 mod connection;
+mod delivery;
 mod ends;
 pub mod laws;
 mod limits;
@@ -10,11 +11,10 @@ mod ports;
 mod side;
 mod table;
 mod tally;
-mod told;
 mod totals;
 
+pub use delivery::{Admission, Delivery, Departure};
 pub use ends::{DEFAULT_PORT, Way};
 pub use limits::{ConnectionLimits, NewConnectionsError};
 pub use table::Connections;
-pub use told::{Departure, Sight, Told};
 pub use totals::{Begin, ConnectionCounts, ConnectionTotals, DirectionTotals, End};

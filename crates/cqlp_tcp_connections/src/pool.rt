@@ -3,12 +3,12 @@
 ghost use Rattle.std.specs.Prelude.{◌≡◌, ◌∷◌, ◌<◌, ◌≤◌, [], IfOk, None, OnErr, OnOk, drop, length, nat_le, option_map, true};
 ghost use Rattle.std.specs.Map.Iter.{deref_pair};
 ghost use Rattle.cqlp_tcp_segment.specs.Segment.{seen};
-ghost use Rattle.cqlp_tcp_connections.specs.Known.{IsToldWithin};
+ghost use Rattle.cqlp_tcp_connections.specs.Known.{IsDeliveryWithin};
 
 use crate::connection::Connection;
+use crate::delivery::Delivery;
 use crate::ends::{Ends, Way};
 use crate::limits::ConnectionLimits;
-use crate::told::Told;
 use cqlp_tcp_segment::Segment;
 use lru::{DefaultHasher, LruCache};
 use std::alloc::{AllocError, Allocator};
@@ -38,7 +38,7 @@ impl<A: Allocator> Model for Pool<A> {
 
 impl<A: Allocator> Pool<A> {
     ghost use Rattle.cqlp_tcp_connections.specs.Known.{closed, counted_on, known, new_flows, passed, pull_refused};
-    ghost use Rattle.cqlp_tcp_connections.specs.Tables.{early_of, first_becomes, first_telling, first_tells, found_in, held_of, last_first, room_in};
+    ghost use Rattle.cqlp_tcp_connections.specs.Tables.{early_of, first_becomes, first_delivering, first_delivers, found_in, held_of, last_first, room_in};
     ghost use Rattle.cqlp_tcp_connections.specs.Pools.{bringing, brought, first_of, pool, pulled_first, with_known};
 
     /// A pool without connections. It takes memory as they come.
@@ -155,11 +155,11 @@ impl<A: Allocator> Pool<A> {
         way: Way,
         segment: &Segment<'_>,
         time: Option<u64>,
-    ) -> Result<Option<Told>, AllocError>
+    ) -> Result<Option<Delivery>, AllocError>
     where
         A: Clone,
-        ensures told { IfOk result (λ told. first_telling told self.new.known ≡ pulled_first way (seen segment.now) time self.old) }
-        ensures within { IfOk result (λ told. IsToldWithin told (length segment.now.payload.now)) }
+        ensures delivered { IfOk result (λ delivered. first_delivering delivered self.new.known ≡ pulled_first way (seen segment.now) time self.old) }
+        ensures within { IfOk result (λ delivered. IsDeliveryWithin delivered (length segment.now.payload.now)) }
         ensures refused { OnErr result (self.new.known ≡ first_becomes (pull_refused way (seen segment.now) time) self.old.known) }
         ensures limits { self.new.limits ≡ self.old.limits }
     {
@@ -171,16 +171,16 @@ impl<A: Allocator> Pool<A> {
             return Ok(None);
         };
         let before = first.size();
-        let told = first.pull(way, segment, time, room);
+        let delivered = first.pull(way, segment, time, room);
         let after = first.size();
         self.early = self.early - before + after;
-        told
+        delivered
     }
 
     /// That `pull` of a segment which goes this way of the first one reports nothing and changes nothing, as `Connection` says it.
     #[inline]
     pub(crate) fn is_done(&self, way: Way, segment: &Segment<'_>, time: Option<u64>) -> bool
-        ensures { result ≡ true → pulled_first way (seen segment.now) time self.now ≡ first_telling None self.now.known }
+        ensures { result ≡ true → pulled_first way (seen segment.now) time self.now ≡ first_delivering None self.now.known }
     {
         match self.first() {
             Some((_, first)) => first.is_done(way, segment, time),
@@ -189,17 +189,17 @@ impl<A: Allocator> Pool<A> {
     }
 
     /// The next report of the first one where no more segments of it come.
-    pub(crate) fn close(&mut self) -> Option<Told>
-        ensures told { first_telling result self.new.known ≡ first_tells closed self.old.known }
+    pub(crate) fn close(&mut self) -> Option<Delivery>
+        ensures delivered { first_delivering result self.new.known ≡ first_delivers closed self.old.known }
         ensures limits { self.new.limits ≡ self.old.limits }
     {
         let ends = self.first_ends()?;
         let first = self.cache.peek_mut(&ends)?;
         let before = first.size();
-        let told = first.close();
+        let delivered = first.close();
         let after = first.size();
         self.early = self.early - before + after;
-        told
+        delivered
     }
 
     /// The next bytes of this way of the first one, which came before.

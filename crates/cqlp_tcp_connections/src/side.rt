@@ -34,7 +34,7 @@ impl<A: Allocator> Model for Side<A> {
 }
 
 impl<A: Allocator> Side<A> {
-    ghost use Rattle.cqlp_tcp_connections.specs.Sides.{IsIdle, acknowledged, closed, new_side, passed, refused, side, side_told, size_of, taken};
+    ghost use Rattle.cqlp_tcp_connections.specs.Sides.{IsIdle, acknowledged, closed, new_side, passed, refused, side, side_delivered, size_of, taken};
 
     /// A direction of which nothing was reported. It takes no memory.
     pub(crate) fn new(alloc: A) -> Self
@@ -76,7 +76,7 @@ impl<A: Allocator> Side<A> {
     ) -> Result<SideStep, AllocError>
     where
         A: Clone,
-        ensures told { IfOk result (λ step. side_told step self.new ≡ taken self.old (captured segment.now) room) }
+        ensures delivered { IfOk result (λ step. side_delivered step self.new ≡ taken self.old (captured segment.now) room) }
         ensures within { IfOk result (λ step. IsWithin step.step (length segment.now.payload.now)) }
         ensures refused { OnErr result (self.new ≡ refused self.old (captured segment.now)) }
     {
@@ -91,7 +91,7 @@ impl<A: Allocator> Side<A> {
 
     /// The next report for an acknowledgement of the other direction.
     pub(crate) fn acknowledge(&mut self, number: u32) -> SideStep
-        ensures { side_told result self.new ≡ acknowledged self.old number }
+        ensures { side_delivered result self.new ≡ acknowledged self.old number }
     {
         let at = self.totals.position();
         let step = self.stream.acknowledge(number);
@@ -117,7 +117,7 @@ impl<A: Allocator> Side<A> {
 
     /// The next report where no more segments come.
     pub(crate) fn close(&mut self) -> SideStep
-        ensures { side_told result self.new ≡ closed self.old }
+        ensures { side_delivered result self.new ≡ closed self.old }
     {
         let at = self.totals.position();
         let step = self.stream.close();

@@ -3,14 +3,14 @@
 ghost use Rattle.std.specs.Prelude.{◌≡◌, ◌↔◌, ◌==◌, ◌<◌, ◌≤◌, IfOk, IsErrOf, None, OnErr, false, length, true};
 ghost use Rattle.cqlp_tcp_segment.specs.Segment.{seen};
 ghost use Rattle.cqlp_tcp_connections.specs.Limits.{is_in_range};
-ghost use Rattle.cqlp_tcp_connections.specs.Known.{IsToldWithin};
+ghost use Rattle.cqlp_tcp_connections.specs.Known.{IsDeliveryWithin};
 ghost use Rattle.cqlp_tcp_connections.specs.Tables.{gives_up};
 
+use crate::delivery::{Admission, Delivery, Departure};
 use crate::ends::{Way, ends_of, first_way};
 use crate::limits::{ConnectionLimits, NewConnectionsError};
 use crate::pool::Pool;
 use crate::ports::PortCounts;
-use crate::told::{Departure, Sight, Told};
 use crate::totals::ConnectionCounts;
 use cqlp_tcp_reassembly::{GapCause, StreamStep};
 use cqlp_tcp_segment::{Segment, SegmentHead};
@@ -101,15 +101,15 @@ impl<A: Allocator> Connections<A> {
     /// # Errors
     ///
     /// Memory that is refused for a connection that begins. Then nothing changes.
-    pub fn take(&mut self, head: &SegmentHead) -> Result<Sight, AllocError>
+    pub fn take(&mut self, head: &SegmentHead) -> Result<Admission, AllocError>
     where
         A: Clone,
-        ensures taken { IfOk result (λ sight. taking sight self.new ≡ taken self.old head.now) }
+        ensures taken { IfOk result (λ admission. taking admission self.new ≡ taken self.old head.now) }
         ensures refused { OnErr result (self.new ≡ self.old) }
     {
         let Some(way) = first_way(&self.ports, head) else {
             self.go_by(head);
-            return Ok(Sight::Foreign);
+            return Ok(Admission::Foreign);
         };
         if self.pool.bring(&ends_of(way, head)) {
             return Ok(self.see(way, head));
@@ -145,21 +145,21 @@ impl<A: Allocator> Connections<A> {
         &mut self,
         segment: &Segment<'_>,
         time: Option<u64>,
-    ) -> Result<Option<Told>, AllocError>
+    ) -> Result<Option<Delivery>, AllocError>
     where
         A: Clone,
-        ensures told { IfOk result (λ told. pulling told self.new ≡ pulled (seen segment.now) time self.old) }
-        ensures within { IfOk result (λ told. IsToldWithin told (length segment.now.payload.now)) }
+        ensures delivered { IfOk result (λ delivered. pulling delivered self.new ≡ pulled (seen segment.now) time self.old) }
+        ensures within { IfOk result (λ delivered. IsDeliveryWithin delivered (length segment.now.payload.now)) }
         ensures refused { OnErr result (self.new ≡ refused (seen segment.now) time self.old) }
     {
         let Some(way) = self.way_of_first(&segment.head) else {
             return Ok(None);
         };
-        let told = self.pool.pull(way, segment, time)?;
-        if gives_up(way, &told) {
+        let delivered = self.pool.pull(way, segment, time)?;
+        if gives_up(way, &delivered) {
             self.counts.given_up = self.counts.given_up.saturating_add(1);
         }
-        Ok(told)
+        Ok(delivered)
     }
 
     /// That the next `pull` of the segment that was taken says `None`, and changes nothing. Where this says no, that may be so too. It is
@@ -192,9 +192,9 @@ impl<A: Allocator> Connections<A> {
     pub fn leave(&mut self) -> Departure
         ensures { departing result self.new ≡ left self.old }
     {
-        if let Some(told) = self.pool.close() {
+        if let Some(delivered) = self.pool.close() {
             self.leaving = true;
-            return Departure::Told(told);
+            return Departure::Delivery(delivered);
         }
         let totals = match self.pool.first() {
             Some((ends, first)) => first.totals(ends),
@@ -263,21 +263,21 @@ impl<A: Allocator> Connections<A> {
     }
 
     /// Takes a segment of the first connection, which goes this way.
-    fn see(&mut self, way: Way, head: &SegmentHead) -> Sight
+    fn see(&mut self, way: Way, head: &SegmentHead) -> Admission
         ensures { taking result self.new ≡ seen_first way head.now self.old }
     {
         let Some((_, first)) = self.pool.first() else {
-            return Sight::Foreign;
+            return Admission::Foreign;
         };
         let number = first.number();
         if first.begins_anew(way, head) {
-            return Sight::Crowded {
+            return Admission::Crowded {
                 number,
                 is_full: false,
             };
         }
         self.pool.count_segment(way);
-        Sight::Taken {
+        Admission::Taken {
             number,
             way,
             is_new: false,
@@ -285,18 +285,18 @@ impl<A: Allocator> Connections<A> {
     }
 
     /// Begins a connection with a segment that goes this way.
-    fn begin(&mut self, way: Way, head: &SegmentHead) -> Result<Sight, AllocError>
+    fn begin(&mut self, way: Way, head: &SegmentHead) -> Result<Admission, AllocError>
     where
         A: Clone,
         requires room { length self.old.known < self.old.limits.connections }
         requires absent { found_in (ends_of way head.now) self.old.known ≡ None }
-        ensures begun { IfOk result (λ sight. taking sight self.new ≡ begun way head.now self.old) }
+        ensures begun { IfOk result (λ admission. taking admission self.new ≡ begun way head.now self.old) }
         ensures refused { OnErr result (self.new ≡ self.old) }
     {
         let number = self.counts.connections.saturating_add(1);
         self.pool.add(ends_of(way, head), number, way)?;
         self.counts.connections = number;
-        Ok(Sight::Taken {
+        Ok(Admission::Taken {
             number,
             way,
             is_new: true,
@@ -304,16 +304,16 @@ impl<A: Allocator> Connections<A> {
     }
 
     /// Has the connection leave that was silent longest.
-    fn crowd(&mut self) -> Sight
+    fn crowd(&mut self) -> Admission
         ensures { taking result self.new ≡ crowded self.old }
     {
         self.pool.bring_last();
         let Some((_, first)) = self.pool.first() else {
-            return Sight::Foreign;
+            return Admission::Foreign;
         };
         let number = first.number();
         self.counts.crowded = self.counts.crowded.saturating_add(1);
-        Sight::Crowded {
+        Admission::Crowded {
             number,
             is_full: true,
         }
@@ -330,19 +330,19 @@ impl<A: Allocator> Connections<A> {
 }
 
 /// Whether the report of a segment of this way is a gap of its own way, which is declared where there is no room.
-fn gives_up(way: Way, told: &Option<Told>) -> bool
-    ensures { result ≡ gives_up way told.now }
+fn gives_up(way: Way, delivered: &Option<Delivery>) -> bool
+    ensures { result ≡ gives_up way delivered.now }
 {
-    match told {
-        Some(told) => {
+    match delivered {
+        Some(delivered) => {
             let is_lost = matches!(
-                told.step,
+                delivered.step,
                 StreamStep::Gap {
                     cause: GapCause::Lost,
                     ..
                 }
             );
-            is_lost && told.way == way
+            is_lost && delivered.way == way
         }
         None => false,
     }

@@ -39,11 +39,11 @@ impl Model for Tally {
 }
 
 impl Tally {
-    ghost use Rattle.cqlp_tcp_connections.specs.Totals.{begun, handed_on, none_told, noted, one_more, passed_over, position};
+    ghost use Rattle.cqlp_tcp_connections.specs.Totals.{begun, handed_on, none_delivered, noted, one_more, passed_over, position};
 
     /// Of a direction of which nothing was reported.
     pub(crate) fn new() -> Self
-        ensures { result ≡ none_told }
+        ensures { result ≡ none_delivered }
     {
         Tally {
             segments: 0,

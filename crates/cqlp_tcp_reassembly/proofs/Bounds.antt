@@ -13,11 +13,11 @@ use Rattle.cqlp_tcp_reassembly.specs.declared.stream.Stage.TheVariants.{Unseen, 
 use Rattle.cqlp_tcp_reassembly.specs.Runs.{EarlyRun, behind_first, first_at, first_free, size_of as runs_size, summary_at, without_bytes}
 use Rattle.cqlp_tcp_reassembly.specs.Segments.{Segment, begins_stream, first_number}
 use Rattle.cqlp_tcp_reassembly.proofs.Sizes.{size_insert}
-use Rattle.cqlp_tcp_reassembly.specs.Streams.{Settling, StreamState, Told, after_acknowledgement, after_acknowledgement_at, after_close, after_close_at, after_segment, after_segment_at, begun, early_bytes, early_part, early_run_of, ended, hole, is_lost, knows_hole, lost, lost_or_done, moved, next_bytes, or_else, or_step, passed, passed_by, place_in, placed, received, settled, settled_by, settling, size, stop, stream_state, told, up_to_stop, with_end, with_runs}
+use Rattle.cqlp_tcp_reassembly.specs.Streams.{Settling, StreamState, Delivery, after_acknowledgement, after_acknowledgement_at, after_close, after_close_at, after_segment, after_segment_at, begun, early_bytes, early_part, early_run_of, ended, hole, is_lost, knows_hole, lost, lost_or_done, moved, next_bytes, or_else, or_step, passed, passed_by, place_in, placed, received, settled, settled_by, settling, size, stop, stream_state, delivered, up_to_stop, with_end, with_runs}
 
-told_if : (b : Bool) (x y : Told) (n : ℕ) → size x.state ≤ n → size y.state ≤ n → size (cond b x y).state ≤ n
-told_if true x y n p q = p
-told_if false x y n p q = q
+delivered_if : (b : Bool) (x y : Delivery) (n : ℕ) → size x.state ≤ n → size y.state ≤ n → size (cond b x y).state ≤ n
+delivered_if true x y n p q = p
+delivered_if false x y n p q = q
 
 settling_if : (b : Bool) (x y : Settling) (n : ℕ) → size x.state ≤ n → size y.state ≤ n → size (cond b x y).state ≤ n
 settling_if true x y n p q = p
@@ -47,19 +47,19 @@ size_settled : (s : StreamState) → size (settled s).state ≤ size s
 size_settled s =
     settling_if (nat_le (stop s) s.position) (settling (Some step.Ended) (ended s)) (settled_by (summary_at s.position s.runs) s) (size s) (omega arith) (size_settled_by (summary_at s.position s.runs) s)
 
-size_or_step : (t : Option StreamStep) (s : StreamState) (o : Told) (n : ℕ) → size s ≤ n → size o.state ≤ n → size (or_step t s o).state ≤ n
+size_or_step : (t : Option StreamStep) (s : StreamState) (o : Delivery) (n : ℕ) → size s ≤ n → size o.state ≤ n → size (or_step t s o).state ≤ n
 size_or_step (Some t) s o n p q = p
 size_or_step None s o n p q = q
 
-size_or_else : (s : StreamState) (o : Told) (n : ℕ) → size s ≤ n → size o.state ≤ n → size (or_else s o).state ≤ n
+size_or_else : (s : StreamState) (o : Delivery) (n : ℕ) → size s ≤ n → size o.state ≤ n → size (or_else s o).state ≤ n
 size_or_else s o n p q =
     let h = size_settled s in
     size_or_step (settled s).step (settled s).state o n (omega (arith, h, p)) q
 
 -- ---- a segment
 
-size_early_if : (b : Bool) (runs : List EarlyRun) (i : ℕ) (r : EarlyRun) (s : StreamState) (y : Told) (room n : ℕ)
-    → room ≤ n → b ≡ nat_le (runs_size runs + length r.bytes + 144) room → size y.state ≤ n → size (cond b (told step.Kept (with_runs (insert runs i r) s)) y).state ≤ n
+size_early_if : (b : Bool) (runs : List EarlyRun) (i : ℕ) (r : EarlyRun) (s : StreamState) (y : Delivery) (room n : ℕ)
+    → room ≤ n → b ≡ nat_le (runs_size runs + length r.bytes + 144) room → size y.state ≤ n → size (cond b (delivered step.Kept (with_runs (insert runs i r) s)) y).state ≤ n
 size_early_if true runs i r s y room n p e q =
     let le = leb-true (runs_size runs + length r.bytes + 144) room (sym e) in
     let h = size_insert runs i r in
@@ -68,18 +68,18 @@ size_early_if false runs i r s y room n p e q = q
 
 size_placed : (s : StreamState) (g : Segment) (l : Place) (p : Part) (room n : ℕ) → room ≤ n → size s ≤ n → size (placed s g l p room).state ≤ n
 size_placed s g l p room n most now =
-    told_if
+    delivered_if
     (nat_le p.to p.from)
-    (told step.Done s)
+    (delivered step.Done s)
     _
     n
     now
-    (told_if
+    (delivered_if
     (p.from == s.position)
     (next_bytes (min (length g.bytes - l.skip) (p.to - p.from)) s g l p)
     (early_part s g l p room)
     n
-    (told_if (nat_lt 0 (min (length g.bytes - l.skip) (p.to - p.from))) _ _ n now now)
+    (delivered_if (nat_lt 0 (min (length g.bytes - l.skip) (p.to - p.from))) _ _ n now now)
     (size_early_if (nat_le (size s + length (early_bytes g l p) + 144) room) s.runs p.index (early_run_of g l p) s (lost (first_at p.from s.runs - s.position) s) room n most refl now))
 
 size_received : (s : StreamState) (g : Segment) (room n : ℕ) → room ≤ n → size s ≤ n → size (received s g room).state ≤ n
@@ -92,10 +92,10 @@ size_received s g room n most now =
 size_segment_at : (x : Stage) (s : StreamState) (g : Segment) (room n : ℕ) → room ≤ n → size s ≤ n → size (after_segment_at x s g room).state ≤ n
 size_segment_at Over s g room n most now = now
 size_segment_at Unseen s g room n most now =
-    told_if g.control.rst (told step.Reset (ended s)) (begun s g) n (omega arith)
-    (told_if (begins_stream g) (told (step.Began g.control.syn) (stream_state Open (first_number g.control) 0 [] None)) (told step.Done s) n (omega arith) now)
+    delivered_if g.control.rst (delivered step.Reset (ended s)) (begun s g) n (omega arith)
+    (delivered_if (begins_stream g) (delivered (step.Began g.control.syn) (stream_state Open (first_number g.control) 0 [] None)) (delivered step.Done s) n (omega arith) now)
 size_segment_at Open s g room n most now =
-    told_if g.control.rst (told step.Reset (ended s)) (received s g room) n (omega arith) (size_received s g room n most now)
+    delivered_if g.control.rst (delivered step.Reset (ended s)) (received s g room) n (omega arith) (size_received s g room n most now)
 
 -- no more than before, or than its room
 pub size_segment : (s : StreamState) (g : Segment) (room n : ℕ) → room ≤ n → size s ≤ n → size (after_segment s g room).state ≤ n
@@ -104,7 +104,7 @@ size_segment s g room n most now = size_segment_at s.stage s g room n most now
 -- ---- an acknowledgement, no more segments, bytes that are passed
 
 size_lost : (b : Bool) (s : StreamState) → size (lost_or_done b s).state ≤ size s
-size_lost b s = told_if b (lost (hole s) s) (told step.Done s) (size s) (omega arith) (omega arith)
+size_lost b s = delivered_if b (lost (hole s) s) (delivered step.Done s) (size s) (omega arith) (omega arith)
 
 size_acknowledgement_at : (x : Stage) (s : StreamState) (number : ℕ) → size (after_acknowledgement_at x s number).state ≤ size s
 size_acknowledgement_at Over s number = omega arith

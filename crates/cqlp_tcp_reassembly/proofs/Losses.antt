@@ -12,22 +12,22 @@ use Rattle.cqlp_tcp_reassembly.specs.declared.step.StreamStep.TheVariants.{Began
 use Rattle.cqlp_tcp_reassembly.specs.Sequence.{distance}
 use Rattle.cqlp_tcp_reassembly.specs.Segments.{Segment, begins_stream, first_number, next_number}
 use Rattle.cqlp_tcp_reassembly.specs.Runs.{behind_first, first_free, summary_at}
-use Rattle.cqlp_tcp_reassembly.specs.Streams.{StreamState, Told, after_acknowledgement_at, after_segment_at, begun, early_bytes, early_part}
+use Rattle.cqlp_tcp_reassembly.specs.Streams.{StreamState, Delivery, after_acknowledgement_at, after_segment_at, begun, early_bytes, early_part}
 use Rattle.cqlp_tcp_reassembly.specs.Streams.{early_run_of, ended, hole, is_acknowledged, is_lost, knows_hole, lost_or_done, moved, next_bytes}
-use Rattle.cqlp_tcp_reassembly.specs.Streams.{next_part, or_else, or_step, place_in, placed, received, settled_by, size, stop, stream_state, told}
+use Rattle.cqlp_tcp_reassembly.specs.Streams.{next_part, or_else, or_step, place_in, placed, received, settled_by, size, stop, stream_state, delivered}
 use Rattle.cqlp_tcp_reassembly.specs.Streams.{with_end}
 use Rattle.cqlp_tcp_reassembly.specs.StreamLaws.{IsAcknowledged, IsInTime}
 use Rattle.cqlp_tcp_reassembly.proofs.Carries.{early_length}
 use Rattle.cqlp_tcp_reassembly.proofs.Sizes.{size_insert}
 
-chosen : (b : Bool) (x y : Told) (P : Told → Type 0) → P x → P y → P (if b then x else y)
+chosen : (b : Bool) (x y : Delivery) (P : Delivery → Type 0) → P x → P y → P (if b then x else y)
 chosen true x y P hx hy = hx
 chosen false x y P hx hy = hy
 
 -- what is settled is no loss
-settled_run : (r : Option RunSummary) (s : StreamState) (otherwise : Told) (P : Told → Type 0)
-    → ((b : Bool) (time : Option ℕ) (z : StreamState) → P (told (Held time b) z))
-    → ((n : ℕ) (time : Option ℕ) (z : StreamState) → P (told (Gap n Snapped time) z)) → P otherwise
+settled_run : (r : Option RunSummary) (s : StreamState) (otherwise : Delivery) (P : Delivery → Type 0)
+    → ((b : Bool) (time : Option ℕ) (z : StreamState) → P (delivered (Held time b) z))
+    → ((n : ℕ) (time : Option ℕ) (z : StreamState) → P (delivered (Gap n Snapped time) z)) → P otherwise
     → P (or_step (settled_by r s).step (settled_by r s).state otherwise)
 settled_run None s otherwise P helds gaps other = other
 settled_run (Some r) s otherwise P helds gaps other =
@@ -37,9 +37,9 @@ settled_run (Some r) s otherwise P helds gaps other =
           (moved (min r.missing (stop s - s.position)) (behind_first s.runs) s))
     ]
 
-settled_any : (s : StreamState) (otherwise : Told) (P : Told → Type 0)
-    → ((z : StreamState) → P (told Ended z)) → ((b : Bool) (time : Option ℕ) (z : StreamState) → P (told (Held time b) z))
-    → ((n : ℕ) (time : Option ℕ) (z : StreamState) → P (told (Gap n Snapped time) z))
+settled_any : (s : StreamState) (otherwise : Delivery) (P : Delivery → Type 0)
+    → ((z : StreamState) → P (delivered Ended z)) → ((b : Bool) (time : Option ℕ) (z : StreamState) → P (delivered (Held time b) z))
+    → ((n : ℕ) (time : Option ℕ) (z : StreamState) → P (delivered (Gap n Snapped time) z))
     → P otherwise → P (or_else s otherwise)
 settled_any s otherwise P ends helds gaps other = elim (cases_lt s.position (stop s)) [
   | inl going ↦ rw (lt-leb (stop s) s.position going) (settled_run (summary_at s.position s.runs) s otherwise P helds gaps other)
@@ -66,8 +66,8 @@ early_in_time old s g l p room same =
 placed_in_time : (old s : StreamState) (g : Segment) (l : Place) (p : Part) (room : ℕ) → size s ≡ size old
     → IsInTime (placed s g l p room).step old (placed s g l p room).state g room
 placed_in_time old s g l p room same =
-    let P : Told → Type 0 = λ t. IsInTime t.step old t.state g room in
-    chosen (nat_le p.to p.from) (told Done s) (if nat_eq p.from s.position then next_part s g l p else early_part s g l p room) P tt
+    let P : Delivery → Type 0 = λ t. IsInTime t.step old t.state g room in
+    chosen (nat_le p.to p.from) (delivered Done s) (if nat_eq p.from s.position then next_part s g l p else early_part s g l p room) P tt
     (chosen (nat_eq p.from s.position) (next_part s g l p) (early_part s g l p room) P
     (next_in_time (min (length g.bytes - l.skip) (p.to - p.from)) old s g l p room) (early_in_time old s g l p room same))
 
@@ -75,14 +75,14 @@ pub in_time : (stage : Stage) (old : StreamState) (g : Segment) (room : ℕ)
     → IsInTime (after_segment_at stage old g room).step old (after_segment_at stage old g room).state g room
 in_time Over old g room = tt
 in_time Unseen old g room =
-    let P : Told → Type 0 = λ t. IsInTime t.step old t.state g room in
-    chosen g.control.rst (told Reset (ended old)) (begun old g) P tt
-    (chosen (begins_stream g) (told (Began g.control.syn) (stream_state Open (first_number g.control) 0 [] None)) (told Done old) P tt tt)
+    let P : Delivery → Type 0 = λ t. IsInTime t.step old t.state g room in
+    chosen g.control.rst (delivered Reset (ended old)) (begun old g) P tt
+    (chosen (begins_stream g) (delivered (Began g.control.syn) (stream_state Open (first_number g.control) 0 [] None)) (delivered Done old) P tt tt)
 in_time Open old g room =
-    let P : Told → Type 0 = λ t. IsInTime t.step old t.state g room in
+    let P : Delivery → Type 0 = λ t. IsInTime t.step old t.state g room in
     let l = place_in old g in
     let s = with_end g.control.fin l.to old in
-    chosen g.control.rst (told Reset (ended old)) (received old g room) P tt
+    chosen g.control.rst (delivered Reset (ended old)) (received old g room) P tt
     (settled_any s (placed s g l (first_free l.at (min l.to (stop s)) s.runs) room) P (λ z. tt) (λ b time z. tt) (λ n time z. tt)
     (placed_in_time old s g l (first_free l.at (min l.to (stop s)) s.runs) room refl))
 
@@ -96,5 +96,5 @@ pub acknowledged : (stage : Stage) (old : StreamState) (number : ℕ) → IsAckn
 acknowledged Over old number = tt
 acknowledged Unseen old number = tt
 acknowledged Open old number =
-    settled_any old (lost_or_done (is_lost old number) old) (λ (t : Told). IsAcknowledged t.step old number) (λ z. tt) (λ b time z. tt)
+    settled_any old (lost_or_done (is_lost old number) old) (λ (t : Delivery). IsAcknowledged t.step old number) (λ z. tt) (λ b time z. tt)
     (λ n time z. tt) (due (is_lost old number) old number refl)

@@ -9,7 +9,7 @@ use Rattle.cqlp_tcp_reassembly.specs.declared.step.StreamStep.{StreamStep}
 use Rattle.cqlp_tcp_reassembly.specs.declared.step.StreamStep.TheVariants.{Ended}
 use Rattle.cqlp_tcp_reassembly.specs.Segments.{Segment}
 use Rattle.cqlp_tcp_reassembly.specs.Runs.{first_free, summary_at}
-use Rattle.cqlp_tcp_reassembly.specs.Streams.{Settling, StreamState, Told, ended, or_step, place_in, placed, received, settled, settled_by, settling}
+use Rattle.cqlp_tcp_reassembly.specs.Streams.{Settling, StreamState, Delivery, ended, or_step, place_in, placed, received, settled, settled_by, settling}
 use Rattle.cqlp_tcp_reassembly.specs.Streams.{stop, with_end}
 
 none_by : (r : Option RunSummary) (s t : StreamState) → settling None t ≡ settled_by r s → t ≡ s
@@ -32,7 +32,7 @@ settled_none s t e =
     none_if (nat_le (stop s) s.position) (settling (Some Ended) (ended s)) (settled_by (summary_at s.position s.runs) s) s t
     (some_no Ended (ended s) t) (none_by (summary_at s.position s.runs) s t) e
 
-step_none : (z : Settling) (t : StreamState) (otherwise : Told) → settling None t ≡ z → or_step z.step z.state otherwise ≡ otherwise
+step_none : (z : Settling) (t : StreamState) (otherwise : Delivery) → settling None t ≡ z → or_step z.step z.state otherwise ≡ otherwise
 step_none z t otherwise e = subst (λ (x : Settling). or_step x.step x.state otherwise ≡ otherwise) e refl
 
 -- So a segment of which the place and the first free part are known is put there.

@@ -13,12 +13,12 @@ use Rattle.cqlp_tcp_reassembly.specs.declared.step.StreamStep.{StreamStep}
 use Rattle.cqlp_tcp_reassembly.specs.declared.step.StreamStep.TheVariants.{Began, Payload, Held, Gap, Kept, Ended, Reset, Done}
 use Rattle.cqlp_tcp_reassembly.specs.Segments.{Segment, begins_stream, first_number}
 use Rattle.cqlp_tcp_reassembly.specs.Runs.{EarlyRun, behind_first, first_at, first_free, run_end, summary, summary_at, without_bytes}
-use Rattle.cqlp_tcp_reassembly.specs.Streams.{StreamState, Told, after_acknowledgement, after_acknowledgement_at, after_close, after_close_at}
+use Rattle.cqlp_tcp_reassembly.specs.Streams.{StreamState, Delivery, after_acknowledgement, after_acknowledgement_at, after_close, after_close_at}
 use Rattle.cqlp_tcp_reassembly.specs.Streams.{after_segment, after_segment_at, begun, early_bytes, early_part, early_run_of, end_with, ended, held}
 use Rattle.cqlp_tcp_reassembly.specs.Streams.{hole, is_lost, knows_hole, lost_or_done, moved, next_part, or_else, or_step, passed, place_in, placed}
-use Rattle.cqlp_tcp_reassembly.specs.Streams.{received, settled_by, size, stop, stop_at, stream_state, told, with_end}
+use Rattle.cqlp_tcp_reassembly.specs.Streams.{received, settled_by, size, stop, stop_at, stream_state, delivered, with_end}
 use Rattle.cqlp_tcp_reassembly.specs.Laws.{AreInOrder, Carried, Entry, Holds, captured_byte, cut_off, early_entry, first, first_entry, run_entry, with_more}
-use Rattle.cqlp_tcp_reassembly.specs.StreamLaws.{Follows, HandsOn, IsAt, IsNear, Tells, WereCutOff}
+use Rattle.cqlp_tcp_reassembly.specs.StreamLaws.{Follows, HandsOn, IsAt, IsNear, Delivers, WereCutOff}
 use Rattle.cqlp_tcp_reassembly.proofs.Entries.{entry_byte, entry_cut, entry_past, more_past, more_some}
 use Rattle.cqlp_tcp_reassembly.proofs.Places.{Lies, lies}
 use Rattle.cqlp_tcp_reassembly.proofs.Parts.{IsFree, is_first_free, order_from, past_first}
@@ -86,21 +86,21 @@ cut_before : (segments : List Carried) (position n start end : ℕ) (g : Segment
 cut_before segments position n start end g time h =
     record { some = h.some; each = λ i lt. more_some segments start g end (position + i) (cut_off time) (h.each i lt) }
 
-settles_tell : (t : StreamStep) (segments : List Carried) (origin position start : ℕ) (g : Segment) (s : StreamState)
-    → Settles t segments origin position s → Tells t segments origin position start g s
-settles_tell (Gap n Snapped time) segments origin position start g s h = (
+settles_deliver : (t : StreamStep) (segments : List Carried) (origin position start : ℕ) (g : Segment) (s : StreamState)
+    → Settles t segments origin position s → Delivers t segments origin position start g s
+settles_deliver (Gap n Snapped time) segments origin position start g s h = (
   cut_before segments (origin + position) n start (origin + position + n) g time h.0,
   goes_past s (position + n) origin start
       (origin + position + n) g segments h.1 (omega arith),
 )
-settles_tell (Gap n Lost time) segments origin position start g s h = absurd h
-settles_tell (Held time begins) segments origin position start g s h = h
-settles_tell Ended segments origin position start g s h = h
-settles_tell (Began b) segments origin position start g s h = absurd h
-settles_tell (Payload from count) segments origin position start g s h = absurd h
-settles_tell Kept segments origin position start g s h = absurd h
-settles_tell Reset segments origin position start g s h = absurd h
-settles_tell Done segments origin position start g s h = absurd h
+settles_deliver (Gap n Lost time) segments origin position start g s h = absurd h
+settles_deliver (Held time begins) segments origin position start g s h = h
+settles_deliver Ended segments origin position start g s h = h
+settles_deliver (Began b) segments origin position start g s h = absurd h
+settles_deliver (Payload from count) segments origin position start g s h = absurd h
+settles_deliver Kept segments origin position start g s h = absurd h
+settles_deliver Reset segments origin position start g s h = absurd h
+settles_deliver Done segments origin position start g s h = absurd h
 
 begins_at : (begins : Bool) (a i : ℕ) → (begins && nat_eq (a + i) a) ≡ (begins && nat_eq i 0)
 begins_at begins a i = elim (cases_eq i 0) [
@@ -164,10 +164,10 @@ behind_run s origin n segments r runs holds is order few past = record {
   };
 }
 
-settled_run : (s : StreamState) (origin : ℕ) (segments : List Carried) (r : EarlyRun) (runs : List EarlyRun) (otherwise : Told) (P : Told → Type 0)
+settled_run : (s : StreamState) (origin : ℕ) (segments : List Carried) (r : EarlyRun) (runs : List EarlyRun) (otherwise : Delivery) (P : Delivery → Type 0)
     → Holds s origin segments → s.runs ≡ r ∷ runs → AreInOrder s.position (r ∷ runs) → r.at ≡ s.position → s.position < stop s
     → held s ≡ take (stop s - s.position) r.bytes
-    → ((t : StreamStep) (z : StreamState) → Settles t segments origin s.position z → P (told t z))
+    → ((t : StreamStep) (z : StreamState) → Settles t segments origin s.position z → P (delivered t z))
     → P (or_step (settled_by (Some (summary r)) s).step (settled_by (Some (summary r)) s).state otherwise)
 settled_run s origin segments r runs otherwise P holds is order at going lends settles = elim (cases_lt 0 (length r.bytes)) [
   | inl some ↦
@@ -184,11 +184,11 @@ settled_run s origin segments r runs otherwise P holds is order at going lends s
       ))
 ]
 
--- Either that, or what is told otherwise, where the first run lies behind the position.
-settled_or : (stage : Stage) (first position : ℕ) (runs : List EarlyRun) (end : Option ℕ) (origin : ℕ) (segments : List Carried) (otherwise : Told)
-    (P : Told → Type 0)
+-- Either that, or what is delivered otherwise, where the first run lies behind the position.
+settled_or : (stage : Stage) (first position : ℕ) (runs : List EarlyRun) (end : Option ℕ) (origin : ℕ) (segments : List Carried) (otherwise : Delivery)
+    (P : Delivery → Type 0)
     → Holds (stream_state stage first position runs end) origin segments → position < stop_at end
-    → ((t : StreamStep) (z : StreamState) → Settles t segments origin position z → P (told t z))
+    → ((t : StreamStep) (z : StreamState) → Settles t segments origin position z → P (delivered t z))
     → (AreInOrder (suc position) runs → P otherwise)
     → let s = stream_state stage first position runs end in P
     (or_step (settled_by (summary_at position runs) s).step (settled_by (summary_at position runs) s).state otherwise)
@@ -204,9 +204,9 @@ settled_or stage first position (r ∷ runs) end origin segments otherwise P hol
           rw (ne_eqb r.at position later) (other (omega arith, holds.order.1, holds.order.2))
     ]
 
-or_else_by : (s : StreamState) (origin : ℕ) (segments : List Carried) (otherwise : Told) (P : Told → Type 0)
+or_else_by : (s : StreamState) (origin : ℕ) (segments : List Carried) (otherwise : Delivery) (P : Delivery → Type 0)
     → Holds s origin segments
-    → ((t : StreamStep) (z : StreamState) → Settles t segments origin s.position z → P (told t z))
+    → ((t : StreamStep) (z : StreamState) → Settles t segments origin s.position z → P (delivered t z))
     → (s.position < stop s → AreInOrder (suc s.position) s.runs → P otherwise)
     → P (or_else s otherwise)
 or_else_by s origin segments otherwise P holds settles other = elim (cases_lt s.position (stop s)) [
@@ -220,7 +220,7 @@ or_else_by s origin segments otherwise P holds settles other = elim (cases_lt s.
 
 put_next : (s : StreamState) (origin start : ℕ) (segments : List Carried) (g : Segment) (l : Place) (p : Part)
     → Holds s origin segments → Lies origin s.position start g l → IsFree 0 s.position l.at (min l.to (stop s)) s.runs p → p.from ≡ s.position → p.from < p.to
-    → Tells (next_part s g l p).step segments origin s.position start g (next_part s g l p).state
+    → Delivers (next_part s g l p).step segments origin s.position start g (next_part s g l p).state
 put_next s origin start segments g l p holds lies free next some =
     let count = min (length g.bytes - l.skip) (p.to - p.from) in
     let behind = free.next next some in
@@ -244,7 +244,7 @@ put_next s origin start segments g l p holds lies free next some =
 put_early : (s : StreamState) (origin start : ℕ) (segments : List Carried) (g : Segment) (l : Place) (p : Part) (room : ℕ)
     → Holds s origin segments → Lies origin s.position start g l → IsFree 0 s.position l.at (min l.to (stop s)) s.runs p → s.position < p.from
     → p.from < p.to → AreInOrder (suc s.position) s.runs
-    → Tells (early_part s g l p room).step segments origin s.position start g (early_part s g l p room).state
+    → Delivers (early_part s g l p room).step segments origin s.position start g (early_part s g l p room).state
 put_early s origin start segments g l p room holds lies free later some behind =
     let count = size s + length (early_bytes g l p) + 144 in
     elim (cases_lt room count) [
@@ -276,7 +276,7 @@ put_early s origin start segments g l p room holds lies free later some behind =
 
 put : (s : StreamState) (origin start : ℕ) (segments : List Carried) (g : Segment) (l : Place) (p : Part) (room : ℕ)
     → Holds s origin segments → Lies origin s.position start g l → IsFree 0 s.position l.at (min l.to (stop s)) s.runs p → AreInOrder (suc s.position) s.runs
-    → Tells (placed s g l p room).step segments origin s.position start g (placed s g l p room).state
+    → Delivers (placed s g l p room).step segments origin s.position start g (placed s g l p room).state
 put s origin start segments g l p room holds lies free behind = elim (cases_lt p.from p.to) [
   | inl some ↦
       rw (lt-leb p.to p.from some) (elim (cases_eq p.from s.position) [
@@ -291,10 +291,10 @@ put s origin start segments g l p room holds lies free behind = elim (cases_lt p
 
 -- ---- each call
 
-received_tells : (old : StreamState) (origin start : ℕ) (segments : List Carried) (g : Segment) (room : ℕ)
+received_delivers : (old : StreamState) (origin start : ℕ) (segments : List Carried) (g : Segment) (room : ℕ)
     → Holds old origin segments → IsNear (origin + old.position) start → first_number g.control ≡ start % 2 ^ 32
-    → Tells (received old g room).step segments origin old.position start g (received old g room).state
-received_tells old origin start segments g room holds near numbers =
+    → Delivers (received old g room).step segments origin old.position start g (received old g room).state
+received_delivers old origin start segments g room holds near numbers =
     let l = place_in old g in
     let s = with_end g.control.fin l.to old in
     let there = lies old.first origin old.position start g holds.first numbers near.0 near.1 in
@@ -302,21 +302,21 @@ received_tells old origin start segments g room holds near numbers =
     let h = holds_end old g.control.fin l.to origin segments holds in
     let p = first_free l.at (min l.to (stop s)) s.runs in
     let free = is_first_free s.position l.at (min l.to (stop s)) s.runs holds.order low in
-    or_else_by s origin segments (placed s g l p room) (λ (t : Told). Tells t.step segments origin old.position start g t.state) h
-    (λ t z is. settles_tell t segments origin old.position start g z is)
+    or_else_by s origin segments (placed s g l p room) (λ (t : Delivery). Delivers t.step segments origin old.position start g t.state) h
+    (λ t z is. settles_deliver t segments origin old.position start g z is)
     (λ going behind. put s origin start segments g l p room h there free behind)
 
-not_reset : (rst : Bool) (x y : Told) (P : Told → Type 0) → rst ≡ false → P y → P (if rst then x else y)
+not_reset : (rst : Bool) (x y : Delivery) (P : Delivery → Type 0) → rst ≡ false → P y → P (if rst then x else y)
 not_reset true x y P is h = absurd cc
 not_reset false x y P is h = h
 
-pub tells : (old : StreamState) (origin start : ℕ) (segments : List Carried) (g : Segment) (room : ℕ)
+pub delivers : (old : StreamState) (origin start : ℕ) (segments : List Carried) (g : Segment) (room : ℕ)
     → old.stage ≡ Open → Holds old origin segments → IsNear (origin + old.position) start → g.control.rst ≡ false → first_number g.control ≡ start % 2 ^ 32
-    → Tells (after_segment old g room).step segments origin old.position start g (after_segment old g room).state
-tells old origin start segments g room at holds near goes numbers =
-    let P : Told → Type 0 = λ t. Tells t.step segments origin old.position start g t.state in
+    → Delivers (after_segment old g room).step segments origin old.position start g (after_segment old g room).state
+delivers old origin start segments g room at holds near goes numbers =
+    let P : Delivery → Type 0 = λ t. Delivers t.step segments origin old.position start g t.state in
     subst (λ (k : Stage). P (after_segment_at k old g room)) (sym at)
-    (not_reset g.control.rst (told Reset (ended old)) (received old g room) P goes (received_tells old origin start segments g room holds near numbers))
+    (not_reset g.control.rst (delivered Reset (ended old)) (received old g room) P goes (received_delivers old origin start segments g room holds near numbers))
 
 lost_follows : (lose : Bool) (s : StreamState) (origin : ℕ) (segments : List Carried) → Holds s origin segments → s.position < stop s
     → AreInOrder (suc s.position) s.runs
@@ -334,7 +334,7 @@ lost_follows false s origin segments holds going behind = record { at = refl; ho
 loses : (s : StreamState) (lose : Bool) (origin : ℕ) (segments : List Carried) → Holds s origin segments
     → Follows (or_else s (lost_or_done lose s)).step segments origin s.position (or_else s (lost_or_done lose s)).state
 loses s lose origin segments holds =
-    or_else_by s origin segments (lost_or_done lose s) (λ (t : Told). Follows t.step segments origin s.position t.state) holds
+    or_else_by s origin segments (lost_or_done lose s) (λ (t : Delivery). Follows t.step segments origin s.position t.state) holds
     (λ t z is. settles_follow t segments origin s.position z is)
     (λ going behind. lost_follows lose s origin segments holds going behind)
 

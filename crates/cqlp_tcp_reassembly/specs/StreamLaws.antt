@@ -9,7 +9,7 @@ use Rattle.cqlp_tcp_reassembly.specs.declared.step.StreamStep.TheVariants.{Paylo
 use Rattle.cqlp_tcp_reassembly.specs.Sequence.{distance}
 use Rattle.cqlp_tcp_reassembly.specs.Segments.{Segment, begins_stream, first_number, next_number}
 use Rattle.cqlp_tcp_reassembly.specs.Streams.{StreamState, after_acknowledgement, after_close, after_segment, begun, held, is_acknowledged, passed}
-use Rattle.cqlp_tcp_reassembly.specs.Streams.{size, stop, told}
+use Rattle.cqlp_tcp_reassembly.specs.Streams.{size, stop, delivered}
 use Rattle.cqlp_tcp_reassembly.specs.Laws.{Carried, Entry, Holds, captured_byte, carried_entry, cut_off, first_entry, with_more}
 
 -- of the segments the first that carried each position from this one on has these bytes and this time, and begins with the first
@@ -48,19 +48,19 @@ Follows t segments origin position s = ⊥
 
 -- Where a segment brings it, as far as it was taken: its own bytes; nothing, where a part was kept; nothing, where all of it before
 -- the stream's end was taken. What is lost this segment did not carry either.
-abbrev pub Tells : StreamStep → List Carried → (origin position : ℕ) → (start : ℕ) → Segment → StreamState → Type 0
-Tells (Payload from count) segments origin position start g s =
+abbrev pub Delivers : StreamStep → List Carried → (origin position : ℕ) → (start : ℕ) → Segment → StreamState → Type 0
+Delivers (Payload from count) segments origin position start g s =
     (length (take count (drop from g.bytes)) ≡ count)
     × HandsOn (with_more segments start g (origin + position + count)) (origin + position) (take count (drop from g.bytes)) (from == 0) g.time
     × IsAt s origin (position + count) (with_more segments start g (origin + position + count))
-Tells Kept segments origin position start g s = (end : ℕ) × IsAt s origin position (with_more segments start g end)
-Tells Done segments origin position start g s = IsAt s origin position (with_more segments start g (origin + stop s))
-Tells (Gap n Lost time) segments origin position start g s =
+Delivers Kept segments origin position start g s = (end : ℕ) × IsAt s origin position (with_more segments start g end)
+Delivers Done segments origin position start g s = IsAt s origin position (with_more segments start g (origin + stop s))
+Delivers (Gap n Lost time) segments origin position start g s =
     Lacks (with_more segments start g (origin + stop s)) (origin + position) n × (time ≡ None) × IsAt s origin (position + n) segments
-Tells (Gap n Snapped time) segments origin position start g s =
+Delivers (Gap n Snapped time) segments origin position start g s =
     WereCutOff (with_more segments start g (origin + position + n)) (origin + position) n time
     × IsAt s origin (position + n) (with_more segments start g (origin + position + n))
-Tells t segments origin position start g s = Follows t segments origin position s
+Delivers t segments origin position start g s = Follows t segments origin position s
 
 -- a segment that begins less than 2^31 bytes before or after a position
 abbrev pub IsNear : (position start : ℕ) → Type 0
@@ -74,27 +74,27 @@ BeginsEmpty =
     → IsAt (begun old g).state origin 0 []
 
 -- So it is of each call with a segment without RST that is near, in a stream that has begun,
-abbrev pub TellsTheFirst : Type 0
-TellsTheFirst =
+abbrev pub DeliversTheFirst : Type 0
+DeliversTheFirst =
     (old : StreamState) (origin : ℕ) (segments : List Carried) (start : ℕ) (g : Segment) (room : ℕ) (t : StreamStep) (s : StreamState)
     → old.stage ≡ Open → Holds old origin segments → IsNear (origin + old.position) start
     → g.control.rst ≡ false → first_number g.control ≡ start % 2 ^ 32
-    → told t s ≡ after_segment old g room
-    → Tells t segments origin old.position start g s
+    → delivered t s ≡ after_segment old g room
+    → Delivers t segments origin old.position start g s
 
 -- of each call with an acknowledgement, and at the close,
-abbrev pub TellsWhatIsLost : Type 0
-TellsWhatIsLost =
+abbrev pub ReportsWhatIsLost : Type 0
+ReportsWhatIsLost =
     (old : StreamState) (origin : ℕ) (segments : List Carried) (number : ℕ) (t : StreamStep) (s : StreamState)
     → old.stage ≡ Open → Holds old origin segments
-    → told t s ≡ after_acknowledgement old number
+    → delivered t s ≡ after_acknowledgement old number
     → Follows t segments origin old.position s
 
-abbrev pub TellsAtTheClose : Type 0
-TellsAtTheClose =
+abbrev pub DeliversAtTheClose : Type 0
+DeliversAtTheClose =
     (old : StreamState) (origin : ℕ) (segments : List Carried) (t : StreamStep) (s : StreamState)
     → old.stage ≡ Open → Holds old origin segments
-    → told t s ≡ after_close old
+    → delivered t s ≡ after_close old
     → Follows t segments origin old.position s
 
 -- and behind the bytes that it lent.
@@ -112,10 +112,10 @@ IsInTime (Gap n Lost time) old new g room = room < size old + length g.bytes + 1
 IsInTime Kept old new g room = size new ≤ room
 IsInTime t old new g room = ⊤
 
-abbrev pub TellsInTime : Type 0
-TellsInTime =
+abbrev pub DeliversInTime : Type 0
+DeliversInTime =
     (old : StreamState) (g : Segment) (room : ℕ) (t : StreamStep) (s : StreamState)
-    → told t s ≡ after_segment old g room
+    → delivered t s ≡ after_segment old g room
     → IsInTime t old s g room
 
 -- An acknowledgement brings one only of what it acknowledges.
@@ -126,7 +126,7 @@ IsAcknowledged t old number = ⊤
 abbrev pub LosesTheAcknowledged : Type 0
 LosesTheAcknowledged =
     (old : StreamState) (number : ℕ) (t : StreamStep) (s : StreamState)
-    → told t s ≡ after_acknowledgement old number
+    → delivered t s ≡ after_acknowledgement old number
     → IsAcknowledged t old number
 
 -- ---- duplicates and order
@@ -167,11 +167,11 @@ HandsOnTheSame =
 abbrev pub OneAnswerOfTake : Type 0
 OneAnswerOfTake =
     (old : StreamState) (g : Segment) (room : ℕ) (t u : StreamStep) (s r : StreamState)
-    → told t s ≡ after_segment old g room → told u r ≡ after_segment old g room
+    → delivered t s ≡ after_segment old g room → delivered u r ≡ after_segment old g room
     → (u ≡ t) × (r ≡ s)
 
 abbrev pub OneAnswerOfAcknowledge : Type 0
 OneAnswerOfAcknowledge =
     (old : StreamState) (number : ℕ) (t u : StreamStep) (s r : StreamState)
-    → told t s ≡ after_acknowledgement old number → told u r ≡ after_acknowledgement old number
+    → delivered t s ≡ after_acknowledgement old number → delivered u r ≡ after_acknowledgement old number
     → (u ≡ t) × (r ≡ s)

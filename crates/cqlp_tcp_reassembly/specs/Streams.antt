@@ -62,12 +62,12 @@ abbrev pub IsWithin : StreamStep → (len : ℕ) → Type 0
 IsWithin (step.Payload from count) len = from + count ≤ len
 IsWithin t len = ⊤
 
-pub record Told : Type 0 where
+pub record Delivery : Type 0 where
   pub step : StreamStep
   pub state : StreamState
 
-abbrev pub told : StreamStep → StreamState → Told
-told t s = record { step = t; state = s }
+abbrev pub delivered : StreamStep → StreamState → Delivery
+delivered t s = record { step = t; state = s }
 
 -- at an end it has no bytes
 abbrev pub ended : StreamState → StreamState
@@ -81,8 +81,8 @@ abbrev pub with_runs : List EarlyRun → StreamState → StreamState
 with_runs runs s = stream_state s.stage s.first s.position runs s.end
 
 -- a gap from the position on
-abbrev pub lost : (n : ℕ) → StreamState → Told
-lost n s = told (step.Gap n Lost None) (moved n s.runs s)
+abbrev pub lost : (n : ℕ) → StreamState → Delivery
+lost n s = delivered (step.Gap n Lost None) (moved n s.runs s)
 
 -- ---- what is settled: the end, and bytes that came early and are next
 
@@ -109,12 +109,12 @@ settled s =
     if nat_le (stop s) s.position then settling (Some step.Ended) (ended s)
     else settled_by (summary_at s.position s.runs) s
 
-abbrev pub or_step : Option StreamStep → StreamState → (otherwise : Told) → Told
-or_step (Some t) s otherwise = told t s
+abbrev pub or_step : Option StreamStep → StreamState → (otherwise : Delivery) → Delivery
+or_step (Some t) s otherwise = delivered t s
 or_step None s otherwise = otherwise
 
 -- what is settled, or else this
-abbrev pub or_else : StreamState → (otherwise : Told) → Told
+abbrev pub or_else : StreamState → (otherwise : Delivery) → Delivery
 or_else s otherwise = or_step (settled s).step (settled s).state otherwise
 
 -- the bytes that came early and are next, and the stream after them
@@ -132,11 +132,11 @@ passed s = passed_by (summary_at s.position s.runs) s
 -- ---- a segment
 
 -- The first segment with SYN, FIN or bytes begins the stream.
-abbrev pub begun : StreamState → Segment → Told
+abbrev pub begun : StreamState → Segment → Delivery
 begun s g =
     if begins_stream g
-    then told (step.Began g.control.syn) (stream_state Open (first_number g.control) 0 [] None)
-    else told step.Done s
+    then delivered (step.Began g.control.syn) (stream_state Open (first_number g.control) 0 [] None)
+    else delivered step.Done s
 
 -- the first FIN stays
 abbrev pub end_with : Option ℕ → (fin : Bool) → (to : ℕ) → Option ℕ
@@ -150,12 +150,12 @@ abbrev pub with_end : (fin : Bool) → (to : ℕ) → StreamState → StreamStat
 with_end fin to s = stream_state s.stage s.first s.position s.runs (end_with s.end fin to)
 
 -- A part of the segment that is next: its bytes, or those that were not captured.
-abbrev pub next_bytes : (count : ℕ) → StreamState → Segment → Place → Part → Told
+abbrev pub next_bytes : (count : ℕ) → StreamState → Segment → Place → Part → Delivery
 next_bytes count s g l p =
-    if nat_lt 0 count then told (step.Payload l.skip count) (moved count s.runs s)
-    else told (step.Gap (p.to - p.from) Snapped g.time) (moved (p.to - p.from) s.runs s)
+    if nat_lt 0 count then delivered (step.Payload l.skip count) (moved count s.runs s)
+    else delivered (step.Gap (p.to - p.from) Snapped g.time) (moved (p.to - p.from) s.runs s)
 
-abbrev pub next_part : StreamState → Segment → Place → Part → Told
+abbrev pub next_part : StreamState → Segment → Place → Part → Delivery
 next_part s g l p = next_bytes (min (length g.bytes - l.skip) (p.to - p.from)) s g l p
 
 -- A part that came early is kept where there is room. Where there is none, the hole before the first that came early is lost.
@@ -168,33 +168,33 @@ begins_at l p = (l.skip == 0) && (p.from == l.at)
 abbrev pub early_run_of : Segment → Place → Part → EarlyRun
 early_run_of g l p = run_of p (early_bytes g l p) (begins_at l p) g.time
 
-abbrev pub early_part : StreamState → Segment → Place → Part → (room : ℕ) → Told
+abbrev pub early_part : StreamState → Segment → Place → Part → (room : ℕ) → Delivery
 early_part s g l p room =
     if nat_le (size s + length (early_bytes g l p) + 144) room
-    then told step.Kept (with_runs (insert s.runs p.index (early_run_of g l p)) s)
+    then delivered step.Kept (with_runs (insert s.runs p.index (early_run_of g l p)) s)
     else lost (first_at p.from s.runs - s.position) s
 
 -- the first part that no run covers, if there is one
-abbrev pub placed : StreamState → Segment → Place → Part → (room : ℕ) → Told
+abbrev pub placed : StreamState → Segment → Place → Part → (room : ℕ) → Delivery
 placed s g l p room =
-    if nat_le p.to p.from then told step.Done s
+    if nat_le p.to p.from then delivered step.Done s
     else if p.from == s.position then next_part s g l p
     else early_part s g l p room
 
-abbrev pub received_at : Place → StreamState → Segment → (room : ℕ) → Told
+abbrev pub received_at : Place → StreamState → Segment → (room : ℕ) → Delivery
 received_at l s g room = or_else s (placed s g l (first_free l.at (min l.to (stop s)) s.runs) room)
 
-abbrev pub received : StreamState → Segment → (room : ℕ) → Told
+abbrev pub received : StreamState → Segment → (room : ℕ) → Delivery
 received s g room = received_at (place_in s g) (with_end g.control.fin (place_in s g).to s) g room
 
 -- RST ends it at once (RFC 9293, section 3.5.2), and what came early is not reported. After an end nothing is.
-abbrev pub after_segment_at : Stage → StreamState → Segment → (room : ℕ) → Told
-after_segment_at Over s g room = told step.Done s
-after_segment_at Unseen s g room = if g.control.rst then told step.Reset (ended s) else begun s g
+abbrev pub after_segment_at : Stage → StreamState → Segment → (room : ℕ) → Delivery
+after_segment_at Over s g room = delivered step.Done s
+after_segment_at Unseen s g room = if g.control.rst then delivered step.Reset (ended s) else begun s g
 after_segment_at Open s g room =
-    if g.control.rst then told step.Reset (ended s) else received s g room
+    if g.control.rst then delivered step.Reset (ended s) else received s g room
 
-abbrev pub after_segment : StreamState → Segment → (room : ℕ) → Told
+abbrev pub after_segment : StreamState → Segment → (room : ℕ) → Delivery
 after_segment s g room = after_segment_at s.stage s g room
 
 -- what stays where memory is refused
@@ -221,22 +221,22 @@ abbrev pub is_lost : StreamState → (number : ℕ) → Bool
 is_lost s number =
     knows_hole s && is_acknowledged (distance (next_number s.first s.position) number) (hole s)
 
-abbrev pub lost_or_done : Bool → StreamState → Told
-lost_or_done is s = if is then lost (hole s) s else told step.Done s
+abbrev pub lost_or_done : Bool → StreamState → Delivery
+lost_or_done is s = if is then lost (hole s) s else delivered step.Done s
 
-abbrev pub after_acknowledgement_at : Stage → StreamState → (number : ℕ) → Told
-after_acknowledgement_at Over s number = told step.Done s
-after_acknowledgement_at Unseen s number = told step.Done s
+abbrev pub after_acknowledgement_at : Stage → StreamState → (number : ℕ) → Delivery
+after_acknowledgement_at Over s number = delivered step.Done s
+after_acknowledgement_at Unseen s number = delivered step.Done s
 after_acknowledgement_at Open s number = or_else s (lost_or_done (is_lost s number) s)
 
-abbrev pub after_acknowledgement : StreamState → (number : ℕ) → Told
+abbrev pub after_acknowledgement : StreamState → (number : ℕ) → Delivery
 after_acknowledgement s number = after_acknowledgement_at s.stage s number
 
 -- no more segments come, so that each hole that is known is a gap
-abbrev pub after_close_at : Stage → StreamState → Told
-after_close_at Over s = told step.Done s
-after_close_at Unseen s = told step.Done s
+abbrev pub after_close_at : Stage → StreamState → Delivery
+after_close_at Over s = delivered step.Done s
+after_close_at Unseen s = delivered step.Done s
 after_close_at Open s = or_else s (lost_or_done (knows_hole s) s)
 
-abbrev pub after_close : StreamState → Told
+abbrev pub after_close : StreamState → Delivery
 after_close s = after_close_at s.stage s

@@ -57,7 +57,7 @@ impl<A: Allocator> Stream<A> {
     ghost use Rattle.cqlp_tcp_reassembly.specs.declared.stream.Stage.TheVariants.{Open};
     ghost use Rattle.cqlp_tcp_reassembly.specs.Streams.{after_acknowledgement, after_close, after_refusal, after_segment, begun, early_part, ended};
     ghost use Rattle.cqlp_tcp_reassembly.specs.Streams.{held, hole, is_lost, is_over, knows_hole, lost, lost_or_done, moved, next_part, passed};
-    ghost use Rattle.cqlp_tcp_reassembly.specs.Streams.{placed, received, settled, settled_by, size, stop, told, unseen, up_to_stop, with_end};
+    ghost use Rattle.cqlp_tcp_reassembly.specs.Streams.{placed, received, settled, settled_by, size, stop, delivered, unseen, up_to_stop, with_end};
     ghost use Rattle.cqlp_tcp_reassembly.specs.Runs.{behind_first};
 
     /// A stream of which nothing was seen. It has no memory.
@@ -87,7 +87,7 @@ impl<A: Allocator> Stream<A> {
     ) -> Result<StreamStep, AllocError>
     where
         A: Clone,
-        ensures told { IfOk result (λ step. told step self.new ≡ after_segment self.old (captured segment.now) room) }
+        ensures delivered { IfOk result (λ step. delivered step self.new ≡ after_segment self.old (captured segment.now) room) }
         ensures within { IfOk result (λ step. IsWithin step (length segment.now.payload.now)) }
         ensures refused { OnErr result (self.new ≡ after_refusal self.old (captured segment.now)) }
     {
@@ -113,7 +113,7 @@ impl<A: Allocator> Stream<A> {
     /// The next that an acknowledgement of the other side brings, which wants this number next: bytes before it that are missing
     /// are lost, if later ones came or FIN did.
     pub fn acknowledge(&mut self, number: u32) -> StreamStep
-        ensures { told result self.new ≡ after_acknowledgement self.old number }
+        ensures { delivered result self.new ≡ after_acknowledgement self.old number }
     {
         match self.stage {
             Stage::Over | Stage::Unseen => StreamStep::Done,
@@ -129,7 +129,7 @@ impl<A: Allocator> Stream<A> {
 
     /// The next where no more segments come: a hole is a gap, if later bytes came or FIN did.
     pub fn close(&mut self) -> StreamStep
-        ensures { told result self.new ≡ after_close self.old }
+        ensures { delivered result self.new ≡ after_close self.old }
     {
         match self.stage {
             Stage::Over | Stage::Unseen => StreamStep::Done,
@@ -147,7 +147,7 @@ impl<A: Allocator> Stream<A> {
     /// nor FIN are known. Where this says no, that may be so too.
     #[inline]
     pub fn ignores_acknowledgements(&self) -> bool
-        ensures { result ≡ true → (number : ℕ) → after_acknowledgement self.now number ≡ told Done self.now }
+        ensures { result ≡ true → (number : ℕ) → after_acknowledgement self.now number ≡ delivered Done self.now }
     {
         match self.stage {
             Stage::Over | Stage::Unseen => true,
@@ -159,7 +159,7 @@ impl<A: Allocator> Stream<A> {
     /// early are known. Where this says no, that may be so too.
     #[inline]
     pub fn is_behind(&self, segment: &StreamSegment<'_>) -> bool
-        ensures { result ≡ true → (room : ℕ) → after_segment self.now (captured segment.now) room ≡ told Done self.now }
+        ensures { result ≡ true → (room : ℕ) → after_segment self.now (captured segment.now) room ≡ delivered Done self.now }
     {
         let control = segment.control;
         if !self.is_open() || control.rst || control.fin || !self.is_plain() {
@@ -253,7 +253,7 @@ impl<A: Allocator> Stream<A> {
     /// Ends it, and gives its memory back.
     #[cold]
     fn finish(&mut self, step: StreamStep) -> StreamStep
-        ensures { told result self.new ≡ told step (ended self.old) }
+        ensures { delivered result self.new ≡ delivered step (ended self.old) }
     {
         self.stage = Stage::Over;
         self.runs.clear();
@@ -263,7 +263,7 @@ impl<A: Allocator> Stream<A> {
     /// Begins it at a segment with SYN, FIN or bytes.
     #[cold]
     fn begin(&mut self, segment: &StreamSegment<'_>) -> StreamStep
-        ensures told { told result self.new ≡ begun self.old (captured segment.now) }
+        ensures delivered { delivered result self.new ≡ begun self.old (captured segment.now) }
         ensures within { IsWithin result 0 }
     {
         if !segment.begins_stream() {
@@ -280,7 +280,7 @@ impl<A: Allocator> Stream<A> {
     /// The end of the stream or what came early, if either is next.
     #[inline]
     fn settle(&mut self) -> Option<StreamStep>
-        ensures told { settling result self.new ≡ settled self.old }
+        ensures delivered { settling result self.new ≡ settled self.old }
         ensures within { MatchOption result ⊤ (λ step. IsWithin step 0) }
     {
         if self.stop() <= self.position {
@@ -293,7 +293,7 @@ impl<A: Allocator> Stream<A> {
     /// The bytes of the first run, or where it has none those that were not captured.
     #[cold]
     fn settle_run(&mut self, run: RunSummary) -> StreamStep
-        ensures told { settling (Some result) self.new ≡ settled_by (Some run) self.old }
+        ensures delivered { settling (Some result) self.new ≡ settled_by (Some run) self.old }
         ensures within { IsWithin result 0 }
     {
         if run.length > 0 {
@@ -328,7 +328,7 @@ impl<A: Allocator> Stream<A> {
     ) -> Result<StreamStep, AllocError>
     where
         A: Clone,
-        ensures told { IfOk result (λ step. told step self.new ≡ received self.old (captured segment.now) room) }
+        ensures delivered { IfOk result (λ step. delivered step self.new ≡ received self.old (captured segment.now) room) }
         ensures within { IfOk result (λ step. IsWithin step (length segment.now.payload.now)) }
         ensures refused { OnErr result (self.new ≡ after_refusal self.old (captured segment.now)) }
     {
@@ -354,7 +354,7 @@ impl<A: Allocator> Stream<A> {
         requires at { place.at ≤ part.from }
         requires bound { part.to ≤ 2 ^ 62 }
         requires index { part.index ≤ length self.old.runs }
-        ensures told { IfOk result (λ step. told step self.new ≡ placed self.old (captured segment.now) place part room) }
+        ensures delivered { IfOk result (λ step. delivered step self.new ≡ placed self.old (captured segment.now) place part room) }
         ensures within { IfOk result (λ step. IsWithin step (length segment.now.payload.now)) }
         ensures refused { OnErr result (self.new ≡ self.old) }
     {
@@ -372,7 +372,7 @@ impl<A: Allocator> Stream<A> {
         requires order { part.from < part.to }
         requires next { part.from ≡ self.old.position }
         requires bound { part.to ≤ 2 ^ 62 }
-        ensures told { told result self.new ≡ next_part self.old (captured segment.now) place part }
+        ensures delivered { delivered result self.new ≡ next_part self.old (captured segment.now) place part }
         ensures within { IsWithin result (length segment.now.payload.now) }
     {
         let most = part.to - part.from;
@@ -408,7 +408,7 @@ impl<A: Allocator> Stream<A> {
         requires at { place.at ≤ part.from }
         requires bound { part.to ≤ 2 ^ 62 }
         requires index { part.index ≤ length self.old.runs }
-        ensures told { IfOk result (λ step. told step self.new ≡ early_part self.old (captured segment.now) place part room) }
+        ensures delivered { IfOk result (λ step. delivered step self.new ≡ early_part self.old (captured segment.now) place part room) }
         ensures within { IfOk result (λ step. IsWithin step (length segment.now.payload.now)) }
         ensures refused { OnErr result (self.new ≡ self.old) }
     {
@@ -433,7 +433,7 @@ impl<A: Allocator> Stream<A> {
     /// The bytes up to this position are lost.
     fn lose(&mut self, end: u64) -> StreamStep
         requires { end ≤ 2 ^ 62 }
-        ensures told { told result self.new ≡ lost (end - self.old.position) self.old }
+        ensures delivered { delivered result self.new ≡ lost (end - self.old.position) self.old }
         ensures within { IsWithin result 0 }
     {
         let length = end.saturating_sub(self.position);
@@ -471,7 +471,7 @@ impl<A: Allocator> Stream<A> {
 
     /// The hole at the position is lost, if it is.
     fn lose_hole(&mut self, is_lost: bool) -> StreamStep
-        ensures { told result self.new ≡ lost_or_done is_lost self.old }
+        ensures { delivered result self.new ≡ lost_or_done is_lost self.old }
     {
         if is_lost {
             let end = self.runs.first_at(self.stop());

@@ -120,7 +120,7 @@ fn capture_reader<A: Allocator + Clone>(heap: A) -> Answer {
     }
 }
 
-/// How many events a reader tells of the capture, byte by byte.
+/// How many events a reader reports of the capture, byte by byte.
 fn events_of<A: Allocator>(reader: &mut CaptureReader<A>) -> u32 {
     let mut events = 0u32;
     for byte in CAPTURE.chunks(1) {

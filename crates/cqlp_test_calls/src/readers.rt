@@ -55,7 +55,7 @@ fn reads_option(partial: &mut Partial, reader: &mut TypeReader, table: &mut Type
     TypeReader::push(partial, reader, table, &[7]) == TypePush::Done && table.len() == 2
 }
 
-/// Whether a cell of a column whose type is not told is read in two pieces.
+/// Whether a cell of a column whose type is not described is read in two pieces.
 fn reads_cell(partial: &mut Partial, reader: &mut CellReader, table: &TypeTable) -> bool
     requires idle { is_under_way reader.old ≡ false }
     requires stands { Stands table.now.nodes (begun reader.old None 38 45) }

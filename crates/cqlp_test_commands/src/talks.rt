@@ -30,11 +30,11 @@ fn over_memory(rt: &HostRuntime, count: u16, most: usize, first: &str) -> io::Re
     let _ = Pipe::down(&wires).write(&bytes);
     let mut out = OfStd::new(Vec::new(rt.alloc()));
     let outcome = converse(rt, count, &wires, &mut out);
-    tell(rt, &out.inner, outcome)
+    report(rt, &out.inner, outcome)
 }
 
 /// Prints what was written, and why it ends there, unless all is said.
-fn tell(rt: &HostRuntime, written: &[u8], outcome: Result<(), LoopFault>) -> io::Result<()> {
+fn report(rt: &HostRuntime, written: &[u8], outcome: Result<(), LoopFault>) -> io::Result<()> {
     print!(rt; "{}", str::from_utf8(written).unwrap_or("no text\n"))?;
     match outcome {
         Ok(()) => Ok(()),

@@ -66,23 +66,23 @@ form_of (asked_as.Summary false) = form.Summary naming.Fingerprint
 form_of (asked_as.Summary true) = form.Summary naming.Literal
 
 -- The input's exchanges that were asked for went to the output, and how it ended was reported with its status, after so many reads.
-abbrev pub TellsExchanges : StreamsLimits → ExchangeLimits → ExchangeOptions → (ports : List ℕ) → (before : Streams) → (status : ℕ) → (after : Streams) → Type 0
-TellsExchanges l most asked ports before status after =
+abbrev pub PrintsExchanges : StreamsLimits → ExchangeLimits → ExchangeOptions → (ports : List ℕ) → (before : Streams) → (status : ℕ) → (after : Streams) → Type 0
+PrintsExchanges l most asked ports before status after =
     IfKnown before.input before.out (λ xs. IsSome before.err.given →
     (m : ReadsMade) × ReadsInput m before after
     × WritesExchanges l most (filter_of asked) (form_of asked.form) ports xs m after.input.left before.out before.err status after.out after.err)
 
 -- The lines of the input's frames went to the output, those of one connection if one is asked for, and how it ended was reported with its
 -- status, after so many reads.
-abbrev pub TellsEvents : StreamsLimits → (asked : Option ℕ) → (ports : List ℕ) → (before : Streams) → (status : ℕ) → (after : Streams) → Type 0
-TellsEvents l asked ports before status after =
+abbrev pub PrintsEvents : StreamsLimits → (asked : Option ℕ) → (ports : List ℕ) → (before : Streams) → (status : ℕ) → (after : Streams) → Type 0
+PrintsEvents l asked ports before status after =
     IfKnown before.input before.out (λ xs. IsSome before.err.given →
     (m : ReadsMade) × ReadsInput m before after
     × WritesEvents l asked ports xs m after.input.left before.out before.err status after.out after.err)
 
 -- The pages of the input's connection with this number went to the output, and how it ended was reported with its status, after so many reads.
-abbrev pub TellsRows : StreamsLimits → (asked : ℕ) → (ports : List ℕ) → (before : Streams) → (status : ℕ) → (after : Streams) → Type 0
-TellsRows l asked ports before status after =
+abbrev pub PrintsRows : StreamsLimits → (asked : ℕ) → (ports : List ℕ) → (before : Streams) → (status : ℕ) → (after : Streams) → Type 0
+PrintsRows l asked ports before status after =
     IfKnown before.input before.out (λ xs. IsSome before.err.given →
     (m : ReadsMade) × ReadsInput m before after
     × WritesRows l asked ports xs m after.input.left before.out before.err status after.out after.err)
@@ -91,6 +91,6 @@ TellsRows l asked ports before status after =
 abbrev pub DoesCaptureTask : CaptureLimits → CaptureTask → (ports : List ℕ) → (before : Streams) → (status : ℕ) → (after : Streams) → Type 0
 DoesCaptureTask l (task.Streams folder) ports before status after = SplitsCapture (streams_limits_of l) folder.now ports before status after
 DoesCaptureTask l (task.Exchanges asked) ports before status after =
-    TellsExchanges (streams_limits_of l) (exchange_limits_of l) asked ports before status after
-DoesCaptureTask l (task.Events asked) ports before status after = TellsEvents (streams_limits_of l) asked ports before status after
-DoesCaptureTask l (task.Rows asked) ports before status after = TellsRows (streams_limits_of l) asked ports before status after
+    PrintsExchanges (streams_limits_of l) (exchange_limits_of l) asked ports before status after
+DoesCaptureTask l (task.Events asked) ports before status after = PrintsEvents (streams_limits_of l) asked ports before status after
+DoesCaptureTask l (task.Rows asked) ports before status after = PrintsRows (streams_limits_of l) asked ports before status after

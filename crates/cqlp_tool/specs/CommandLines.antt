@@ -64,12 +64,12 @@ abbrev pub ReportsWrong : (out err out' err' : Output) → Type 0
 ReportsWrong out err out' err' = (out' ≡ out) × ((text : List ℕ) × (err' ≡ with_text err text))
 
 -- What is written where the words start no task, by which of these it is.
-abbrev pub Tells : NoTask → (out err : Output) → (status : ℕ) → (out' err' : Output) → Type 0
-Tells (no_task.Help text) out err status out' err' =
+abbrev pub PrintsNoTask : NoTask → (out err : Output) → (status : ℕ) → (out' err' : Output) → Type 0
+PrintsNoTask (no_task.Help text) out err status out' err' =
     IsSome out.given → IsSome err.given → Helps (string_bytes text) out err status out' err'
-Tells (no_task.Mistake text) out err status out' err' =
+PrintsNoTask (no_task.Mistake text) out err status out' err' =
     IsSome err.given → ReportsMistake (string_bytes text) out err status out' err'
-Tells no_task.NoMemory out err status out' err' = IsSome err.given → ReportsNoMemory out err status out' err'
+PrintsNoTask no_task.NoMemory out err status out' err' = IsSome err.given → ReportsNoMemory out err status out' err'
 
 -- the form of the text of events, and of that of rows before the first page
 abbrev pub form_of_events : EventsAs → TextForm
@@ -108,7 +108,7 @@ Executes files (Ok (line.Loop queries)) before status after =
 Executes files (Ok (line.Capture options)) before status after =
     IsCaptureOfInput options → DoesCaptureTask options.limits options.task (named options.ports) before status after
 Executes files (Err reason) before status after =
-    Tells reason before.out before.err status after.out after.err
+    PrintsNoTask reason before.out before.err status after.out after.err
 
 -- It is no task with the input.
 abbrev pub NeedsNoInput : Result CommandLine NoTask → Type 0

@@ -9,7 +9,7 @@ ghost use Rattle.cqlp_options.specs.declared.capture.CaptureTask.TheVariants as 
 ghost use Rattle.cqlp_tcp_connections.specs.Limits.{is_in_range};
 ghost use Rattle.cqlp_tool.specs.Capturing.{DoesCaptureTask, IsCaptureOfInput, SplitsToFolder, filter_of, form_of};
 ghost use Rattle.cqlp_tool.specs.CommandLines.{Complains, DoesTask, Executes, Helps, NeedsNoInput, Performs, ReadsNoCapture};
-ghost use Rattle.cqlp_tool.specs.CommandLines.{ReportsFault, ReportsWrong, Tells, form_of_events, form_of_rows, rules_for};
+ghost use Rattle.cqlp_tool.specs.CommandLines.{ReportsFault, ReportsWrong, PrintsNoTask, form_of_events, form_of_rows, rules_for};
 ghost use Rattle.cqlp_tool.specs.Files.{DoesIfOpened, DoesOn};
 ghost use Rattle.cqlp_text.specs.Endings.{IsStatusOfTask, cannot_open_line as cannot_open_line_of};
 ghost use Rattle.cqlp_text.specs.Outputs.{written};
@@ -118,7 +118,7 @@ where
         Ok(CommandLine::Stream(options)) => stream(rt, options, input, out, err),
         Ok(CommandLine::Loop { queries }) => converse(rt, queries, out, err),
         Ok(CommandLine::Capture(options)) => capture(rt, options, input, out, err, notes),
-        Err(no_task) => tell(no_task, out, err),
+        Err(no_task) => print_no_task(no_task, out, err),
     }
 }
 
@@ -213,7 +213,7 @@ fn missing_folder<'a, R: Files>(rt: &R, asked: CaptureTask<'a>) -> Option<&'a st
     }
 }
 
-/// Does the task with a capture in a file. Where the file is long, `notes` is told how much of it was read.
+/// Does the task with a capture in a file. Where the file is long, `notes` gets how much of it was read.
 fn read_file<R: Files + AllocGlobal, O: Target, E: Target, N: Target + Drop>(
     rt: &R,
     options: &CaptureOptions<'_>,
@@ -402,8 +402,8 @@ fn cannot_open<E: Target>(file: &str, mut err: E) -> (u8, E)
 }
 
 /// Writes what there is in place of options: help or the version to `out`, and a mistake to `err`.
-fn tell<O: Target, E: Target>(no_task: NoTask, out: O, err: E) -> (u8, O, E)
-    ensures tells { Tells no_task (written O.Target out) (written E.Target err) result.0
+fn print_no_task<O: Target, E: Target>(no_task: NoTask, out: O, err: E) -> (u8, O, E)
+    ensures prints { PrintsNoTask no_task (written O.Target out) (written E.Target err) result.0
         (written O.Target result.1) (written E.Target result.2) }
     ensures status { result.0 ≤ 3 }
     ensures bad_command_line { result.0 ≡ 2 → IsSome (O.contents out) → IsSome (E.contents err) →

@@ -1,4 +1,4 @@
-//! A reader that tells how far it came.
+//! A reader that reports how far it came.
 
 ghost use Rattle.std.specs.Prelude.{◌≡◌, ◌+◌, ◌-◌, ◌≤◌, ◌^◌, IfOk, false, is_err, length, min, true};
 ghost use Rattle.cqlp_note.specs.Outputs.{Output, written};

@@ -213,7 +213,7 @@ new_stands : (i : InboxState) (from : Supply) (xs : List ℕ) → IsNew i → fr
 new_stands i from xs new left = record {
   events = [];
   rest = xs;
-  told = new.told;
+  emitted = new.emitted;
   rules = new.rules;
   left = left;
   stream = ap (λ (z : List ℕ). z ++ xs) (sym new.waiting);

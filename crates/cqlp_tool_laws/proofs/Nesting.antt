@@ -13,7 +13,7 @@ use Rattle.cqlp_grammar.specs.Productions.{raw_types}
 use Rattle.cqlp_message.proofs.Agreements.{MessageAgrees, of_test}
 use Rattle.cqlp_message.specs.FrameValues.{Spec, Message, Rows, FrameValue}
 use Rattle.cqlp_message.specs.Parts.{Type_is, PartWithin, PartsWithin}
-use Rattle.cqlp_message.specs.Bodies.{int, count, text, where_some, paging_parts, table_parts, spec_parts, metadata_parts, types_told, cell_types, column_types, row_parts, rows_parts, message_parts}
+use Rattle.cqlp_message.specs.Bodies.{int, count, text, where_some, paging_parts, table_parts, spec_parts, metadata_parts, types_described, cell_types, column_types, row_parts, rows_parts, message_parts}
 use Rattle.cqlp_message.specs.Agreement.{has_its_cells}
 use Rattle.cqlp_message.specs.Frames.{frame_parts, announced_parts}
 use Rattle.cqlp_tool_laws.specs.Rows.{nesting, NestsWithin}
@@ -157,18 +157,18 @@ module _ (l : Rules) where
       let one = each_right (PartWithin l) (table_parts c.table) (text field.ColumnName c.name ∷ Type_is c.tree ∷ []) (each_left (PartWithin l) (spec_parts c) (flat_map spec_parts cs) fits) in
       capped_after l.depth (types_in c.tree) (column_types cs) (capped_deep l.depth (types_in c.tree) (deep_trees l 1 c.tree one.1.0.0)) (capped_specs cs (each_right (PartWithin l) (spec_parts c) (flat_map spec_parts cs) fits))
 
-  capped_told : (columns : ℕ) (o : Option (List Spec)) → Each (PartWithin l) (where_some (flat_map spec_parts) o) → Capped l.depth (types_told columns o)
-  capped_told columns None fits = capped_raw l.depth columns
-  capped_told columns (Some cs) fits = capped_specs cs fits
+  capped_reported : (columns : ℕ) (o : Option (List Spec)) → Each (PartWithin l) (where_some (flat_map spec_parts) o) → Capped l.depth (types_described columns o)
+  capped_reported columns None fits = capped_raw l.depth columns
+  capped_reported columns (Some cs) fits = capped_specs cs fits
 
   nests_message : (m : Message) → MessageAgrees m → has_its_cells m ≡ true → Each IsOf (message_parts m) → Each (PartWithin l) (message_parts m) → NestsWithin l.depth m
-  nests_message (Rows p) told shape are fits =
+  nests_message (Rows p) reported shape are fits =
       let all : length p.cells ≡ p.rows * p.meta.columns = same_number (length p.cells) (p.rows * p.meta.columns) shape in
       let parts = rows_parts 0 (cell_types p.meta) p.rows p.cells in
-      let types = capped_told p.meta.columns p.meta.specs (each_right (PartWithin l) (int field.MetaFlags p.meta.flags ∷ count field.Columns p.meta.columns ∷ [] ++ paging_parts p.meta.paging ++ table_parts p.meta.table) (where_some (flat_map spec_parts) p.meta.specs)
+      let types = capped_reported p.meta.columns p.meta.specs (each_right (PartWithin l) (int field.MetaFlags p.meta.flags ∷ count field.Columns p.meta.columns ∷ [] ++ paging_parts p.meta.paging ++ table_parts p.meta.table) (where_some (flat_map spec_parts) p.meta.specs)
       (each_left (PartWithin l) (metadata_parts p.meta) (count field.Rows p.rows ∷ parts) fits.1)) in
-      nests_all l.depth p.cells (nests_rows l.depth 0 (cell_types p.meta) p.rows p.cells (all ∙ ap (λ n. p.rows * n) (sym (columns_are p.meta told))) (each_right IsOf (metadata_parts p.meta) (count field.Rows p.rows ∷ parts) are.1).1 types)
-  nests_message m told shape are fits = tt
+      nests_all l.depth p.cells (nests_rows l.depth 0 (cell_types p.meta) p.rows p.cells (all ∙ ap (λ n. p.rows * n) (sym (columns_are p.meta reported))) (each_right IsOf (metadata_parts p.meta) (count field.Rows p.rows ∷ parts) are.1).1 types)
+  nests_message m reported shape are fits = tt
 
   pub frame_nests : (f : FrameValue) → IsReady f → PartsWithin l (frame_parts f) → NestsWithin l.depth f.message
   frame_nests f ready fits =

@@ -320,17 +320,17 @@ module _ (form : TextForm) (limits : Rules) (turns : ℕ) (xs : List ℕ) (befor
   no_fault ending.SocketFault three shows counts ends reads (inl g) = shows
 
   -- a verdict line that fails is the error output's fault
-  told_right : (f : Finish) → Concludes (ending.Finished f) before.err status after.err → IsGranted turns xs before after ⊎ (status ≢ 3) → (status ≡ finish_status f) × (after.err ≡ with_text before.err (ending_line (ending.Finished f)))
-  told_right f (inl reported) g = (reported.0, reported.1)
-  told_right f (inr reported) (inl g) = absurd (counts_up before.err.failures g.error_output.0 (sym reported.1.failures ∙ g.error_output.1))
-  told_right f (inr reported) (inr not) = absurd (not reported.0)
+  reported_right : (f : Finish) → Concludes (ending.Finished f) before.err status after.err → IsGranted turns xs before after ⊎ (status ≢ 3) → (status ≡ finish_status f) × (after.err ≡ with_text before.err (ending_line (ending.Finished f)))
+  reported_right f (inl reported) g = (reported.0, reported.1)
+  reported_right f (inr reported) (inl g) = absurd (counts_up before.err.failures g.error_output.0 (sym reported.1.failures ∙ g.error_output.1))
+  reported_right f (inr reported) (inr not) = absurd (not reported.0)
 
   module _ (es : List (ℕ × Event)) (v : Verdict) (says : Says limits start xs es v) (granted : IsGranted turns xs before after ⊎ (status ≢ 3)) where
     pub shown_right : (e : Ending) → ShowsTo form limits turns e xs after.input.left before.out after.out → CountsReads e before.input.failures after.input.failures → Concludes e before.err status after.err → ReadsBy turns e before.input after.input
         → (f : Finish) × EndsAs xs es v f × (status ≡ finish_status f) × (after.out ≡ with_text before.out (text form es)) × (after.err ≡ with_text before.err (ending_line (ending.Finished f)))
     shown_right (ending.Finished f) shows counts ends reads =
         let whole = whole_by [] form turns f shows.old shows.new xs after.input.left before.out after.out (texts_to form turns (outcome.Finished f) shows.old shows.new xs after.input.left before.out after.out shows.renders) limits [] [] shows.fresh shows.unrefused (shows.same_rules ∙ shows.rules) es v says in
-        let reported = told_right f ends granted in
+        let reported = reported_right f ends granted in
         (f, whole.1, reported.0, whole.0, reported.1)
     shown_right ending.ReadFault shows counts ends reads = absurd (no_fault ending.ReadFault refl shows counts ends reads granted)
     shown_right ending.WriteFault shows counts ends reads = absurd (no_fault ending.WriteFault refl shows counts ends reads granted)

@@ -114,9 +114,9 @@ module _ (l : Rules) (some : 1 ≤ l.part) where
     writes_specs [] = writes_nothing here
     writes_specs (c ∷ cs) = writes_then here here here (spec_parts c) (flat_map spec_parts cs) (column_line c.name) (flat_map (λ c. column_line c.name) cs) (writes_spec c) (writes_specs cs)
 
-    writes_told : (o : Option (List Spec)) → Writes here (where_some (flat_map spec_parts) o) (column_lines o) here
-    writes_told None = writes_nothing here
-    writes_told (Some cs) = writes_specs cs
+    writes_reported : (o : Option (List Spec)) → Writes here (where_some (flat_map spec_parts) o) (column_lines o) here
+    writes_reported None = writes_nothing here
+    writes_reported (Some cs) = writes_specs cs
 
     writes_rows_line : (rows : ℕ) → Writes here (count field.Rows rows ∷ []) (page_line columns rows) here
     writes_rows_line rows = record { text = λ at more. refl }
@@ -127,7 +127,7 @@ module _ (l : Rules) (some : 1 ≤ l.part) where
   writes_metadata : (m : Metadata) → Writes (within_page 0 0) (metadata_parts m) (column_lines m.specs) (within_page m.columns 0)
   writes_metadata m =
       let inside = within_page m.columns 0 in
-      writes_then (within_page 0 0) inside inside _ _ [] (column_lines m.specs) (writes_then (within_page 0 0) inside inside _ _ [] [] (writes_then (within_page 0 0) inside inside _ _ [] [] (writes_start m.flags m.columns) (writes_paging m.columns m.paging)) (writes_table m.columns m.table)) (writes_told m.columns m.specs)
+      writes_then (within_page 0 0) inside inside _ _ [] (column_lines m.specs) (writes_then (within_page 0 0) inside inside _ _ [] [] (writes_then (within_page 0 0) inside inside _ _ [] [] (writes_start m.flags m.columns) (writes_paging m.columns m.paging)) (writes_table m.columns m.table)) (writes_reported m.columns m.specs)
 
   -- ---- cells
 
@@ -312,13 +312,13 @@ module _ (l : Rules) (some : 1 ≤ l.part) where
         ∙ ap (λ t. t ++ page_text no_page more) (sym nothing)
 
     body_text : (m : Message) → MessageAgrees m → message_agrees m ≡ true → has_its_cells m ≡ true → Each IsOf (ps ++ message_parts m) → NestsWithin 64 m → IsWritten m
-    body_text (Rows p) told agrees shape are nests =
-        let many = columns_are p.meta told in
+    body_text (Rows p) reported agrees shape are nests =
+        let many = columns_are p.meta reported in
         let all : length p.cells ≡ p.rows * p.meta.columns = same_number (length p.cells) (p.rows * p.meta.columns) shape in
         let parts = rows_parts 0 (cell_types p.meta) p.rows p.cells in
         let page = writes_page p many all (each_right IsOf (metadata_parts p.meta) (count field.Rows p.rows ∷ parts) (each_right IsOf ps (message_parts (Rows p)) are).1).1 (all_nests 64 p.cells nests) in
         page_in_frame p p.meta.columns page.0 page.1
-    body_text m told agrees shape are nests = other_text m refl refl agrees
+    body_text m reported agrees shape are nests = other_text m refl refl agrees
 
   pub frame_then : (at x : ℕ) (f : FrameValue) (more : List (ℕ × Event)) → IsReady f → NestsWithin 64 f.message → page_text no_page (Flat l at f x ++ more) ≡ message_text f.message ++ page_text no_page more
   frame_then at x f more ready nests =

@@ -17,10 +17,10 @@ use Rattle.cqlp_decode.specs.Streams.{AfterBy, Stands, state}
 use Rattle.cqlp_loop.specs.declared.fault.LoopFault.{LoopFault}
 use Rattle.cqlp_loop.specs.declared.fault.LoopFault.TheVariants as fault
 use Rattle.cqlp_loop.specs.Hearing.{Hearing, idle, amid, with_events}
-use Rattle.cqlp_loop.specs.Inboxes.{Supply, InboxState, HasTold, Hears, Lacks, Misses, Receives, for_next}
+use Rattle.cqlp_loop.specs.Inboxes.{Supply, InboxState, HasEmitted, Hears, Lacks, Misses, Receives, for_next}
 use Rattle.cqlp_loop.proofs.Seeking.{events_then}
 use Rattle.cqlp_tool_laws.specs.Conversations.{IsSound}
-use Rattle.cqlp_tool_laws.proofs.TalkFronts.{Told, Ended, behind, behind_events, either, within, one_between, one_verdict, same_header, whole_not_amid, whole_not_before, begun_not_before, refused_on}
+use Rattle.cqlp_tool_laws.proofs.TalkFronts.{Reported, Ended, behind, behind_events, either, within, one_between, one_verdict, same_header, whole_not_amid, whole_not_before, begun_not_before, refused_on}
 
 -- a count of failures that is not at its end goes up
 pub counts_up : (n : ℕ) → n < 2 ^ 64 - 1 → counted true n ≡ n → ⊥
@@ -53,7 +53,7 @@ module _ (l : Rules) (xs : List ℕ) where
   pub record Stood (used : List ℕ) (i : InboxState) (at : Supply) (x : Hearing) : Type 0 where
     pub events : List (ℕ × Event)
     pub rest : List ℕ
-    pub told : HasTold (state i.decoder) used events
+    pub emitted : HasEmitted (state i.decoder) used events
     pub rules : (state i.decoder).rules ≡ l
     pub left : at.left ≡ Some rest
     pub stream : xs ≡ used ++ (i.waiting ++ rest)
@@ -64,7 +64,7 @@ module _ (l : Rules) (xs : List ℕ) where
 
   module _ (used : List ℕ) (i : InboxState) (at : Supply) (x : Hearing) (st : Stood used i at x) where
     stands : Stands [] (state i.decoder) used st.events
-    stands = subst (λ (o : Option Refusal). AfterBy o [] (state i.decoder) used st.events) st.told.0 st.told.1
+    stands = subst (λ (o : Option Refusal). AfterBy o [] (state i.decoder) used st.events) st.emitted.0 st.emitted.1
 
     read_on : Reads l start xs st.events stands.place (stands.bytes ++ (i.waiting ++ st.rest))
     read_on =
@@ -72,8 +72,8 @@ module _ (l : Rules) (xs : List ℕ) where
         let on = runs_stay (step l) start used (i.waiting ++ st.rest) st.events stands.place stands.bytes read in
         subst (λ (z : List ℕ). Reads l start z st.events stands.place (stands.bytes ++ (i.waiting ++ st.rest))) (sym st.stream) on
 
-    pub stood_told : Told l xs x
-    stood_told = record { events = st.events; place = stands.place; rest = stands.bytes ++ (i.waiting ++ st.rest); read = read_on; heard = st.heard }
+    pub stood_reported : Reported l xs x
+    stood_reported = record { events = st.events; place = stands.place; rest = stands.bytes ++ (i.waiting ++ st.rest); read = read_on; heard = st.heard }
 
     none_before : IsPending (state i.decoder).pending [] → stands.bytes ++ (i.waiting ++ st.rest) ≡ i.waiting ++ st.rest
     none_before none = ap (λ (z : List ℕ). z ++ (i.waiting ++ st.rest)) (pending_none (state i.decoder).pending stands.bytes none stands.pending)
@@ -88,7 +88,7 @@ module _ (l : Rules) (xs : List ℕ) where
       let rest : i'.waiting ++ st'.rest ≡ i.waiting ++ st.rest = sym (none_before u' i' at' (idle hs) st' stop'.0) ∙ same ∙ none_before u i at (idle hs) st stop.0 in
       append_cancel_right u' u (i.waiting ++ st.rest) (ap (λ (z : List ℕ). u' ++ z) (sym rest) ∙ sym st'.stream ∙ st.stream)
 
-  -- after the headers that were heard, what more events tell
+  -- after the headers that were heard, what more events hold
   heard_behind : (hs : List Header) (y : Hearing) (es more : List (ℕ × Event)) → with_events (idle []) es ≡ idle hs → with_events (idle []) more ≡ y → with_events (idle []) (es ++ more) ≡ behind hs y
   heard_behind hs y es more here there =
       events_then (idle []) es more ∙ ap (λ (z : Hearing). with_events z more) (here ∙ ap (λ (z : List Header). idle z) (sym (append-nil hs)))
@@ -98,13 +98,13 @@ module _ (l : Rules) (xs : List ℕ) where
   pub heard_on : (used : List ℕ) (old new : InboxState) (from left : Supply) (hs : List Header) (y : Hearing) → Stood used old from (idle hs) → (h : Hears (for_next old) from new left (idle []) y) → Stood (used ++ h.used) new left (behind hs y)
   heard_on used old new from left hs y st h =
       let c = consumed from.left left.left st.rest h.read st.left h.reads.taken in record {
-        events = st.events ++ h.tells.more;
+        events = st.events ++ h.emits.more;
         rest = c.0;
-        told = h.tells.leads used st.events st.told;
-        rules = h.tells.rules ∙ st.rules;
+        emitted = h.emits.leads used st.events st.emitted;
+        rules = h.emits.rules ∙ st.rules;
         left = c.1;
         stream = st.stream ∙ ap (λ (z : List ℕ). used ++ (old.waiting ++ z)) c.2 ∙ regroup used old.waiting h.read h.used new.waiting c.0 h.split;
-        heard = heard_behind hs y st.events h.tells.more st.heard h.tells.heard;
+        heard = heard_behind hs y st.events h.emits.more st.heard h.emits.heard;
       }
 
   -- A front of the stream says these events and this verdict, and the source has the rest.
@@ -123,7 +123,7 @@ module _ (l : Rules) (xs : List ℕ) where
         bytes = used ++ (old.waiting ++ k.read);
         rest = c.0;
         events = st.events ++ k.says.more;
-        says = subst (λ (z : Rules). Says z start (used ++ (old.waiting ++ k.read)) (st.events ++ k.says.more) v) st.rules (k.says.says used st.events st.told);
+        says = subst (λ (z : Rules). Says z start (used ++ (old.waiting ++ k.read)) (st.events ++ k.says.more) v) st.rules (k.says.says used st.events st.emitted);
         left = c.1;
         stream = st.stream ∙ ap (λ (z : List ℕ). used ++ (old.waiting ++ z)) c.2 ∙ ap (λ (z : List ℕ). used ++ z) (sym (append_assoc old.waiting k.read c.0)) ∙ sym (append_assoc used (old.waiting ++ k.read) c.0);
         heard = heard_behind hs y st.events k.says.more st.heard k.says.heard;
@@ -154,11 +154,11 @@ module _ (l : Rules) (xs : List ℕ) where
 
     -- the next message has a header that is refused
     abbrev TurnedAway : Type 0
-    TurnedAway = (h : Header) × refuses h × Told l xs (amid (hs ++ h ∷ []))
+    TurnedAway = (h : Header) × refuses h × Reported l xs (amid (hs ++ h ∷ []))
 
     -- the next message is whole
     abbrev Whole : Header → Type 0
-    Whole h = takes h × Told l xs (idle (hs ++ h ∷ []))
+    Whole h = takes h × Reported l xs (idle (hs ++ h ∷ []))
 
     -- why it does not come
     abbrev Failed : LoopFault → Type 0
@@ -167,7 +167,7 @@ module _ (l : Rules) (xs : List ℕ) where
     Failed e = ⊥
 
     whole : (used : List ℕ) (old new : InboxState) (from left : Supply) (h : Header) → Stood used old from (idle hs) → Receives takes refuses old from (Ok h) new left → Whole h
-    whole used old new from left h st r = (r.0, stood_told (used ++ r.2.used) new left (idle (hs ++ h ∷ [])) (heard_on used old new from left hs (idle (h ∷ [])) st r.2))
+    whole used old new from left h st r = (r.0, stood_reported (used ++ r.2.used) new left (idle (hs ++ h ∷ [])) (heard_on used old new from left hs (idle (h ∷ [])) st r.2))
 
     cut_bad : (used : List ℕ) (old : InboxState) (from left : Supply) (y : Hearing) → Stood used old from (idle hs) → IsCut (behind hs y) → Misses (for_next old) from fault.BadReply left (idle []) y → Failed fault.BadReply
     cut_bad used old from left y st cut m =
@@ -186,7 +186,7 @@ module _ (l : Rules) (xs : List ℕ) where
     failed : (used : List ℕ) (old new : InboxState) (from left : Supply) (e : LoopFault) → Stood used old from (idle hs) → Receives takes refuses old from (Err e) new left → IsDecidedBy e from left → Failed e
     failed used old new from left fault.BadReply st (inl m) d = cut_bad used old from left (idle []) st (inl refl) m
     failed used old new from left fault.BadReply st (inr (inl m)) d = cut_bad used old from left (amid (m.0 ∷ [])) st (inr (m.0, m.1, refl)) m.2
-    failed used old new from left fault.BadReply st (inr (inr m)) d = inr (m.0, m.1, stood_told (used ++ m.3.used) new left (amid (hs ++ m.0 ∷ [])) (heard_on used old new from left hs (amid (m.0 ∷ [])) st m.3))
+    failed used old new from left fault.BadReply st (inr (inr m)) d = inr (m.0, m.1, stood_reported (used ++ m.3.used) new left (amid (hs ++ m.0 ∷ [])) (heard_on used old new from left hs (amid (m.0 ∷ [])) st m.3))
     failed used old new from left fault.SocketFault st (inl m) d = cut_end used old from left (idle []) d st (inl refl) m
     failed used old new from left fault.SocketFault st (inr (inl m)) d = cut_end used old from left (amid (m.0 ∷ [])) d st (inr (m.0, m.1, refl)) m.2
     failed used old new from left fault.SocketFault st (inr (inr m)) d = absurd (let is = m.2 in cc)
@@ -273,7 +273,7 @@ module _ (l : Rules) (xs : List ℕ) {C : Type 0} (takes refuses : C → Header 
   stand_on h h' x y =
       let near = heard_on l xs used i j from left hs (idle (h ∷ [])) here x.2 in
       let far = subst (λ (z : Header). Stood l xs (used ++ y.2.used) j' left' (idle (hs ++ z ∷ []))) (one_header h h' x y) (heard_on l xs used i' j' from' left' hs (idle (h' ∷ [])) there y.2) in
-      let same = one_used l xs (used ++ x.2.used) (used ++ y.2.used) j j' left left' (hs ++ h ∷ []) near far (x.1.stops used here.events here.told) (y.1.stops used there.events there.told) in
+      let same = one_used l xs (used ++ x.2.used) (used ++ y.2.used) j j' left left' (hs ++ h ∷ []) near far (x.1.stops used here.events here.emitted) (y.1.stops used there.events there.emitted) in
       record { bytes = used ++ x.2.used; near = near; far = subst (λ (z : List ℕ). Stood l xs z j' left' (idle (hs ++ h ∷ []))) same far; waiting = x.1.waiting; waiting' = y.1.waiting }
 
   pub not_other : (h : Header) (e' : LoopFault) → Got (Ok h) → GotToo (Err e') → IsDecidedBy e' from' left' → ⊥

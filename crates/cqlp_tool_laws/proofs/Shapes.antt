@@ -17,7 +17,7 @@ use Rattle.cqlp_message.proofs.FramesWritten.{is_fit}
 use Rattle.cqlp_message.proofs.PageWalks.{how_many-raw}
 use Rattle.cqlp_message.specs.FrameValues.{TableName, Spec, Metadata, FrameValue}
 use Rattle.cqlp_message.specs.Parts.{Part, Field_is, Type_is, Cell_is, PartWithin, PartsWithin, PartSpells, PartsSpell, cell_fits}
-use Rattle.cqlp_message.specs.Bodies.{where_some, types_told, cell_types, column_types, message_parts}
+use Rattle.cqlp_message.specs.Bodies.{where_some, types_described, cell_types, column_types, message_parts}
 use Rattle.cqlp_message.specs.Agreement.{bits, frame_agrees, has_its_cells}
 use Rattle.cqlp_message.specs.Frames.{FrameSpells, frame_parts, announced_parts, unfit_of}
 
@@ -79,12 +79,12 @@ many_columns own (c ∷ cs) each =
     let rest = many_columns own cs (λ k d lt. each (suc k) d (omega arith)) in
     omega (arith, many_after (types_in c.tree) (column_types cs), many_in c.tree)
 
-told_are : (flags columns : ℕ) (table : Option TableName) (o : Option (List Spec)) → ColumnsAgree flags columns table o → how_many (types_told columns o) ≡ columns
-told_are flags columns table None agree = how_many-raw columns
-told_are flags columns table (Some cs) agree = many_columns (not (has flags 0x01)) cs agree.1.each ∙ agree.1.number
+reported_are : (flags columns : ℕ) (table : Option TableName) (o : Option (List Spec)) → ColumnsAgree flags columns table o → how_many (types_described columns o) ≡ columns
+reported_are flags columns table None agree = how_many-raw columns
+reported_are flags columns table (Some cs) agree = many_columns (not (has flags 0x01)) cs agree.1.each ∙ agree.1.number
 
 pub columns_are : (m : Metadata) → MetadataAgrees m → how_many (cell_types m) ≡ m.columns
-columns_are m agrees = told_are (bits m.flags) m.columns m.table m.specs agrees.columns
+columns_are m agrees = reported_are (bits m.flags) m.columns m.table m.specs agrees.columns
 
 pub same_number : (a b : ℕ) → (a == b) ≡ true → a ≡ b
 same_number a b e = grind (arith, nat_tests)

@@ -14,7 +14,7 @@ use Rattle.cqlp_render.specs.Showing.{Concludes}
 use Rattle.cqlp_skip.specs.declared.frame.OpenFrame.{OpenFrame}
 use Rattle.cqlp_skip.specs.Pieces.{refusal_from}
 use Rattle.cqlp_skip.specs.Skipping.{Skipping, FinishesAs, finish_from, stream}
-use Rattle.cqlp_skip.specs.Stretches.{Stretch, GivenUp, base_after, frame_under_way, told_at}
+use Rattle.cqlp_skip.specs.Stretches.{Stretch, GivenUp, base_after, frame_under_way, stream_offset}
 use Rattle.cqlp_skip_laws.specs.Laws.{gifts_of}
 use Rattle.cqlp_skip_laws.proofs.Once.{once}
 use Rattle.cqlp_text.specs.declared.ending.Ending.TheVariants as ending
@@ -54,11 +54,11 @@ module _ (l : Rules) (xs : List ℕ) where
   further a (y ∷ ys) (suc k) long ga gb p q = further a ys k (omega (arith, long)) ga gb.2 p q.1
 
   -- what the bytes of the stretch after these say
-  abbrev Told : List Stretch → List (ℕ × Event) → Verdict → Type 0
-  Told a es v = Says l (start_with []) (drop (base_after a) xs) es v
+  abbrev Reported : List Stretch → List (ℕ × Event) → Verdict → Type 0
+  Reported a es v = Says l (start_with []) (drop (base_after a) xs) es v
 
-  told_further : (a : List Stretch) (g : GoesFurther a) → Told a g.next.events (Refused g.next.refusal.at g.next.refusal.why) × (frame_under_way g.next.events ≡ Some g.next.frame)
-  told_further a g =
+  reported_further : (a : List Stretch) (g : GoesFurther a) → Reported a g.next.events (Refused g.next.refusal.at g.next.refusal.why) × (frame_under_way g.next.events ≡ Some g.next.frame)
+  reported_further a g =
       let from : g.next.from ≡ base_after a = g.given_up.0 in
       let says = g.given_up.1.0 in (
         subst (λ (n : ℕ). Says l (start_with []) (drop n xs) g.next.events (Refused g.next.refusal.at g.next.refusal.why)) from
@@ -68,11 +68,11 @@ module _ (l : Rules) (xs : List ℕ) where
 
   -- a reading stands at its end there: no frame can be passed over
   abbrev pub EndsAt : List Stretch → List (ℕ × Event) → Verdict → Type 0
-  EndsAt a es v = Told a es v × ((v ≡ Waits) ⊎ (frame_under_way es ≡ None))
+  EndsAt a es v = Reported a es v × ((v ≡ Waits) ⊎ (frame_under_way es ≡ None))
 
   no_further : (a : List Stretch) (es : List (ℕ × Event)) (v : Verdict) → EndsAt a es v → GoesFurther a → ⊥
   no_further a es v ends g =
-      let t = told_further a g in
+      let t = reported_further a g in
       let one = says_once l (start_with []) (drop (base_after a) xs) es g.next.events v (Refused g.next.refusal.at g.next.refusal.why) ends.0 t.0 in
       elim ends.1 [
         | inl waits ↦ let no : ◌≡◌ {A = Verdict} (Refused g.next.refusal.at g.next.refusal.why) Waits = one.1 ∙ waits in cc
@@ -89,7 +89,7 @@ module _ (l : Rules) (xs : List ℕ) where
         ]
       ] in
       let same : b ≡ a = once l xs a b ga gb (nothing_same a b p q same_length) in
-      let there : Told a es' v' = subst (λ (z : List Stretch). Told z es' v') same eb.0 in
+      let there : Reported a es' v' = subst (λ (z : List Stretch). Reported z es' v') same eb.0 in
       let one = says_once l (start_with []) (drop (base_after a) xs) es es' v v' ea.0 there in
       (same, one.0, one.1)
 
@@ -105,7 +105,7 @@ ends_once s es f (finish.Refused r) a b = absurd b
 
 from_same : (d d' : Skipping) (own : Finish) → d'.used ≡ d.used → d'.base ≡ d.base → finish_from d' own ≡ finish_from d own
 from_same d d' (finish.Whole n) used base = ap finish.Whole used
-from_same d d' (finish.Cut at n) used base = λ i. finish.Cut (told_at (base i) at) (used i)
+from_same d d' (finish.Cut at n) used base = λ i. finish.Cut (stream_offset (base i) at) (used i)
 from_same d d' (finish.Refused r) used base = ap (λ (n : ℕ). finish.Refused (refusal_from n r)) base
 
 last_same : (a : List Stretch) (m n : ℕ) → 0 < base_after a → IsLast a m → IsLast a n → n ≡ m
@@ -133,25 +133,25 @@ module _ (form : TextForm) (l : Rules) (xs : List ℕ) (before : Outputs) where
 
   module _ (passed : Bool) (after : Outputs) (x : Shows form l xs before passed after) where
     -- the refusal, if there is one, is that of the stretch
-    says_refused : (own : Refusal) → (stream x.d).refusal ≡ Some own → Told l xs x.stretches x.events (Refused own.at own.why)
+    says_refused : (own : Refusal) → (stream x.d).refusal ≡ Some own → Reported l xs x.stretches x.events (Refused own.at own.why)
     says_refused own is =
         subst (λ (n : ℕ). Says l (start_with []) (drop n xs) x.events (Refused own.at own.why)) x.stands.after.base
         (subst (λ (k : Rules). Says k (start_with []) (drop x.d.base xs) x.events (Refused own.at own.why)) x.stands.rules (x.stands.after.refused own is))
 
     at_the_end : (f : Finish) → Says l (start_with []) (drop x.d.base x.s) x.events Waits → x.s ≡ xs → FinishesAs x.d f → Closed f passed after
     at_the_end f says all fin =
-        let waits : Told l xs x.stretches x.events Waits =
+        let waits : Reported l xs x.stretches x.events Waits =
         subst (λ (n : ℕ). Says l (start_with []) (drop n xs) x.events Waits) x.stands.after.base
         (subst (λ (z : List ℕ). Says l (start_with []) (drop x.d.base z) x.events Waits) all says) in
         let free = unrefused_by (stream x.d).refusal (λ r is. let one = says_once l (start_with []) (drop (base_after x.stretches) xs) x.events x.events Waits (Refused r.at r.why) waits (says_refused r is) in let no = one.1 in cc) in
         record { x = x; v = Waits; ends = (waits, inl refl); how = inl (refl, all, fin, free) }
 
     refused_there : (r own : Refusal) → (stream x.d).refusal ≡ Some own → r ≡ refusal_from x.d.base own → x.d.frame ≡ None → Closed (finish.Refused r) passed after
-    refused_there r own is told none = record {
+    refused_there r own is reported none = record {
       x = x;
       v = Refused own.at own.why;
       ends = (says_refused own is, inr (sym x.stands.after.frame ∙ none));
-      how = inr (own, refl, ap finish.Refused (told ∙ ap (λ (n : ℕ). refusal_from n own) x.stands.after.base));
+      how = inr (own, refl, ap finish.Refused (reported ∙ ap (λ (n : ℕ). refusal_from n own) x.stands.after.base));
     }
 
   no_rest : (s rest : List ℕ) (left : Option (List ℕ)) → xs ≡ s ++ rest → left ≡ Some rest → left ≡ Some [] → s ≡ xs

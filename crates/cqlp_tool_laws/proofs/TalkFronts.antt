@@ -1,4 +1,4 @@
--- Fronts of what a stream says, and the messages that they tell.
+-- Fronts of what a stream says, and the messages that they hold.
 use Rattle.std.proofs.Common.{◌≡◌, ℕ, ◌+◌, ◌*◌, ◌≤◌, ◌^◌, ◌⊎◌, ltb, Bool, true, false, List, [], ◌∷◌, ◌++◌, length, refl, sym, ap, subst, ◌∙◌, append_assoc, inl, inr, arith}
 use Rattle.std.specs.Prelude.{if◌then◌else◌}
 use Rattle.std.proofs.lemmas.Bool.{cases_lt}
@@ -9,7 +9,7 @@ use Rattle.cqlp_note.specs.Limits.{Rules}
 use Rattle.cqlp_note.specs.Reader.{Bad, Takes, says}
 use Rattle.cqlp_note.proofs.Readers.{says_stays}
 use Rattle.cqlp_note.proofs.Runs.{runs_compare, runs_stay, stays_bad}
-use Rattle.cqlp_grammar.specs.Events as told
+use Rattle.cqlp_grammar.specs.Events as model
 use Rattle.cqlp_grammar.specs.Events.{Event, Frame, End}
 use Rattle.cqlp_decode.specs.Reading.{Place, Verdict, Refused, Reads, Says, header_step, settled, start, step, step_at}
 use Rattle.cqlp_loop.specs.Hearing.{Hearing, idle, amid, with_event, with_events}
@@ -45,10 +45,10 @@ behind_frame hs xs false f = ap (λ (z : List Header). amid z) (append_assoc hs 
 behind_event : (hs : List Header) (x : Hearing) (e : Event) → with_event (behind hs x) e ≡ behind hs (with_event x e)
 behind_event hs x (Frame f) = behind_frame hs x.headers x.under_way f
 behind_event hs x (End n) = refl
-behind_event hs x (told.Holds f v) = refl
-behind_event hs x (told.Node_of k) = refl
-behind_event hs x (told.Cell_at r c y) = refl
-behind_event hs x (told.Leave l i) = refl
+behind_event hs x (model.Holds f v) = refl
+behind_event hs x (model.Node_of k) = refl
+behind_event hs x (model.Cell_at r c y) = refl
+behind_event hs x (model.Leave l i) = refl
 
 pub behind_events : (hs : List Header) (x : Hearing) (es : List (ℕ × Event)) → with_events (behind hs x) es ≡ behind hs (with_events x es)
 behind_events hs x [] = refl
@@ -81,10 +81,10 @@ follows_end xs false = follows_self (idle xs)
 follows_event : (x : Hearing) (e : Event) → Follows x (with_event x e)
 follows_event x (Frame f) = follows_frame x.headers x.under_way f
 follows_event x (End n) = follows_end x.headers x.under_way
-follows_event x (told.Holds f v) = follows_self x
-follows_event x (told.Node_of k) = follows_self x
-follows_event x (told.Cell_at r c y) = follows_self x
-follows_event x (told.Leave l i) = follows_self x
+follows_event x (model.Holds f v) = follows_self x
+follows_event x (model.Node_of k) = follows_self x
+follows_event x (model.Cell_at r c y) = follows_self x
+follows_event x (model.Leave l i) = follows_self x
 
 follows_events : (x : Hearing) (es : List (ℕ × Event)) → Follows x (with_events x es)
 follows_events x [] = follows_self x
@@ -110,15 +110,15 @@ begun_not_before hs h f = omega (arith, f.order, length-append hs (h ∷ []), le
 -- ---- fronts
 
 module _ (l : Rules) (xs : List ℕ) where
-  -- some front of the events of the stream, and what they tell
-  pub record Told (x : Hearing) : Type 0 where
+  -- some front of the events of the stream, and what they hold
+  pub record Reported (x : Hearing) : Type 0 where
     pub events : List (ℕ × Event)
     pub place : Place
     pub rest : List ℕ
     pub read : Reads l start xs events place rest
     pub heard : with_events (idle []) events ≡ x
 
-  -- all events of the stream, with this verdict, and what they tell
+  -- all events of the stream, with this verdict, and what they hold
   pub record Ended (v : Verdict) (x : Hearing) : Type 0 where
     pub events : List (ℕ × Event)
     pub says : Says l start xs events v
@@ -130,20 +130,20 @@ module _ (l : Rules) (xs : List ℕ) where
       let to : with_events z more ≡ y = sym (events_then (idle []) es more) ∙ sym (ap (λ (w : List (ℕ × Event)). with_events (idle []) w) same) ∙ there in
       subst (λ (w : Hearing). Follows w y) here (subst (λ (w : Hearing). Follows z w) to (follows_events z more))
 
-  front : (x y : Hearing) (a : Told x) (b : Told y) → length a.events ≤ length b.events → Follows x y
+  front : (x y : Hearing) (a : Reported x) (b : Reported y) → length a.events ≤ length b.events → Follows x y
   front x y a b le =
       let r = runs_compare (step l) start a.place b.place xs a.rest b.rest a.events b.events a.read b.read le in
       goes_on x y a.events b.events r.0 a.heard b.heard r.1
 
   -- of two fronts one goes on from the other
-  pub either : (x y : Hearing) → Told x → Told y → Follows x y ⊎ Follows y x
+  pub either : (x y : Hearing) → Reported x → Reported y → Follows x y ⊎ Follows y x
   either x y a b = elim (cases_lt (length a.events) (length b.events)) [
     | inl lt ↦ inl (front x y a b (omega arith))
     | inr le ↦ inr (front y x b a le)
   ]
 
   -- all events go on from each front
-  pub within : (v : Verdict) (x y : Hearing) → Told x → Ended v y → Follows x y
+  pub within : (v : Verdict) (x y : Hearing) → Reported x → Ended v y → Follows x y
   within v x y a b =
       let le = no_further [] l xs b.events a.events v a.place a.rest b.says a.read in
       front x y a (record { events = b.events; place = b.says.0; rest = b.says.1; read = b.says.2; heard = b.heard }) le

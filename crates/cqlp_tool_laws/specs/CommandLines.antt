@@ -76,14 +76,14 @@ pub record AreCheckedAlike (limits : Rules) (xs : List ℕ) (before : Streams) (
 -- of a fault.
 module _ (limits : Rules) (xs : List ℕ) (before : Streams) (status : ℕ) (after : Streams) where
   abbrev pub EndsPlainly : (form : TextForm) → skipping.ShowsBytes form limits turns xs before status after → Type 0
-  EndsPlainly form (ending.Finished f, passed, told, reads, same, ends) =
-      (status ≢ 3) × IsPlain form limits xs (outputs_of before) f passed told after.input.left reads.shows
+  EndsPlainly form (ending.Finished f, passed, reported, reads, same, ends) =
+      (status ≢ 3) × IsPlain form limits xs (outputs_of before) f passed reported after.input.left reads.shows
   EndsPlainly form shows = ⊥
 
   -- The same of one that checks.
   abbrev pub ChecksPlainly : skipping.ChecksBytes limits turns xs before status after → Type 0
-  ChecksPlainly (ending.Finished f, passed, told, reads, own, ends, is) =
-      (status ≢ 3) × IsPlain forms.Nothing limits xs (outputs_of before) f passed told after.input.left reads.shows
+  ChecksPlainly (ending.Finished f, passed, reported, reads, own, ends, is) =
+      (status ≢ 3) × IsPlain forms.Nothing limits xs (outputs_of before) f passed reported after.input.left reads.shows
   ChecksPlainly checks = ⊥
 
 module _ (limits : Rules) (before : Streams) (status status' : ℕ) (after after' : Streams) where
@@ -215,7 +215,7 @@ module _ (before : Streams) (status status' : ℕ) (after after' : Streams) wher
   IsCaptureMetAlike l (capture_task.Rows asked) ports does does' = (status ≢ 3) × (status' ≢ 3)
 
 -- A read of the input failed, or the output, or the error output; or the line that was written says that there was no memory, or too
--- many turns: all reads were made that may be, or there was no end to what is told.
+-- many turns: all reads were made that may be, or there was no end to what is reported.
 abbrev pub HasFault : (before after : Streams) → Type 0
 HasFault before after =
     (after.input.failures ≡ counted true before.input.failures)

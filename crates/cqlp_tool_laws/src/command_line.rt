@@ -18,7 +18,7 @@ pub fn one_answer_of_execute<F: Read>()
 
 /// Where the exchanges, events or rows of a capture on standard input are written, the status is that of a fault only where a read of the input
 /// or an output failed, or where the line on standard error says that there was no memory, or too many turns: 2^32
-/// reads, or no end to what is told.
+/// reads, or no end to what is reported.
 pub fn faults_of_captures_have_causes()
     ensures { CaptureFaultsHaveCauses }
 {}

@@ -19,7 +19,7 @@ use Rattle.cqlp_type.specs.Table.{Table}
 use Rattle.cqlp_type.specs.Progress.{TypeState, place_of, pending, step_says, stopped, Advances}
 use Rattle.cqlp_type.specs.Pushing.{After, Uses, Continues, Fills, Pushes, event_of}
 use Rattle.cqlp_type.specs.Laws.{Answer, More, FieldOutline, Done, Refused, push_answer, advance_answer, Call, IsPush, IsAdvance, AreAlike, LeaveAlike}
-use Rattle.cqlp_type.proofs.Pushes.{waits_some, told_some}
+use Rattle.cqlp_type.proofs.Pushes.{waits_some, emitted_some}
 
 -- ---- runs with the same items
 
@@ -108,8 +108,8 @@ module _ (start : TypePlace) (old : TypeState) (p : FieldState) (t : Table) (s :
       → outcome (More (length input)) new p' t' ≡ result
   more_decided rules under field later said some =
       let same = run_same (type_step old.rules) start here (place_of new t'.nodes) (s ++ input) all (pending new p') es stays (rw rules at later) in
-      let told_here : step_says old t.nodes all ≡ reader.More = (λ i. says (type_step (sym rules i) (sym same.0 i)) 0 (sym same.1 i)) ∙ said in
-      (λ i. record { answer = More (length input); under_way = under i; place = same.0 i; pending = same.1 i; field = field i }) ∙ sym (waits_decided old.symbols (step_says old t.nodes all) here came input some told_here)
+      let emitted_here : step_says old t.nodes all ≡ reader.More = (λ i. says (type_step (sym rules i) (sym same.0 i)) 0 (sym same.1 i)) ∙ said in
+      (λ i. record { answer = More (length input); under_way = under i; place = same.0 i; pending = same.1 i; field = field i }) ∙ sym (waits_decided old.symbols (step_says old t.nodes all) here came input some emitted_here)
 
   item_decided : (at used : ℕ) (e : TypeEvent) → new.rules ≡ old.rules → new.under_way ≡ true → p'.under_way ≡ false → used ≤ length input → pending new p' ≡ [] → After start new p' t' (s ++ take used input) (es ++ (at, e) ∷ []) → (old.symbols ≡ [] → ⊥)
       → outcome (FieldOutline at used e) new p' t' ≡ result
@@ -160,7 +160,7 @@ module _ (old : TypeState) (p : FieldState) (t : Table) (input : List ℕ) (new 
       let begun : new.begun ≡ false = ap (λ (z : TypeState). z.begun) w.reader in
       let field : p'.under_way ≡ false = w.shared.same ∙ begun in
       let none : pending new p' ≡ [] = rw begun refl in
-      let some = told_some old p t input new p' t' (pending old p ++ input) (λ more. let no = sym more ∙ w.is in absurd cc) in (
+      let some = emitted_some old p t input new p' t' (pending old p ++ input) (λ more. let no = sym more ∙ w.is in absurd cc) in (
         (λ i. record { answer = FieldOutline (sym w.place i) used (sym w.event i); under_way = goes i; place = sym w.after i; pending = none i; field = field i })
             ∙ sym (gives_decided old.symbols (step_says old t.nodes (pending old p ++ input)) (place_of old t.nodes) (pending old p) input w.step used some w.is),
         ap (λ (z : TypeState). z.rules) w.reader,
@@ -174,7 +174,7 @@ module _ (old : TypeState) (p : FieldState) (t : Table) (input : List ℕ) (new 
         rw d.4 refl,
       )
   advance_decided (advance.Refused r) under d =
-      let some = told_some old p t input new p' t' (pending old p ++ input) (λ more. let no = sym more ∙ d.0 in absurd cc) in (
+      let some = emitted_some old p t input new p' t' (pending old p ++ input) (λ more. let no = sym more ∙ d.0 in absurd cc) in (
         (λ i. outcome (Refused r) (d.1 i) p' (d.5 i)) ∙ (λ i. record { answer = Refused r; under_way = false; place = ended_at (place_of old t.nodes); pending = []; field = d.2 i })
             ∙ sym (fails_decided old.symbols (step_says old t.nodes (pending old p ++ input)) (place_of old t.nodes) (pending old p) input r some d.0),
         rw d.1 refl,

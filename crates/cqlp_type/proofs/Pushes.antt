@@ -31,8 +31,8 @@ run_more l start p q s b t es at e x run said a w after =
     runs_then (type_step l) start p q (s ++ t) (b ++ t) [] es ((at, e) ∷ []) (runs_stay (type_step l) start s t es p b run) (k, x.after, said ∙ ap (λ (z : Emitted TypeEvent TypePlace). Got z k) (emitted_is x at e a w), (sym after, sym none))
 
 -- what a step says of these bytes, as a function of all that it depends on
-abbrev told_by : Rules → TypePlace → List ℕ → Said (Emitted TypeEvent TypePlace) (ℕ × Reason)
-told_by l q b = says (type_step l q) 0 b
+abbrev emitted_by : Rules → TypePlace → List ℕ → Said (Emitted TypeEvent TypePlace) (ℕ × Reason)
+emitted_by l q b = says (type_step l q) 0 b
 
 -- ---- what was read since an option began
 
@@ -80,8 +80,8 @@ module _ (old : TypeState) (p : FieldState) (t : Table) (input : List ℕ) (new 
       let over : new.begun ≡ false = nothing_begun new p' w.shared same in
       absurd cc
 
-  pub told_some : (bytes : List ℕ) → (step_says old t.nodes bytes ≡ More → ⊥) → old.symbols ≡ [] → ⊥
-  told_some bytes said none = said (rw none refl)
+  pub emitted_some : (bytes : List ℕ) → (step_says old t.nodes bytes ≡ More → ⊥) → old.symbols ≡ [] → ⊥
+  emitted_some bytes said none = said (rw none refl)
 
   pub waits_pushes : (used : ℕ) → old.under_way ≡ true → ReadsInto new p' t' → Waits old p t input used new p' t'
       → Pushes old p t input (push.More used) new p' t' × ((used ≡ length input) × (old.symbols ≡ [] → ⊥)) × ((new.under_way ≡ true) × (new.rules ≡ old.rules)) × (t' ≡ t)
@@ -89,7 +89,7 @@ module _ (old : TypeState) (p : FieldState) (t : Table) (input : List ℕ) (new 
       let place : place_of new t'.nodes ≡ place_of old t.nodes = rw (w.reader, w.table) refl in
       let rules : new.rules ≡ old.rules = ap (λ (z : TypeState). z.rules) w.reader in (
         record {
-          leads = λ start depth first s es run. (option_waited used w start s es run, (λ i. told_by (rules i) (place i) (w.pending i)) ∙ w.is);
+          leads = λ start depth first s es run. (option_waited used w start s es run, (λ i. emitted_by (rules i) (place i) (w.pending i)) ∙ w.is);
           serves = (w.shared, w.shared.same ∙ ap (λ (z : TypeState). z.begun) w.reader);
           room = w.room;
           table = reads;
@@ -110,7 +110,7 @@ module _ (old : TypeState) (p : FieldState) (t : Table) (input : List ℕ) (new 
           room = w.room;
           table = reads;
         },
-        (w.within, told_some (pending old p ++ input) (λ more. let no = sym more ∙ w.is in absurd cc)),
+        (w.within, emitted_some (pending old p ++ input) (λ more. let no = sym more ∙ w.is in absurd cc)),
         (ap (λ (z : TypeState). z.under_way) w.reader, rules),
         (w.table, w.entries),
       )
@@ -136,7 +136,7 @@ module _ (old : TypeState) (p : FieldState) (t : Table) (input : List ℕ) (new 
       room = d.4;
       table = tt;
     },
-    told_some (pending old p ++ input) (λ more. let no = sym more ∙ d.0 in absurd cc),
+    emitted_some (pending old p ++ input) (λ more. let no = sym more ∙ d.0 in absurd cc),
     d.1,
     d.5,
   )

@@ -51,7 +51,7 @@ pub fn table_of<A: Allocator + Clone>(
 }
 
 /// The table of the types of these columns, as [`table_of`] makes it: of the `specs` of a page's `Metadata` or of what a
-/// `Prepared` tells of its pages, the one for those pages without metadata; of the `specs` of a `Prepared` itself, the types
+/// `Prepared` has for its pages, the one for those pages without metadata; of the `specs` of a `Prepared` itself, the types
 /// of the values that are to be bound. Sections 4.2.5.2 and 4.2.5.4 of `native_protocol_v4.spec`.
 ///
 /// # Errors

@@ -36,7 +36,7 @@ use Rattle.cqlp_cell.specs.Reading.{gathered, Joined, UnderBy, FurtherUnder, Par
 use Rattle.cqlp_cell.specs.Pushing.{After, Continues, Keeps, Pushes, Uses, is_done, done_by}
 use Rattle.cqlp_value.specs.Laws.{Answer, More, FieldOutline, Done, Refused, push_answer, advance_answer, Call, Seen, seen, LeaveAlike, IsPush, IsAdvance, AreAlike}
 use Rattle.cqlp_cell.proofs.Coming.{first_kind, one_value, value_first_is}
-use Rattle.cqlp_cell.proofs.Leading.{keeps, told_is, stands_under, is_over_done, is_not_done}
+use Rattle.cqlp_cell.proofs.Leading.{keeps, answer_is, stands_under, is_over_done, is_not_done}
 use Rattle.cqlp_cell.proofs.Further.{inner_symbols}
 use Rattle.cqlp_cell.proofs.Leavings.{stop_is}
 
@@ -228,10 +228,10 @@ left_by n used seen input = cond (ltb used n) (seen ++ take used input) []
 abbrev ended_at : CellPlace → CellPlace
 ended_at p = record { offset = p.offset; symbols = [] }
 
-abbrev Saying : Type 0
-Saying = Said (Emitted CellEvent CellPlace) (ℕ × Reason)
+abbrev StepAnswer : Type 0
+StepAnswer = Said (Emitted CellEvent CellPlace) (ℕ × Reason)
 
-abbrev decided_by : List CellSymbol → Saying → CellPlace → (came input held : List ℕ) → Outcome
+abbrev decided_by : List CellSymbol → StepAnswer → CellPlace → (came input held : List ℕ) → Outcome
 decided_by [] d p came input held = record { answer = Done; under_way = false; place = ended_at p; come = []; field = false; bytes = []; buffer = held }
 decided_by (s ∷ ss) reader.More p came input held = record { answer = More (length input); under_way = true; place = p; come = came ++ input; field = true; bytes = field_bytes (first_kind p.symbols) (came ++ input); buffer = buffer_bytes (first_kind p.symbols) (came ++ input) }
 decided_by (s ∷ ss) (Bad f) p came input held = record { answer = Refused (record { at = f.0; why = f.1 }); under_way = false; place = ended_at p; come = []; field = false; bytes = []; buffer = [] }
@@ -242,20 +242,20 @@ abbrev decided : Rules → CellPlace → (came input held : List ℕ) → Outcom
 decided l p came input held = decided_by p.symbols (says (cell_step l p) 0 (came ++ input)) p came input held
 
 module _ (p : CellPlace) (came input held : List ℕ) where
-  decided_done : (ss : List CellSymbol) (d : Saying) → is_none ss ≡ true → decided_by ss d p came input held ≡ record { answer = Done; under_way = false; place = ended_at p; come = []; field = false; bytes = []; buffer = held }
+  decided_done : (ss : List CellSymbol) (d : StepAnswer) → is_none ss ≡ true → decided_by ss d p came input held ≡ record { answer = Done; under_way = false; place = ended_at p; come = []; field = false; bytes = []; buffer = held }
   decided_done [] d e = refl
   decided_done (s ∷ ss) d e = absurd cc
 
-  decided_more : (ss : List CellSymbol) (d : Saying) → is_none ss ≡ false → d ≡ reader.More
+  decided_more : (ss : List CellSymbol) (d : StepAnswer) → is_none ss ≡ false → d ≡ reader.More
       → decided_by ss d p came input held ≡ record { answer = More (length input); under_way = true; place = p; come = came ++ input; field = true; bytes = field_bytes (first_kind p.symbols) (came ++ input); buffer = buffer_bytes (first_kind p.symbols) (came ++ input) }
   decided_more [] d e said = absurd cc
   decided_more (s ∷ ss) d e said = rw said refl
 
-  decided_bad : (ss : List CellSymbol) (d : Saying) (r : Refusal) → is_none ss ≡ false → d ≡ Bad (r.at, r.why) → decided_by ss d p came input held ≡ record { answer = Refused r; under_way = false; place = ended_at p; come = []; field = false; bytes = []; buffer = [] }
+  decided_bad : (ss : List CellSymbol) (d : StepAnswer) (r : Refusal) → is_none ss ≡ false → d ≡ Bad (r.at, r.why) → decided_by ss d p came input held ≡ record { answer = Refused r; under_way = false; place = ended_at p; come = []; field = false; bytes = []; buffer = [] }
   decided_bad [] d r e said = absurd cc
   decided_bad (s ∷ ss) d r e said = rw said refl
 
-  decided_item : (ss : List CellSymbol) (d : Saying) (x : Emitted CellEvent CellPlace) (used : ℕ) → is_none ss ≡ false → d ≡ Got x (length came + used)
+  decided_item : (ss : List CellSymbol) (d : StepAnswer) (x : Emitted CellEvent CellPlace) (used : ℕ) → is_none ss ≡ false → d ≡ Got x (length came + used)
       → decided_by ss d p came input held
       ≡ record { answer = FieldOutline x.at used x.event; under_way = true; place = x.after (length came + used); come = []; field = false; bytes = []; buffer = left_by (content_length x.event) used (field_bytes (first_kind p.symbols) came) input }
   decided_item [] d x used e said = absurd cc
@@ -313,7 +313,7 @@ module _ (nodes : List Node) where
     abbrev here : CellPlace
     here = place nodes old
 
-    abbrev said : Saying
+    abbrev said : StepAnswer
     said = says (cell_step old.rules here) 0 (b ++ input)
 
     some_left : is_done old ≡ false → is_none here.symbols ≡ false
@@ -386,16 +386,16 @@ module _ (nodes : List Node) where
       advance_meets (advance.More used) m a empty =
           let w = m b come in
           let same = w.0.same in
-          more_meets used w.0.all (is_not_done old a.1) (sym (told_is nodes old (b ++ input)) ∙ w.0.is) (ap is_under_way same ∙ under_way) (ap (place nodes) same) w.1 w.0.under_way w.0.joined w.0.kept (rw same (stands_under nodes old new.arrived stands)) (ap (λ (d : CellState). d.rules) same) w.0.longest
+          more_meets used w.0.all (is_not_done old a.1) (sym (answer_is nodes old (b ++ input)) ∙ w.0.is) (ap is_under_way same ∙ under_way) (ap (place nodes) same) w.1 w.0.under_way w.0.joined w.0.kept (rw same (stands_under nodes old new.arrived stands)) (ap (λ (d : CellState). d.rules) same) w.0.longest
       advance_meets (advance.Item at used i) m a empty =
           let h = m b come in
-          item_meets at used (event_at i input q.content) h.emits.x (is_not_done old a.1) (sym (told_is nodes old (b ++ input)) ∙ h.emits.is) h.emits.offset h.emits.event h.emits.after h.goes_on h.fresh h.idle (keeps nodes p q input used i h.can_lend h.lent h.kept empty) h.stands h.rules h.longest
+          item_meets at used (event_at i input q.content) h.emits.x (is_not_done old a.1) (sym (answer_is nodes old (b ++ input)) ∙ h.emits.is) h.emits.offset h.emits.event h.emits.after h.goes_on h.fresh h.idle (keeps nodes p q input used i h.can_lend h.lent h.kept empty) h.stands h.rules h.longest
       advance_meets advance.Done m a empty =
           let idle : p.under_way ≡ false = rw m.1 at joined.under_way in
           done_meets (is_over_done old under_way m.0) m.2 (rw m.3 idle) (ap (λ (z : FieldState). z.content) m.3) (ap (λ (z : FieldState). z.room) m.3)
       advance_meets (advance.Refused r) m a empty =
           let f = m b come in
-          bad_meets r (is_not_done old a) (sym (told_is nodes old (b ++ input)) ∙ f.is) f.ends f.idle (empty refl) f.longest
+          bad_meets r (is_not_done old a) (sym (answer_is nodes old (b ++ input)) ∙ f.is) f.ends f.idle (empty refl) f.longest
 
       -- ---- push
 

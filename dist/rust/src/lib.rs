@@ -648,7 +648,7 @@ pub mod capture {
 /// response that comes under its stream id. It goes by the headers of frames: a body may be of any length, compressed or one that a decoder
 /// refuses, and nothing of it is held but the first 256 bytes of the message and its [`Facts`](watch::Facts), which are
 /// read as the bytes pass. Memory is taken for each message that waits, some 200 bytes and its first bytes, and for the two bodies that pass, and given back
-/// with them. Each call is told how much may wait: [`WatchRoom::ONE`](watch::WatchRoom::ONE), for who has one connection.
+/// with them. Each call is given how much may wait: [`WatchRoom::ONE`](watch::WatchRoom::ONE), for who has one connection.
 ///
 /// ```
 /// use cqlp::watch::{Paired, Watch, WatchRoom};
@@ -668,7 +668,7 @@ pub mod capture {
 ///     loop {
 ///         let step = watch.take(is_response, rest, Some(time), false, WatchRoom::ONE)?;
 ///         rest = &rest[step.used..];
-///         if let Some(Paired::Exchange { request, response }) = step.told {
+///         if let Some(Paired::Exchange { request, response }) = step.reported {
 ///             let took = response.frame.ended.zip(request.frame.begun).map(|(to, from)| to - from);
 ///             lines.push((request.frame.header.opcode, response.kept.facts().error, took));
 ///         }
@@ -682,7 +682,7 @@ pub mod capture {
 /// ```
 ///
 /// Of what a `Watch` is made may be used by itself, where something else is to be kept of a message, or where bytes that are no frames are to
-/// be told: [`Heads`](watch::Heads) finds the frames of one direction, a [`FactsReader`](watch::FactsReader) reads the facts of a body,
+/// be reported: [`Heads`](watch::Heads) finds the frames of one direction, a [`FactsReader`](watch::FactsReader) reads the facts of a body,
 /// and a [`Pairing`](watch::Pairing) pairs messages of which anything is kept. `examples/proxy` of this package is made of these.
 pub mod watch {
     pub use crate::cqlp_observer::{

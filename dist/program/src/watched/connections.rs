@@ -1,6 +1,6 @@
 //! What a table of connections tells of the segments of a capture.
 use super::{Asked, Packet, fold};
-use crate::cqlp_tcp_connections::{ConnectionTotals, Connections, Departure, DirectionTotals, Sight, Told, Way};
+use crate::cqlp_tcp_connections::{ConnectionTotals, Connections, Departure, DirectionTotals, Admission, Delivery, Way};
 use crate::cqlp_tcp_reassembly::{GapCause, StreamStep};
 use crate::cqlp_tcp_segment::Segment;
 use crate::heap::refusing;
@@ -66,12 +66,12 @@ impl Listener {
     fn take(&mut self, segment: &Segment<'_>) {
         for _ in 0..3 {
             match self.ask(|connections| connections.take(&segment.head)) {
-                Sight::Foreign => return,
-                Sight::Crowded { number, is_full } => {
+                Admission::Foreign => return,
+                Admission::Crowded { number, is_full } => {
                     writeln!(self.said, "{number} leaves, full {is_full}").unwrap();
                     self.leave();
                 }
-                Sight::Taken { number, .. } => {
+                Admission::Taken { number, .. } => {
                     self.pairs.resize_with(self.pairs.len().max(number as usize), Default::default);
                     while let Some(told) = self.ask(|connections| connections.pull(segment, None)) {
                         self.tell(told, segment.payload);
@@ -86,7 +86,7 @@ impl Listener {
     fn leave(&mut self) {
         loop {
             match self.tell_of(|connections| connections.leave()) {
-                Departure::Told(told) => self.tell(told, &[]),
+                Departure::Delivery(told) => self.tell(told, &[]),
                 Departure::Left(totals) => return self.put(&totals),
                 Departure::Empty => return,
             }
@@ -96,7 +96,7 @@ impl Listener {
     fn end(&mut self) {
         loop {
             match self.tell_of(|connections| connections.finish()) {
-                Departure::Told(told) => self.tell(told, &[]),
+                Departure::Delivery(told) => self.tell(told, &[]),
                 Departure::Left(totals) => self.put(&totals),
                 Departure::Empty => break,
             }
@@ -105,7 +105,7 @@ impl Listener {
         writeln!(self.said, "connections {} crowded {} foreign {}", counts.connections, counts.crowded, counts.foreign).unwrap();
     }
 
-    fn tell(&mut self, told: Told, payload: &[u8]) {
+    fn tell(&mut self, told: Delivery, payload: &[u8]) {
         let bytes = match told.step {
             StreamStep::Payload { from, count } => payload[from..from + count].to_vec(),
             StreamStep::Held { .. } => self.connections.held(told.way).to_vec(),

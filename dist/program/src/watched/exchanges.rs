@@ -3,7 +3,7 @@ use super::facts::words;
 use super::{Asked, Packet, fold};
 use crate::cqlp_note::Prim;
 use crate::cqlp_observer::{Extent, Kept, Message, Paired, Watch, WatchRoom, subject_of};
-use crate::cqlp_tcp_connections::{Connections, Departure, Sight, Told, Way};
+use crate::cqlp_tcp_connections::{Connections, Departure, Admission, Delivery, Way};
 use crate::cqlp_tcp_reassembly::{GapCause, StreamStep};
 use crate::cqlp_tcp_segment::Segment;
 use crate::heap::refusing;
@@ -57,7 +57,7 @@ impl Watcher {
         }
         loop {
             match connections.finish() {
-                Departure::Told(told) => self.tell(&mut connections, told, &[])?,
+                Departure::Delivery(told) => self.tell(&mut connections, told, &[])?,
                 Departure::Left(totals) => self.leave(totals.number)?,
                 Departure::Empty => return Ok(()),
             }
@@ -75,7 +75,7 @@ impl Watcher {
 
     /// Watches what a segment hands on.
     fn take(&mut self, connections: &mut Connections, segment: &Segment<'_>) -> Result<(), AllocError> {
-        let Sight::Taken { number, .. } = self.ask(|_| connections.take(&segment.head))? else { return Ok(()) };
+        let Admission::Taken { number, .. } = self.ask(|_| connections.take(&segment.head))? else { return Ok(()) };
         while (self.watches.len() as u64) < number {
             self.watches.reserve(1);
             let made = self.ask(|_| Watch::new(Global))?;
@@ -89,7 +89,7 @@ impl Watcher {
     }
 
     /// Watches the next of one direction.
-    fn tell(&mut self, connections: &mut Connections, told: Told, payload: &[u8]) -> Result<(), AllocError> {
+    fn tell(&mut self, connections: &mut Connections, told: Delivery, payload: &[u8]) -> Result<(), AllocError> {
         let (number, responses, room) = (told.number, told.way == Way::Responses, self.room);
         let at = number as usize - 1;
         match told.step {
@@ -116,12 +116,12 @@ impl Watcher {
     }
 
     /// Watches bytes of one direction, which came at this time.
-    fn hear(&mut self, told: Told, time: Option<u64>, bytes: &[u8], begins: bool) -> Result<(), AllocError> {
+    fn hear(&mut self, told: Delivery, time: Option<u64>, bytes: &[u8], begins: bool) -> Result<(), AllocError> {
         let (at, room, mut rest) = (told.number as usize - 1, self.room, bytes);
         loop {
             let is_first = begins && rest.len() == bytes.len();
             let step = self.ask(|watches| watches[at].take(told.way == Way::Responses, rest, time, is_first, room))?;
-            self.say(told.number, step.told);
+            self.say(told.number, step.reported);
             if step.is_done {
                 return Ok(());
             }

@@ -86,7 +86,7 @@ impl FrameBuilder {
     /// # Errors
     ///
     /// [`BuildError::Misplaced`] at a header within a frame, and at all else between frames. [`BuildError::Unbuilt`] at a part of
-    /// a scalar of a cell. At a field, the kind of a type option and what else is told of a cell [`BuildError::TooManyFields`] where as many
+    /// a scalar of a cell. At a field, the kind of a type option and at another event of a cell [`BuildError::TooManyFields`] where as many
     /// as the limits allow are held; else [`BuildError::TooDeep`] where the option is nested deeper than the limit; and else
     /// [`BuildError::TooManyBytes`] where the field has more bytes than are left of the limit. After these the builder is as it was.
     /// [`BuildError::NoFrame`] at the end of a frame, where the events are those of no frame that is built, after which the builder is
@@ -300,9 +300,9 @@ fn is_of(frame: &Frame, header: &Header, extra: u32) -> bool {
     is_directed(header) && is_length(header.length, len, extra)
 }
 
-/// Whether a header tells this length of a frame of so many bytes, 9 of them its header, with some more after its last field.
-fn is_length(told: u32, len: u32, extra: u32) -> bool {
-    u64::from(len) + u64::from(extra) == u64::from(told) + 9
+/// Whether a header announces this length of a frame of so many bytes, 9 of them its header, with some more after its last field.
+fn is_length(announced: u32, len: u32, extra: u32) -> bool {
+    u64::from(len) + u64::from(extra) == u64::from(announced) + 9
 }
 
 /// Whether a header is a response's where its opcode is one of a response.

@@ -15,7 +15,7 @@ pub(crate) enum Item {
     Holds(Field, Content),
     /// The kind of a type option.
     Kind(Kind),
-    /// What is told of the cell of a row and a column, at a level. The end of a value names no cell, and what it has here counts for nothing.
+    /// An event of the cell of a row and a column, at a level. The end of a value names no cell, and what it has here counts for nothing.
     Cell {
         row: u32,
         column: u32,

@@ -6,7 +6,7 @@ use crate::cqlp_build::held::{Fault, Held};
 use crate::cqlp_message::{BatchEntry, OwnedBound};
 use crate::cqlp_note::Field;
 
-/// What the items of a list are to be, where that is not told by their type.
+/// What the items of a list are to be, where their type does not say it.
 #[derive(Clone, Copy)]
 pub(crate) struct Wanted {
     /// The field that each is.
@@ -16,7 +16,7 @@ pub(crate) struct Wanted {
 }
 
 impl Wanted {
-    /// Items that are told by their type.
+    /// Items whose type says it.
     pub const PLAIN: Wanted = Wanted {
         field: Field::Value,
         named: false,

@@ -11,7 +11,7 @@ use crate::cqlp_note::Field;
 /// The table of all columns, and the columns.
 type Columns = (Option<(String, String)>, Vec<Spec>);
 
-/// The same, if columns are told.
+/// The same, if columns are described.
 type ColumnsIf = (Option<(String, String)>, Option<Vec<Spec>>);
 
 impl FromEvents for u16 {
@@ -53,7 +53,7 @@ impl Held {
         (table, specs)
     }
 
-    /// Takes this many columns, if the flags say that they are told.
+    /// Takes this many columns, if the flags say that they are described.
     fn columns_if(&mut self, flags: u32, count: u32) -> ColumnsIf {
         if has(flags, 0x04) {
             return (None, None);
@@ -62,7 +62,7 @@ impl Held {
         (table, Some(specs))
     }
 
-    /// Takes what is told of a page's columns.
+    /// Takes the description of a page's columns.
     pub fn metadata(&mut self) -> Metadata {
         let flags = self.int(Field::MetaFlags);
         let columns = self.count(Field::Columns);

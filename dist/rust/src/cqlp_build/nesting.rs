@@ -71,7 +71,7 @@ impl Nesting {
     }
 }
 
-/// How many inner options of a type option of this kind are to begin; where they are counted, one before their count is told.
+/// How many inner options of a type option of this kind are to begin; where they are counted, one before their count comes.
 fn due(kind: Kind) -> u32 {
     match kind {
         Kind::Udt | Kind::Tuple => 1,

@@ -51,7 +51,7 @@ impl Held {
         }
     }
 
-    /// Takes the cell of a row and a column, which is as it is where no columns are told.
+    /// Takes the cell of a row and a column, which is as it is where no columns are described.
     fn cell_of(&mut self, row: u32, column: u32, meta: &Metadata) -> Value {
         let Some(specs) = &meta.specs else {
             return self.cell(row, column, &TypeTree::Plain(Kind::Raw));
@@ -80,7 +80,7 @@ impl Held {
         }
     }
 
-    /// Takes what is told of the cell of a row and a column, up to that after which nothing comes of it, and says whether that came.
+    /// Takes the events of the cell of a row and a column, up to that after which nothing comes of it, and says whether that came.
     fn gather(&mut self, row: u32, column: u32) -> bool {
         self.cell.clear();
         while let Some((level, step)) = self.next_step(row, column) {

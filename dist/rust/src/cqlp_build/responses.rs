@@ -159,7 +159,7 @@ impl Held {
         SchemaOptions::Callable(keyspace, name, arguments)
     }
 
-    /// Takes what an event of this type tells.
+    /// Takes what an event of this type reports.
     pub fn detail(&mut self, event: &str) -> ServerEvent {
         if event == "TOPOLOGY_CHANGE" || event == "STATUS_CHANGE" {
             self.node()

@@ -7,7 +7,7 @@ use crate::cqlp_kind::{Kind, Scalar};
 use crate::cqlp_value::Atom;
 use crate::kit_std::alloc::{AllocError, Global};
 
-/// What is told of a value at its level, with bytes of its own.
+/// An event of a value at its level, with bytes of its own.
 pub enum Step {
     Leaf(Atom),
     Null,
@@ -77,7 +77,7 @@ pub fn scalar_size(scalar: &Scalar<'_>) -> usize {
     }
 }
 
-/// Whether nothing of its cell comes after what is told at this level: a value at level 0, or the end of one; not the beginning of one
+/// Whether nothing of its cell comes after the event at this level: a value at level 0, or the end of one; not the beginning of one
 /// with items.
 #[must_use]
 pub fn ends(level: u32, step: &Step) -> bool {

@@ -2,6 +2,7 @@
 //! Packet captures, read from pieces of any size.
 
 mod block;
+mod emission;
 mod event;
 mod file;
 mod gathered;
@@ -12,7 +13,6 @@ mod pcapng;
 mod place;
 mod reader;
 mod refusal;
-mod telling;
 
 pub use event::{CaptureEnd, CaptureEvent, CaptureStep, InterfaceHead, PacketHead, SkipReason};
 pub use file::{ByteOrder, FileForm, Fraction, SectionForm};

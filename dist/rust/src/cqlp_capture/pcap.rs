@@ -1,16 +1,16 @@
 // Written by dist/erase from crates/cqlp_capture/src/pcap.rt.
 //! What the bytes of a pcap file say.
 
-use crate::cqlp_capture::event::{EventOutline, InterfaceHead, PacketHead, SkipReason, Told};
+use crate::cqlp_capture::emission::{read_next, refuse};
+use crate::cqlp_capture::event::{Emission, EventOutline, InterfaceHead, PacketHead, SkipReason};
 use crate::cqlp_capture::file::{ByteOrder, FileForm, Fraction, SectionForm};
 use crate::cqlp_capture::interfaces::{KnownInterface, TableChange};
 use crate::cqlp_capture::place::{FARTHEST, Place, RecordForm, Stage};
 use crate::cqlp_capture::refusal::{CaptureReason, CaptureRefusal};
-use crate::cqlp_capture::telling::{read_next, refuse};
 
 /// What the first four bytes of a file say. Section 4 of draft-ietf-opsawg-pcap, and section 4.1 of
 /// draft-ietf-opsawg-pcapng.
-pub(crate) fn tell_magic(bytes: &[u8]) -> Result<Told, CaptureRefusal> {
+pub(crate) fn read_magic(bytes: &[u8]) -> Result<Emission, CaptureRefusal> {
     let magic = ByteOrder::BigEndian.read_u32(bytes, 0);
     if magic >> 16 == 0x1F8B {
         return refuse(0, CaptureReason::Gzip);
@@ -19,7 +19,7 @@ pub(crate) fn tell_magic(bytes: &[u8]) -> Result<Told, CaptureRefusal> {
         return read_next(4, Stage::SectionLength);
     }
     match FileForm::of_magic(magic) {
-        Some(form) => Ok(Told {
+        Some(form) => Ok(Emission {
             at: 0,
             what: Some(EventOutline::Section(SectionForm::Pcap(form))),
             place: Place {
@@ -33,14 +33,14 @@ pub(crate) fn tell_magic(bytes: &[u8]) -> Result<Told, CaptureRefusal> {
 }
 
 /// What the rest of the file's header says. Section 4 of draft-ietf-opsawg-pcap.
-pub(crate) fn tell_file_head(form: FileForm, bytes: &[u8]) -> Result<Told, CaptureRefusal> {
+pub(crate) fn read_file_head(form: FileForm, bytes: &[u8]) -> Result<Emission, CaptureRefusal> {
     let order = form.order;
     if order.read_u16(bytes, 0) != 2 || order.read_u16(bytes, 2) != 4 {
         return refuse(4, CaptureReason::UnknownVersion);
     }
     let link = (order.read_u32(bytes, 16) % 65_536) as u16;
     let snap_length = order.read_u32(bytes, 12);
-    Ok(Told {
+    Ok(Emission {
         at: 4,
         what: Some(EventOutline::Interface(InterfaceHead {
             number: 0,
@@ -62,12 +62,12 @@ pub(crate) fn tell_file_head(form: FileForm, bytes: &[u8]) -> Result<Told, Captu
 
 /// What the header of a record says that begins at this offset. Section 5 of draft-ietf-opsawg-pcap.
 #[inline(always)]
-pub(crate) fn tell_record_head(
+pub(crate) fn read_record_head(
     limit: u32,
     offset: u64,
     record_form: RecordForm,
     bytes: &[u8],
-) -> Result<Told, CaptureRefusal> {
+) -> Result<Emission, CaptureRefusal> {
     if offset > FARTHEST {
         return refuse(offset, CaptureReason::FileTooLong);
     }
@@ -84,7 +84,7 @@ pub(crate) fn tell_record_head(
         captured,
         original: order.read_u32(bytes, 12),
     };
-    Ok(Told {
+    Ok(Emission {
         at: offset,
         what: Some(EventOutline::Packet(packet)),
         place: Place {
@@ -96,8 +96,12 @@ pub(crate) fn tell_record_head(
 }
 
 /// That a packet is too long, of which so many bytes were captured.
-fn skip_record(offset: u64, captured: u32, record_form: RecordForm) -> Result<Told, CaptureRefusal> {
-    Ok(Told {
+fn skip_record(
+    offset: u64,
+    captured: u32,
+    record_form: RecordForm,
+) -> Result<Emission, CaptureRefusal> {
+    Ok(Emission {
         at: offset,
         what: Some(EventOutline::Skipped(SkipReason::PacketTooLong)),
         place: Place {
@@ -109,12 +113,12 @@ fn skip_record(offset: u64, captured: u32, record_form: RecordForm) -> Result<To
 }
 
 /// What is read after the next bytes, at this offset, of a packet that is passed over.
-pub(crate) fn tell_rest(
+pub(crate) fn read_rest(
     offset: u64,
     record_form: RecordForm,
     start: u64,
     left: u32,
-) -> Result<Told, CaptureRefusal> {
+) -> Result<Emission, CaptureRefusal> {
     let count = left.min(64);
     let stage = match left - count {
         0 => Stage::RecordHead(record_form),

@@ -2,17 +2,17 @@
 //! What the bytes of a pcapng file say.
 
 use crate::cqlp_capture::block::{Block, BlockKind, EitherLength, may_have_length};
-use crate::cqlp_capture::event::{EventOutline, InterfaceHead, PacketHead, SkipReason, Told};
+use crate::cqlp_capture::emission::{read_next, refuse, skip};
+use crate::cqlp_capture::event::{Emission, EventOutline, InterfaceHead, PacketHead, SkipReason};
 use crate::cqlp_capture::file::{ByteOrder, SectionForm};
 use crate::cqlp_capture::interfaces::{KnownInterface, TableChange};
 use crate::cqlp_capture::place::{FARTHEST, Place, Stage};
 use crate::cqlp_capture::refusal::{CaptureReason, CaptureRefusal};
-use crate::cqlp_capture::telling::{read_next, refuse, skip};
 
 /// That these bytes, up to this offset, are all of a packet.
 #[inline(always)]
-pub(crate) fn tell_data(end: u64, offset: u64, stage: Stage) -> Result<Told, CaptureRefusal> {
-    Ok(Told {
+pub(crate) fn read_data(end: u64, offset: u64, stage: Stage) -> Result<Emission, CaptureRefusal> {
+    Ok(Emission {
         at: offset,
         what: Some(EventOutline::Data),
         place: Place { offset: end, stage },
@@ -21,7 +21,7 @@ pub(crate) fn tell_data(end: u64, offset: u64, stage: Stage) -> Result<Told, Cap
 }
 
 /// What the length of the first block says. Section 4.1 of draft-ietf-opsawg-pcapng.
-pub(crate) fn tell_section_length(bytes: &[u8]) -> Result<Told, CaptureRefusal> {
+pub(crate) fn read_section_length(bytes: &[u8]) -> Result<Emission, CaptureRefusal> {
     read_next(8, Stage::SectionBody(read_either_length(bytes, 0)))
 }
 
@@ -34,11 +34,11 @@ fn read_either_length(bytes: &[u8], index: usize) -> EitherLength {
 }
 
 /// What the numbers of a section's header say, the first of which is at this offset. Section 4.1.
-pub(crate) fn tell_section_body(
+pub(crate) fn read_section_body(
     offset: u64,
     lengths: EitherLength,
     bytes: &[u8],
-) -> Result<Told, CaptureRefusal> {
+) -> Result<Emission, CaptureRefusal> {
     let Some(order) = ByteOrder::of_magic(ByteOrder::BigEndian.read_u32(bytes, 0)) else {
         return refuse(offset, CaptureReason::UnknownByteOrder);
     };
@@ -55,13 +55,13 @@ pub(crate) fn tell_section_body(
     if order.read_u16(bytes, 4) != 1 || (minor != 0 && minor != 2) {
         return refuse(offset + 4, CaptureReason::UnknownVersion);
     }
-    tell_section(block)
+    read_section(block)
 }
 
 /// That a section begins with this block.
-fn tell_section(block: Block) -> Result<Told, CaptureRefusal> {
+fn read_section(block: Block) -> Result<Emission, CaptureRefusal> {
     let offset = block.start + 24;
-    Ok(Told {
+    Ok(Emission {
         at: block.start,
         what: Some(EventOutline::Section(SectionForm::Pcapng(block.order))),
         place: Place {
@@ -74,11 +74,11 @@ fn tell_section(block: Block) -> Result<Told, CaptureRefusal> {
 
 /// What the type and the length of a block say that begins at this offset. Section 3.1.
 #[inline]
-pub(crate) fn tell_block_head(
+pub(crate) fn read_block_head(
     offset: u64,
     order: ByteOrder,
     bytes: &[u8],
-) -> Result<Told, CaptureRefusal> {
+) -> Result<Emission, CaptureRefusal> {
     if offset > FARTHEST {
         return refuse(offset, CaptureReason::FileTooLong);
     }
@@ -98,12 +98,12 @@ pub(crate) fn tell_block_head(
     if block.length < kind.least_length() {
         return skip(offset + 8, block, SkipReason::ShortBlock);
     }
-    tell_block(kind, block)
+    read_block(kind, block)
 }
 
 /// What is read in a block of this kind.
 #[inline]
-fn tell_block(kind: BlockKind, block: Block) -> Result<Told, CaptureRefusal> {
+fn read_block(kind: BlockKind, block: Block) -> Result<Emission, CaptureRefusal> {
     let offset = block.start + 8;
     let stage = match kind {
         BlockKind::Interface => Stage::InterfaceBody(block),
@@ -116,11 +116,11 @@ fn tell_block(kind: BlockKind, block: Block) -> Result<Told, CaptureRefusal> {
 }
 
 /// What the numbers of an interface say. Section 4.2.
-pub(crate) fn tell_interface_body(
+pub(crate) fn read_interface_body(
     offset: u64,
     block: Block,
     bytes: &[u8],
-) -> Result<Told, CaptureRefusal> {
+) -> Result<Emission, CaptureRefusal> {
     let order = block.order;
     let interface = KnownInterface {
         link: order.read_u16(bytes, 0),
@@ -128,15 +128,15 @@ pub(crate) fn tell_interface_body(
         unit: Some(1_000),
         offset: 0,
     };
-    tell_description(offset + 8, block, interface)
+    read_description(offset + 8, block, interface)
 }
 
 /// That this is what is known of an interface, up to this offset.
-fn tell_description(
+fn read_description(
     offset: u64,
     block: Block,
     interface: KnownInterface,
-) -> Result<Told, CaptureRefusal> {
+) -> Result<Emission, CaptureRefusal> {
     let block = Block {
         order: block.order,
         start: block.start,
@@ -147,11 +147,11 @@ fn tell_description(
 }
 
 /// What the code and the length of an option say. Sections 3.5 and 4.2.
-pub(crate) fn tell_option_head(
+pub(crate) fn read_option_head(
     offset: u64,
     block: Block,
     bytes: &[u8],
-) -> Result<Told, CaptureRefusal> {
+) -> Result<Emission, CaptureRefusal> {
     let code = block.order.read_u16(bytes, 0);
     let size = block.order.read_u16(bytes, 2);
     let end = block.end();
@@ -161,11 +161,11 @@ pub(crate) fn tell_option_head(
     if offset + 4 + filled_up(size) > end {
         return skip_option(offset + 4, block, SkipReason::BadOptionLength);
     }
-    tell_option(offset, block, code, size)
+    read_option(offset, block, code, size)
 }
 
 /// What an option of this code and this length says, which lies in its block.
-fn tell_option(offset: u64, block: Block, code: u16, size: u16) -> Result<Told, CaptureRefusal> {
+fn read_option(offset: u64, block: Block, code: u16, size: u16) -> Result<Emission, CaptureRefusal> {
     match (code, size) {
         (9, 1) => read_next(offset + 4, Stage::TimeUnit(block)),
         (14, 8) => read_next(offset + 4, Stage::TimeOffset(block)),
@@ -179,7 +179,7 @@ fn tell_option(offset: u64, block: Block, code: u16, size: u16) -> Result<Told, 
 
 /// That an option of this block's interface cannot be read, so that no time of its packets can be; what is left from this offset on
 /// is passed over.
-fn skip_option(offset: u64, block: Block, why: SkipReason) -> Result<Told, CaptureRefusal> {
+fn skip_option(offset: u64, block: Block, why: SkipReason) -> Result<Emission, CaptureRefusal> {
     skip(offset, block.untimed(), why)
 }
 
@@ -189,16 +189,16 @@ fn filled_up(size: u16) -> u64 {
 }
 
 /// What the value of if_tsresol says. Section 4.2.
-pub(crate) fn tell_time_unit(
+pub(crate) fn read_time_unit(
     offset: u64,
     block: Block,
     bytes: &[u8],
-) -> Result<Told, CaptureRefusal> {
+) -> Result<Emission, CaptureRefusal> {
     let Some(unit) = read_unit(bytes[0]) else {
         return skip_option(offset + 4, block, SkipReason::UnknownTimeUnit);
     };
     match block.interface {
-        Some(interface) => tell_description(
+        Some(interface) => read_description(
             offset + 4,
             block,
             KnownInterface {
@@ -230,17 +230,17 @@ fn read_unit(exponent: u8) -> Option<u32> {
 }
 
 /// What the value of if_tsoffset says. Section 4.2.
-pub(crate) fn tell_time_offset(
+pub(crate) fn read_time_offset(
     offset: u64,
     block: Block,
     bytes: &[u8],
-) -> Result<Told, CaptureRefusal> {
+) -> Result<Emission, CaptureRefusal> {
     let seconds = block.order.read_u64(bytes, 0);
     if seconds >= 0x8000_0000_0000_0000 {
         return skip_option(offset + 8, block, SkipReason::NegativeTimeOffset);
     }
     match block.interface {
-        Some(interface) => tell_description(
+        Some(interface) => read_description(
             offset + 8,
             block,
             KnownInterface {
@@ -256,14 +256,14 @@ pub(crate) fn tell_time_offset(
 
 /// What the numbers of a packet say, whose interface has this number. Section 4.3 and appendix A.
 #[inline]
-pub(crate) fn tell_enhanced_body(
+pub(crate) fn read_enhanced_body(
     limit: u32,
     known: &[KnownInterface],
     number: u32,
     offset: u64,
     block: Block,
     bytes: &[u8],
-) -> Result<Told, CaptureRefusal> {
+) -> Result<Emission, CaptureRefusal> {
     let order = block.order;
     let Some(interface) = known.get(number as usize).copied() else {
         return skip(offset + 20, block, SkipReason::UnknownInterface);
@@ -282,24 +282,24 @@ pub(crate) fn tell_enhanced_body(
         captured: order.read_u32(bytes, 12),
         original: order.read_u32(bytes, 16),
     };
-    tell_within(limit, offset + 20, block, packet)
+    read_within(limit, offset + 20, block, packet)
 }
 
 /// That a packet begins, whose bytes are at this offset, if they lie in the block and the limit allows as many.
 #[inline]
-fn tell_within(
+fn read_within(
     limit: u32,
     offset: u64,
     block: Block,
     packet: PacketHead,
-) -> Result<Told, CaptureRefusal> {
+) -> Result<Emission, CaptureRefusal> {
     if packet.captured as u64 > room_after(block, offset) {
         return skip(offset, block, SkipReason::PacketBeyondBlock);
     }
     if packet.captured > limit {
         return skip(offset, block, SkipReason::PacketTooLong);
     }
-    tell_packet(offset, block, packet)
+    read_packet(offset, block, packet)
 }
 
 /// How many bytes a block has from this offset on to its second length.
@@ -318,8 +318,8 @@ fn captured_time(unit: u32, seconds: u64, units: u64) -> Option<u64> {
 
 /// That a packet begins, whose bytes are at this offset.
 #[inline]
-fn tell_packet(offset: u64, block: Block, packet: PacketHead) -> Result<Told, CaptureRefusal> {
-    Ok(Told {
+fn read_packet(offset: u64, block: Block, packet: PacketHead) -> Result<Emission, CaptureRefusal> {
+    Ok(Emission {
         at: block.start,
         what: Some(EventOutline::Packet(packet)),
         place: Place {
@@ -331,13 +331,13 @@ fn tell_packet(offset: u64, block: Block, packet: PacketHead) -> Result<Told, Ca
 }
 
 /// What the number of a simple packet says. Section 4.4.
-pub(crate) fn tell_simple_body(
+pub(crate) fn read_simple_body(
     limit: u32,
     known: &[KnownInterface],
     offset: u64,
     block: Block,
     bytes: &[u8],
-) -> Result<Told, CaptureRefusal> {
+) -> Result<Emission, CaptureRefusal> {
     let Some(interface) = known.get(0).copied() else {
         return skip(offset + 4, block, SkipReason::UnknownInterface);
     };
@@ -350,7 +350,7 @@ pub(crate) fn tell_simple_body(
         captured,
         original,
     };
-    tell_within(limit, offset + 4, block, packet)
+    read_within(limit, offset + 4, block, packet)
 }
 
 /// How many bytes of a simple packet were captured that had so many, where its block has room for so many.
@@ -369,13 +369,13 @@ fn captured_size(interface: KnownInterface, original: u32, room: u64) -> u32 {
 
 /// What the second length of a block says, and that an interface is known once its block was read. Section 3.1.
 #[inline]
-pub(crate) fn tell_block_end(
+pub(crate) fn read_block_end(
     limit: u32,
     known: &[KnownInterface],
     offset: u64,
     block: Block,
     bytes: &[u8],
-) -> Result<Told, CaptureRefusal> {
+) -> Result<Emission, CaptureRefusal> {
     if block.order.read_u32(bytes, 0) != block.length {
         return refuse(offset, CaptureReason::UnequalBlockLengths);
     }
@@ -389,14 +389,14 @@ pub(crate) fn tell_block_end(
         stage,
     };
     if number >= limit {
-        return Ok(Told {
+        return Ok(Emission {
             at: block.start,
             what: Some(EventOutline::Skipped(SkipReason::TooManyInterfaces)),
             place,
             change: TableChange::Keep,
         });
     }
-    Ok(Told {
+    Ok(Emission {
         at: block.start,
         what: Some(EventOutline::Interface(InterfaceHead {
             number,

@@ -16,7 +16,7 @@ use crate::kit_std::alloc::{Allocator, Global};
 pub(crate) enum StepTaken {
     /// All of the input was used, and more is wanted.
     More,
-    /// This many bytes of the input were used, and no event was told.
+    /// This many bytes of the input were used, and no event was emitted.
     Passed {
         used: usize,
     },
@@ -199,15 +199,15 @@ impl<A: Allocator> CaptureReader<A> {
         let bytes = self.gathered.lend(input, found.lies);
         match self
             .place
-            .tell(&self.limits, self.interfaces.known(), bytes)
+            .read(&self.limits, self.interfaces.known(), bytes)
         {
-            Ok(told) => {
-                self.place = told.place;
-                self.interfaces.apply(told.change);
-                match told.what {
+            Ok(emission) => {
+                self.place = emission.place;
+                self.interfaces.apply(emission.change);
+                match emission.what {
                     None => StepTaken::Passed { used: found.used },
                     Some(what) => StepTaken::Event {
-                        at: told.at,
+                        at: emission.at,
                         used: found.used,
                         what,
                         lies: found.lies,

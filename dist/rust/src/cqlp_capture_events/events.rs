@@ -3,10 +3,10 @@
 
 use crate::kit_host::prelude::{AllocGlobal, Clone, ToCopy, Vec, vec};
 use crate::cqlp_capture_events::table::Table;
-use crate::cqlp_capture_frames::TellFault;
-use crate::cqlp_capture_streams::{Listener, Saying, StreamsFault};
+use crate::cqlp_capture_frames::ReportFault;
+use crate::cqlp_capture_streams::{ConnectionEvent, Listener, StreamsFault};
 use crate::cqlp_note::Target;
-use crate::cqlp_tcp_connections::Told;
+use crate::cqlp_tcp_connections::Delivery;
 use crate::cqlp_text::{Buffered, TextWriter};
 use crate::kit_std::alloc::{AllocError, Allocator, Global};
 
@@ -55,13 +55,13 @@ impl<O: Target, A: Allocator + Clone> Events<O, A> {
         }
     }
 
-    /// Takes what is told next of the connections.
-    fn take(&mut self, saying: &Saying<'_>) -> Result<(), StreamsFault> {
-        match saying {
-            Saying::Packet { .. } => Ok(()),
-            Saying::New { number } => self.begin(*number),
-            Saying::Of { told, bytes } => self.hear_told(told, bytes),
-            Saying::Left(totals) => {
+    /// Takes the next event of the connections.
+    fn take(&mut self, event: &ConnectionEvent<'_>) -> Result<(), StreamsFault> {
+        match event {
+            ConnectionEvent::Packet { .. } => Ok(()),
+            ConnectionEvent::New { number } => self.begin(*number),
+            ConnectionEvent::Of { delivered, bytes } => self.hear_delivery(delivered, bytes),
+            ConnectionEvent::Left(totals) => {
                 self.table.leave(totals.number);
                 Ok(())
             }
@@ -78,33 +78,33 @@ impl<O: Target, A: Allocator + Clone> Events<O, A> {
         }
     }
 
-    fn hear_told(&mut self, told: &Told, bytes: &[u8]) -> Result<(), StreamsFault> {
-        match self.tell(told, bytes) {
+    fn hear_delivery(&mut self, delivered: &Delivery, bytes: &[u8]) -> Result<(), StreamsFault> {
+        match self.report(delivered, bytes) {
             Ok(()) => Ok(()),
-            Err(TellFault::Write) => Err(StreamsFault::Write),
-            Err(TellFault::NoMemory) => Err(StreamsFault::NoMemory),
+            Err(ReportFault::Write) => Err(StreamsFault::Write),
+            Err(ReportFault::NoMemory) => Err(StreamsFault::NoMemory),
         }
     }
 
-    /// Writes the lines of what is told.
-    fn tell(&mut self, told: &Told, bytes: &[u8]) -> Result<(), TellFault> {
-        put_told(&mut self.table, told, bytes, &mut self.writer)
+    /// Writes the lines of an event.
+    fn report(&mut self, delivered: &Delivery, bytes: &[u8]) -> Result<(), ReportFault> {
+        put_delivery(&mut self.table, delivered, bytes, &mut self.writer)
     }
 }
 
-/// Takes the lines of what is told, and passes them on, also where memory was refused.
-fn put_told<W: Target, A: Allocator + Clone, B: Allocator>(
+/// Takes the lines of an event, and passes them on, also where memory was refused.
+fn put_delivery<W: Target, A: Allocator + Clone, B: Allocator>(
     table: &mut Table<A>,
-    told: &Told,
+    delivered: &Delivery,
     bytes: &[u8],
     writer: &mut TextWriter<Buffered<W, B>>,
-) -> Result<(), TellFault> {
-    match table.hear(told, bytes, writer) {
+) -> Result<(), ReportFault> {
+    match table.hear(delivered, bytes, writer) {
         Ok(()) => Ok(writer.pass_on()?),
-        Err(TellFault::Write) => Err(TellFault::Write),
-        Err(TellFault::NoMemory) => {
+        Err(ReportFault::Write) => Err(ReportFault::Write),
+        Err(ReportFault::NoMemory) => {
             writer.pass_on()?;
-            Err(TellFault::NoMemory)
+            Err(ReportFault::NoMemory)
         }
     }
 }
@@ -117,7 +117,7 @@ fn take_memory<A: Allocator + Clone>(alloc: A) -> Result<(Table<A>, Vec<u8, A>),
 }
 
 impl<O: Target, A: Allocator + Clone> Listener for Events<O, A> {
-    fn hear(&mut self, saying: &Saying<'_>) -> Result<(), StreamsFault> {
-        self.take(saying)
+    fn hear(&mut self, event: &ConnectionEvent<'_>) -> Result<(), StreamsFault> {
+        self.take(event)
     }
 }

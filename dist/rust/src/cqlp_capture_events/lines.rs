@@ -2,7 +2,7 @@
 //! Lines of events.
 
 use crate::cqlp_capture_frames::{
-    LinePlace, TellFault, Transcript, put_compressed, put_gap, put_place, put_refused, put_unread,
+    LinePlace, ReportFault, Transcript, put_compressed, put_gap, put_place, put_refused, put_unread,
 };
 use crate::cqlp_grammar::{Event, SinkFault};
 use crate::cqlp_note::{Header, Reason};
@@ -31,10 +31,10 @@ fn put_event<P: Pen>(
 }
 
 impl<A: Allocator> Transcript<A> for Lines {
-    type Fault = TellFault;
+    type Fault = ReportFault;
 
-    fn no_memory() -> TellFault {
-        TellFault::NoMemory
+    fn no_memory() -> ReportFault {
+        ReportFault::NoMemory
     }
 
     fn begin<P: Pen>(
@@ -42,7 +42,7 @@ impl<A: Allocator> Transcript<A> for Lines {
         _at: u64,
         _header: &Header,
         _writer: &mut TextWriter<P>,
-    ) -> Result<Option<TypeTable<A>>, TellFault> {
+    ) -> Result<Option<TypeTable<A>>, ReportFault> {
         Ok(None)
     }
 
@@ -51,7 +51,7 @@ impl<A: Allocator> Transcript<A> for Lines {
         at: u64,
         event: &Event<'_>,
         writer: &mut TextWriter<P>,
-    ) -> Result<(), TellFault> {
+    ) -> Result<(), ReportFault> {
         Ok(put_event(writer, self.place, at, event)?)
     }
 
@@ -60,7 +60,7 @@ impl<A: Allocator> Transcript<A> for Lines {
         at: u64,
         why: Reason,
         writer: &mut TextWriter<P>,
-    ) -> Result<(), TellFault> {
+    ) -> Result<(), ReportFault> {
         Ok(put_refused(writer, self.place, at, why)?)
     }
 
@@ -69,7 +69,7 @@ impl<A: Allocator> Transcript<A> for Lines {
         at: u64,
         _header: &Header,
         writer: &mut TextWriter<P>,
-    ) -> Result<(), TellFault> {
+    ) -> Result<(), ReportFault> {
         Ok(put_compressed(writer, self.place, at)?)
     }
 
@@ -78,7 +78,7 @@ impl<A: Allocator> Transcript<A> for Lines {
         at: u64,
         _header: &Header,
         writer: &mut TextWriter<P>,
-    ) -> Result<(), TellFault> {
+    ) -> Result<(), ReportFault> {
         self.unread = self.unread.saturating_add(1);
         Ok(put_unread(writer, self.place, at)?)
     }
@@ -89,7 +89,7 @@ impl<A: Allocator> Transcript<A> for Lines {
         length: u64,
         cause: GapCause,
         writer: &mut TextWriter<P>,
-    ) -> Result<(), TellFault> {
+    ) -> Result<(), ReportFault> {
         Ok(put_gap(writer, self.place, at, length, cause)?)
     }
 
@@ -97,11 +97,11 @@ impl<A: Allocator> Transcript<A> for Lines {
         &mut self,
         _types: &TypeTable<A>,
         _writer: &mut TextWriter<P>,
-    ) -> Result<(), TellFault> {
+    ) -> Result<(), ReportFault> {
         Ok(())
     }
 
-    fn close<P: Pen>(&mut self, _writer: &mut TextWriter<P>) -> Result<(), TellFault> {
+    fn close<P: Pen>(&mut self, _writer: &mut TextWriter<P>) -> Result<(), ReportFault> {
         Ok(())
     }
 }

@@ -4,8 +4,8 @@
 use crate::kit_host::prelude::{AllocGlobal, Clone, ToCopy};
 use crate::cqlp_capture_events::limits::LIMITS;
 use crate::cqlp_capture_events::lines::Lines;
-use crate::cqlp_capture_frames::{Direction, LinePlace, TellFault};
-use crate::cqlp_tcp_connections::{Told, Way};
+use crate::cqlp_capture_frames::{Direction, LinePlace, ReportFault};
+use crate::cqlp_tcp_connections::{Delivery, Way};
 use crate::cqlp_text::{Pen, TextWriter};
 use crate::kit_std::alloc::{AllocError, Allocator, Global};
 
@@ -29,23 +29,23 @@ impl<A: Allocator + Clone> Slot<A> {
         usize::from(self.requests.is_open()) + usize::from(self.responses.is_open())
     }
 
-    /// Takes what is told of one of its directions, with its bytes, and counts the frames that are not read. Where there is no room for one
+    /// Takes what one of its directions delivers, with its bytes, and counts the frames that are not read. Where there is no room for one
     /// more decoder, only a direction that reads a frame reads others.
     pub(crate) fn hear<P: Pen>(
         &mut self,
         has_room: bool,
-        told: &Told,
+        delivered: &Delivery,
         bytes: &[u8],
         unread: &mut u64,
         writer: &mut TextWriter<P>,
-    ) -> Result<(), TellFault> {
-        match told.way {
+    ) -> Result<(), ReportFault> {
+        match delivered.way {
             Way::Requests => {
-                let mut lines = lines_of(told.number, false, *unread);
+                let mut lines = lines_of(delivered.number, false, *unread);
                 hear_in(
                     &mut self.requests,
                     has_room,
-                    told,
+                    delivered,
                     bytes,
                     &mut lines,
                     writer,
@@ -54,11 +54,11 @@ impl<A: Allocator + Clone> Slot<A> {
                 Ok(())
             }
             Way::Responses => {
-                let mut lines = lines_of(told.number, true, *unread);
+                let mut lines = lines_of(delivered.number, true, *unread);
                 hear_in(
                     &mut self.responses,
                     has_room,
-                    told,
+                    delivered,
                     bytes,
                     &mut lines,
                     writer,
@@ -70,17 +70,17 @@ impl<A: Allocator + Clone> Slot<A> {
     }
 }
 
-/// Takes what is told of this direction.
+/// Takes what this direction delivers.
 fn hear_in<A: Allocator + Clone, P: Pen>(
     direction: &mut Direction<A>,
     has_room: bool,
-    told: &Told,
+    delivered: &Delivery,
     bytes: &[u8],
     lines: &mut Lines,
     writer: &mut TextWriter<P>,
-) -> Result<(), TellFault> {
+) -> Result<(), ReportFault> {
     let has_room = has_room || direction.is_open();
-    direction.hear(has_room, told.step, told.at, bytes, lines, writer)
+    direction.hear(has_room, delivered.step, delivered.at, bytes, lines, writer)
 }
 
 /// The lines of a direction of the connection with this number, where so many frames were not read so far.

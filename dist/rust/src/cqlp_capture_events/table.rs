@@ -4,8 +4,8 @@
 use crate::kit_host::prelude::{AllocGlobal, Clone, ToCopy};
 use crate::cqlp_capture_events::limits::OPEN_FRAMES;
 use crate::cqlp_capture_events::slot::Slot;
-use crate::cqlp_capture_frames::TellFault;
-use crate::cqlp_tcp_connections::Told;
+use crate::cqlp_capture_frames::ReportFault;
+use crate::cqlp_tcp_connections::Delivery;
 use crate::cqlp_text::{Pen, TextWriter};
 use crate::kit_std::alloc::{AllocError, Allocator, Global};
 use crate::kit_std::collections::BTreeMap;
@@ -47,19 +47,19 @@ impl<A: Allocator + Clone> Table<A> {
         }
     }
 
-    /// Takes what is told of the streams of a connection, with its bytes.
+    /// Takes what the streams of a connection deliver, with its bytes.
     pub(crate) fn hear<P: Pen>(
         &mut self,
-        told: &Told,
+        delivered: &Delivery,
         bytes: &[u8],
         writer: &mut TextWriter<P>,
-    ) -> Result<(), TellFault> {
-        match self.slots.get_mut(&told.number) {
+    ) -> Result<(), ReportFault> {
+        match self.slots.get_mut(&delivered.number) {
             Some(slot) => hear_in(
                 slot,
                 &mut self.reading,
                 &mut self.unread,
-                told,
+                delivered,
                 bytes,
                 writer,
             ),
@@ -75,18 +75,18 @@ impl<A: Allocator + Clone> Table<A> {
     }
 }
 
-/// Takes what is told of the streams of this connection.
+/// Takes what the streams of this connection deliver.
 fn hear_in<A: Allocator + Clone, P: Pen>(
     slot: &mut Slot<A>,
     reading: &mut usize,
     unread: &mut u64,
-    told: &Told,
+    delivered: &Delivery,
     bytes: &[u8],
     writer: &mut TextWriter<P>,
-) -> Result<(), TellFault> {
+) -> Result<(), ReportFault> {
     let before = slot.open();
     let has_room = *reading < OPEN_FRAMES;
-    slot.hear(has_room, told, bytes, unread, writer)?;
+    slot.hear(has_room, delivered, bytes, unread, writer)?;
     *reading = reading_after(*reading, before, slot.open());
     Ok(())
 }

@@ -6,15 +6,15 @@ use crate::cqlp_capture_exchanges::filter::ExchangeFilter;
 use crate::cqlp_capture_exchanges::form::ExchangeForm;
 use crate::cqlp_capture_exchanges::pool::ExchangeLimits;
 use crate::cqlp_capture_exchanges::prepared::{MOST, Preparation};
+use crate::cqlp_capture_exchanges::reporter::Reporter;
 use crate::cqlp_capture_exchanges::sums::ExchangeSums;
 use crate::cqlp_capture_exchanges::table::Table;
-use crate::cqlp_capture_exchanges::teller::Teller;
-use crate::cqlp_capture_streams::{Listener, Saying, StreamsFault};
+use crate::cqlp_capture_streams::{ConnectionEvent, Listener, StreamsFault};
 use crate::cqlp_capture_summary::Summary;
 use crate::cqlp_grammar::SinkFault;
 use crate::cqlp_note::Target;
 use crate::cqlp_observer::Missed;
-use crate::cqlp_tcp_connections::{ConnectionTotals, Told};
+use crate::cqlp_tcp_connections::{ConnectionTotals, Delivery};
 use crate::kit_std::alloc::{AllocError, Allocator, Global};
 
 /// How many bytes of a line wait at most.
@@ -26,7 +26,7 @@ pub struct Exchanges<O: Target, A: Allocator = Global> {
     table: Table<A>,
     /// When the present packet was captured, in nanoseconds since 1970-01-01 00:00:00 UTC.
     present: Option<u64>,
-    teller: Teller<O, A>,
+    reporter: Reporter<O, A>,
 }
 
 impl<O: Target, A: Allocator + Clone> Exchanges<O, A> {
@@ -50,7 +50,7 @@ impl<O: Target, A: Allocator + Clone> Exchanges<O, A> {
             ) => Ok(Exchanges {
                 table,
                 present: None,
-                teller: Teller::new(filter, form, out, buffer, known, summary),
+                reporter: Reporter::new(filter, form, out, buffer, known, summary),
             }),
             Err(AllocError) => Err(out),
         }
@@ -58,7 +58,7 @@ impl<O: Target, A: Allocator + Clone> Exchanges<O, A> {
 
     /// Writes what stands at the end: the lines of a summary.
     pub fn finish(&mut self) -> Result<(), SinkFault> {
-        self.teller.finish()
+        self.reporter.finish()
     }
 
     /// The output, and what was reported.
@@ -66,9 +66,9 @@ impl<O: Target, A: Allocator + Clone> Exchanges<O, A> {
         let Exchanges {
             table: _,
             present: _,
-            teller,
+            reporter,
         } = self;
-        teller.into_parts()
+        reporter.into_parts()
     }
 
     /// What was missed of the connections that have left.
@@ -76,22 +76,22 @@ impl<O: Target, A: Allocator + Clone> Exchanges<O, A> {
         self.table.missed()
     }
 
-    /// Takes what is told next of the connections.
-    fn take(&mut self, saying: &Saying<'_>) -> Result<(), StreamsFault> {
-        match saying {
-            Saying::Packet { time } => {
+    /// Takes the next event of the connections.
+    fn take(&mut self, event: &ConnectionEvent<'_>) -> Result<(), StreamsFault> {
+        match event {
+            ConnectionEvent::Packet { time } => {
                 self.note_time(*time);
                 Ok(())
             }
-            Saying::New { number } => self.begin(*number),
-            Saying::Of { told, bytes } => self.hear_told(told, bytes),
-            Saying::Left(totals) => self.let_leave(totals),
+            ConnectionEvent::New { number } => self.begin(*number),
+            ConnectionEvent::Of { delivered, bytes } => self.hear_delivery(delivered, bytes),
+            ConnectionEvent::Left(totals) => self.let_leave(totals),
         }
     }
 
     fn note_time(&mut self, time: Option<u64>) {
         self.present = time;
-        self.teller.note_time(time);
+        self.reporter.note_time(time);
     }
 
     fn begin(&mut self, number: u64) -> Result<(), StreamsFault> {
@@ -101,12 +101,12 @@ impl<O: Target, A: Allocator + Clone> Exchanges<O, A> {
         }
     }
 
-    fn hear_told(&mut self, told: &Told, bytes: &[u8]) -> Result<(), StreamsFault> {
-        (self.table).hear(self.present, told, bytes, &mut self.teller)
+    fn hear_delivery(&mut self, delivered: &Delivery, bytes: &[u8]) -> Result<(), StreamsFault> {
+        (self.table).hear(self.present, delivered, bytes, &mut self.reporter)
     }
 
     fn let_leave(&mut self, totals: &ConnectionTotals) -> Result<(), StreamsFault> {
-        self.table.leave(totals, &mut self.teller)
+        self.table.leave(totals, &mut self.reporter)
     }
 }
 
@@ -136,7 +136,7 @@ fn take_memory<A: Allocator + Clone>(
 }
 
 impl<O: Target, A: Allocator + Clone> Listener for Exchanges<O, A> {
-    fn hear(&mut self, saying: &Saying<'_>) -> Result<(), StreamsFault> {
-        self.take(saying)
+    fn hear(&mut self, event: &ConnectionEvent<'_>) -> Result<(), StreamsFault> {
+        self.take(event)
     }
 }

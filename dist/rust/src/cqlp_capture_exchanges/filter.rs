@@ -57,8 +57,8 @@ fn reported_slow<A: Allocator>(least: u64, report: &Report<A>) -> bool {
     }
 }
 
-fn took_at_least<A: Allocator>(least: u64, told: &Paired<Kept<A>>) -> bool {
-    match told {
+fn took_at_least<A: Allocator>(least: u64, exchange: &Paired<Kept<A>>) -> bool {
+    match exchange {
         Paired::Exchange { request, response } => {
             is_at_least(least, took(&request.frame, &response.frame))
         }
@@ -81,8 +81,8 @@ fn is_trouble<A: Allocator>(report: &Report<A>) -> bool {
     }
 }
 
-fn has_failed<A: Allocator>(told: &Paired<Kept<A>>) -> bool {
-    match told {
+fn has_failed<A: Allocator>(exchange: &Paired<Kept<A>>) -> bool {
+    match exchange {
         Paired::Exchange { response, .. } => is_failure(&response.frame),
         Paired::Unanswered { .. } => true,
         Paired::Unasked { .. } | Paired::Event { .. } => false,

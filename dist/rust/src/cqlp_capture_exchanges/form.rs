@@ -15,7 +15,7 @@ pub enum ExchangeForm {
 }
 
 impl ExchangeForm {
-    /// How many statements a summary tells apart.
+    /// How many statements a summary distinguishes.
     pub(crate) fn statements(self) -> usize {
         match self {
             ExchangeForm::Lines => 0,

@@ -1,5 +1,5 @@
 // Written by dist/erase from crates/cqlp_capture_exchanges/src/lines.rt.
-//! The line of what is told of a request, a response, or both.
+//! The line of what is reported of a request, a response, or both.
 
 use crate::cqlp_capture_exchanges::member::{Member, Value, put_members};
 use crate::cqlp_capture_exchanges::prepared::{Preparation, named};
@@ -47,9 +47,9 @@ fn put_paired<P: Pen, A: Allocator>(
     first: Option<u64>,
     number: u64,
     end: Option<ConnectionEnd>,
-    told: &Paired<Kept<A>>,
+    exchange: &Paired<Kept<A>>,
 ) -> Result<(), SinkFault> {
-    match told {
+    match exchange {
         Paired::Exchange { request, response } => {
             put_exchange(writer, known, first, number, request, response)
         }

@@ -16,12 +16,12 @@ mod pool;
 mod prepared;
 mod reply;
 mod report;
+mod reporter;
 mod slot;
 mod span;
 mod statement;
 mod sums;
 mod table;
-mod teller;
 
 pub(crate) use capturing::{write_exchanges};
 pub use exchanges::Exchanges;

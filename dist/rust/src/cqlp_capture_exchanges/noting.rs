@@ -131,8 +131,13 @@ fn note_text<A: Allocator, B: Allocator>(
 {
     if is_batch(request.frame.header.opcode) {
         let name = BatchName::new(text.as_bytes());
-        let is_whole = has_all(text, is_whole);
-        note_as(summary, naming, name.as_slice(), is_whole, outcome);
+        note_as(
+            summary,
+            naming,
+            name.as_slice(),
+            has_all(text, is_whole),
+            outcome,
+        );
     } else {
         note_as(summary, naming, text.as_bytes(), is_whole, outcome);
     }

@@ -1,5 +1,5 @@
 // Written by dist/erase from crates/cqlp_capture_exchanges/src/object.rt.
-//! The JSON object of what is told of a request, a response, or both.
+//! The JSON object of what is reported of a request, a response, or both.
 
 use crate::cqlp_capture_exchanges::member::{
     Member, Value, consistency_or_null, name_or_code, number_or_null, put_members, seconds_or_null,
@@ -100,10 +100,10 @@ fn put_paired<P: Pen, A: Allocator>(
     first: Option<u64>,
     number: u64,
     end: Option<ConnectionEnd>,
-    told: &Paired<Kept<A>>,
+    reported: &Paired<Kept<A>>,
 ) -> Result<(), SinkFault> {
     let place = Place { first, number };
-    match told {
+    match reported {
         Paired::Exchange { request, response } => {
             put_exchange(writer, known, place, request, response)
         }
@@ -184,20 +184,20 @@ fn put_unanswered<P: Pen, A: Allocator>(
 /// Takes the object of a response without a request, or of an event.
 fn put_alone<P: Pen, A: Allocator>(
     writer: &mut TextWriter<P>,
-    told: &str,
+    reported: &str,
     place: Place,
     response: &Message<Kept<A>>,
 ) -> Result<(), SinkFault> {
-    put_place(writer, told, place.first, place.number, &response.frame)?;
+    put_place(writer, reported, place.first, place.number, &response.frame)?;
     put_response(writer, response)?;
     put_last(writer, Last::NONE)?;
     writer.put(b"}\n")
 }
 
-/// Takes what is told, when its frame began, and where.
+/// Takes what is reported, when its frame began, and where.
 fn put_place<P: Pen>(
     writer: &mut TextWriter<P>,
-    told: &str,
+    reported: &str,
     first: Option<u64>,
     number: u64,
     frame: &Frame,
@@ -206,7 +206,7 @@ fn put_place<P: Pen>(
     put_members(
         writer,
         &[
-            Member("{\"told\":", Value::Name(told)),
+            Member("{\"told\":", Value::Name(reported)),
             Member(",\"time\":", seconds_or_null(since)),
             Member(",\"connection\":", Value::Number(number)),
             Member(

@@ -30,7 +30,7 @@ pub enum Report<A: Allocator = Global> {
     },
 }
 
-/// How a connection ended, of which this was told.
+/// How a connection ended, of which this was reported.
 pub(crate) fn end_of(totals: &ConnectionTotals) -> ConnectionEnd {
     let (requests, responses) = (totals.requests.end, totals.responses.end);
     if is_reset(requests) || is_reset(responses) {

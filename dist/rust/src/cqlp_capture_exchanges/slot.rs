@@ -3,11 +3,11 @@
 
 use crate::kit_host::prelude::{AllocGlobal, Box, Clone, ToCopy};
 use crate::cqlp_capture_exchanges::report::{ConnectionEnd, is_unread};
-use crate::cqlp_capture_exchanges::teller::Teller;
+use crate::cqlp_capture_exchanges::reporter::Reporter;
 use crate::cqlp_capture_streams::StreamsFault;
 use crate::cqlp_note::Target;
 use crate::cqlp_observer::{Kept, Missed, Opening, Paired, Unread, Watch, WatchRoom, WatchStep};
-use crate::cqlp_tcp_connections::{Told, Way};
+use crate::cqlp_tcp_connections::{Delivery, Way};
 use crate::cqlp_tcp_reassembly::StreamStep;
 use crate::kit_std::alloc::{AllocError, Allocator, Global};
 
@@ -44,34 +44,34 @@ impl<A: Allocator + Clone> Slot<A> {
         self.watch.missed()
     }
 
-    /// Takes what is told of its streams while the present packet came at this time, with its bytes; so much may wait.
+    /// Takes what its streams deliver while the present packet came at this time, with its bytes; so much may wait.
     pub(crate) fn hear<O: Target>(
         &mut self,
         present: Option<u64>,
-        told: &Told,
+        delivered: &Delivery,
         room: WatchRoom,
         bytes: &[u8],
-        teller: &mut Teller<O, A>,
+        reporter: &mut Reporter<O, A>,
     ) -> Result<(), StreamsFault> {
-        hear_told(
+        hear_delivery(
             &mut self.watch,
             &mut self.is_reported,
             present,
-            told,
+            delivered,
             room,
             bytes,
-            teller,
+            reporter,
         )
     }
 
-    /// The streams of the connection end: reports what that tells.
+    /// The streams of the connection end: reports what that delivers.
     pub(crate) fn end<O: Target>(
         &mut self,
         number: u64,
         room: WatchRoom,
-        teller: &mut Teller<O, A>,
+        reporter: &mut Reporter<O, A>,
     ) -> Result<(), StreamsFault> {
-        end_watch(&mut self.watch, number, room, teller)
+        end_watch(&mut self.watch, number, room, reporter)
     }
 
     /// Reports the messages that wait, of a connection that ended so.
@@ -79,25 +79,25 @@ impl<A: Allocator + Clone> Slot<A> {
         &mut self,
         number: u64,
         end: ConnectionEnd,
-        teller: &mut Teller<O, A>,
+        reporter: &mut Reporter<O, A>,
     ) -> Result<(), StreamsFault> {
-        let_go(&mut self.watch, number, end, teller)
+        let_go(&mut self.watch, number, end, reporter)
     }
 }
 
-/// Takes what is told of the streams of a connection while the present packet came at this time, with its bytes.
-fn hear_told<O: Target, A: Allocator + Clone>(
+/// Takes what the streams of a connection deliver while the present packet came at this time, with its bytes.
+fn hear_delivery<O: Target, A: Allocator + Clone>(
     watch: &mut Watch<A>,
     is_reported: &mut bool,
     present: Option<u64>,
-    told: &Told,
+    delivered: &Delivery,
     room: WatchRoom,
     bytes: &[u8],
-    teller: &mut Teller<O, A>,
+    reporter: &mut Reporter<O, A>,
 ) -> Result<(), StreamsFault> {
-    let responses = is_responses(told.way);
-    let number = told.number;
-    match told.step {
+    let responses = is_responses(delivered.way);
+    let number = delivered.number;
+    match delivered.step {
         StreamStep::Began { syn } => {
             watch.begin(responses, syn);
             Ok(())
@@ -109,7 +109,7 @@ fn hear_told<O: Target, A: Allocator + Clone>(
                 begins: from == 0,
                 bytes,
             };
-            hear_bytes(watch, is_reported, number, piece, room, teller)
+            hear_bytes(watch, is_reported, number, piece, room, reporter)
         }
         StreamStep::Held { time, begins } => {
             let piece = Piece {
@@ -118,13 +118,13 @@ fn hear_told<O: Target, A: Allocator + Clone>(
                 begins,
                 bytes,
             };
-            hear_bytes(watch, is_reported, number, piece, room, teller)
+            hear_bytes(watch, is_reported, number, piece, room, reporter)
         }
         StreamStep::Gap { length, time, .. } => {
-            hear_gap(watch, number, responses, length, time, room, teller)
+            hear_gap(watch, number, responses, length, time, room, reporter)
         }
         StreamStep::Ended | StreamStep::Reset => {
-            end_direction(watch, number, responses, room, teller)
+            end_direction(watch, number, responses, room, reporter)
         }
         StreamStep::Kept | StreamStep::Done => Ok(()),
     }
@@ -154,7 +154,7 @@ fn hear_bytes<O: Target, A: Allocator + Clone>(
     number: u64,
     piece: Piece<'_>,
     room: WatchRoom,
-    teller: &mut Teller<O, A>,
+    reporter: &mut Reporter<O, A>,
 ) -> Result<(), StreamsFault> {
     let Piece {
         responses,
@@ -171,9 +171,9 @@ fn hear_bytes<O: Target, A: Allocator + Clone>(
             used,
             is_done,
             opening,
-            told,
+            reported,
         } = step;
-        report_step(teller, number, time, *is_reported, opening, told)?;
+        report_step(reporter, number, time, *is_reported, opening, reported)?;
         *is_reported = is_reported_after(*is_reported, opening);
         if is_done {
             return Ok(());
@@ -183,17 +183,17 @@ fn hear_bytes<O: Target, A: Allocator + Clone>(
     Ok(())
 }
 
-/// Reports what a step of bytes tells that were captured at this time.
+/// Reports what a step of bytes holds that were captured at this time.
 fn report_step<O: Target, A: Allocator>(
-    teller: &mut Teller<O, A>,
+    reporter: &mut Reporter<O, A>,
     number: u64,
     time: Option<u64>,
     was_reported: bool,
     opening: Opening,
-    told: Option<Paired<Kept<A>>>,
+    exchange: Option<Paired<Kept<A>>>,
 ) -> Result<(), StreamsFault> {
-    match teller.report_opening(number, time, was_reported, opening) {
-        Ok(()) => teller.report_messages(number, None, told),
+    match reporter.report_opening(number, time, was_reported, opening) {
+        Ok(()) => reporter.report_messages(number, None, exchange),
         Err(fault) => Err(fault),
     }
 }
@@ -211,10 +211,10 @@ fn hear_gap<O: Target, A: Allocator + Clone>(
     length: u64,
     time: Option<u64>,
     room: WatchRoom,
-    teller: &mut Teller<O, A>,
+    reporter: &mut Reporter<O, A>,
 ) -> Result<(), StreamsFault> {
     match watch.gap(responses, length, time, room) {
-        Ok(told) => teller.report_messages(number, None, told),
+        Ok(exchange) => reporter.report_messages(number, None, exchange),
         Err(AllocError) => Err(StreamsFault::NoMemory),
     }
 }
@@ -224,10 +224,10 @@ fn end_watch<O: Target, A: Allocator + Clone>(
     watch: &mut Watch<A>,
     number: u64,
     room: WatchRoom,
-    teller: &mut Teller<O, A>,
+    reporter: &mut Reporter<O, A>,
 ) -> Result<(), StreamsFault> {
-    match end_direction(watch, number, false, room, teller) {
-        Ok(()) => end_direction(watch, number, true, room, teller),
+    match end_direction(watch, number, false, room, reporter) {
+        Ok(()) => end_direction(watch, number, true, room, reporter),
         Err(fault) => Err(fault),
     }
 }
@@ -238,10 +238,10 @@ fn end_direction<O: Target, A: Allocator + Clone>(
     number: u64,
     responses: bool,
     room: WatchRoom,
-    teller: &mut Teller<O, A>,
+    reporter: &mut Reporter<O, A>,
 ) -> Result<(), StreamsFault> {
     match watch.end(responses, room) {
-        Ok(told) => teller.report_messages(number, None, told),
+        Ok(exchange) => reporter.report_messages(number, None, exchange),
         Err(AllocError) => Err(StreamsFault::NoMemory),
     }
 }
@@ -251,10 +251,10 @@ fn let_go<O: Target, A: Allocator + Clone>(
     watch: &mut Watch<A>,
     number: u64,
     end: ConnectionEnd,
-    teller: &mut Teller<O, A>,
+    reporter: &mut Reporter<O, A>,
 ) -> Result<(), StreamsFault> {
-    while let Some(told) = watch.finish() {
-        teller.report_messages(number, Some(end), Some(told))?;
+    while let Some(exchange) = watch.finish() {
+        reporter.report_messages(number, Some(end), Some(exchange))?;
     }
     Ok(())
 }

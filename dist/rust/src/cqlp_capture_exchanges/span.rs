@@ -12,7 +12,7 @@ pub(crate) struct Span {
     pub(crate) nanoseconds: u64,
 }
 
-/// What times are told in.
+/// What times are written in.
 #[derive(Clone, Copy, Debug, PartialEq, Eq)]
 pub(crate) enum Unit {
     Second,

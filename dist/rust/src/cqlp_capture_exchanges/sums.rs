@@ -1,12 +1,12 @@
 // Written by dist/erase from crates/cqlp_capture_exchanges/src/sums.rt.
-//! What was told of requests and responses, in numbers.
+//! What was reported of requests and responses, in numbers.
 
 use crate::cqlp_capture_exchanges::report::Report;
 use crate::cqlp_capture_exchanges::span::is_whole;
 use crate::cqlp_observer::{Kept, Message, Paired};
 use crate::kit_std::alloc::Allocator;
 
-/// What was told of requests and responses, whether it was shown or not. A number stays at 2^64 - 1 once it is there.
+/// What was reported of requests and responses, whether it was shown or not. A number stays at 2^64 - 1 once it is there.
 #[derive(Clone, Copy, Debug, PartialEq, Eq)]
 pub struct ExchangeSums {
     /// Requests with their responses.
@@ -21,7 +21,7 @@ pub struct ExchangeSums {
 }
 
 impl ExchangeSums {
-    /// Nothing was told.
+    /// Nothing was reported.
     pub(crate) fn none() -> Self {
         ExchangeSums {
             exchanges: 0,
@@ -40,8 +40,8 @@ impl ExchangeSums {
         }
     }
 
-    fn count_paired<A: Allocator>(&mut self, told: &Paired<Kept<A>>) {
-        match told {
+    fn count_paired<A: Allocator>(&mut self, exchange: &Paired<Kept<A>>) {
+        match exchange {
             Paired::Exchange { request, response } => {
                 self.exchanges = self.exchanges.saturating_add(1);
                 self.count_message(request);

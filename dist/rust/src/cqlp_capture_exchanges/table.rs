@@ -4,12 +4,12 @@
 use crate::kit_host::prelude::{AllocGlobal, Clone, ToCopy};
 use crate::cqlp_capture_exchanges::pool::{ExchangeLimits, Pool};
 use crate::cqlp_capture_exchanges::report::end_of;
+use crate::cqlp_capture_exchanges::reporter::Reporter;
 use crate::cqlp_capture_exchanges::slot::Slot;
-use crate::cqlp_capture_exchanges::teller::Teller;
 use crate::cqlp_capture_streams::StreamsFault;
 use crate::cqlp_note::Target;
 use crate::cqlp_observer::{Missed, WatchRoom};
-use crate::cqlp_tcp_connections::{ConnectionTotals, Told};
+use crate::cqlp_tcp_connections::{ConnectionTotals, Delivery};
 use crate::kit_std::alloc::{AllocError, Allocator, Global};
 use crate::kit_std::collections::BTreeMap;
 
@@ -49,45 +49,45 @@ impl<A: Allocator + Clone> Table<A> {
         }
     }
 
-    /// Takes what is told of the streams of a connection while the present packet came at this time, with its bytes.
+    /// Takes what the streams of a connection deliver while the present packet came at this time, with its bytes.
     pub(crate) fn hear<O: Target>(
         &mut self,
         present: Option<u64>,
-        told: &Told,
+        delivered: &Delivery,
         bytes: &[u8],
-        teller: &mut Teller<O, A>,
+        reporter: &mut Reporter<O, A>,
     ) -> Result<(), StreamsFault> {
-        match self.slots.get_mut(&told.number) {
-            Some(slot) => hear_in(slot, &mut self.pool, present, told, bytes, teller),
+        match self.slots.get_mut(&delivered.number) {
+            Some(slot) => hear_in(slot, &mut self.pool, present, delivered, bytes, reporter),
             None => Ok(()),
         }
     }
 
-    /// A connection leaves, of which this was told.
+    /// A connection leaves, of which this was reported.
     pub(crate) fn leave<O: Target>(
         &mut self,
         totals: &ConnectionTotals,
-        teller: &mut Teller<O, A>,
+        reporter: &mut Reporter<O, A>,
     ) -> Result<(), StreamsFault> {
         match self.slots.remove(&totals.number) {
-            Some(slot) => let_leave(slot, &mut self.pool, &mut self.missed, totals, teller),
+            Some(slot) => let_leave(slot, &mut self.pool, &mut self.missed, totals, reporter),
             None => Ok(()),
         }
     }
 }
 
-/// Takes what is told of the streams of this connection.
+/// Takes what the streams of this connection deliver.
 fn hear_in<O: Target, A: Allocator + Clone>(
     slot: &mut Slot<A>,
     pool: &mut Pool,
     present: Option<u64>,
-    told: &Told,
+    delivered: &Delivery,
     bytes: &[u8],
-    teller: &mut Teller<O, A>,
+    reporter: &mut Reporter<O, A>,
 ) -> Result<(), StreamsFault> {
     let old = slot.held();
     let room = pool.room_for(old);
-    let heard = slot.hear(present, told, room, bytes, teller);
+    let heard = slot.hear(present, delivered, room, bytes, reporter);
     pool.exchange(old, slot.held());
     heard
 }
@@ -98,15 +98,15 @@ fn let_leave<O: Target, A: Allocator + Clone>(
     pool: &mut Pool,
     missed: &mut Missed,
     totals: &ConnectionTotals,
-    teller: &mut Teller<O, A>,
+    reporter: &mut Reporter<O, A>,
 ) -> Result<(), StreamsFault> {
     let old = slot.held();
     let room = pool.room_for(old);
     pool.exchange(old, NONE);
-    match slot.end(totals.number, room, teller) {
+    match slot.end(totals.number, room, reporter) {
         Ok(()) => {
             missed.add(&slot.missed());
-            slot.let_go(totals.number, end_of(totals), teller)
+            slot.let_go(totals.number, end_of(totals), reporter)
         }
         Err(fault) => Err(fault),
     }

@@ -53,7 +53,7 @@ impl<A: Allocator + Clone> Direction<A> {
         }
     }
 
-    /// Takes what is told of it at an offset, with its bytes, and tells the transcript what happens. Where there is no room for the memory of a
+    /// Takes what it delivers at an offset, with its bytes, and reports to the transcript what happens. Where there is no room for the memory of a
     /// frame, those that begin are passed over.
     pub fn hear<T: Transcript<A>, P: Pen>(
         &mut self,
@@ -128,7 +128,7 @@ impl<A: Allocator + Clone> Direction<A> {
         while unread.steps > 0 {
             let HeardStep { used, heard } = self.heads.take(unread.bytes, None, unread.begins);
             end = behind(end, used as u64);
-            self.tell(
+            self.report(
                 has_room,
                 end,
                 heard,
@@ -145,7 +145,7 @@ impl<A: Allocator + Clone> Direction<A> {
     }
 
     /// Takes bytes that end at an offset, and what they are.
-    fn tell<T: Transcript<A>, P: Pen>(
+    fn report<T: Transcript<A>, P: Pen>(
         &mut self,
         has_room: bool,
         end: u64,
@@ -236,7 +236,7 @@ impl<A: Allocator + Clone> Direction<A> {
     }
 }
 
-/// Whether nothing more is told of a piece.
+/// Whether nothing more is reported of a piece.
 fn is_done(heard: Heard) -> bool {
     match heard {
         Heard::More => true,

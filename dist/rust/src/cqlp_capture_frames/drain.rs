@@ -21,7 +21,7 @@ pub(crate) fn begin_frame<A: Allocator>(decoder: &mut Decoder<A>, types: Option<
     }
 }
 
-/// Tells the events that more bytes say of the frame that begins there. Answers why it is refused, if it is.
+/// Reports the events that more bytes say of the frame that begins there. Answers why it is refused, if it is.
 pub(crate) fn drain<T: Transcript<A>, P: Pen, A: Allocator>(
     decoder: &mut Decoder<A>,
     input: &[u8],

@@ -6,21 +6,21 @@ use crate::cqlp_note::NoMemory;
 
 /// What ends the text of what happens early.
 #[derive(Clone, Copy, Debug, PartialEq, Eq)]
-pub enum TellFault {
+pub enum ReportFault {
     /// The output failed.
     Write,
     /// Memory is refused.
     NoMemory,
 }
 
-impl From<SinkFault> for TellFault {
-    fn from(_: SinkFault) -> TellFault {
-        TellFault::Write
+impl From<SinkFault> for ReportFault {
+    fn from(_: SinkFault) -> ReportFault {
+        ReportFault::Write
     }
 }
 
-impl From<NoMemory> for TellFault {
-    fn from(_: NoMemory) -> TellFault {
-        TellFault::NoMemory
+impl From<NoMemory> for ReportFault {
+    fn from(_: NoMemory) -> ReportFault {
+        ReportFault::NoMemory
     }
 }

@@ -10,6 +10,6 @@ mod reader;
 mod transcript;
 
 pub use direction::Direction;
-pub use fault::TellFault;
+pub use fault::ReportFault;
 pub use lines::{LinePlace, put_compressed, put_gap, put_place, put_refused, put_unread};
 pub use transcript::Transcript;

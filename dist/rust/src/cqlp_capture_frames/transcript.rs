@@ -8,8 +8,8 @@ use crate::cqlp_text::{Pen, TextWriter};
 use crate::cqlp_type::TypeTable;
 use crate::kit_std::alloc::Allocator;
 
-/// What writes down what happens in one direction of a connection, one thing after the other. Each call takes the text of what it is told, and
-/// offsets count from the start of the direction. After a fault nothing more is told.
+/// What writes down what happens in one direction of a connection, one thing after the other. Each call takes the text of what is reported to it, and
+/// offsets count from the start of the direction. After a fault nothing more is reported.
 pub trait Transcript<A: Allocator> {
     /// What ends the text early: a fault of the output, or that memory is refused.
     type Fault;

@@ -6,7 +6,7 @@ use crate::cqlp_capture_rows::limits::{EXECUTES, STATEMENTS};
 use crate::cqlp_capture_rows::page::Page;
 use crate::cqlp_capture_rows::spot::{FrameSpot, Spot};
 use crate::cqlp_capture_frames::{
-    LinePlace, TellFault, Transcript, put_compressed, put_gap, put_refused, put_unread,
+    LinePlace, ReportFault, Transcript, put_compressed, put_gap, put_refused, put_unread,
 };
 use crate::cqlp_capture_prepared::{NewPreparedError, PreparedTypes, Requests};
 use crate::cqlp_grammar::{Event, SinkFault};
@@ -55,7 +55,7 @@ impl<A: Allocator + Clone> Responses<A> {
 }
 
 impl<A: Allocator> Responses<A> {
-    /// Takes what is told of the requests, with its bytes: what is known of statements changes by that.
+    /// Takes what the direction of the requests delivers, with its bytes: what is known of statements changes by that.
     pub(crate) fn hear_requests(&mut self, step: StreamStep, bytes: &[u8], requests: &mut Requests) {
         requests.hear(step, bytes, &mut self.known);
     }
@@ -100,10 +100,10 @@ impl<A: Allocator> Responses<A> {
 }
 
 impl<A: Allocator + Clone> Transcript<A> for Responses<A> {
-    type Fault = TellFault;
+    type Fault = ReportFault;
 
-    fn no_memory() -> TellFault {
-        TellFault::NoMemory
+    fn no_memory() -> ReportFault {
+        ReportFault::NoMemory
     }
 
     fn begin<P: Pen>(
@@ -111,7 +111,7 @@ impl<A: Allocator + Clone> Transcript<A> for Responses<A> {
         at: u64,
         header: &Header,
         _writer: &mut TextWriter<P>,
-    ) -> Result<Option<TypeTable<A>>, TellFault> {
+    ) -> Result<Option<TypeTable<A>>, ReportFault> {
         let types = self.known.types_for(header.stream)?;
         self.begun = FrameSpot {
             spot: self.spot(at),
@@ -126,7 +126,7 @@ impl<A: Allocator + Clone> Transcript<A> for Responses<A> {
         _at: u64,
         event: &Event<'_>,
         writer: &mut TextWriter<P>,
-    ) -> Result<(), TellFault> {
+    ) -> Result<(), ReportFault> {
         Ok(self.page.put_event(event, self.begun, writer)?)
     }
 
@@ -135,7 +135,7 @@ impl<A: Allocator + Clone> Transcript<A> for Responses<A> {
         at: u64,
         why: Reason,
         writer: &mut TextWriter<P>,
-    ) -> Result<(), TellFault> {
+    ) -> Result<(), ReportFault> {
         self.cut(writer)?;
         Ok(put_refused(writer, self.place(), at, why)?)
     }
@@ -145,7 +145,7 @@ impl<A: Allocator + Clone> Transcript<A> for Responses<A> {
         at: u64,
         header: &Header,
         writer: &mut TextWriter<P>,
-    ) -> Result<(), TellFault> {
+    ) -> Result<(), ReportFault> {
         self.known.forget(header.stream);
         Ok(put_compressed(writer, self.place(), at)?)
     }
@@ -155,7 +155,7 @@ impl<A: Allocator + Clone> Transcript<A> for Responses<A> {
         at: u64,
         header: &Header,
         writer: &mut TextWriter<P>,
-    ) -> Result<(), TellFault> {
+    ) -> Result<(), ReportFault> {
         self.known.forget(header.stream);
         Ok(put_unread(writer, self.place(), at)?)
     }
@@ -166,7 +166,7 @@ impl<A: Allocator + Clone> Transcript<A> for Responses<A> {
         length: u64,
         cause: GapCause,
         writer: &mut TextWriter<P>,
-    ) -> Result<(), TellFault> {
+    ) -> Result<(), ReportFault> {
         Ok(put_gap(writer, self.place(), at, length, cause)?)
     }
 
@@ -174,12 +174,12 @@ impl<A: Allocator + Clone> Transcript<A> for Responses<A> {
         &mut self,
         types: &TypeTable<A>,
         writer: &mut TextWriter<P>,
-    ) -> Result<(), TellFault> {
+    ) -> Result<(), ReportFault> {
         self.learn(types)?;
         Ok(self.cut(writer)?)
     }
 
-    fn close<P: Pen>(&mut self, writer: &mut TextWriter<P>) -> Result<(), TellFault> {
+    fn close<P: Pen>(&mut self, writer: &mut TextWriter<P>) -> Result<(), ReportFault> {
         Ok(self.cut(writer)?)
     }
 }

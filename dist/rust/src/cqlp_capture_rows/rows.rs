@@ -4,11 +4,11 @@
 use crate::kit_host::prelude::{AllocGlobal, Clone, ToCopy, Vec, vec};
 use crate::cqlp_capture_rows::limits::{LIMITS};
 use crate::cqlp_capture_rows::responses::Responses;
-use crate::cqlp_capture_frames::{Direction, TellFault};
+use crate::cqlp_capture_frames::{Direction, ReportFault};
 use crate::cqlp_capture_prepared::Requests;
-use crate::cqlp_capture_streams::{Listener, Saying, StreamsFault};
+use crate::cqlp_capture_streams::{ConnectionEvent, Listener, StreamsFault};
 use crate::cqlp_note::Target;
-use crate::cqlp_tcp_connections::{Told, Way};
+use crate::cqlp_tcp_connections::{Delivery, Way};
 use crate::cqlp_text::{Buffered, Pen, TextWriter};
 use crate::kit_std::alloc::{AllocError, Allocator, Global};
 
@@ -60,23 +60,23 @@ impl<O: Target, A: Allocator + Clone> Rows<O, A> {
         }
     }
 
-    /// Takes what is told next of the connections.
-    fn take(&mut self, saying: &Saying<'_>) -> Result<(), StreamsFault> {
-        match saying {
-            Saying::Packet { .. } | Saying::New { .. } => Ok(()),
-            Saying::Of { told, bytes } => self.hear_told(told, bytes),
-            Saying::Left(totals) => self.hear_left(totals.number),
+    /// Takes the next event of the connections.
+    fn take(&mut self, event: &ConnectionEvent<'_>) -> Result<(), StreamsFault> {
+        match event {
+            ConnectionEvent::Packet { .. } | ConnectionEvent::New { .. } => Ok(()),
+            ConnectionEvent::Of { delivered, bytes } => self.hear_delivery(delivered, bytes),
+            ConnectionEvent::Left(totals) => self.hear_left(totals.number),
         }
     }
 
-    fn hear_told(&mut self, told: &Told, bytes: &[u8]) -> Result<(), StreamsFault> {
-        if told.number != self.asked {
+    fn hear_delivery(&mut self, delivered: &Delivery, bytes: &[u8]) -> Result<(), StreamsFault> {
+        if delivered.number != self.asked {
             return Ok(());
         }
-        match self.tell(told, bytes) {
+        match self.report(delivered, bytes) {
             Ok(()) => Ok(()),
-            Err(TellFault::Write) => Err(StreamsFault::Write),
-            Err(TellFault::NoMemory) => Err(StreamsFault::NoMemory),
+            Err(ReportFault::Write) => Err(StreamsFault::Write),
+            Err(ReportFault::NoMemory) => Err(StreamsFault::NoMemory),
         }
     }
 
@@ -86,63 +86,65 @@ impl<O: Target, A: Allocator + Clone> Rows<O, A> {
         }
         match self.leave() {
             Ok(()) => Ok(()),
-            Err(TellFault::Write) => Err(StreamsFault::Write),
-            Err(TellFault::NoMemory) => Err(StreamsFault::NoMemory),
+            Err(ReportFault::Write) => Err(StreamsFault::Write),
+            Err(ReportFault::NoMemory) => Err(StreamsFault::NoMemory),
         }
     }
 
-    /// Writes the text of what is told of the connection.
-    fn tell(&mut self, told: &Told, bytes: &[u8]) -> Result<(), TellFault> {
-        put_told(
+    /// Writes the text of an event of the connection.
+    fn report(&mut self, delivered: &Delivery, bytes: &[u8]) -> Result<(), ReportFault> {
+        put_delivery(
             &mut self.requests,
             &mut self.direction,
             &mut self.responses,
-            told,
+            delivered,
             bytes,
             &mut self.writer,
         )
     }
 
     /// Writes the text of its end.
-    fn leave(&mut self) -> Result<(), TellFault> {
+    fn leave(&mut self) -> Result<(), ReportFault> {
         put_left(&mut self.direction, &mut self.responses, &mut self.writer)
     }
 }
 
-/// Takes the text of what is told, and passes it on, also where memory was refused.
-fn put_told<W: Target, A: Allocator + Clone, B: Allocator>(
+/// Takes the text of an event, and passes it on, also where memory was refused.
+fn put_delivery<W: Target, A: Allocator + Clone, B: Allocator>(
     requests: &mut Requests,
     direction: &mut Direction<A>,
     responses: &mut Responses<A>,
-    told: &Told,
+    delivered: &Delivery,
     bytes: &[u8],
     writer: &mut TextWriter<Buffered<W, B>>,
-) -> Result<(), TellFault> {
-    match put_heard(requests, direction, responses, told, bytes, writer) {
+) -> Result<(), ReportFault> {
+    match put_heard(requests, direction, responses, delivered, bytes, writer) {
         Ok(()) => Ok(writer.pass_on()?),
-        Err(TellFault::Write) => Err(TellFault::Write),
-        Err(TellFault::NoMemory) => {
+        Err(ReportFault::Write) => Err(ReportFault::Write),
+        Err(ReportFault::NoMemory) => {
             writer.pass_on()?;
-            Err(TellFault::NoMemory)
+            Err(ReportFault::NoMemory)
         }
     }
 }
 
-/// Takes the text of what is told.
+/// Takes the text of an event.
 fn put_heard<P: Pen, A: Allocator + Clone>(
     requests: &mut Requests,
     direction: &mut Direction<A>,
     responses: &mut Responses<A>,
-    told: &Told,
+    delivered: &Delivery,
     bytes: &[u8],
     writer: &mut TextWriter<P>,
-) -> Result<(), TellFault> {
-    match told.way {
+) -> Result<(), ReportFault> {
+    match delivered.way {
         Way::Requests => {
-            responses.hear_requests(told.step, bytes, requests);
+            responses.hear_requests(delivered.step, bytes, requests);
             Ok(())
         }
-        Way::Responses => { direction.hear(true, told.step, told.at, bytes, responses, writer) }
+        Way::Responses => {
+            direction.hear(true, delivered.step, delivered.at, bytes, responses, writer)
+        }
     }
 }
 
@@ -151,13 +153,13 @@ fn put_left<W: Target, A: Allocator + Clone, B: Allocator>(
     direction: &mut Direction<A>,
     responses: &mut Responses<A>,
     writer: &mut TextWriter<Buffered<W, B>>,
-) -> Result<(), TellFault> {
+) -> Result<(), ReportFault> {
     match direction.close(responses, writer) {
         Ok(()) => Ok(writer.pass_on()?),
-        Err(TellFault::Write) => Err(TellFault::Write),
-        Err(TellFault::NoMemory) => {
+        Err(ReportFault::Write) => Err(ReportFault::Write),
+        Err(ReportFault::NoMemory) => {
             writer.pass_on()?;
-            Err(TellFault::NoMemory)
+            Err(ReportFault::NoMemory)
         }
     }
 }
@@ -174,7 +176,7 @@ fn take_memory<A: Allocator + Clone>(
 }
 
 impl<O: Target, A: Allocator + Clone> Listener for Rows<O, A> {
-    fn hear(&mut self, saying: &Saying<'_>) -> Result<(), StreamsFault> {
-        self.take(saying)
+    fn hear(&mut self, event: &ConnectionEvent<'_>) -> Result<(), StreamsFault> {
+        self.take(event)
     }
 }

@@ -43,12 +43,12 @@ impl CaptureRead {
     }
 }
 
-/// Has a listener take all that a capture tells of the connections of nodes that listen on these ports, out of at most 2^32 reads. There are
+/// Has a listener take all events of the connections in a capture of nodes that listen on these ports, out of at most 2^32 reads. There are
 /// at most as many connections at one time, with as many bytes that came early, as the limits say. Packets are put in the order of their
-/// times within the window that the limits say. No read is made before the listener has taken all that the bytes read so far tell, but for
+/// times within the window that the limits say. No read is made before the listener has taken all events of the bytes read so far, but for
 /// packets that wait. At the end of the file, or where it is refused, those leave, and then all connections.
 ///
-/// After a fault nothing more is read, and nothing more is told to the listener.
+/// After a fault nothing more is read, and the listener gets nothing more.
 pub(crate) fn read_capture<R: Source, L: Listener>(
     alloc: Global,
     limits: StreamsLimits,

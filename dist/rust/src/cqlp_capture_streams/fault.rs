@@ -12,7 +12,7 @@ pub enum StreamsFault {
     Write,
     File(FileFault),
     NoMemory,
-    /// The input was not at its end after the greatest number of reads, or there was no end to what is told.
+    /// The input was not at its end after the greatest number of reads, or there was no end to what is reported.
     TooManyTurns,
 }
 

@@ -20,7 +20,7 @@ fn way_name(way: Way) -> &'static str {
     }
 }
 
-/// Appends the line of a gap: its connection and direction, how many bytes were told before it, and how many are missing. Takes no memory.
+/// Appends the line of a gap: its connection and direction, how many bytes were delivered before it, and how many are missing. Takes no memory.
 pub(crate) fn gap_line<W: Target>(
     file: StreamFile,
     at: u64,
@@ -145,7 +145,7 @@ fn end_text<A: Allocator>(alloc: A, end: &Endpoint) -> Result<String<A>, AllocEr
     }
 }
 
-/// What was told of a direction: its bytes, its gaps, and whether its begin and its end were seen.
+/// What a direction delivered: its bytes, its gaps, and whether its begin and its end were seen.
 fn direction_text<A: Allocator>(alloc: A, totals: &DirectionTotals) -> Result<String<A>, AllocError> {
     let bytes = totals.bytes;
     let gaps = totals.gaps.saturating_add(totals.snapped);

@@ -1,11 +1,11 @@
 // Written by dist/erase from crates/cqlp_capture_streams/src/listener.rt.
-//! What takes what is told of the connections of a capture.
+//! What takes the events of the connections of a capture.
 
+use crate::cqlp_capture_streams::connection_event::ConnectionEvent;
 use crate::cqlp_capture_streams::fault::StreamsFault;
-use crate::cqlp_capture_streams::saying::Saying;
 
-/// What takes what is told of the connections of a capture, one thing after the other. After a fault nothing more is told to it.
+/// What takes the events of the connections of a capture, one after the other. After a fault it gets nothing more.
 pub trait Listener {
-    /// Takes what is told next.
-    fn hear(&mut self, saying: &Saying<'_>) -> Result<(), StreamsFault>;
+    /// Takes the next event.
+    fn hear(&mut self, event: &ConnectionEvent<'_>) -> Result<(), StreamsFault>;
 }

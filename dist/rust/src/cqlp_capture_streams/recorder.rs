@@ -1,21 +1,21 @@
 // Written by dist/erase from crates/cqlp_capture_streams/src/recorder.rt.
-//! What is told of connections, on its way to files and to lines.
+//! The events of connections, on their way to files and to lines.
 
 use crate::kit_host::prelude::{AllocGlobal};
+use crate::cqlp_capture_streams::connection_event::ConnectionEvent;
 use crate::cqlp_capture_streams::fault::StreamsFault;
 use crate::cqlp_capture_streams::files::{StreamFile, StreamFiles};
 use crate::cqlp_capture_streams::last_words::LastWords;
 use crate::cqlp_capture_streams::lines::{ConnectionLines, gap_line};
 use crate::cqlp_capture_streams::listener::Listener;
-use crate::cqlp_capture_streams::saying::Saying;
 use crate::cqlp_grammar::SinkFault;
 use crate::cqlp_note::Target;
-use crate::cqlp_tcp_connections::{ConnectionTotals, DirectionTotals, Told};
+use crate::cqlp_tcp_connections::{ConnectionTotals, Delivery, DirectionTotals};
 use crate::cqlp_tcp_reassembly::{GapCause, StreamStep};
 use crate::cqlp_text::{Pen, TextWriter, put_text};
 use crate::kit_std::alloc::{AllocError, Allocator};
 
-/// What was told of the connections that have left. A number stays at 2^64 - 1 once it is there.
+/// What the connections delivered that have left. A number stays at 2^64 - 1 once it is there.
 #[derive(Clone, Copy, Debug, PartialEq, Eq)]
 pub(crate) struct Sums {
     pub gaps: u64,
@@ -64,7 +64,7 @@ impl LastWords for Sums {
 }
 
 impl<F: StreamFiles, O: Target, A: Allocator> Recorder<F, O, A> {
-    /// Over files and an output, with nothing told.
+    /// Over files and an output, with nothing recorded.
     pub fn new(alloc: A, files: F, out: O) -> Self {
         Recorder {
             lines: ConnectionLines::new(alloc),
@@ -87,28 +87,33 @@ impl<F: StreamFiles, O: Target, A: Allocator> Recorder<F, O, A> {
 }
 
 impl<F: StreamFiles, O: Target, A: Allocator> Recorder<F, O, A> {
-    /// Takes what is told: a new connection's files are made, bytes are appended to the file of their direction, a gap is a line,
+    /// Takes an event: a new connection's files are made, bytes are appended to the file of their direction, a gap is a line,
     /// and the files of a connection that has left are kept, and then its line is written.
-    fn record(&mut self, saying: &Saying<'_>) -> Result<(), StreamsFault> {
-        match saying {
-            Saying::Packet { .. } => Ok(()),
-            Saying::New { number } => Ok(self.files.make(*number)?),
-            Saying::Of { told, bytes } => self.record_step(told, bytes),
-            Saying::Left(totals) => self.keep(totals),
+    fn record(&mut self, event: &ConnectionEvent<'_>) -> Result<(), StreamsFault> {
+        match event {
+            ConnectionEvent::Packet { .. } => Ok(()),
+            ConnectionEvent::New { number } => Ok(self.files.make(*number)?),
+            ConnectionEvent::Of { delivered, bytes } => self.record_step(delivered, bytes),
+            ConnectionEvent::Left(totals) => self.keep(totals),
         }
     }
 
-    /// Takes what is told of a direction.
-    fn record_step(&mut self, told: &Told, bytes: &[u8]) -> Result<(), StreamsFault> {
+    /// Takes what a direction delivers.
+    fn record_step(&mut self, delivered: &Delivery, bytes: &[u8]) -> Result<(), StreamsFault> {
         let file = StreamFile {
-            number: told.number,
-            way: told.way,
+            number: delivered.number,
+            way: delivered.way,
         };
-        match told.step {
+        match delivered.step {
             StreamStep::Payload { .. } | StreamStep::Held { .. } => {
                 Ok(self.files.append(file, bytes)?)
             }
-            StreamStep::Gap { length, cause, .. } => self.put_gap(file, told.at, length, cause),
+            StreamStep::Gap { length, cause, .. } => self.put_gap(
+                file,
+                delivered.at,
+                length,
+                cause,
+            ),
             StreamStep::Began { .. }
             | StreamStep::Kept
             | StreamStep::Ended
@@ -144,8 +149,8 @@ impl<F: StreamFiles, O: Target, A: Allocator> Recorder<F, O, A> {
 }
 
 impl<F: StreamFiles, O: Target, A: Allocator> Listener for Recorder<F, O, A> {
-    fn hear(&mut self, saying: &Saying<'_>) -> Result<(), StreamsFault> {
-        self.record(saying)
+    fn hear(&mut self, event: &ConnectionEvent<'_>) -> Result<(), StreamsFault> {
+        self.record(event)
     }
 }
 

@@ -16,8 +16,8 @@ enum Drained {
     Refused,
 }
 
-/// Tells all that a reader's capture tells, from at most `turns` reads into the buffer, none of which is tried again. No read is made
-/// before the listener has got all that the bytes read so far tell. At the end of the file, or where it is refused, all connections
+/// Reports all events of a reader's capture, from at most `turns` reads into the buffer, none of which is tried again. No read is made
+/// before the listener has got all events of the bytes read so far. At the end of the file, or where it is refused, all connections
 /// leave.
 pub(crate) fn split<R: Source, L: Listener, A: Allocator, B: Allocator + Clone>(
     reader: &mut CaptureReader<A>,
@@ -45,7 +45,7 @@ pub(crate) fn split<R: Source, L: Listener, A: Allocator, B: Allocator + Clone>(
     Err(StreamsFault::TooManyTurns)
 }
 
-/// Tells what the events of a piece tell.
+/// Reports what the events of a piece hold.
 fn drain<L: Listener, A: Allocator, B: Allocator + Clone>(
     reader: &mut CaptureReader<A>,
     splitter: &mut Splitter<B>,

@@ -5,7 +5,7 @@ use crate::kit_host::prelude::{Clone};
 use crate::cqlp_capture_streams::fault::StreamsFault;
 use crate::cqlp_capture_streams::listener::Listener;
 use crate::cqlp_capture_streams::packets::PacketCounts;
-use crate::cqlp_capture_streams::telling::{finish_all, take_timed};
+use crate::cqlp_capture_streams::reporting::{finish_all, take_timed};
 use crate::cqlp_capture::{CaptureEvent, PacketHead};
 use crate::cqlp_packet_order::{KeptPacket, OrderCounts, Packet, PacketOrder};
 use crate::cqlp_tcp_connections::{ConnectionCounts, Connections};
@@ -69,7 +69,7 @@ impl<A: Allocator> Splitter<A> {
 }
 
 impl<A: Allocator + Clone> Splitter<A> {
-    /// Takes the next event, and tells what it tells of connections.
+    /// Takes the next event, and reports what it means for connections.
     #[inline]
     pub fn take<L: Listener>(
         &mut self,

@@ -13,7 +13,7 @@ use crate::cqlp_text::{Pen, TextWriter};
 const HEADER: &str =
     "     %    time_ms    count errors unanswered      rows       bytes   p50_ms   p95_ms   p99_ms    max_ms statement\n";
 
-/// Takes the line above the columns, a line for each of the statements that are told apart, and one for all others if there are any.
+/// Takes the line above the columns, a line for each of the statements that are distinguished, and one for all others if there are any.
 pub(crate) fn put_summary<P: Pen>(
     writer: &mut TextWriter<P>,
     names: &[Name],
@@ -107,7 +107,7 @@ fn put_at<P: Pen>(
     )
 }
 
-/// Takes the line of the statements that are not told apart, if there are any.
+/// Takes the line of the statements that are not distinguished, if there are any.
 fn put_others<P: Pen>(
     writer: &mut TextWriter<P>,
     total: u64,

@@ -74,11 +74,7 @@ impl<A: Allocator> Summary<A> {
         at: Option<u64>,
     )
     {
-        let name = fingerprint_in(
-            &mut self.recent,
-            occurrence.name,
-            occurrence.is_whole_name,
-        );
+        let name = fingerprint_in(&mut self.recent, occurrence.name, occurrence.is_whole_name);
         self.note_named(name, occurrence, is_answered, at);
     }
 

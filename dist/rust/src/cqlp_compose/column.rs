@@ -4,7 +4,7 @@
 use crate::cqlp_message::{Frame, Message, Spec};
 use crate::cqlp_type::TypeTree;
 
-/// The type of a column of a page, the first of which is 0, where it is told.
+/// The type of a column of a page, the first of which is 0, where it is described.
 pub fn column_type(frame: &Frame, column: usize) -> Option<&TypeTree> {
     match &frame.message {
         Message::Rows(page) => match &page.meta.specs {

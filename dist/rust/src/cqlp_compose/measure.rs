@@ -1,12 +1,12 @@
 // Written by dist/erase from crates/cqlp_compose/src/measure.rt.
-//! How many bytes the events of cells tell of.
+//! How many bytes the events of cells cover.
 
 use crate::cqlp_grammar::Event;
 use crate::cqlp_kind::{Kind, Scalar};
 use crate::cqlp_note::Address;
 
-/// How many bytes of a page an event of a cell tells of. Those of all events of its cells, added up, are what
-/// [`page_head`](crate::cqlp_compose::page_head) and [`PagePlace::start`](crate::cqlp_compose::PagePlace::start) are to be told.
+/// How many bytes of a page an event of a cell covers. Those of all events of its cells, added up, are what
+/// [`page_head`](crate::cqlp_compose::page_head) and [`PagePlace::start`](crate::cqlp_compose::PagePlace::start) take.
 ///
 /// None of a part of a scalar, which is not written, and of an event that is none of a cell.
 #[must_use]

@@ -14,7 +14,7 @@ use crate::kit_std::alloc::Global;
 
 /// A page whose cells come in batches: its frame without cells, and where it stands. Section 4.2.5.2 of `native_protocol_v4.spec`.
 ///
-/// This is all that is held of a page of any size between two batches, and as much as the events of its head told. A proxy adds up
+/// This is all that is held of a page of any size between two batches, and as much as the events of its head held. A proxy adds up
 /// [`event_size`](crate::cqlp_compose::event_size) of the events of the cells, begins the page with its header, its metadata and the count of its rows, and
 /// then hands on the cells as they come:
 ///

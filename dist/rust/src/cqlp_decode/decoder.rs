@@ -51,11 +51,11 @@ impl<A: Allocator + Clone> Decoder<A> {
 
     /// The same, for a lenient reading, which takes what nodes and drivers send against the standard, and goes on:
     ///
-    /// - A content that its type does not have, by its length or by its bytes, is told as [`Event::Leaf`] with
+    /// - A content that its type does not have, by its length or by its bytes, is emitted as [`Event::Leaf`] with
     ///   [`Scalar::Raw`](crate::cqlp_kind::Scalar::Raw), all its bytes.
-    /// - The bytes that a tuple or a user-defined value has after its last field are told as [`Event::Part`] before its
+    /// - The bytes that a tuple or a user-defined value has after its last field are emitted as [`Event::Part`] before its
     ///   `Leave`, at the level of its fields, in parts of at most `cell` bytes whose offsets begin at 0.
-    /// - A type option of an id that no kind has is told as [`Kind::Raw`](crate::cqlp_kind::Kind::Raw), and has no parameters.
+    /// - A type option of an id that no kind has is emitted as [`Kind::Raw`](crate::cqlp_kind::Kind::Raw), and has no parameters.
     ///
     /// All else is read as by a decoder that `new` makes.
     ///

@@ -1,5 +1,5 @@
 // Written by dist/erase from crates/cqlp_decode/src/step.rt.
-//! What calls of a decoder tell.
+//! What calls of a decoder return.
 
 use crate::cqlp_grammar::Event;
 use crate::cqlp_note::Refusal;

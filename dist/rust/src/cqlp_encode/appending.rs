@@ -104,7 +104,7 @@ fn is_whole(tally: &Tally) -> bool {
     tally.counts && tally.texts && tally.cells && tally.size <= LONGEST
 }
 
-/// Bytes in memory that more are put behind. The room that there is is filled before memory that is refused is told.
+/// Bytes in memory that more are put behind. The room that there is is filled before a refusal of memory is reported.
 pub struct Growing {
     bytes: Vec<u8>,
     /// How many bytes there was room for at first.

@@ -1,5 +1,5 @@
 // Written by dist/erase from crates/cqlp_encode/src/binding.rt.
-//! Values as they are bound to statements, and as they stand in pages whose columns are not told.
+//! Values as they are bound to statements, and as they stand in pages whose columns are not described.
 
 use crate::kit_std::prelude::{Vec};
 use crate::cqlp_encode::value_writing::offer_content;
@@ -53,7 +53,7 @@ pub fn bind_value(
     })
 }
 
-/// A value of this type, or one without a type, as a cell of a page whose columns are not told: its content as a raw scalar, or null, or
+/// A value of this type, or one without a type, as a cell of a page whose columns are not described: its content as a raw scalar, or null, or
 /// empty. The bytes of the cell are those that [`write_value`](crate::cqlp_encode::write_value) writes. Sections 4.2.5.2 and 6 of
 /// `native_protocol_v4.spec`.
 ///

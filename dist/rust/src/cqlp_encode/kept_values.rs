@@ -92,7 +92,7 @@ fn keep_items<W: Target>(out: &mut Staged<'_, W>, items: &[Value]) -> bool {
     if !keep_values(out, items) {
         return false;
     }
-    out.tell(start);
+    out.write_length(start);
     true
 }
 
@@ -106,7 +106,7 @@ fn keep_entries<W: Target>(out: &mut Staged<'_, W>, pairs: &[(Value, Value)]) ->
     if !keep_pairs(out, pairs) {
         return false;
     }
-    out.tell(start);
+    out.write_length(start);
     true
 }
 
@@ -120,7 +120,7 @@ fn keep_fields<W: Target>(out: &mut Staged<'_, W>, fields: &[Value]) -> bool {
     if !keep_values(out, fields) {
         return false;
     }
-    out.tell(start);
+    out.write_length(start);
     true
 }
 

@@ -27,7 +27,7 @@ pub enum LentError {
 }
 }
 
-/// How many bytes these cells of a page have, row after row: what [`PageWriter::begin`] is to be told of them.
+/// How many bytes these cells of a page have, row after row: what [`PageWriter::begin`] takes.
 ///
 /// # Errors
 ///
@@ -69,7 +69,7 @@ pub(crate) fn encode_page<
     };
     match PageWriter::begin(frame, cells_len, target) {
         Ok(page) => write_cells(page, again, target),
-        Err(why) => Err(told(why)),
+        Err(why) => Err(lent_error(why)),
     }
 }
 
@@ -82,17 +82,17 @@ fn write_cells<'v, J: Iterator<Item = &'v Value>, W: Target>(
     let mut page = page;
     for cell in cells {
         if let Err(why) = page.cell(cell, target) {
-            return Err(told(why));
+            return Err(lent_error(why));
         }
     }
     match page.finish() {
         Ok(len) => Ok(len),
-        Err(why) => Err(told(why)),
+        Err(why) => Err(lent_error(why)),
     }
 }
 
 /// What the writer of a page says, once its cells were measured.
-fn told(why: PageError) -> LentError {
+fn lent_error(why: PageError) -> LentError {
     match why {
         PageError::Write { written } => LentError::Write { written },
         _ => LentError::Changed,

@@ -44,7 +44,7 @@ pub enum PageError {
 /// its own calls write; the frame is all that was written, in the order of the calls, and no target alone has it.
 pub struct PageWriter<'a> {
     frame: &'a Frame,
-    /// The columns, none where they are not told.
+    /// The columns, none where they are not described.
     specs: &'a [Spec],
     /// How many columns there are.
     columns: u32,
@@ -130,20 +130,20 @@ impl<'a> PageWriter<'a> {
         }
     }
 
-    /// Writes the next cell of a page whose columns are not told to this target, where it is a value of a type that the caller names: as
+    /// Writes the next cell of a page whose columns are not described to this target, where it is a value of a type that the caller names: as
     /// [`raw_value`](crate::cqlp_encode::raw_value) makes it a cell of such a page, and [`cell`](Self::cell) would write it then.
     ///
     /// # Errors
     ///
     /// Those of [`cell`](Self::cell): [`PageError::Unfit`] where the value is none of its type, as [`fits`](crate::cqlp_value::fits) says, and where the
-    /// page's columns are told.
+    /// page's columns are described.
     pub fn cell_as<W: Target>(
         &mut self,
         value: &Value,
         of: &TypeTree,
         target: &mut W,
     ) -> Result<(), PageError> {
-        let size = untold_size(&self.frame.message, value, of);
+        let size = undescribed_size(&self.frame.message, value, of);
         self.put(value, size, target)
     }
 
@@ -172,7 +172,7 @@ impl<'a> PageWriter<'a> {
         of: &TypeTree,
         target: &mut W,
     ) -> Result<(), PageError> {
-        let size = untold_size(&self.frame.message, value, of);
+        let size = undescribed_size(&self.frame.message, value, of);
         self.put_rest(value, size, target)
     }
 
@@ -382,8 +382,8 @@ impl<'a> PageWriter<'a> {
     }
 }
 
-/// How many bytes spell a value of this type, if it is one and a cell of a page whose columns are not told.
-fn untold_size(message: &Message, value: &Value, of: &TypeTree) -> Option<u64> {
+/// How many bytes spell a value of this type, if it is one and a cell of a page whose columns are not described.
+fn undescribed_size(message: &Message, value: &Value, of: &TypeTree) -> Option<u64> {
     match message {
         Message::Rows(page) => match &page.meta.specs {
             None => fitting_size(value, Some(of)),

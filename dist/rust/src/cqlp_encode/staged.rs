@@ -111,7 +111,7 @@ impl<'a, W: Target> Staged<'a, W> {
 
     /// Writes the length of what waits from `start + 4` on into the four bytes before it.
     #[inline(always)]
-    pub(crate) fn tell(&mut self, start: usize) {
+    pub(crate) fn write_length(&mut self, start: usize) {
         let len = (self.len - start - 4).to_be_bytes();
         self.buffer[start..start + 4].copy_from_slice(&len[4..]);
     }

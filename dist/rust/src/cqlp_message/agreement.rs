@@ -103,7 +103,7 @@ impl SchemaChange {
 }
 
 impl ServerEvent {
-    /// Whether it is what an event of this type tells.
+    /// Whether it is what an event of this type reports.
     fn agrees(&self, event: &str) -> bool {
         match self {
             ServerEvent::Node { .. } => event == "TOPOLOGY_CHANGE" || event == "STATUS_CHANGE",
@@ -144,7 +144,7 @@ impl Metadata {
         same(has(self.flags.cast_unsigned(), 0x02), self.paging.is_some()) && self.columns_agree()
     }
 
-    /// Whether the columns are told where the flags say so.
+    /// Whether the columns are described where the flags say so.
     fn columns_agree(&self) -> bool {
         let flags = self.flags.cast_unsigned();
         match &self.specs {

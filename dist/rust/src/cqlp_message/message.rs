@@ -82,7 +82,7 @@ pub enum Message {
     Event {
         /// The type of the event.
         event: String,
-        /// What an event of this type tells.
+        /// What an event of this type reports.
         detail: ServerEvent,
     },
     /// A challenge of the server, which may be null. Section 4.2.7.

@@ -17,7 +17,7 @@ impl HasParts for Rows {
 
 /// Hands over the cells of this many rows.
 fn walk_rows<V: TakesParts>(meta: &Metadata, rows: u32, cells: &[Value], visitor: &mut V) {
-    let columns = meta.columns_told();
+    let columns = meta.columns_described();
     let mut rest = cells;
     for row in 0..rows {
         if columns == 0 || rest.is_empty() {
@@ -54,7 +54,7 @@ fn walk_typed<V: TakesParts>(row: u32, specs: &[Spec], cells: &[Value], visitor:
     }
 }
 
-/// Hands over a cell of each of this many columns, of which no types are told.
+/// Hands over a cell of each of this many columns, whose types are not described.
 fn walk_raw<V: TakesParts>(row: u32, columns: u32, cells: &[Value], visitor: &mut V) {
     for (column, value) in cells.iter().enumerate() {
         if column >= columns as usize {
@@ -70,8 +70,8 @@ fn walk_raw<V: TakesParts>(row: u32, columns: u32, cells: &[Value], visitor: &mu
 }
 
 impl Metadata {
-    /// How many columns the cells are of: those that are told, or as many as are said to be there.
-    fn columns_told(&self) -> usize {
+    /// How many columns the cells are of: those that are described, or as many as are said to be there.
+    fn columns_described(&self) -> usize {
         match &self.specs {
             Some(specs) => specs.len(),
             None => self.columns as usize,

@@ -91,16 +91,16 @@ pub enum ErrorExtra {
     },
 }
 
-/// What is told of a page's columns. Section 4.2.5.2 of `native_protocol_v4.spec`.
+/// The description of a page's columns. Section 4.2.5.2 of `native_protocol_v4.spec`.
 #[derive(Debug, PartialEq, Eq)]
 pub struct Metadata {
-    /// 1 one table for all columns, 2 more pages, 4 no columns are told; other bits are kept.
+    /// 1 one table for all columns, 2 more pages, 4 no columns are described; other bits are kept.
     pub flags: i32,
-    /// How many columns there are, which is how many `specs` there are, if they are told.
+    /// How many columns there are, which is how many `specs` there are, if they are described.
     pub columns: u32,
     /// Where the next page begins, which may be null.
     pub paging: Option<Option<Vec<u8>>>,
-    /// The keyspace and the table of all columns, if columns are told.
+    /// The keyspace and the table of all columns, if columns are described.
     pub table: Option<(String, String)>,
     /// The columns, in order.
     pub specs: Option<Vec<Spec>>,
@@ -124,7 +124,7 @@ pub struct Rows {
     pub meta: Metadata,
     /// How many rows the page has, at most 2^31 - 1 since they are counted in an \[int\].
     pub rows: u32,
-    /// A cell of each row and each column, row after row. Where no columns are told, each is Null, Empty or a Raw leaf.
+    /// A cell of each row and each column, row after row. Where no columns are described, each is Null, Empty or a Raw leaf.
     pub cells: Vec<Value>,
 }
 
@@ -143,7 +143,7 @@ pub struct Prepared {
     pub table: Option<(String, String)>,
     /// The values that are to be bound.
     pub specs: Vec<Spec>,
-    /// What the statement's pages will tell of their columns.
+    /// What the statement's pages will describe of their columns.
     pub result: Metadata,
 }
 
@@ -171,7 +171,7 @@ pub enum SchemaOptions {
     Unknown,
 }
 
-/// What an event tells, by its type. Section 4.2.6 of `native_protocol_v4.spec`.
+/// What an event reports, by its type. Section 4.2.6 of `native_protocol_v4.spec`.
 #[derive(Debug, PartialEq, Eq)]
 pub enum ServerEvent {
     /// A change of a node, for `TOPOLOGY_CHANGE` and `STATUS_CHANGE`.

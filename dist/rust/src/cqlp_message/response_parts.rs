@@ -175,7 +175,7 @@ impl Metadata {
         visitor.take(PartRef::Count32(Field::Columns, self.columns as usize));
     }
 
-    /// Hands over the columns, if they are told.
+    /// Hands over the columns, if they are described.
     fn walk_specs<V: TakesParts>(&self, visitor: &mut V) {
         if let Some(specs) = &self.specs {
             walk_each(specs, visitor);

@@ -1,5 +1,5 @@
 // Written by dist/erase from crates/cqlp_note/src/head.rt.
-//! What the front of a field tells of it.
+//! What the front of a field determines of it.
 
 use crate::cqlp_note::field::Notation;
 use crate::cqlp_note::prim::{Address, BoundValue, Primitive};
@@ -26,7 +26,7 @@ pub enum ContentForm {
     Bound,
 }
 
-/// What the front of a field tells.
+/// What the front of a field determines.
 #[derive(Clone, Copy)]
 pub(crate) enum Head {
     /// The whole field, of this many bytes.
@@ -42,7 +42,7 @@ pub(crate) enum Head {
     },
 }
 
-/// Why the front of a field tells nothing.
+/// Why the front of a field determines nothing.
 #[derive(Clone, Copy)]
 pub(crate) enum Stop {
     /// More bytes are wanted.

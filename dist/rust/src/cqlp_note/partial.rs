@@ -87,7 +87,7 @@ impl<A: Allocator> Partial<A> {
         }
     }
 
-    /// Does what `push` does, but tells where a content lies in place of lending it, so that a reader around this one
+    /// Does what `push` does, but says where a content lies in place of lending it, so that a reader around this one
     /// can go on before it lends.
     pub(crate) fn advance(&mut self, input: &[u8]) -> FieldAdvance {
         if self.is_fresh() {

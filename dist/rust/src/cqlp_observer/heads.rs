@@ -37,7 +37,7 @@ pub enum Heard {
     Ends(Frame),
     /// Bytes that are no header of this direction, or lie where no frame is known to begin.
     Stray,
-    /// All bytes were used, and nothing more is told of them.
+    /// All bytes were used, and nothing more is reported of them.
     More,
 }
 
@@ -124,7 +124,7 @@ impl Heads {
     }
 
     /// So many bytes did not come, which passed at this time, where that is known. The frame that ends there, or past which no frame is known to begin,
-    /// is told, as `Holed`, unless all its bytes came before.
+    /// is reported, as `Holed`, unless all its bytes came before.
     pub fn gap(&mut self, length: u64, time: Option<u64>) -> Option<Frame> {
         self.count(length);
         match self.stage.take() {
@@ -150,7 +150,7 @@ impl Heads {
         }
     }
 
-    /// No more bytes come. The frame of which some did is told, as `Short`, unless all its bytes came.
+    /// No more bytes come. The frame of which some did is reported, as `Short`, unless all its bytes came.
     pub fn end(&mut self) -> Option<Frame> {
         match self.stage.take() {
             Stage::Body { frame, left } => Some(shortened(frame, left)),

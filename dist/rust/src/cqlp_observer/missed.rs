@@ -6,7 +6,7 @@ use crate::cqlp_observer::opening::Opening;
 /// What an observer of a connection did not see, or gave up. A number stays at 2^64 - 1 once it is there.
 #[derive(Clone, Copy, Debug, PartialEq, Eq)]
 pub struct Missed {
-    /// Messages that were told alone since there was no room for one more that waits.
+    /// Messages that were reported alone since there was no room for one more that waits.
     pub overtaken: u64,
     /// Messages of which the header alone was kept since there was no room for their text.
     pub texts: u64,
@@ -41,7 +41,7 @@ impl Missed {
         self.http = self.http.saturating_add(other.http);
     }
 
-    /// Counts a message that is told alone since there is no room for it.
+    /// Counts a message that is reported alone since there is no room for it.
     pub(crate) fn count_overtaken(&mut self) {
         self.overtaken = self.overtaken.saturating_add(1);
     }

@@ -69,7 +69,7 @@ impl<A: Allocator + Clone> MissedRecord<A> {
         }
     }
 
-    /// Counts a message that is told alone since there is no room for it.
+    /// Counts a message that is reported alone since there is no room for it.
     pub(crate) fn count_overtaken(&mut self) -> Result<(), AllocError> {
         let mut missed = self.missed();
         missed.count_overtaken();

@@ -1,9 +1,9 @@
 // Written by dist/erase from crates/cqlp_observer/src/paired.rt.
-//! What is told of requests and responses.
+//! What is reported of requests and responses.
 
 use crate::cqlp_observer::message::Message;
 
-/// What is told of a request, a response, or both.
+/// What is reported of a request, a response, or both.
 #[derive(Clone, Copy, Debug, PartialEq, Eq)]
 pub enum Paired<T> {
     /// A request and its response, the one next to the other under their stream id. The response came first only where the packets of a

@@ -11,7 +11,7 @@ use crate::kit_std::collections::VecDeque;
 /// The messages of one connection that wait for the other of their exchange: requests for their responses, and responses that came before
 /// their requests.
 ///
-/// It takes the frames of both directions in the order in which they ended, and tells of each request which response it has: the next under
+/// It takes the frames of both directions in the order in which they ended, and reports of each request which response it has: the next under
 /// its stream id, or the one before it under that id, if that still waits and the request was begun no later by the capture's times. It has no
 /// limit of its own: who calls it says of each message whether there is room for one more. It has memory for at most four times as many messages as
 /// wait, and none where none does.
@@ -23,13 +23,13 @@ pub struct Pairing<T, A: Allocator = Global> {
 /// What becomes of the next message.
 #[derive(Clone, Copy, Debug, PartialEq, Eq)]
 pub(crate) enum Fate {
-    /// It is an event, which is told at once.
-    IsTold,
+    /// It is an event, which is reported at once.
+    IsReported,
     /// It and the one that waits under its stream id are a request and its response.
     Meets,
     /// It waits, in the place of the one under its stream id, if one does.
     Waits,
-    /// It is told alone, since none waits under its stream id and there is no room.
+    /// It is reported alone, since none waits under its stream id and there is no room.
     IsOvertaken,
 }
 
@@ -65,16 +65,16 @@ impl<T, A: Allocator + Clone> Pairing<T, A> {
         }
     }
 
-    /// Whether `take` tells this message alone for want of room: none waits under its stream id, and there is no room for one more.
+    /// Whether `take` reports this message alone for want of room: none waits under its stream id, and there is no room for one more.
     pub fn overtakes(&self, message: &Message<T>, has_room: bool) -> bool {
         is_overtaken(fate_of(self.under(message.stream()), message, has_room))
     }
 
     /// Takes the next frame of either direction. If it and the one that waits under its stream id are a request and its response, that
-    /// exchange is told.
+    /// exchange is reported.
     ///
-    /// Else it takes the place of that one, and what is told is that the other of its exchange was not seen. Where none waits under its id, and there
-    /// is no room for one more, it is itself told alone.
+    /// Else it takes the place of that one, and what is reported is that the other of its exchange was not seen. Where none waits under its id, and there
+    /// is no room for one more, it is itself reported alone.
     ///
     /// # Errors
     ///
@@ -177,7 +177,7 @@ pub(crate) fn fate_of<T>(
     has_room: bool,
 ) -> Fate {
     if message.is_event() {
-        return Fate::IsTold;
+        return Fate::IsReported;
     }
     match first {
         Some(first) => fate_after(first, message),
@@ -205,10 +205,10 @@ fn fate_alone(has_room: bool) -> Fate {
     }
 }
 
-/// Whether a message is told alone for want of room.
+/// Whether a message is reported alone for want of room.
 fn is_overtaken(fate: Fate) -> bool {
     match fate {
         Fate::IsOvertaken => true,
-        Fate::IsTold | Fate::Meets | Fate::Waits => false,
+        Fate::IsReported | Fate::Meets | Fate::Waits => false,
     }
 }

@@ -16,11 +16,11 @@ use crate::kit_std::alloc::{AllocError, Allocator, Global};
 
 /// What both sides of one connection say to each other, out of the bytes and gaps of its two directions, as they come.
 ///
-/// `begin` says of each direction whether its beginning was seen. `take` tells at most one thing of each call; it is to be called again with the
-/// bytes that it did not use, until `is_done`. At the end of a direction `end` tells of its last frame, and at that of the connection `finish`
+/// `begin` says of each direction whether its beginning was seen. `take` reports at most one thing of each call; it is to be called again with the
+/// bytes that it did not use, until `is_done`. At the end of a direction `end` reports of its last frame, and at that of the connection `finish`
 /// of the messages that still wait, until it says `None`.
 ///
-/// It has no limit of its own: each call is told how much may wait ([`WatchRoom`]). Memory is taken for what waits and for the texts of the two messages
+/// It has no limit of its own: each call is given how much may wait ([`WatchRoom`]). Memory is taken for what waits and for the texts of the two messages
 /// that pass, and given back with them; and once more than 65,535 of one kind were missed. After a call that was refused memory it is not to be used again.
 pub struct Watch<A: Allocator = Global> {
     requests: Side<A>,
@@ -31,16 +31,16 @@ pub struct Watch<A: Allocator = Global> {
     missed: MissedRecord<A>,
 }
 
-/// What the first so many bytes of a piece tell.
+/// What the first so many bytes of a piece report.
 pub struct WatchStep<A: Allocator = Global> {
     /// How many bytes of the piece were used.
     pub used: usize,
-    /// Whether nothing more is told of the piece, all of which was used.
+    /// Whether nothing more is reported of the piece, all of which was used.
     pub is_done: bool,
     /// What the direction begins with, where these are its first bytes; else `Frames`.
     pub opening: Opening,
     /// The exchange, the message without a partner or the event that these bytes complete, if they complete one.
-    pub told: Option<Paired<Kept<A>>>,
+    pub reported: Option<Paired<Kept<A>>>,
 }
 
 impl<A: Allocator + Clone> Watch<A> {
@@ -71,7 +71,7 @@ impl<A: Allocator + Clone> Watch<A> {
         self.text = recounted(0, self.text, was_keeping, false);
     }
 
-    /// What the next bytes of a direction tell, which came at this time. `begins` says whether the first of them begins a segment.
+    /// What the next bytes of a direction report, which came at this time. `begins` says whether the first of them begins a segment.
     ///
     /// # Errors
     ///
@@ -94,7 +94,7 @@ impl<A: Allocator + Clone> Watch<A> {
             used: step.used,
             is_done: step.is_done,
             opening,
-            told: self.pair(step.message, room)?,
+            reported: self.pair(step.message, room)?,
         })
     }
 
@@ -143,9 +143,9 @@ impl<A: Allocator + Clone> Watch<A> {
 
     /// The connection is over: the message under the least stream id, which waits no more. `None` once none waits.
     pub fn finish(&mut self) -> Option<Paired<Kept<A>>> {
-        let told = self.pairing.end();
-        self.text = self.text.saturating_sub(told_text(&told));
-        told
+        let reported = self.pairing.end();
+        self.text = self.text.saturating_sub(reported_text(&reported));
+        reported
     }
 
     /// How many messages wait.
@@ -163,7 +163,7 @@ impl<A: Allocator + Clone> Watch<A> {
         self.missed.missed()
     }
 
-    /// Whether these are no bytes, and the direction is between two frames: then nothing more is told.
+    /// Whether these are no bytes, and the direction is between two frames: then nothing more is reported.
     #[inline(always)]
     fn is_done(&self, responses: bool, piece: &[u8]) -> bool {
         piece.is_empty()
@@ -265,7 +265,7 @@ impl<A: Allocator + Clone> Watch<A> {
         let first = self.pairing.under(message.stream());
         let beside = self.text.saturating_sub(text_in(first));
         match fate_of(first, &message, has_room) {
-            Fate::IsTold => Ok(message),
+            Fate::IsReported => Ok(message),
             Fate::Meets => {
                 self.text = beside;
                 Ok(message)
@@ -302,14 +302,14 @@ impl<A: Allocator + Clone> Watch<A> {
 }
 
 impl<A: Allocator> WatchStep<A> {
-    /// Nothing is told of no bytes.
+    /// Nothing is reported of no bytes.
     #[inline(always)]
     fn done() -> Self {
         WatchStep {
             used: 0,
             is_done: true,
             opening: Opening::Frames,
-            told: None,
+            reported: None,
         }
     }
 }
@@ -341,9 +341,9 @@ fn text_in<A: Allocator>(message: Option<&MessageRecord<Kept<A>>>) -> usize {
     }
 }
 
-/// How much room the text of a message took that is told alone.
-fn told_text<A: Allocator>(told: &Option<Paired<Kept<A>>>) -> usize {
-    match told {
+/// How much room the text of a message took that is reported alone.
+fn reported_text<A: Allocator>(reported: &Option<Paired<Kept<A>>>) -> usize {
+    match reported {
         Some(Paired::Unanswered { request }) => request.kept.cost(),
         Some(Paired::Unasked { response }) => response.kept.cost(),
         Some(Paired::Exchange { .. } | Paired::Event { .. }) | None => 0,

@@ -1,5 +1,5 @@
 // Written by dist/erase from crates/cqlp_observer_facts/src/facts.rt.
-//! What is told of a message.
+//! What is known of a message.
 
 /// What a message says beside its first field, as far as the bytes of its body say it.
 #[derive(Clone, Copy, Debug, PartialEq, Eq)]

@@ -1,5 +1,5 @@
 // Written by dist/erase from crates/cqlp_options/src/program.rt.
-//! The program's command line, as its parser is told of it.
+//! The program's command line, as its parser is given it.
 
 use crate::kit_host::prelude::{AllocGlobal};
 use crate::cqlp_options::command_line::QUERIES;
@@ -78,7 +78,7 @@ fn with_words<'a>(
     Ok(task)
 }
 
-/// A word as the parser is told of it.
+/// A word as the parser is given it.
 fn word_of<'a>(alloc: Global, word: &Word) -> Result<Arg<'a>, AllocError> {
     let arg = Arg::new(alloc, word.name).help(word.help);
     formed(arg, word.name, word.form)
@@ -191,7 +191,7 @@ const TASKS: [Task; 5] = [
     },
 ];
 
-/// What each task with a stream takes. The help of a limit tells its range and what the number is where it is not given, and docs/check
+/// What each task with a stream takes. The help of a limit has its range and what the number is where it is not given, and docs/check
 /// compares both with `Limits`.
 const READING: [Word; 9] = [
     Word {
@@ -308,7 +308,7 @@ const ALL: LimitRange = LimitRange {
     greatest: u32::MAX,
 };
 
-/// What `capture` takes. The help of a limit tells its range and what the number is where it is not given, and docs/check compares both
+/// What `capture` takes. The help of a limit has its range and what the number is where it is not given, and docs/check compares both
 /// with `CaptureLimits`.
 const CAPTURE: [Word; 16] = [
     Word {

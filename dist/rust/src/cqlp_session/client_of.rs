@@ -92,7 +92,7 @@ impl<T, A: Allocator> ClientOf<T, A> {
         carried::value_in(&mut self.carried[stream as usize])
     }
 
-    /// The values of all requests that are still open, in the order of their stream ids: what is left to be told when
+    /// The values of all requests that are still open, in the order of their stream ids: what is left to report when
     /// the connection ends. Takes no memory.
     pub fn into_values(self) -> IntoValues<T, A> {
         let ClientOf { core: _, carried } = self;

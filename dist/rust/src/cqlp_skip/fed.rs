@@ -1,7 +1,7 @@
 // Written by dist/erase from crates/cqlp_skip/src/fed.rt.
-//! What calls of a decoder that skips tell.
+//! What calls of a decoder that skips return.
 
-use crate::cqlp_skip::frame::told_at;
+use crate::cqlp_skip::frame::stream_offset;
 use crate::cqlp_decode::Fed;
 use crate::cqlp_note::{Header, Refusal};
 
@@ -44,7 +44,7 @@ pub(crate) fn passed_of(base: u64, used: u64, len: usize) -> usize {
 /// A refusal of a stretch that begins at `base`, at its offset in the whole stream.
 pub(crate) fn refusal_from(base: u64, refusal: Refusal) -> Refusal {
     Refusal {
-        at: told_at(base, refusal.at),
+        at: stream_offset(base, refusal.at),
         why: refusal.why,
     }
 }

@@ -41,6 +41,6 @@ pub(crate) fn frame_after(frame: Option<OpenFrame>, at: u64, event: &Event<'_>) 
 
 /// The offset in the whole stream of what lies at an offset from where a stretch begins.
 #[inline]
-pub(crate) fn told_at(base: u64, at: u64) -> u64 {
+pub(crate) fn stream_offset(base: u64, at: u64) -> u64 {
     base.saturating_add(at)
 }

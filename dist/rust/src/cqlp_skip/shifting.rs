@@ -1,7 +1,7 @@
 // Written by dist/erase from crates/cqlp_skip/src/shifting.rt.
-//! A sink that is told offsets in the whole stream.
+//! A sink that gets offsets in the whole stream.
 
-use crate::cqlp_skip::frame::{OpenFrame, frame_after, told_at};
+use crate::cqlp_skip::frame::{OpenFrame, frame_after, stream_offset};
 use crate::cqlp_grammar::{Event, Sink, SinkFault};
 
 /// Hands events on to a sink, at their offsets in the whole stream, and notes the frame under way.
@@ -16,6 +16,6 @@ impl<S: Sink> Sink for Shifting<S> {
     #[inline]
     fn take(&mut self, at: u64, event: &Event<'_>) -> Result<(), SinkFault> {
         self.frame = frame_after(self.frame, at, event);
-        self.sink.take(told_at(self.base, at), event)
+        self.sink.take(stream_offset(self.base, at), event)
     }
 }

@@ -3,14 +3,14 @@
 
 use crate::kit_std::prelude::{Clone};
 use crate::cqlp_skip::fed::{NotSkippable, Skipped, fed_from, passed_of, refusal_from, used_of};
-use crate::cqlp_skip::frame::{OpenFrame, told_at};
+use crate::cqlp_skip::frame::{OpenFrame, stream_offset};
 use crate::cqlp_skip::shifting::Shifting;
 use crate::cqlp_decode::{Capacity, Decoder, Fed, Finish, GiveError, Held, NewError, Sink};
 use crate::cqlp_note::Limits;
 use crate::cqlp_type::TypeTable;
 use crate::kit_std::alloc::{Allocator, Global};
 
-/// Reads a stream of frames from pieces of any size, as a `Decoder` does, and tells offsets in the whole stream. Where it
+/// Reads a stream of frames from pieces of any size, as a `Decoder` does, with offsets in the whole stream. Where it
 /// is refused in the body of a frame it can pass over the rest of that frame, and go on with the next header. It takes all
 /// its memory when it is made.
 pub struct SkippingDecoder<A: Allocator = Global> {
@@ -40,7 +40,7 @@ impl<A: Allocator + Clone> SkippingDecoder<A> {
         }
     }
 
-    /// The same, for a lenient reading, as [`Decoder::lenient`] has it: a content that its type does not have is told as a raw scalar, and
+    /// The same, for a lenient reading, as [`Decoder::lenient`] has it: a content that its type does not have is emitted as a raw scalar, and
     /// the frame is read on.
     ///
     /// # Errors
@@ -124,7 +124,7 @@ impl<A: Allocator> SkippingDecoder<A> {
             return Err(NotSkippable::TooFar);
         };
         let skipped = Skipped {
-            at: told_at(self.base, frame.at),
+            at: stream_offset(self.base, frame.at),
             header: frame.header,
             refusal: refusal_from(self.base, refusal),
             rest: end - self.used,
@@ -147,7 +147,7 @@ impl<A: Allocator> SkippingDecoder<A> {
         match self.decoder.finish() {
             Finish::Whole { .. } => Finish::Whole { bytes: self.used },
             Finish::Cut { frame_at, .. } => Finish::Cut {
-                frame_at: told_at(self.base, frame_at),
+                frame_at: stream_offset(self.base, frame_at),
                 bytes: self.used,
             },
             Finish::Refused(refusal) => Finish::Refused(refusal_from(self.base, refusal)),

@@ -2,9 +2,9 @@
 //! One connection.
 
 use crate::kit_host::prelude::{AllocGlobal, Clone, ToCopy};
+use crate::cqlp_tcp_connections::delivery::Delivery;
 use crate::cqlp_tcp_connections::ends::{Ends, Way};
 use crate::cqlp_tcp_connections::side::{Side, SideStep};
-use crate::cqlp_tcp_connections::told::Told;
 use crate::cqlp_tcp_connections::totals::{Begin, ConnectionTotals, DirectionTotals, End};
 use crate::cqlp_tcp_reassembly::{Control, StreamSegment, StreamStep};
 use crate::cqlp_tcp_segment::{Segment, SegmentHead};
@@ -83,15 +83,15 @@ impl<A: Allocator> Connection<A> {
         segment: &Segment<'_>,
         time: Option<u64>,
         room: usize,
-    ) -> Result<Option<Told>, AllocError>
+    ) -> Result<Option<Delivery>, AllocError>
     where
         A: Clone,
     {
         let head = &segment.head;
         if head.flags.ack {
-            let told = self.acknowledge(way.other(), head.acknowledgement);
-            if told.is_some() {
-                return Ok(told);
+            let delivered = self.acknowledge(way.other(), head.acknowledgement);
+            if delivered.is_some() {
+                return Ok(delivered);
             }
         }
         let own = StreamSegment {
@@ -147,7 +147,7 @@ impl<A: Allocator> Connection<A> {
         way: Way,
         segment: &StreamSegment<'_>,
         room: usize,
-    ) -> Result<Option<Told>, AllocError>
+    ) -> Result<Option<Delivery>, AllocError>
     where
         A: Clone,
     {
@@ -155,33 +155,33 @@ impl<A: Allocator> Connection<A> {
             Way::Requests => self.requests.take(segment, room)?,
             Way::Responses => self.responses.take(segment, room)?,
         };
-        Ok(tell(self.number, way, step))
+        Ok(deliver(self.number, way, step))
     }
 
     /// The next report of this way for an acknowledgement.
-    fn acknowledge(&mut self, way: Way, number: u32) -> Option<Told> {
+    fn acknowledge(&mut self, way: Way, number: u32) -> Option<Delivery> {
         let step = match way {
             Way::Requests => self.requests.acknowledge(number),
             Way::Responses => self.responses.acknowledge(number),
         };
-        tell(self.number, way, step)
+        deliver(self.number, way, step)
     }
 
     /// The next report where no more segments come: first of the requests.
-    pub(crate) fn close(&mut self) -> Option<Told> {
-        let told = self.close_way(Way::Requests);
-        if told.is_some() {
-            return told;
+    pub(crate) fn close(&mut self) -> Option<Delivery> {
+        let delivered = self.close_way(Way::Requests);
+        if delivered.is_some() {
+            return delivered;
         }
         self.close_way(Way::Responses)
     }
 
-    fn close_way(&mut self, way: Way) -> Option<Told> {
+    fn close_way(&mut self, way: Way) -> Option<Delivery> {
         let step = match way {
             Way::Requests => self.requests.close(),
             Way::Responses => self.responses.close(),
         };
-        tell(self.number, way, step)
+        deliver(self.number, way, step)
     }
 
     /// The next bytes of this way, which came before.
@@ -227,11 +227,11 @@ fn control_of(head: &SegmentHead, missing: usize) -> Control {
 }
 
 /// What is reported of this way of the connection with this number, if that is not `Done`.
-fn tell(number: u64, way: Way, step: SideStep) -> Option<Told> {
+fn deliver(number: u64, way: Way, step: SideStep) -> Option<Delivery> {
     if matches!(step.step, StreamStep::Done) {
         return None;
     }
-    Some(Told {
+    Some(Delivery {
         number,
         way,
         at: step.at,

@@ -2,6 +2,7 @@
 //! The TCP connections of a capture, in a table of bounded size: what each direction of each of them hands on.
 
 mod connection;
+mod delivery;
 mod ends;
 mod limits;
 mod pool;
@@ -9,11 +10,10 @@ mod ports;
 mod side;
 mod table;
 mod tally;
-mod told;
 mod totals;
 
+pub use delivery::{Admission, Delivery, Departure};
 pub use ends::{DEFAULT_PORT, Way};
 pub use limits::{ConnectionLimits, NewConnectionsError};
 pub use table::Connections;
-pub use told::{Departure, Sight, Told};
 pub use totals::{Begin, ConnectionCounts, ConnectionTotals, DirectionTotals, End};

@@ -3,9 +3,9 @@
 
 use crate::kit_host::prelude::{AllocGlobal, Clone, ToCopy};
 use crate::cqlp_tcp_connections::connection::Connection;
+use crate::cqlp_tcp_connections::delivery::Delivery;
 use crate::cqlp_tcp_connections::ends::{Ends, Way};
 use crate::cqlp_tcp_connections::limits::ConnectionLimits;
-use crate::cqlp_tcp_connections::told::Told;
 use crate::cqlp_tcp_segment::Segment;
 use crate::lru::{DefaultHasher, LruCache};
 use crate::kit_std::alloc::{AllocError, Allocator};
@@ -109,7 +109,7 @@ impl<A: Allocator> Pool<A> {
         way: Way,
         segment: &Segment<'_>,
         time: Option<u64>,
-    ) -> Result<Option<Told>, AllocError>
+    ) -> Result<Option<Delivery>, AllocError>
     where
         A: Clone,
     {
@@ -121,10 +121,10 @@ impl<A: Allocator> Pool<A> {
             return Ok(None);
         };
         let before = first.size();
-        let told = first.pull(way, segment, time, room);
+        let delivered = first.pull(way, segment, time, room);
         let after = first.size();
         self.early = self.early - before + after;
-        told
+        delivered
     }
 
     /// That `pull` of a segment which goes this way of the first one reports nothing and changes nothing, as `Connection` says it.
@@ -137,14 +137,14 @@ impl<A: Allocator> Pool<A> {
     }
 
     /// The next report of the first one where no more segments of it come.
-    pub(crate) fn close(&mut self) -> Option<Told> {
+    pub(crate) fn close(&mut self) -> Option<Delivery> {
         let ends = self.first_ends()?;
         let first = self.cache.peek_mut(&ends)?;
         let before = first.size();
-        let told = first.close();
+        let delivered = first.close();
         let after = first.size();
         self.early = self.early - before + after;
-        told
+        delivered
     }
 
     /// The next bytes of this way of the first one, which came before.

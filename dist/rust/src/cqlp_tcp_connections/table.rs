@@ -2,11 +2,11 @@
 //! The table of connections.
 
 use crate::kit_host::prelude::{AllocGlobal, Clone, ToCopy, Vec};
+use crate::cqlp_tcp_connections::delivery::{Admission, Delivery, Departure};
 use crate::cqlp_tcp_connections::ends::{Way, ends_of, first_way};
 use crate::cqlp_tcp_connections::limits::{ConnectionLimits, NewConnectionsError};
 use crate::cqlp_tcp_connections::pool::Pool;
 use crate::cqlp_tcp_connections::ports::PortCounts;
-use crate::cqlp_tcp_connections::told::{Departure, Sight, Told};
 use crate::cqlp_tcp_connections::totals::ConnectionCounts;
 use crate::cqlp_tcp_reassembly::{GapCause, StreamStep};
 use crate::cqlp_tcp_segment::{Segment, SegmentHead};
@@ -77,13 +77,13 @@ impl<A: Allocator> Connections<A> {
     /// # Errors
     ///
     /// Memory that is refused for a connection that begins. Then nothing changes.
-    pub fn take(&mut self, head: &SegmentHead) -> Result<Sight, AllocError>
+    pub fn take(&mut self, head: &SegmentHead) -> Result<Admission, AllocError>
     where
         A: Clone,
     {
         let Some(way) = first_way(&self.ports, head) else {
             self.go_by(head);
-            return Ok(Sight::Foreign);
+            return Ok(Admission::Foreign);
         };
         if self.pool.bring(&ends_of(way, head)) {
             return Ok(self.see(way, head));
@@ -117,18 +117,18 @@ impl<A: Allocator> Connections<A> {
         &mut self,
         segment: &Segment<'_>,
         time: Option<u64>,
-    ) -> Result<Option<Told>, AllocError>
+    ) -> Result<Option<Delivery>, AllocError>
     where
         A: Clone,
     {
         let Some(way) = self.way_of_first(&segment.head) else {
             return Ok(None);
         };
-        let told = self.pool.pull(way, segment, time)?;
-        if gives_up(way, &told) {
+        let delivered = self.pool.pull(way, segment, time)?;
+        if gives_up(way, &delivered) {
             self.counts.given_up = self.counts.given_up.saturating_add(1);
         }
-        Ok(told)
+        Ok(delivered)
     }
 
     /// That the next `pull` of the segment that was taken says `None`, and changes nothing. Where this says no, that may be so too. It is
@@ -153,9 +153,9 @@ impl<A: Allocator> Connections<A> {
     /// The next report of the connection that has to leave: what it still holds, a hole before it as a gap, first of the
     /// requests. At last that it has left.
     pub fn leave(&mut self) -> Departure {
-        if let Some(told) = self.pool.close() {
+        if let Some(delivered) = self.pool.close() {
             self.leaving = true;
-            return Departure::Told(told);
+            return Departure::Delivery(delivered);
         }
         let totals = match self.pool.first() {
             Some((ends, first)) => first.totals(ends),
@@ -208,19 +208,19 @@ impl<A: Allocator> Connections<A> {
     }
 
     /// Takes a segment of the first connection, which goes this way.
-    fn see(&mut self, way: Way, head: &SegmentHead) -> Sight {
+    fn see(&mut self, way: Way, head: &SegmentHead) -> Admission {
         let Some((_, first)) = self.pool.first() else {
-            return Sight::Foreign;
+            return Admission::Foreign;
         };
         let number = first.number();
         if first.begins_anew(way, head) {
-            return Sight::Crowded {
+            return Admission::Crowded {
                 number,
                 is_full: false,
             };
         }
         self.pool.count_segment(way);
-        Sight::Taken {
+        Admission::Taken {
             number,
             way,
             is_new: false,
@@ -228,14 +228,14 @@ impl<A: Allocator> Connections<A> {
     }
 
     /// Begins a connection with a segment that goes this way.
-    fn begin(&mut self, way: Way, head: &SegmentHead) -> Result<Sight, AllocError>
+    fn begin(&mut self, way: Way, head: &SegmentHead) -> Result<Admission, AllocError>
     where
         A: Clone,
     {
         let number = self.counts.connections.saturating_add(1);
         self.pool.add(ends_of(way, head), number, way)?;
         self.counts.connections = number;
-        Ok(Sight::Taken {
+        Ok(Admission::Taken {
             number,
             way,
             is_new: true,
@@ -243,14 +243,14 @@ impl<A: Allocator> Connections<A> {
     }
 
     /// Has the connection leave that was silent longest.
-    fn crowd(&mut self) -> Sight {
+    fn crowd(&mut self) -> Admission {
         self.pool.bring_last();
         let Some((_, first)) = self.pool.first() else {
-            return Sight::Foreign;
+            return Admission::Foreign;
         };
         let number = first.number();
         self.counts.crowded = self.counts.crowded.saturating_add(1);
-        Sight::Crowded {
+        Admission::Crowded {
             number,
             is_full: true,
         }
@@ -265,17 +265,17 @@ impl<A: Allocator> Connections<A> {
 }
 
 /// Whether the report of a segment of this way is a gap of its own way, which is declared where there is no room.
-fn gives_up(way: Way, told: &Option<Told>) -> bool {
-    match told {
-        Some(told) => {
+fn gives_up(way: Way, delivered: &Option<Delivery>) -> bool {
+    match delivered {
+        Some(delivered) => {
             let is_lost = matches!(
-                told.step,
+                delivered.step,
                 StreamStep::Gap {
                     cause: GapCause::Lost,
                     ..
                 }
             );
-            is_lost && told.way == way
+            is_lost && delivered.way == way
         }
         None => false,
     }

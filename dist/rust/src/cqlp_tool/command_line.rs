@@ -87,7 +87,7 @@ where
         Ok(CommandLine::Stream(options)) => stream(rt, options, input, out, err),
         Ok(CommandLine::Loop { queries }) => converse(rt, queries, out, err),
         Ok(CommandLine::Capture(options)) => capture(rt, options, input, out, err, notes),
-        Err(no_task) => tell(no_task, out, err),
+        Err(no_task) => print_no_task(no_task, out, err),
     }
 }
 
@@ -159,7 +159,7 @@ fn missing_folder<'a, R: Files>(rt: &R, asked: CaptureTask<'a>) -> Option<&'a st
     }
 }
 
-/// Does the task with a capture in a file. Where the file is long, `notes` is told how much of it was read.
+/// Does the task with a capture in a file. Where the file is long, `notes` gets how much of it was read.
 fn read_file<R: Files + AllocGlobal, O: Target, E: Target, N: Target>(
     rt: &R,
     options: &CaptureOptions<'_>,
@@ -312,7 +312,7 @@ fn cannot_open<E: Target>(file: &str, mut err: E) -> (u8, E) {
 }
 
 /// Writes what there is in place of options: help or the version to `out`, and a mistake to `err`.
-fn tell<O: Target, E: Target>(no_task: NoTask, out: O, err: E) -> (u8, O, E) {
+fn print_no_task<O: Target, E: Target>(no_task: NoTask, out: O, err: E) -> (u8, O, E) {
     match no_task {
         NoTask::Help(text) => help(text.as_str(), out, err),
         NoTask::Mistake(text) => {

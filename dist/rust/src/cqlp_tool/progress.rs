@@ -1,5 +1,5 @@
 // Written by dist/erase from crates/cqlp_tool/src/progress.rt.
-//! A reader that tells how far it came.
+//! A reader that reports how far it came.
 
 use crate::cqlp_tool::marks::{marks, put_marks};
 use crate::cqlp_note::{IoFault, Source, Target};

@@ -13,7 +13,7 @@ use Rattle.cqlp_decode.proofs.Gets.{rest_is}
 use Rattle.cqlp_c.specs.declared.batch.Stop.TheVariants as stop
 use Rattle.cqlp_c.specs.declared.event.CqlpEvent.{CqlpEvent}
 use Rattle.cqlp_grammar.specs.Events.{Event, event_of}
-use Rattle.cqlp_c.specs.Batches.{Put, TellsStep, buffer_in, events_of, put_of}
+use Rattle.cqlp_c.specs.Batches.{Put, WritesStep, buffer_in, events_of, put_of}
 use Rattle.cqlp_decode.proofs.Taken.{takes_pays}
 use Rattle.cqlp_c.specs.Course.{begun_after}
 use Rattle.cqlp_c.proofs.Beginning.{begun_more, begun_one}
@@ -31,10 +31,10 @@ same_refusal None old is new none some = none ∙ is
 same_refusal (Some r) old is new none some = absurd (some r refl)
 
 -- the event of a step lies where it says
-put_at : (begins : Ptr) (c : CqlpEvent) (at : ℕ) (e : Event) (used taken end : ℕ) → end ≡ used + taken → TellsStep begins c (put_of at e end taken) → TellsStep begins c (record { at = at; event = e; from = used; end = used + taken })
-put_at begins c at e used taken end is tells =
+put_at : (begins : Ptr) (c : CqlpEvent) (at : ℕ) (e : Event) (used taken end : ℕ) → end ≡ used + taken → WritesStep begins c (put_of at e end taken) → WritesStep begins c (record { at = at; event = e; from = used; end = used + taken })
+put_at begins c at e used taken end is writes =
     let from : end - taken ≡ used = omega (arith, is) in
-    subst (λ (p : Put). TellsStep begins c p) (λ i. record { at = at; event = e; from = from i; end = is i }) tells
+    subst (λ (p : Put). WritesStep begins c p) (λ i. record { at = at; event = e; from = from i; end = is i }) writes
 
 pub returns-then-gathered-clause-fills : goal.returns-then-gathered-clause-fills
 returns-then-gathered-clause-fills c = λ gifts s es a.
@@ -49,9 +49,9 @@ returns-then-gathered-clause-fills c = λ gifts s es a.
     let e = event_of c.in-Event.event in
     let put : Put = record { at = c.in-Event.at; event = e; from = c.slots.used; end = c.slots.used + c.in-Event.taken } in
     let far = length-take-le (c.slots.used + c.in-Event.taken) c.args.input.now (omega (arith, leads.0, c.slots.invariant.within, length-drop c.slots.used c.args.input.now)) in
-    let told = put_at begins c.put_step-gathered.new.slot c.in-Event.at e c.slots.used c.in-Event.taken _ far c.put_step-gathered.ensures.tells in
+    let written = put_at begins c.put_step-gathered.new.slot c.in-Event.at e c.slots.used c.in-Event.taken _ far c.put_step-gathered.ensures.writes in
     let held = goes.5 (omega (arith, gathered, span_size e)) in
-    let there = c.put_gathered.ensures begins put (omega arith) (omega (arith, gathered)) held told in
+    let there = c.put_gathered.ensures begins put (omega arith) (omega (arith, gathered)) held written in
     fills_gathered gifts (state c.args.decoder.now).rules old new s c.args.input.now begins es c.slots.used (take c.slots.count c.slots.events) f c.in-Event.at c.in-Event.taken e (goes.2 ∙ c.slots.invariant.rules) c.slots.invariant.within leads c.put_gathered.new.slot (buffer_in c.next.follows.lender-at-none) there (state c.args.decoder.now) (length c.args.events.now) _ _ refl
     (ap (λ (n : ℕ). record { used = c.slots.used + c.in-Event.taken; events = n + 1; stop = stop.Full }) (sym long))
     (rw long (take_more_set c.slots.events c.slots.count c.put_gathered.new.slot c.slots-test.true))
@@ -67,9 +67,9 @@ returns-then-gathered-clause-frame c =
     let e = event_of c.in-Event.event in
     let put : Put = record { at = c.in-Event.at; event = e; from = c.slots.used; end = c.slots.used + c.in-Event.taken } in
     let far = length-take-le (c.slots.used + c.in-Event.taken) c.args.input.now (omega (arith, taken, c.slots.invariant.within, length-drop c.slots.used c.args.input.now)) in
-    let t = c.put_step-gathered.ensures.tells in
-    let told = put_at begins c.put_step-gathered.new.slot c.in-Event.at e c.slots.used c.in-Event.taken _ far t in
-    let there = c.put_gathered.ensures begins put (omega arith) (omega (arith, gathered)) (goes.5 (omega (arith, gathered, span_size e))) told in
+    let t = c.put_step-gathered.ensures.writes in
+    let written = put_at begins c.put_step-gathered.new.slot c.in-Event.at e c.slots.used c.in-Event.taken _ far t in
+    let there = c.put_gathered.ensures begins put (omega arith) (omega (arith, gathered)) (goes.5 (omega (arith, gathered, span_size e))) written in
     let g = c.slots.frame in
     let one : c.note.new.self ≡ begun_after g c.put_gathered.new.slot = c.note.ensures c.in-Event.at t.0 t.2 ∙ (ap (begun_after g) t.2 ∙ ap (begun_after g) (sym there.2)) in
     begun_one c.args.frame.now g c.note.new.self (take c.slots.count c.slots.events) c.put_gathered.new.slot _ c.slots.invariant.framed one (take_more_set c.slots.events c.slots.count c.put_gathered.new.slot c.slots-test.true)
@@ -130,7 +130,7 @@ slots-preserved c =
           p.others ∙ rw p.count (drops_more count (length p.items) array c.args.events.now behind);
       framed =
           let put = take_more_set c.slots.events c.slots.count c.put_step-gathered.new.slot c.slots-test.true in
-          let t = c.put_step-gathered.ensures.tells in
+          let t = c.put_step-gathered.ensures.writes in
           begun_more c.args.frame.now c.slots.frame c.note.new.self c.put_whole-put.new.frame (take c.slots.count c.slots.events) c.put_step-gathered.new.slot p.events _ i.framed (c.note.ensures c.in-Event.at t.0 t.2) p.frame
           (p.first ∙ ap (λ (z : List CqlpEvent). z ++ p.events) put);
       filled = λ gifts s es a.
@@ -140,14 +140,14 @@ slots-preserved c =
           let rules = goes.2 ∙ i.rules in
           let one =
           filled_more gifts (state c.args.decoder.now).rules old mid s input (as_ptr c.args.input) es c.slots.used (take c.slots.count c.slots.events) f c.in-Event.at c.in-Event.taken (event_of c.in-Event.event) rules i.within leads c.put_step-gathered.new.slot
-          (λ b. step_put (as_ptr c.args.input) b c.put_step-gathered.new.slot _ (omega (arith, free)) (put_at (as_ptr c.args.input) c.put_step-gathered.new.slot c.in-Event.at (event_of c.in-Event.event) c.slots.used c.in-Event.taken _ (length-take-le (c.slots.used + c.in-Event.taken) c.args.input.now far) c.put_step-gathered.ensures.tells)) _
+          (λ b. step_put (as_ptr c.args.input) b c.put_step-gathered.new.slot _ (omega (arith, free)) (put_at (as_ptr c.args.input) c.put_step-gathered.new.slot c.in-Event.at (event_of c.in-Event.event) c.slots.used c.in-Event.taken _ (length-take-le (c.slots.used + c.in-Event.taken) c.args.input.now far) c.put_step-gathered.ensures.writes)) _
           (take_more_set c.slots.events c.slots.count c.put_step-gathered.new.slot c.slots-test.true)
           (omega (arith, free)) in
-          let told = p.told gifts (s ++ take used input) (es ++ events_of one.puts) one.after goes.3 in
+          let written = p.written gifts (s ++ take used input) (es ++ events_of one.puts) one.after goes.3 in
           let base : length (s ++ take used input) ≡ length s + used = omega (arith, length-append s (take used input), length-take-le used input far) in
           let rest : Bor (List ℕ) = record { ref_ptr = (c.args.input.ref_ptr.0, used + c.args.input.ref_ptr.1); now = drop used input } in
           let there : as_ptr rest ≡ as_ptr c.args.input +ₚ used = ap (block_ptr c.args.input.ref_ptr.0) (omega arith) in
-          let all = filled_items gifts (state c.args.decoder.now).rules s input (as_ptr c.args.input) es (record { input = rest; offset = length (s ++ take used input) }) used base (length-drop used input) there mid new used (take count array) p.events p.items one rules leads.2 far (omega arith) p.takes told in
+          let all = filled_items gifts (state c.args.decoder.now).rules s input (as_ptr c.args.input) es (record { input = rest; offset = length (s ++ take used input) }) used base (length-drop used input) there mid new used (take count array) p.events p.items one rules leads.2 far (omega arith) p.takes written in
           rw (p.all, p.first) all;
     }
 

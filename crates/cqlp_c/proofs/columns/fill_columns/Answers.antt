@@ -1,7 +1,7 @@
 use Rattle.std.proofs.Common.{◌≡◌, ap, ◌∙◌, inl, inr, arith}
 use Rattle.std.specs.Ptr.{as_ptr}
 use Rattle.cqlp_decode.specs.Streams.{state}
-use Rattle.cqlp_c.specs.declared.batch.Batch.{Batch as Told}
+use Rattle.cqlp_c.specs.declared.batch.Batch.{Batch as FromC}
 use Rattle.cqlp_c.specs.contracts.columns.BesideSink.TheImpl.{ghosts}
 use Rattle.cqlp_c.proofs.ColumnsFilled.{few, moved}
 use Rattle.cqlp_c.proofs.columns.fill_columns.Goals.{then-batch-eq1, else-batch-eq1}
@@ -13,7 +13,7 @@ returns c =
     let d = c.read-filled.new.decoder in
     let y = c.read-filled.new.self.other in
     let within = c.read-filled.ensures.within in
-    let events = ap (λ (b : Told). b.events) c.batch_in-batch.ensures in
+    let events = ap (λ (b : FromC). b.events) c.batch_in-batch.ensures in
     elim c.if-batch-eq1.branch [
       | then-batch-eq1 w ↦
           let one : c.batch_in-batch.result.events ≡ 1 = omega (arith, w.if-batch-eq1.true) in

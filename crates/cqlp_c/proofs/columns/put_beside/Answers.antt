@@ -6,7 +6,7 @@ use Rattle.cqlp_laws.specs.Contents.{content_in}
 use Rattle.cqlp_c.specs.Batches.{IsGathered, LiesByStep, Put, put_of}
 use Rattle.cqlp_c.specs.Events.{IsStart}
 use Rattle.cqlp_c.proofs.Handed.{span_size}
-use Rattle.cqlp_c.proofs.Spans.{span_told}
+use Rattle.cqlp_c.proofs.Spans.{span_written}
 use Rattle.cqlp_c.proofs.columns.put_beside.Goals as goal
 
 -- a content that was gathered lies in no input
@@ -15,11 +15,11 @@ gathered_lies input p None place is gathered = is
 gathered_lies input p (Some content) place is gathered = λ lies. absurd (omega (arith, lies, gathered))
 
 pub returns-then-is_gathered : goal.returns-then-is_gathered
-returns-then-is_gathered c = λ at e tells held.
+returns-then-is_gathered c = λ at e writes held.
     let n = length c.args.bytes.now in
     let p : Put = put_of at e n n in
     let long = ltb-true _ _ (sym c.is_gathered.ensures ∙ c.if-is_gathered.true) in
-    let span = span_told c.args.beside.told at e tells.0 in
+    let span = span_written c.args.beside.written at e writes.0 in
     let gathered : IsGathered p = omega (arith, long, span) in
     c.put_gathered.ensures (as_ptr c.args.bytes) p (omega arith) gathered (held (omega (arith, long, span, span_size e)))
-    (tells.0.0, gathered_lies (as_ptr c.args.bytes) p (content_in e) tells.0.0 tells.0.1 gathered, tells.0.2)
+    (writes.0.0, gathered_lies (as_ptr c.args.bytes) p (content_in e) writes.0.0 writes.0.1 gathered, writes.0.2)

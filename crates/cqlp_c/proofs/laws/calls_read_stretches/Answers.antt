@@ -12,7 +12,7 @@ pub returns-clause-next : goal.returns-clause-next
 returns-clause-next c = reads_on
 
 pub returns-clause-skip : goal.returns-clause-skip
-returns-clause-skip c = λ xs s old new from to stretches gifts events code was told. skips xs s old new from to stretches gifts events code was told
+returns-clause-skip c = λ xs s old new from to stretches gifts events code was written. skips xs s old new from to stretches gifts events code was written
 
 pub returns-clause-finish : goal.returns-clause-finish
 returns-clause-finish c = finishes

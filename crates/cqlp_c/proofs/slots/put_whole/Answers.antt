@@ -2,7 +2,7 @@ use Rattle.std.proofs.Common.{◌<◌, [], length, take, drop, refl, sym, ap, su
 use Rattle.std.proofs.lemmas.List.{append-nil}
 use Rattle.cqlp_decode.specs.Streams.{state}
 use Rattle.cqlp_decode.proofs.Taken.{takes_within}
-use Rattle.cqlp_c.specs.Slots.{TellsItems}
+use Rattle.cqlp_c.specs.Slots.{WritesItems}
 use Rattle.cqlp_c.proofs.Putting.{PutsItems, puts_whole, puts_full}
 use Rattle.cqlp_c.proofs.slots.put_whole.Goals.{in-Ok, in-Err}
 use Rattle.cqlp_c.proofs.slots.put_whole.Goals as goal
@@ -13,7 +13,7 @@ returns-then-count-events-clause-puts c = record {
   takes = refl;
   all = refl;
   events = [];
-  told = λ gifts s es a none. tt;
+  written = λ gifts s es a none. tt;
   first = sym (append-nil _);
   others = refl;
   long = refl;
@@ -39,7 +39,7 @@ returns-clause-puts c =
       takes = w.takes;
       all = w.all;
       events = w.puts.events;
-      told = λ gifts s es a none. subst (λ (n : ℕ). TellsItems (record { input = c.args.input; offset = n }) w.puts.events w.items) (c.bytes_used.ensures gifts s es a none) w.puts.told;
+      written = λ gifts s es a none. subst (λ (n : ℕ). WritesItems (record { input = c.args.input; offset = n }) w.puts.events w.items) (c.bytes_used.ensures gifts s es a none) w.puts.written;
       first = ap (take c.hand_whole.new.sink.count) now ∙ w.puts.first;
       others = ap (drop c.hand_whole.new.sink.count) now ∙ w.puts.others;
       long = ap length now ∙ w.puts.long;

@@ -2,7 +2,7 @@ use Rattle.std.proofs.Common.{◌∙◌, arith, IsSome, refl, sym, subst, inr}
 use Rattle.cqlp_text.specs.Outputs.{written}
 use Rattle.cqlp_capture_streams.specs.Captures.{no_reads}
 use Rattle.cqlp_capture_streams.specs.Streams.{ReadsCapture}
-use Rattle.cqlp_capture_events.specs.Listening.{Listening, StopsAt, new_listening, with_saying}
+use Rattle.cqlp_capture_events.specs.Listening.{Listening, StopsAt, new_listening, with_connection_event}
 use Rattle.cqlp_capture_events.proofs.capturing.listen.Goals as goal
 
 pub returns-in-Err : goal.returns-in-Err
@@ -11,13 +11,13 @@ returns-in-Err g c = λ xs is known.
 
 pub returns : goal.returns
 returns g c = λ xs is known.
-    let tells = subst (λ (w : Listening). IsSome w.output.given) (sym c.in-Ok.ensures.ok) known in
-    let a = c.read_capture-answer.ensures.reads xs is tells in (
+    let reports = subst (λ (w : Listening). IsSome w.output.given) (sym c.in-Ok.ensures.ok) known in
+    let a = c.read_capture-answer.ensures.reads xs is reports in (
       a.0,
       a.1,
       (
         c.read_capture-answer.new.listener,
-        subst (λ (w : Listening). ReadsCapture with_saying StopsAt c.args.limits c.args.ports.now xs a.0 c.read_capture-answer.result (g.R.Source.left c.read_capture-answer.new.input) w c.read_capture-answer.new.listener) c.in-Ok.ensures.ok a.2,
+        subst (λ (w : Listening). ReadsCapture with_connection_event StopsAt c.args.limits c.args.ports.now xs a.0 c.read_capture-answer.result (g.R.Source.left c.read_capture-answer.new.input) w c.read_capture-answer.new.listener) c.in-Ok.ensures.ok a.2,
         c.into_parts-out.ensures.unread,
         c.into_parts-out.ensures.output,
       ),

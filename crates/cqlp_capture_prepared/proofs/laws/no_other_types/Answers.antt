@@ -1,4 +1,4 @@
-use Rattle.cqlp_capture_prepared.proofs.Told.{no_others}
+use Rattle.cqlp_capture_prepared.proofs.Reported.{no_others}
 use Rattle.cqlp_capture_prepared.proofs.laws.no_other_types.Goals as goal
 
 pub returns : goal.returns

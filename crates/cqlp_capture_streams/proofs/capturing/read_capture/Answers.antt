@@ -20,8 +20,8 @@ returns-in_default-new-2-clause-reads g c = λ xs is k. (no_reads, (λ fits. ome
 pub returns-in_default-vec-clause-reads : goal.returns-in_default-vec-clause-reads
 returns-in_default-vec-clause-reads g c = λ xs is k. (no_reads, (λ fits. omega arith, refl, λ fits. omega arith), inr (refl, refl, is, refl))
 
-pub returns-clause-tells : goal.returns-clause-tells
-returns-clause-tells g c = λ tells. subst (λ (z : Result CaptureRead StreamsFault). OnOk z (g.L.Listener.tells c.split-answer.new.listener)) (sym c.read_of.ensures) (read_on _ c.split-answer.result c.split-answer.new.splitter (c.split-answer.ensures.tells tells))
+pub returns-clause-reports : goal.returns-clause-reports
+returns-clause-reports g c = λ reports. subst (λ (z : Result CaptureRead StreamsFault). OnOk z (g.L.Listener.reports c.split-answer.new.listener)) (sym c.read_of.ensures) (read_on _ c.split-answer.result c.split-answer.new.splitter (c.split-answer.ensures.reports reports))
 
 pub returns-clause-reads : goal.returns-clause-reads
 returns-clause-reads g c = λ xs is k.

@@ -10,7 +10,7 @@ loop-turn-init g c = record {
   within = omega arith;
   limits = refl;
   free = λ none. none;
-  tells = λ k. k;
+  reports = λ k. k;
   has = λ t before s k h. subst (λ z. (first : Has g.L.Listener.after t before z c.args.reader.now c.args.splitter.now (g.L.Listener.view c.args.listener.now)) × (0 ≤ length first.events)) (sym (append-nil s)) (h, omega arith);
 }
 
@@ -35,7 +35,7 @@ returns-in_err-take-in-Event-clause-drains g c =
     let i = c.loop-turn.invariant in
     let has = i.has t before s k h0 in
     let h = has.0 in
-    let a = c.in_err-take-in-Event.ensures (i.tells k) in
+    let a = c.in_err-take-in-Event.ensures (i.reports k) in
     drain_fails g.L.Listener.after g.L.Listener.faulted _ t before s c.args.piece.now c.loop-turn.used c.loop-turn.reader c.next.follows.lender-at-none c.loop-turn.splitter c.take.new.self (g.L.Listener.view c.loop-turn.listener) (g.L.Listener.view c.take.new.listener) c.in-Event.at c.in-Event.taken c.in-Event.event a.0 c.in_err-take-in-Event.field-0.0 h i.limits (rw (c.in-Event.is, rest_of) at c.next.follows.holds-at-none.0) (rw (c.in-Event.is, rest_of) at c.next.follows.holds-at-none.1 (s ++ take c.loop-turn.used c.args.piece.now) h.events h.stands) a.1 a.2)
 
 pub loop-turn-preserved : goal.loop-turn-preserved
@@ -47,12 +47,12 @@ loop-turn-preserved g c =
       within = omega (arith, taken, length-drop used piece, i.within);
       limits = same_limits _ _ _ _ _ c.next.follows.holds-at-none.0 ∙ i.limits;
       free = λ none. still_free _ c.loop-turn.reader c.next.follows.lender-at-none _ _ _ _ (i.free none) (rw (c.in-Event.is, rest_of) at c.next.follows.holds-at-none.0);
-      tells = λ k. (c.in_ok-take-in-Event.ensures (i.tells k)).2.0;
+      reports = λ k. (c.in_ok-take-in-Event.ensures (i.reports k)).2.0;
       has = λ t before s k h0.
           let has = i.has t before s k h0 in
           let h = has.0 in
           let leads = rw (c.in-Event.is, rest_of) at c.next.follows.holds-at-none.1 (s ++ take used piece) h.events h.stands in
-          let a = c.in_ok-take-in-Event.ensures (i.tells k) in
+          let a = c.in_ok-take-in-Event.ensures (i.reports k) in
           takes_event g.L.Listener.after t before s piece used c.loop-turn.reader c.next.follows.lender-at-none c.loop-turn.splitter c.take.new.self (g.L.Listener.view c.loop-turn.listener) (g.L.Listener.view c.take.new.listener) c.in-Event.at c.in-Event.taken c.in-Event.event a.0 h leads a.1 a.2.1 c.loop-turn.turn has.1;
     }
 

@@ -8,7 +8,7 @@ use Rattle.cqlp_capture_streams.proofs.running.split.Goals as goal
 pub loop-turn-init : goal.loop-turn-init
 loop-turn-init g c = record {
   long = refl;
-  tells = λ k. k;
+  reports = λ k. k;
   failures = refl;
   counted = λ fits. omega arith;
   asked = λ fits. omega arith;
@@ -37,7 +37,7 @@ returns-in_err-drained-clause-splits g c =
     let f = c.loop-turn.invariant.so_far xs is k in
     let r = read_some (g.R.Source.left c.loop-turn.input) (g.R.Source.left c.read.new.self) f.rest c.read.new.buffer c.in-Ok.count f.others c.in-Ok.ensures.bytes.0 c.in-Ok.ensures.bytes.1 in
     let short : length (take c.in-Ok.count c.read.new.buffer) ≤ most_read = let x = c.read.auto.buffer in let y = c.loop-turn.invariant.long in let z = c.requires.room in omega (arith, length-take-le c.in-Ok.count c.read.new.buffer c.in-Ok.ensures.bound, c.in-Ok.ensures.bound) in
-    (well_made (c.loop-turn.turn + 1), (λ fits. let before = c.loop-turn.invariant.counted (omega arith) in let one = c.in-Ok.ensures.reads in omega arith, c.in-Ok.ensures.failures ∙ c.loop-turn.invariant.failures, room_again _ _ _ _ c.loop-turn.turn c.loop-turn.invariant.asked c.in-Ok.ensures.asked (let x = c.read.auto.buffer in let y = c.loop-turn.invariant.long in let z = c.requires.room in omega arith)), drain_fails g.L.Listener.after g.L.Listener.faulted c.args.reader.now.limits c.args.splitter.now (g.L.Listener.view c.args.listener.now) xs (g.R.Source.left c.loop-turn.input) (g.R.Source.left c.read.new.self) c.loop-turn.reader c.loop-turn.splitter (g.L.Listener.view c.loop-turn.listener) f c.args.turns (c.loop-turn.turn + 1) (let a = c.loop-turn-test.true in omega arith) (take c.in-Ok.count c.read.new.buffer) r.0 r.1 r.2 short c.drain.new.reader c.drain.new.splitter (g.L.Listener.view c.drain.new.listener) c.in_err-drained.field-0.0 (c.in_err-drained.ensures.drains c.args.splitter.now (g.L.Listener.view c.args.listener.now) f.read (c.loop-turn.invariant.tells k) f.has f.free)))
+    (well_made (c.loop-turn.turn + 1), (λ fits. let before = c.loop-turn.invariant.counted (omega arith) in let one = c.in-Ok.ensures.reads in omega arith, c.in-Ok.ensures.failures ∙ c.loop-turn.invariant.failures, room_again _ _ _ _ c.loop-turn.turn c.loop-turn.invariant.asked c.in-Ok.ensures.asked (let x = c.read.auto.buffer in let y = c.loop-turn.invariant.long in let z = c.requires.room in omega arith)), drain_fails g.L.Listener.after g.L.Listener.faulted c.args.reader.now.limits c.args.splitter.now (g.L.Listener.view c.args.listener.now) xs (g.R.Source.left c.loop-turn.input) (g.R.Source.left c.read.new.self) c.loop-turn.reader c.loop-turn.splitter (g.L.Listener.view c.loop-turn.listener) f c.args.turns (c.loop-turn.turn + 1) (let a = c.loop-turn-test.true in omega arith) (take c.in-Ok.count c.read.new.buffer) r.0 r.1 r.2 short c.drain.new.reader c.drain.new.splitter (g.L.Listener.view c.drain.new.listener) c.in_err-drained.field-0.0 (c.in_err-drained.ensures.drains c.args.splitter.now (g.L.Listener.view c.args.listener.now) f.read (c.loop-turn.invariant.reports k) f.has f.free)))
 
 pub returns-in-Refused-clause-splits : goal.returns-in-Refused-clause-splits
 returns-in-Refused-clause-splits g c = λ xs is k.
@@ -45,8 +45,8 @@ returns-in-Refused-clause-splits g c = λ xs is k.
     let r = read_some (g.R.Source.left c.loop-turn.input) (g.R.Source.left c.read.new.self) f.rest c.read.new.buffer c.in-Ok.count f.others c.in-Ok.ensures.bytes.0 c.in-Ok.ensures.bytes.1 in
     let short : length (take c.in-Ok.count c.read.new.buffer) ≤ most_read = let x = c.read.auto.buffer in let y = c.loop-turn.invariant.long in let z = c.requires.room in omega (arith, length-take-le c.in-Ok.count c.read.new.buffer c.in-Ok.ensures.bound, c.in-Ok.ensures.bound) in
     let piece = take c.in-Ok.count c.read.new.buffer in
-    let a = rw c.in-Refused.is at c.in_ok-drained.ensures.drains c.args.splitter.now (g.L.Listener.view c.args.listener.now) f.read (c.loop-turn.invariant.tells k) f.has f.free in
-    (well_made (c.loop-turn.turn + 1), (λ fits. let before = c.loop-turn.invariant.counted (omega arith) in let one = c.in-Ok.ensures.reads in omega arith, c.in-Ok.ensures.failures ∙ c.loop-turn.invariant.failures, room_again _ _ _ _ c.loop-turn.turn c.loop-turn.invariant.asked c.in-Ok.ensures.asked (let x = c.read.auto.buffer in let y = c.loop-turn.invariant.long in let z = c.requires.room in omega arith)), file_ends g.L.Listener.after g.L.Listener.faulted c.args.reader.now.limits c.args.splitter.now (g.L.Listener.view c.args.listener.now) xs (g.R.Source.left c.loop-turn.input) (g.R.Source.left c.read.new.self) c.loop-turn.reader c.loop-turn.splitter (g.L.Listener.view c.loop-turn.listener) f c.args.turns (c.loop-turn.turn + 1) (let a = c.loop-turn-test.true in omega arith) piece r.0 r.1 r.2 short c.drain.new.reader c.drain.new.splitter (g.L.Listener.view c.drain.new.listener) drained.Refused c.end_all.result c.end_all.new.splitter (g.L.Listener.view c.end_all.new.listener) a (refused_all c.drain.new.reader c.end_all.result r.0 a.1 c.end_all.ensures.end) (c.end_all.ensures.ends c.args.splitter.now c.args.turns (well_made (c.loop-turn.turn + 1)) (g.L.Listener.view c.args.listener.now) a.2 (f.read ++ piece) (c.in_ok-drained.ensures.tells (c.loop-turn.invariant.tells k)) a.3 a.4))
+    let a = rw c.in-Refused.is at c.in_ok-drained.ensures.drains c.args.splitter.now (g.L.Listener.view c.args.listener.now) f.read (c.loop-turn.invariant.reports k) f.has f.free in
+    (well_made (c.loop-turn.turn + 1), (λ fits. let before = c.loop-turn.invariant.counted (omega arith) in let one = c.in-Ok.ensures.reads in omega arith, c.in-Ok.ensures.failures ∙ c.loop-turn.invariant.failures, room_again _ _ _ _ c.loop-turn.turn c.loop-turn.invariant.asked c.in-Ok.ensures.asked (let x = c.read.auto.buffer in let y = c.loop-turn.invariant.long in let z = c.requires.room in omega arith)), file_ends g.L.Listener.after g.L.Listener.faulted c.args.reader.now.limits c.args.splitter.now (g.L.Listener.view c.args.listener.now) xs (g.R.Source.left c.loop-turn.input) (g.R.Source.left c.read.new.self) c.loop-turn.reader c.loop-turn.splitter (g.L.Listener.view c.loop-turn.listener) f c.args.turns (c.loop-turn.turn + 1) (let a = c.loop-turn-test.true in omega arith) piece r.0 r.1 r.2 short c.drain.new.reader c.drain.new.splitter (g.L.Listener.view c.drain.new.listener) drained.Refused c.end_all.result c.end_all.new.splitter (g.L.Listener.view c.end_all.new.listener) a (refused_all c.drain.new.reader c.end_all.result r.0 a.1 c.end_all.ensures.end) (c.end_all.ensures.ends c.args.splitter.now c.args.turns (well_made (c.loop-turn.turn + 1)) (g.L.Listener.view c.args.listener.now) a.2 (f.read ++ piece) (c.in_ok-drained.ensures.reports (c.loop-turn.invariant.reports k)) a.3 a.4))
 
 pub returns-then-count-eq0-clause-splits : goal.returns-then-count-eq0-clause-splits
 returns-then-count-eq0-clause-splits g c = λ xs is k.
@@ -54,14 +54,14 @@ returns-then-count-eq0-clause-splits g c = λ xs is k.
     let r = read_some (g.R.Source.left c.loop-turn.input) (g.R.Source.left c.read.new.self) f.rest c.read.new.buffer c.in-Ok.count f.others c.in-Ok.ensures.bytes.0 c.in-Ok.ensures.bytes.1 in
     let short : length (take c.in-Ok.count c.read.new.buffer) ≤ most_read = let x = c.read.auto.buffer in let y = c.loop-turn.invariant.long in let z = c.requires.room in omega (arith, length-take-le c.in-Ok.count c.read.new.buffer c.in-Ok.ensures.bound, c.in-Ok.ensures.bound) in
     let piece = take c.in-Ok.count c.read.new.buffer in
-    let a = rw c.in-More.is at c.in_ok-drained.ensures.drains c.args.splitter.now (g.L.Listener.view c.args.listener.now) f.read (c.loop-turn.invariant.tells k) f.has f.free in
+    let a = rw c.in-More.is at c.in_ok-drained.ensures.drains c.args.splitter.now (g.L.Listener.view c.args.listener.now) f.read (c.loop-turn.invariant.reports k) f.has f.free in
     let long : 0 < length c.read.new.buffer = let x = c.read.auto.buffer in let y = c.loop-turn.invariant.long in let z = c.requires.room in omega arith in
-    (well_made (c.loop-turn.turn + 1), (λ fits. let before = c.loop-turn.invariant.counted (omega arith) in let one = c.in-Ok.ensures.reads in omega arith, c.in-Ok.ensures.failures ∙ c.loop-turn.invariant.failures, room_again _ _ _ _ c.loop-turn.turn c.loop-turn.invariant.asked c.in-Ok.ensures.asked (let x = c.read.auto.buffer in let y = c.loop-turn.invariant.long in let z = c.requires.room in omega arith)), file_ends g.L.Listener.after g.L.Listener.faulted c.args.reader.now.limits c.args.splitter.now (g.L.Listener.view c.args.listener.now) xs (g.R.Source.left c.loop-turn.input) (g.R.Source.left c.read.new.self) c.loop-turn.reader c.loop-turn.splitter (g.L.Listener.view c.loop-turn.listener) f c.args.turns (c.loop-turn.turn + 1) (let a = c.loop-turn-test.true in omega arith) piece r.0 r.1 r.2 short c.drain.new.reader c.drain.new.splitter (g.L.Listener.view c.drain.new.listener) drained.More c.end_all-then-count-eq0.result c.end_all-then-count-eq0.new.splitter (g.L.Listener.view c.end_all-then-count-eq0.new.listener) a (all_read c.end_all-then-count-eq0.result r.0 (r.3 c.if-count-eq0.true long)) (c.end_all-then-count-eq0.ensures.ends c.args.splitter.now c.args.turns (well_made (c.loop-turn.turn + 1)) (g.L.Listener.view c.args.listener.now) a.2 (f.read ++ piece) (c.in_ok-drained.ensures.tells (c.loop-turn.invariant.tells k)) a.3 a.4))
+    (well_made (c.loop-turn.turn + 1), (λ fits. let before = c.loop-turn.invariant.counted (omega arith) in let one = c.in-Ok.ensures.reads in omega arith, c.in-Ok.ensures.failures ∙ c.loop-turn.invariant.failures, room_again _ _ _ _ c.loop-turn.turn c.loop-turn.invariant.asked c.in-Ok.ensures.asked (let x = c.read.auto.buffer in let y = c.loop-turn.invariant.long in let z = c.requires.room in omega arith)), file_ends g.L.Listener.after g.L.Listener.faulted c.args.reader.now.limits c.args.splitter.now (g.L.Listener.view c.args.listener.now) xs (g.R.Source.left c.loop-turn.input) (g.R.Source.left c.read.new.self) c.loop-turn.reader c.loop-turn.splitter (g.L.Listener.view c.loop-turn.listener) f c.args.turns (c.loop-turn.turn + 1) (let a = c.loop-turn-test.true in omega arith) piece r.0 r.1 r.2 short c.drain.new.reader c.drain.new.splitter (g.L.Listener.view c.drain.new.listener) drained.More c.end_all-then-count-eq0.result c.end_all-then-count-eq0.new.splitter (g.L.Listener.view c.end_all-then-count-eq0.new.listener) a (all_read c.end_all-then-count-eq0.result r.0 (r.3 c.if-count-eq0.true long)) (c.end_all-then-count-eq0.ensures.ends c.args.splitter.now c.args.turns (well_made (c.loop-turn.turn + 1)) (g.L.Listener.view c.args.listener.now) a.2 (f.read ++ piece) (c.in_ok-drained.ensures.reports (c.loop-turn.invariant.reports k)) a.3 a.4))
 
 pub loop-turn-preserved : goal.loop-turn-preserved
 loop-turn-preserved g c = record {
   long = let x = c.read.auto.buffer in let y = c.loop-turn.invariant.long in omega arith;
-  tells = λ k. c.in_ok-drained.ensures.tells (c.loop-turn.invariant.tells k);
+  reports = λ k. c.in_ok-drained.ensures.reports (c.loop-turn.invariant.reports k);
   failures = c.in-Ok.ensures.failures ∙ c.loop-turn.invariant.failures;
   counted = λ fits. let before = c.loop-turn.invariant.counted (omega arith) in let one = c.in-Ok.ensures.reads in omega arith;
   asked = room_again _ _ _ _ c.loop-turn.turn c.loop-turn.invariant.asked c.in-Ok.ensures.asked (let x = c.read.auto.buffer in let y = c.loop-turn.invariant.long in let z = c.requires.room in omega arith);
@@ -69,6 +69,6 @@ loop-turn-preserved g c = record {
       let f = c.loop-turn.invariant.so_far xs is k in
       let r = read_some (g.R.Source.left c.loop-turn.input) (g.R.Source.left c.read.new.self) f.rest c.read.new.buffer c.in-Ok.count f.others c.in-Ok.ensures.bytes.0 c.in-Ok.ensures.bytes.1 in
       let short : length (take c.in-Ok.count c.read.new.buffer) ≤ most_read = let x = c.read.auto.buffer in let y = c.loop-turn.invariant.long in let z = c.requires.room in omega (arith, length-take-le c.in-Ok.count c.read.new.buffer c.in-Ok.ensures.bound, c.in-Ok.ensures.bound) in
-      let a = rw c.in-More.is at c.in_ok-drained.ensures.drains c.args.splitter.now (g.L.Listener.view c.args.listener.now) f.read (c.loop-turn.invariant.tells k) f.has f.free in
+      let a = rw c.in-More.is at c.in_ok-drained.ensures.drains c.args.splitter.now (g.L.Listener.view c.args.listener.now) f.read (c.loop-turn.invariant.reports k) f.has f.free in
       more_read g.L.Listener.after g.L.Listener.faulted c.args.reader.now.limits c.args.splitter.now (g.L.Listener.view c.args.listener.now) xs (g.R.Source.left c.loop-turn.input) (g.R.Source.left c.read.new.self) c.loop-turn.reader c.loop-turn.splitter (g.L.Listener.view c.loop-turn.listener) f c.args.turns (c.loop-turn.turn + 1) (let a = c.loop-turn-test.true in omega arith) (take c.in-Ok.count c.read.new.buffer) r.0 r.1 r.2 short c.drain.new.reader c.drain.new.splitter (g.L.Listener.view c.drain.new.listener) a;
 }

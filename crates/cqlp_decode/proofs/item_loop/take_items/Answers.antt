@@ -1,7 +1,7 @@
 use Rattle.std.proofs.Common.{◌≡◌, ◌+◌, drop, sym, ap, subst, ◌∙◌, arith}
 use Rattle.std.proofs.lemmas.List.{length-drop}
 use Rattle.cqlp_decode.specs.Progress.{StreamState, state_with}
-use Rattle.cqlp_decode.specs.Items.{TakesItem, part_told}
+use Rattle.cqlp_decode.specs.Items.{TakesItem, part_emitted}
 use Rattle.cqlp_decode.specs.Sinks.{Gets, Fails}
 use Rattle.cqlp_decode.proofs.Gets.{rest_is}
 use Rattle.cqlp_decode.proofs.Taken.{fails_then, hands_then, item_drains, item_fails}
@@ -40,10 +40,10 @@ returns-in-Err-clause-drains g c =
     let mid = state_with c.items.progress m.new.parts in
     let t = c.in-Some-take_part.taken.item in
     let p = c.items.page in
-    let told = part_told p.row p.column t.part in
+    let emitted = part_emitted p.row p.column t.part in
     let new = state_with c.take_part.new.self c.take_part.new.parts in
-    let h : TakesItem mid (drop (u + n) input) t.at t.used told new = rw rest_is at c.in-Some-take_part.ensures.takes in
-    item_fails (Gets g.S.Sink) (state_with c.args.progress.now c.args.parts.now) mid new input (u + n) _ _ (hands_then (Gets g.S.Sink) (state_with c.args.progress.now c.args.parts.now) old mid input u n _ _ _ i.drained (rw (rest_is, c.if-handed.false) at m.ensures.drains)) i.unrefused t.at t.used told h (Fails g.S.Sink) _ c.in-Err.ensures.err
+    let h : TakesItem mid (drop (u + n) input) t.at t.used emitted new = rw rest_is at c.in-Some-take_part.ensures.takes in
+    item_fails (Gets g.S.Sink) (state_with c.args.progress.now c.args.parts.now) mid new input (u + n) _ _ (hands_then (Gets g.S.Sink) (state_with c.args.progress.now c.args.parts.now) old mid input u n _ _ _ i.drained (rw (rest_is, c.if-handed.false) at m.ensures.drains)) i.unrefused t.at t.used emitted h (Fails g.S.Sink) _ c.in-Err.ensures.err
 
 pub returns-in_default-enter_cell-clause-drains : goal.returns-in_default-enter_cell-clause-drains
 returns-in_default-enter_cell-clause-drains g c =
@@ -56,13 +56,13 @@ returns-in_default-enter_cell-clause-drains g c =
     let mid = state_with c.items.progress m.new.parts in
     let t = c.in-Some-take_part.taken.item in
     let p = c.items.page in
-    let told = part_told p.row p.column t.part in
+    let emitted = part_emitted p.row p.column t.part in
     let over = state_with c.take_part.new.self c.take_part.new.parts in
     let new = state_with c.enter_cell-then-taken.new.self c.enter_cell-then-taken.new.parts in
     let same : new ≡ over = c.in_default-enter_cell.ensures.same in
-    let taken : TakesItem mid (drop (u + n) input) t.at t.used told over = rw rest_is at c.in-Some-take_part.ensures.takes in
-    let h : TakesItem mid (drop (u + n) input) t.at t.used told new = subst (λ (z : StreamState). TakesItem mid (drop (u + n) input) t.at t.used told z) (sym same) taken in
-    item_drains (Gets g.S.Sink) (state_with c.args.progress.now c.args.parts.now) mid new input (u + n) _ _ (hands_then (Gets g.S.Sink) (state_with c.args.progress.now c.args.parts.now) old mid input u n _ _ _ i.drained (rw (rest_is, c.if-handed.false) at m.ensures.drains)) i.unrefused t.at t.used told h _ c.in-Ok.ensures.ok
+    let taken : TakesItem mid (drop (u + n) input) t.at t.used emitted over = rw rest_is at c.in-Some-take_part.ensures.takes in
+    let h : TakesItem mid (drop (u + n) input) t.at t.used emitted new = subst (λ (z : StreamState). TakesItem mid (drop (u + n) input) t.at t.used emitted z) (sym same) taken in
+    item_drains (Gets g.S.Sink) (state_with c.args.progress.now c.args.parts.now) mid new input (u + n) _ _ (hands_then (Gets g.S.Sink) (state_with c.args.progress.now c.args.parts.now) old mid input u n _ _ _ i.drained (rw (rest_is, c.if-handed.false) at m.ensures.drains)) i.unrefused t.at t.used emitted h _ c.in-Ok.ensures.ok
 
 pub items-preserved-then-taken : goal.items-preserved-then-taken
 items-preserved-then-taken g c =
@@ -75,12 +75,12 @@ items-preserved-then-taken g c =
     let mid = state_with c.items.progress m.new.parts in
     let t = c.in-Some-take_part.taken.item in
     let p = c.items.page in
-    let told = part_told p.row p.column t.part in
+    let emitted = part_emitted p.row p.column t.part in
     let over = state_with c.take_part.new.self c.take_part.new.parts in
     let new = state_with c.enter_cell-then-taken.new.self c.enter_cell-then-taken.new.parts in
     let same : new ≡ over = c.in-Some-enter_cell.ensures.same in
-    let taken : TakesItem mid (drop (u + n) input) t.at t.used told over = rw rest_is at c.in-Some-take_part.ensures.takes in
-    let h : TakesItem mid (drop (u + n) input) t.at t.used told new = subst (λ (z : StreamState). TakesItem mid (drop (u + n) input) t.at t.used told z) (sym same) taken in
+    let taken : TakesItem mid (drop (u + n) input) t.at t.used emitted over = rw rest_is at c.in-Some-take_part.ensures.takes in
+    let h : TakesItem mid (drop (u + n) input) t.at t.used emitted new = subst (λ (z : StreamState). TakesItem mid (drop (u + n) input) t.at t.used emitted z) (sym same) taken in
     let w = rw rest_is at m.ensures.within in
     record {
       within = omega (arith, i.within, w.0, h.3.within, length-drop u input, length-drop (u + n) input);
@@ -92,7 +92,7 @@ items-preserved-then-taken g c =
       given = h.2 ∙ m.ensures.given ∙ i.given;
       pays = omega (arith, h.3.pays, w.1, i.pays);
       drained =
-          item_drains (Gets g.S.Sink) (state_with c.args.progress.now c.args.parts.now) mid new input (u + n) _ _ (hands_then (Gets g.S.Sink) (state_with c.args.progress.now c.args.parts.now) old mid input u n _ _ _ i.drained (rw (rest_is, c.if-handed.false) at m.ensures.drains)) i.unrefused t.at t.used told h _ c.in-Ok.ensures.ok;
+          item_drains (Gets g.S.Sink) (state_with c.args.progress.now c.args.parts.now) mid new input (u + n) _ _ (hands_then (Gets g.S.Sink) (state_with c.args.progress.now c.args.parts.now) old mid input u n _ _ _ i.drained (rw (rest_is, c.if-handed.false) at m.ensures.drains)) i.unrefused t.at t.used emitted h _ c.in-Ok.ensures.ok;
     }
 
 pub items-preserved : goal.items-preserved
@@ -106,9 +106,9 @@ items-preserved g c =
     let mid = state_with c.items.progress m.new.parts in
     let t = c.in-Some-take_part.taken.item in
     let p = c.items.page in
-    let told = part_told p.row p.column t.part in
+    let emitted = part_emitted p.row p.column t.part in
     let new = state_with c.take_part.new.self c.take_part.new.parts in
-    let h : TakesItem mid (drop (u + n) input) t.at t.used told new = rw rest_is at c.in-Some-take_part.ensures.takes in
+    let h : TakesItem mid (drop (u + n) input) t.at t.used emitted new = rw rest_is at c.in-Some-take_part.ensures.takes in
     let w = rw rest_is at m.ensures.within in
     record {
       within = omega (arith, i.within, w.0, h.3.within, length-drop u input, length-drop (u + n) input);
@@ -120,5 +120,5 @@ items-preserved g c =
       given = h.2 ∙ m.ensures.given ∙ i.given;
       pays = omega (arith, h.3.pays, w.1, i.pays);
       drained =
-          item_drains (Gets g.S.Sink) (state_with c.args.progress.now c.args.parts.now) mid new input (u + n) _ _ (hands_then (Gets g.S.Sink) (state_with c.args.progress.now c.args.parts.now) old mid input u n _ _ _ i.drained (rw (rest_is, c.if-handed.false) at m.ensures.drains)) i.unrefused t.at t.used told h _ c.in-Ok.ensures.ok;
+          item_drains (Gets g.S.Sink) (state_with c.args.progress.now c.args.parts.now) mid new input (u + n) _ _ (hands_then (Gets g.S.Sink) (state_with c.args.progress.now c.args.parts.now) old mid input u n _ _ _ i.drained (rw (rest_is, c.if-handed.false) at m.ensures.drains)) i.unrefused t.at t.used emitted h _ c.in-Ok.ensures.ok;
     }

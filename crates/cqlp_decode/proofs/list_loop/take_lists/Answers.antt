@@ -2,7 +2,7 @@ use Rattle.std.proofs.Common.{◌≡◌, ◌+◌, ◌∙◌, drop, sym, subst}
 use Rattle.std.specs.Prelude.{Ok}
 use Rattle.cqlp_decode.specs.Cells.{StaysWithin}
 use Rattle.cqlp_decode.specs.Progress.{IsConsistent, PartsState, StreamState, parts_state, state_of, state_with}
-use Rattle.cqlp_decode.specs.Items.{TakesItem, at_level, part_told}
+use Rattle.cqlp_decode.specs.Items.{TakesItem, at_level, part_emitted}
 use Rattle.cqlp_decode.specs.Sinks.{Gets, Fails}
 use Rattle.cqlp_decode.proofs.Gets.{rest_is}
 use Rattle.cqlp_decode.proofs.Taken.{fails_then}
@@ -23,10 +23,10 @@ returns-in-Err-clause-drains g c =
     let q = parts_state c.enter_list.new.parts in
     let p = c.in-Some.page in
     let t = c.in-Some-enter_list.entered in
-    let told = part_told p.row p.column t.item.part in
+    let emitted = part_emitted p.row p.column t.item.part in
     let same : state_with s c.begin_list.new.parts ≡ old = c.in-Some.ensures.same in
-    let enters : TakesItem old input t.item.at t.item.used told (state_of s q) = subst (λ (z : StreamState). TakesItem z input t.item.at t.item.used told (state_of s q)) same c.in-Some-enter_list.ensures.takes in
-    entry_faults (Gets g.S.Sink) old input sink none (state_of s q) t.item.at t.item.used told enters (Fails g.S.Sink) _ c.in-Err.ensures.err
+    let enters : TakesItem old input t.item.at t.item.used emitted (state_of s q) = subst (λ (z : StreamState). TakesItem z input t.item.at t.item.used emitted (state_of s q)) same c.in-Some-enter_list.ensures.takes in
+    entry_faults (Gets g.S.Sink) old input sink none (state_of s q) t.item.at t.item.used emitted enters (Fails g.S.Sink) _ c.in-Err.ensures.err
 
 pub returns-in-Ok-hand_lists-clause-stays : goal.returns-in-Ok-hand_lists-clause-stays
 returns-in-Ok-hand_lists-clause-stays g c =
@@ -38,10 +38,10 @@ returns-in-Ok-hand_lists-clause-stays g c =
     let q = parts_state c.enter_list.new.parts in
     let p = c.in-Some.page in
     let t = c.in-Some-enter_list.entered in
-    let told = part_told p.row p.column t.item.part in
-    let enters = entered_at old (state_with s c.begin_list.new.parts) c.in-Some.ensures.same s q t.level c.in-Some-enter_list.ensures.inside input t.item.at t.item.used told c.in-Some-enter_list.ensures.takes in
+    let emitted = part_emitted p.row p.column t.item.part in
+    let enters = entered_at old (state_with s c.begin_list.new.parts) c.in-Some.ensures.same s q t.level c.in-Some-enter_list.ensures.inside input t.item.at t.item.used emitted c.in-Some-enter_list.ensures.takes in
     let inside = state_of s (at_level q t.level) in
-    let entered = stood_entered (Gets g.S.Sink) old input sink none inside t.item.at t.item.used told enters _ c.in-Ok.ensures.ok in
+    let entered = stood_entered (Gets g.S.Sink) old input sink none inside t.item.at t.item.used emitted enters _ c.in-Ok.ensures.ok in
     let new = state_with c.hand_lists.new.self c.hand_lists.new.parts in
     let m = c.in-Ok-hand_lists in
     let w : StaysWithin inside (drop t.item.used input) (Ok m.more) new = rw rest_is at m.ensures.stays in
@@ -58,10 +58,10 @@ returns-in-Ok-hand_lists-clause-drains g c =
     let q = parts_state c.enter_list.new.parts in
     let p = c.in-Some.page in
     let t = c.in-Some-enter_list.entered in
-    let told = part_told p.row p.column t.item.part in
-    let enters = entered_at old (state_with s c.begin_list.new.parts) c.in-Some.ensures.same s q t.level c.in-Some-enter_list.ensures.inside input t.item.at t.item.used told c.in-Some-enter_list.ensures.takes in
+    let emitted = part_emitted p.row p.column t.item.part in
+    let enters = entered_at old (state_with s c.begin_list.new.parts) c.in-Some.ensures.same s q t.level c.in-Some-enter_list.ensures.inside input t.item.at t.item.used emitted c.in-Some-enter_list.ensures.takes in
     let inside = state_of s (at_level q t.level) in
-    let entered = stood_entered (Gets g.S.Sink) old input sink none inside t.item.at t.item.used told enters _ c.in-Ok.ensures.ok in
+    let entered = stood_entered (Gets g.S.Sink) old input sink none inside t.item.at t.item.used emitted enters _ c.in-Ok.ensures.ok in
     let new = state_with c.hand_lists.new.self c.hand_lists.new.parts in
     let m = c.in-Ok-hand_lists in
     let w : StaysWithin inside (drop t.item.used input) (Ok m.more) new = rw rest_is at m.ensures.stays in
@@ -78,9 +78,9 @@ returns-in-Err-hand_lists-clause-drains g c =
     let q = parts_state c.enter_list.new.parts in
     let p = c.in-Some.page in
     let t = c.in-Some-enter_list.entered in
-    let told = part_told p.row p.column t.item.part in
-    let enters = entered_at old (state_with s c.begin_list.new.parts) c.in-Some.ensures.same s q t.level c.in-Some-enter_list.ensures.inside input t.item.at t.item.used told c.in-Some-enter_list.ensures.takes in
+    let emitted = part_emitted p.row p.column t.item.part in
+    let enters = entered_at old (state_with s c.begin_list.new.parts) c.in-Some.ensures.same s q t.level c.in-Some-enter_list.ensures.inside input t.item.at t.item.used emitted c.in-Some-enter_list.ensures.takes in
     let inside = state_of s (at_level q t.level) in
-    let entered = stood_entered (Gets g.S.Sink) old input sink none inside t.item.at t.item.used told enters _ c.in-Ok.ensures.ok in
+    let entered = stood_entered (Gets g.S.Sink) old input sink none inside t.item.at t.item.used emitted enters _ c.in-Ok.ensures.ok in
     let new = state_with c.hand_lists.new.self c.hand_lists.new.parts in
     fails_then (Gets g.S.Sink) (Fails g.S.Sink) old inside new input t.item.used c.in-Err-hand_lists.fault.used sink _ _ entered.drained (rw rest_is at c.in-Err-hand_lists.ensures.drains)

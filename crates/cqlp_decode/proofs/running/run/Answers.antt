@@ -14,8 +14,8 @@ use Rattle.cqlp_decode.proofs.running.run.Goals as goal
 -- before the first read
 
 pub returns-in-Refused-clause-runs : goal.returns-in-Refused-clause-runs
-returns-in-Refused-clause-runs g c = λ xs is tells.
-    let e = refused_piece g.S.Sink.after g.S.Sink.faulted _ _ _ _ _ _ c.in-Refused.refusal (c.in-Refused.ensures.drains tells) in
+returns-in-Refused-clause-runs g c = λ xs is reports.
+    let e = refused_piece g.S.Sink.after g.S.Sink.faulted _ _ _ _ _ _ c.in-Refused.refusal (c.in-Refused.ensures.drains reports) in
     let d = state c.args.decoder.now in
     let v = g.S.Sink.view c.args.sink.now in
     let refused = refused_now (state c.feed.new.self) c.in-Refused.refusal c.in-Refused.ensures.refusal in
@@ -27,8 +27,8 @@ returns-in-Refused-clause-runs g c = λ xs is tells.
     )
 
 pub returns-in-Fault-clause-runs : goal.returns-in-Fault-clause-runs
-returns-in-Fault-clause-runs g c = λ xs is tells.
-    let e = failed_piece g.S.Sink.after g.S.Sink.faulted _ _ _ _ _ _ (c.in-Fault.ensures.drains tells) in
+returns-in-Fault-clause-runs g c = λ xs is reports.
+    let e = failed_piece g.S.Sink.after g.S.Sink.faulted _ _ _ _ _ _ (c.in-Fault.ensures.drains reports) in
     let d = state c.args.decoder.now in
     let v = g.S.Sink.view c.args.sink.now in
     feeds_into g.S.Sink.after d d (state c.feed.new.self) xs [] xs v v _ (feeds_none g.S.Sink.after d xs v) refl (take e.0 []) (drop e.0 []) (sym (take-append-drop e.0 [])) (omega arith) _ is g.S.Sink.faulted e.1
@@ -42,13 +42,13 @@ loop-turn-init g c = record {
   counted = λ fits. omega arith;
   asked = asks_none 0 _ refl;
   gives = λ xs is. gives_none xs _ is;
-  tells = λ tells. c.in-More.ensures.tells tells refl;
+  reports = λ reports. c.in-More.ensures.reports reports refl;
   also = c.in-More.ensures.also;
-  in_time = λ xs is tells. inl (refl, is);
+  in_time = λ xs is reports. inl (refl, is);
   waits = c.in-More.ensures.refusal;
   unrefused = λ r is. let again = c.in-More.ensures.refused r is in let e = again.0 in cc;
-  fed = λ xs is tells.
-      let e = c.in-More.ensures.drains tells in
+  fed = λ xs is reports.
+      let e = c.in-More.ensures.drains reports in
       let d = state c.args.decoder.now in
       let v = g.S.Sink.view c.args.sink.now in (
         feeds_then g.S.Sink.after d d (state c.feed.new.self) xs [] xs v v _ (feeds_none g.S.Sink.after d xs v) refl [] [] refl (λ gifts s es a. (e gifts s es a).drains),
@@ -61,14 +61,14 @@ loop-turn-init g c = record {
 -- after a read
 
 pub returns-in-Err-clause-runs : goal.returns-in-Err-clause-runs
-returns-in-Err-clause-runs g c = λ xs is tells.
-    let d = c.loop-turn.invariant.fed xs is tells in
+returns-in-Err-clause-runs g c = λ xs is reports.
+    let d = c.loop-turn.invariant.fed xs is reports in
     let left = keeps_some _ _ d.0.rest d.1 c.in-Err.ensures.bytes in
     (d.0, left, has_all_still g.S.Sink.after (state c.args.decoder.now) (state c.loop-turn.decoder) xs _ _ _ _ d.0 (d.1 ∙ sym left) d.3)
 
 pub returns-then-count-eq0-clause-runs : goal.returns-then-count-eq0-clause-runs
-returns-then-count-eq0-clause-runs g c = λ xs is tells.
-    let d = c.loop-turn.invariant.fed xs is tells in
+returns-then-count-eq0-clause-runs g c = λ xs is reports.
+    let d = c.loop-turn.invariant.fed xs is reports in
     let r = read_some _ _ d.0.rest c.read.new.buffer c.in-Ok-read.count d.1 c.in-Ok-read.ensures.bytes.0 c.in-Ok-read.ensures.bytes.1 in
     let long : 0 < length c.read.new.buffer = let a = c.read.auto.buffer in let b = c.loop-turn.invariant.long in omega arith in
     let none = at_end d.0.rest r.0 c.read.new.buffer c.in-Ok-read.count r.2 c.if-count-eq0.true (r.3 c.if-count-eq0.true long) in
@@ -76,10 +76,10 @@ returns-then-count-eq0-clause-runs g c = λ xs is tells.
     (d.0, inl none, c.finish-then-count-eq0.ensures.ends, has_all_still g.S.Sink.after (state c.args.decoder.now) (state c.loop-turn.decoder) xs _ _ _ _ d.0 same d.3)
 
 pub returns-in-Refused-feed-clause-runs : goal.returns-in-Refused-feed-clause-runs
-returns-in-Refused-feed-clause-runs g c = λ xs is tells.
-    let d = c.loop-turn.invariant.fed xs is tells in
+returns-in-Refused-feed-clause-runs g c = λ xs is reports.
+    let d = c.loop-turn.invariant.fed xs is reports in
     let r = read_some _ _ d.0.rest c.read.new.buffer c.in-Ok-read.count d.1 c.in-Ok-read.ensures.bytes.0 c.in-Ok-read.ensures.bytes.1 in
-    let e = refused_piece g.S.Sink.after g.S.Sink.faulted _ _ _ _ _ _ c.in-Refused-feed.refusal (c.in-Refused-feed.ensures.drains (c.loop-turn.invariant.tells tells)) in
+    let e = refused_piece g.S.Sink.after g.S.Sink.faulted _ _ _ _ _ _ c.in-Refused-feed.refusal (c.in-Refused-feed.ensures.drains (c.loop-turn.invariant.reports reports)) in
     let refused = refused_now (state c.feed-in-loop-turn.new.self) c.in-Refused-feed.refusal c.in-Refused-feed.ensures.refusal in
     let piece = take c.in-Ok-read.count c.read.new.buffer in
     let small : length piece ≤ 4096 = let a = c.read.auto.buffer in let b = c.loop-turn.invariant.long in omega (arith, length-take-le c.in-Ok-read.count c.read.new.buffer c.in-Ok-read.ensures.bound, c.in-Ok-read.ensures.bound) in
@@ -91,10 +91,10 @@ returns-in-Refused-feed-clause-runs g c = λ xs is tells.
     )
 
 pub returns-in-Fault-feed-clause-runs : goal.returns-in-Fault-feed-clause-runs
-returns-in-Fault-feed-clause-runs g c = λ xs is tells.
-    let d = c.loop-turn.invariant.fed xs is tells in
+returns-in-Fault-feed-clause-runs g c = λ xs is reports.
+    let d = c.loop-turn.invariant.fed xs is reports in
     let r = read_some _ _ d.0.rest c.read.new.buffer c.in-Ok-read.count d.1 c.in-Ok-read.ensures.bytes.0 c.in-Ok-read.ensures.bytes.1 in
-    let e = failed_piece g.S.Sink.after g.S.Sink.faulted _ _ _ _ _ _ (c.in-Fault-feed.ensures.drains (c.loop-turn.invariant.tells tells)) in
+    let e = failed_piece g.S.Sink.after g.S.Sink.faulted _ _ _ _ _ _ (c.in-Fault-feed.ensures.drains (c.loop-turn.invariant.reports reports)) in
     let piece = take c.in-Ok-read.count c.read.new.buffer in
     let small : length piece ≤ 4096 = let a = c.read.auto.buffer in let b = c.loop-turn.invariant.long in omega (arith, length-take-le c.in-Ok-read.count c.read.new.buffer c.in-Ok-read.ensures.bound, c.in-Ok-read.ensures.bound) in
     feeds_into g.S.Sink.after (state c.args.decoder.now) (state c.loop-turn.decoder) (state c.feed-in-loop-turn.new.self) xs piece r.0 _ _ _ d.0 r.2 (take e.0 piece) (drop e.0 piece) (sym (take-append-drop e.0 piece)) small _ r.1 g.S.Sink.faulted e.1
@@ -110,13 +110,13 @@ loop-turn-preserved g c =
       asked = asks_one c.loop-turn.turn 1 (g.R.Source.asked c.args.reader.now) (g.R.Source.asked c.loop-turn.reader) (g.R.Source.asked c.read.new.self) (length c.read.new.buffer) refl long c.loop-turn.invariant.asked c.in-Ok-read.ensures.asked;
       gives = λ xs is. let some = c.if-count-eq0.false in gives_more _ xs _ _ c.read.new.buffer c.in-Ok-read.count (omega arith) c.in-Ok-read.ensures.bound long (c.loop-turn.invariant.gives xs is) c.in-Ok-read.ensures.bytes;
       failures = let a = c.in-Ok-read.ensures.failures in let b = c.loop-turn.invariant.failures in cc;
-      tells = λ tells. c.in-More-feed.ensures.tells (c.loop-turn.invariant.tells tells) refl;
+      reports = λ reports. c.in-More-feed.ensures.reports (c.loop-turn.invariant.reports reports) refl;
       also = passes_then g.S.Sink.also _ _ _ c.loop-turn.invariant.also c.in-More-feed.ensures.also;
-      in_time = λ xs is tells.
-          let d = c.loop-turn.invariant.fed xs is tells in
+      in_time = λ xs is reports.
+          let d = c.loop-turn.invariant.fed xs is reports in
           let some = c.if-count-eq0.false in
           let r = read_some _ _ d.0.rest c.read.new.buffer c.in-Ok-read.count d.1 c.in-Ok-read.ensures.bytes.0 c.in-Ok-read.ensures.bytes.1 in
-          let e = c.in-More-feed.ensures.drains (c.loop-turn.invariant.tells tells) in
+          let e = c.in-More-feed.ensures.drains (c.loop-turn.invariant.reports reports) in
           let piece = take c.in-Ok-read.count c.read.new.buffer in
           let mid = state c.loop-turn.decoder in
           last_read g.S.Sink.after g.S.Sink.faulted c.args.turns c.loop-turn.turn _ _ (state c.args.decoder.now) mid (state c.feed-in-loop-turn.new.self) xs _ _ _ _ _ d (c.loop-turn.invariant.gives xs is) c.loop-turn.invariant.waits c.loop-turn.invariant.rules outcome.Turns (λ fits. let before = c.loop-turn.invariant.counted (omega arith) in let one = c.in-Ok-read.ensures.reads in omega arith)
@@ -125,10 +125,10 @@ loop-turn-preserved g c =
           (gives_more 0 d.0.rest _ _ c.read.new.buffer c.in-Ok-read.count (omega arith) c.in-Ok-read.ensures.bound long (gives_none d.0.rest _ d.1) c.in-Ok-read.ensures.bytes);
       waits = c.in-More-feed.ensures.refusal;
       unrefused = c.loop-turn.invariant.unrefused;
-      fed = λ xs is tells.
-          let d = c.loop-turn.invariant.fed xs is tells in
+      fed = λ xs is reports.
+          let d = c.loop-turn.invariant.fed xs is reports in
           let r = read_some _ _ d.0.rest c.read.new.buffer c.in-Ok-read.count d.1 c.in-Ok-read.ensures.bytes.0 c.in-Ok-read.ensures.bytes.1 in
-          let e = c.in-More-feed.ensures.drains (c.loop-turn.invariant.tells tells) in
+          let e = c.in-More-feed.ensures.drains (c.loop-turn.invariant.reports reports) in
           let piece = take c.in-Ok-read.count c.read.new.buffer in
           let size : length piece ≡ c.in-Ok-read.count = length-take-le c.in-Ok-read.count c.read.new.buffer c.in-Ok-read.ensures.bound in
           let some = c.if-count-eq0.false in (
@@ -140,8 +140,8 @@ loop-turn-preserved g c =
     }
 
 pub returns-clause-runs : goal.returns-clause-runs
-returns-clause-runs g c = λ xs is tells.
-    let d = c.loop-turn.invariant.fed xs is tells in
+returns-clause-runs g c = λ xs is reports.
+    let d = c.loop-turn.invariant.fed xs is reports in
     (d.0, d.1, omega (arith, d.2), d.3)
 
 -- after a refusal
@@ -238,14 +238,14 @@ returns-clause-reads g c =
 -- when the last read is made
 
 pub returns-in-Refused-clause-in_time : goal.returns-in-Refused-clause-in_time
-returns-in-Refused-clause-in_time g c = λ xs is tells. inl (refl, is)
+returns-in-Refused-clause-in_time g c = λ xs is reports. inl (refl, is)
 
 pub returns-in-Fault-clause-in_time : goal.returns-in-Fault-clause-in_time
-returns-in-Fault-clause-in_time g c = λ xs is tells. inl (refl, is)
+returns-in-Fault-clause-in_time g c = λ xs is reports. inl (refl, is)
 
 pub returns-in-Err-clause-in_time : goal.returns-in-Err-clause-in_time
-returns-in-Err-clause-in_time g c = λ xs is tells.
-    let d = c.loop-turn.invariant.fed xs is tells in
+returns-in-Err-clause-in_time g c = λ xs is reports.
+    let d = c.loop-turn.invariant.fed xs is reports in
     let mid = state c.loop-turn.decoder in
     last_read g.S.Sink.after g.S.Sink.faulted c.args.turns c.loop-turn.turn _ _ (state c.args.decoder.now) mid mid xs _ _ _ _ _ d (c.loop-turn.invariant.gives xs is) c.loop-turn.invariant.waits c.loop-turn.invariant.rules outcome.ReadFault (λ fits. let before = c.loop-turn.invariant.counted (omega arith) in let one = c.in-Err.ensures.reads in omega arith)
     (let a = c.loop-turn-test.true in omega arith)
@@ -253,8 +253,8 @@ returns-in-Err-clause-in_time g c = λ xs is tells.
     (gives_kept 0 d.0.rest _ _ (gives_none d.0.rest _ d.1) c.in-Err.ensures.bytes)
 
 pub returns-then-count-eq0-clause-in_time : goal.returns-then-count-eq0-clause-in_time
-returns-then-count-eq0-clause-in_time g c = λ xs is tells.
-    let d = c.loop-turn.invariant.fed xs is tells in
+returns-then-count-eq0-clause-in_time g c = λ xs is reports.
+    let d = c.loop-turn.invariant.fed xs is reports in
     let mid = state c.loop-turn.decoder in
     let f = c.finish-then-count-eq0.result in
     let idle = idle_at_end f (c.finish-then-count-eq0.ensures.unrefused c.loop-turn.invariant.waits) in
@@ -265,8 +265,8 @@ returns-then-count-eq0-clause-in_time g c = λ xs is tells.
     (rw idle (gives_end 0 d.0.rest _ _ c.read.new.buffer c.in-Ok-read.count c.if-count-eq0.true long (gives_none d.0.rest _ d.1) c.in-Ok-read.ensures.bytes))
 
 pub returns-in-Refused-feed-clause-in_time : goal.returns-in-Refused-feed-clause-in_time
-returns-in-Refused-feed-clause-in_time g c = λ xs is tells.
-    let d = c.loop-turn.invariant.fed xs is tells in
+returns-in-Refused-feed-clause-in_time g c = λ xs is reports.
+    let d = c.loop-turn.invariant.fed xs is reports in
     let some = c.if-count-eq0.false in
     let mid = state c.loop-turn.decoder in
     let new = state c.feed-in-loop-turn.new.self in
@@ -275,7 +275,7 @@ returns-in-Refused-feed-clause-in_time g c = λ xs is tells.
     let idle = idle_refused f refused.0 (c.finish-in-Refused-feed.ensures.refused refused.0 refused.1) in
     let long : length c.read.new.buffer ≡ 4096 = let a = c.read.auto.buffer in let b = c.loop-turn.invariant.long in omega arith in
     let r = read_some _ _ d.0.rest c.read.new.buffer c.in-Ok-read.count d.1 c.in-Ok-read.ensures.bytes.0 c.in-Ok-read.ensures.bytes.1 in
-    let e = refused_piece g.S.Sink.after g.S.Sink.faulted _ _ _ _ _ _ c.in-Refused-feed.refusal (c.in-Refused-feed.ensures.drains (c.loop-turn.invariant.tells tells)) in
+    let e = refused_piece g.S.Sink.after g.S.Sink.faulted _ _ _ _ _ _ c.in-Refused-feed.refusal (c.in-Refused-feed.ensures.drains (c.loop-turn.invariant.reports reports)) in
     let piece = take c.in-Ok-read.count c.read.new.buffer in
     last_read g.S.Sink.after g.S.Sink.faulted c.args.turns c.loop-turn.turn _ _ (state c.args.decoder.now) mid new xs _ _ _ _ _ d (c.loop-turn.invariant.gives xs is) c.loop-turn.invariant.waits c.loop-turn.invariant.rules (outcome.Finished f) (λ fits. let before = c.loop-turn.invariant.counted (omega arith) in let one = c.in-Ok-read.ensures.reads in omega arith)
     (let a = c.loop-turn-test.true in omega arith)
@@ -283,14 +283,14 @@ returns-in-Refused-feed-clause-in_time g c = λ xs is tells.
     (rw idle (gives_more 0 d.0.rest _ _ c.read.new.buffer c.in-Ok-read.count (omega arith) c.in-Ok-read.ensures.bound long (gives_none d.0.rest _ d.1) c.in-Ok-read.ensures.bytes))
 
 pub returns-in-Fault-feed-clause-in_time : goal.returns-in-Fault-feed-clause-in_time
-returns-in-Fault-feed-clause-in_time g c = λ xs is tells.
-    let d = c.loop-turn.invariant.fed xs is tells in
+returns-in-Fault-feed-clause-in_time g c = λ xs is reports.
+    let d = c.loop-turn.invariant.fed xs is reports in
     let some = c.if-count-eq0.false in
     let mid = state c.loop-turn.decoder in
     let new = state c.feed-in-loop-turn.new.self in
     let long : length c.read.new.buffer ≡ 4096 = let a = c.read.auto.buffer in let b = c.loop-turn.invariant.long in omega arith in
     let r = read_some _ _ d.0.rest c.read.new.buffer c.in-Ok-read.count d.1 c.in-Ok-read.ensures.bytes.0 c.in-Ok-read.ensures.bytes.1 in
-    let e = failed_piece g.S.Sink.after g.S.Sink.faulted _ _ _ _ _ _ (c.in-Fault-feed.ensures.drains (c.loop-turn.invariant.tells tells)) in
+    let e = failed_piece g.S.Sink.after g.S.Sink.faulted _ _ _ _ _ _ (c.in-Fault-feed.ensures.drains (c.loop-turn.invariant.reports reports)) in
     let piece = take c.in-Ok-read.count c.read.new.buffer in
     let small : length piece ≤ 4096 = omega (arith, length-take-le c.in-Ok-read.count c.read.new.buffer c.in-Ok-read.ensures.bound, c.in-Ok-read.ensures.bound) in
     last_read g.S.Sink.after g.S.Sink.faulted c.args.turns c.loop-turn.turn _ _ (state c.args.decoder.now) mid new xs _ _ _ _ _ d (c.loop-turn.invariant.gives xs is) c.loop-turn.invariant.waits c.loop-turn.invariant.rules outcome.SinkFault (λ fits. let before = c.loop-turn.invariant.counted (omega arith) in let one = c.in-Ok-read.ensures.reads in omega arith)
@@ -309,9 +309,9 @@ returns-in-Fault-feed-clause-also g c = passes_then g.S.Sink.also _ _ _ c.loop-t
 -- a content that is gathered: a read straight into the decoder
 
 pub returns-in_default-clause-runs : goal.returns-in_default-clause-runs
-returns-in_default-clause-runs g c = λ xs is tells.
+returns-in_default-clause-runs g c = λ xs is reports.
     let e = c.in_default.ensures.bytes in
-    let d = c.loop-turn.invariant.fed xs is tells in
+    let d = c.loop-turn.invariant.fed xs is reports in
     let left = keeps_some _ _ d.0.rest d.1 e.bytes in
     rw e.became (d.0, left, has_all_still g.S.Sink.after (state c.args.decoder.now) (state c.loop-turn.decoder) xs _ _ _ _ d.0 (d.1 ∙ sym left) d.3)
 
@@ -329,9 +329,9 @@ returns-in_default-clause-reads g c = record {
 }
 
 pub returns-in_default-clause-in_time : goal.returns-in_default-clause-in_time
-returns-in_default-clause-in_time g c = λ xs is tells.
+returns-in_default-clause-in_time g c = λ xs is reports.
     let e = c.in_default.ensures.bytes in
-    let d = c.loop-turn.invariant.fed xs is tells in
+    let d = c.loop-turn.invariant.fed xs is reports in
     let mid = state c.loop-turn.decoder in
     rw e.became (last_read g.S.Sink.after g.S.Sink.faulted c.args.turns c.loop-turn.turn _ _ (state c.args.decoder.now) mid mid xs _ _ _ _ _ d (c.loop-turn.invariant.gives xs is) c.loop-turn.invariant.waits c.loop-turn.invariant.rules outcome.ReadFault (λ fits. let before = c.loop-turn.invariant.counted (omega arith) in let one = c.in_default.ensures.reads in omega arith)
     (let a = c.loop-turn-test.true in omega arith)
@@ -339,8 +339,8 @@ returns-in_default-clause-in_time g c = λ xs is tells.
     (gives_kept 0 d.0.rest _ _ (gives_none d.0.rest _ d.1) e.bytes))
 
 pub returns-then-gathered-eq0-clause-runs : goal.returns-then-gathered-eq0-clause-runs
-returns-then-gathered-eq0-clause-runs g c = λ xs is tells.
-    let d = c.loop-turn.invariant.fed xs is tells in
+returns-then-gathered-eq0-clause-runs g c = λ xs is reports.
+    let d = c.loop-turn.invariant.fed xs is reports in
     let e = c.in-Ok.ensures.bytes in
     let r = read_some _ _ d.0.rest e.buffer c.in-Ok.gathered d.1 e.bytes.0 e.bytes.1 in
     let long : 0 < length e.buffer = omega (arith, e.long) in
@@ -373,8 +373,8 @@ returns-then-gathered-eq0-clause-reads g c =
     }
 
 pub returns-then-gathered-eq0-clause-in_time : goal.returns-then-gathered-eq0-clause-in_time
-returns-then-gathered-eq0-clause-in_time g c = λ xs is tells.
-    let d = c.loop-turn.invariant.fed xs is tells in
+returns-then-gathered-eq0-clause-in_time g c = λ xs is reports.
+    let d = c.loop-turn.invariant.fed xs is reports in
     let e = c.in-Ok.ensures.bytes in
     let mid = state c.loop-turn.decoder in
     let new = state c.read_content.new.self in
@@ -406,10 +406,10 @@ loop-turn-preserved-then-gathers g c =
       asked = asks_one c.loop-turn.turn 1 (g.R.Source.asked c.args.reader.now) (g.R.Source.asked c.loop-turn.reader) (g.R.Source.asked c.read_content.new.reader) 4096 refl refl c.loop-turn.invariant.asked c.in-Ok.ensures.asked;
       gives = λ xs is. let some = c.if-gathered-eq0.false in gives_more _ xs _ _ e.buffer c.in-Ok.gathered (omega arith) e.became.0 e.long (c.loop-turn.invariant.gives xs is) e.bytes;
       failures = let a = c.in-Ok.ensures.failures in let b = c.loop-turn.invariant.failures in cc;
-      tells = c.loop-turn.invariant.tells;
+      reports = c.loop-turn.invariant.reports;
       also = c.loop-turn.invariant.also;
-      in_time = λ xs is tells.
-          let d = c.loop-turn.invariant.fed xs is tells in
+      in_time = λ xs is reports.
+          let d = c.loop-turn.invariant.fed xs is reports in
           let some = c.if-gathered-eq0.false in
           let r = read_some _ _ d.0.rest e.buffer c.in-Ok.gathered d.1 e.bytes.0 e.bytes.1 in
           last_read g.S.Sink.after g.S.Sink.faulted c.args.turns c.loop-turn.turn _ _ old mid new xs _ _ _ _ _ d (c.loop-turn.invariant.gives xs is) c.loop-turn.invariant.waits c.loop-turn.invariant.rules outcome.Turns (λ fits. let before = c.loop-turn.invariant.counted (omega arith) in let one = c.in-Ok.ensures.reads in omega arith)
@@ -418,8 +418,8 @@ loop-turn-preserved-then-gathers g c =
           (gives_more 0 d.0.rest _ _ e.buffer c.in-Ok.gathered (omega arith) e.became.0 e.long (gives_none d.0.rest _ d.1) e.bytes);
       waits = goes.1;
       unrefused = c.loop-turn.invariant.unrefused;
-      fed = λ xs is tells.
-          let d = c.loop-turn.invariant.fed xs is tells in
+      fed = λ xs is reports.
+          let d = c.loop-turn.invariant.fed xs is reports in
           let some = c.if-gathered-eq0.false in
           let r = read_some _ _ d.0.rest e.buffer c.in-Ok.gathered d.1 e.bytes.0 e.bytes.1 in (
             feeds_then g.S.Sink.after old mid new xs piece r.0 _ _ _ d.0 r.2 piece [] (sym (append-nil piece)) (λ gifts s es a. (drains_waits g.S.Sink.after gifts mid new s piece es _ _ (e.became.1.1 gifts s es a)).drains),

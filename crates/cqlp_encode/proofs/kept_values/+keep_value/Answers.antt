@@ -1,19 +1,19 @@
 use Rattle.std.proofs.Common.{length}
 use Rattle.cqlp_value.proofs.OwnedLists.{list_is, set_is, map_is, tuple_is, udt_is}
-use Rattle.cqlp_encode.proofs.KeptValues.{counted_kept, fields_kept, counted_told, value_kept, pair_kept}
+use Rattle.cqlp_encode.proofs.KeptValues.{counted_kept, fields_kept, counted_with_length, value_kept, pair_kept}
 use Rattle.cqlp_encode.proofs.kept_values.+keep_value.Goals as goal
 
 pub keep_items-returns : goal.keep_items-returns
 keep_items-returns g t c =
     let front = rw (c.if-not-keep_few.false, c.to_be_bytes.ensures) at c.keep_few.ensures in
     let items = rw c.if-not-keep_values.false at c.keep_values.ensures in
-    counted_told _ _ _ _ (length c.args.items.now) _ _ c.waiting-start.ensures front items c.tell.ensures
+    counted_with_length _ _ _ _ (length c.args.items.now) _ _ c.waiting-start.ensures front items c.write_length.ensures
 
 pub keep_entries-returns : goal.keep_entries-returns
 keep_entries-returns g t c =
     let front = rw (c.if-not-keep_few.false, c.to_be_bytes.ensures) at c.keep_few.ensures in
     let pairs = rw c.if-not-keep_pairs.false at c.keep_pairs.ensures in
-    counted_told _ _ _ _ (length c.args.pairs.now) _ _ c.waiting-start.ensures front pairs c.tell.ensures
+    counted_with_length _ _ _ _ (length c.args.pairs.now) _ _ c.waiting-start.ensures front pairs c.write_length.ensures
 
 pub keep_nested-returns-in-List : goal.keep_nested-returns-in-List
 keep_nested-returns-in-List g t c =

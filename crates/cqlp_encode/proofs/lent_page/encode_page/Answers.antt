@@ -41,6 +41,6 @@ returns-in-Err-begin g c =
       false,
       m.1,
       (c.args.again, refl, λ e. absurd cc),
-      subst (λ (x : LentError). EncodesLent (frame_of c.args.frame.now) cells [] false (written g.W.Target c.args.target.now) (Err x) (written g.W.Target c.begin.new.target)) (sym c.told.ensures)
+      subst (λ (x : LentError). EncodesLent (frame_of c.args.frame.now) cells [] false (written g.W.Target c.args.target.now) (Err x) (written g.W.Target c.begin.new.target)) (sym c.lent_error.ensures)
           (head_cut c.args.frame.now c.in-Ok.len cells c.in-Err-begin.why false _ _ fits.0 begins fits.1 c.in-Err-begin.ensures.begins),
     )

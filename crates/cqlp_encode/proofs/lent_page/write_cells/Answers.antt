@@ -38,7 +38,7 @@ returns-in-Err g c =
         why = c.in-Err.why;
         adds = inv.2 n a;
         stopped = c.in-Err.ensures.adds n before (after_all n before [] _ _ _ _ (inv.2 n a) a);
-        told = c.told.ensures;
+        lent_error = c.lent_error.ensures;
       }),
     )
 
@@ -66,7 +66,7 @@ returns-in-Err-finish g c =
           why = c.in-Err-finish.why;
           adds = inv.2 n a;
           stopped = c.in-Err-finish.ensures n before (after_all n before [] _ _ _ _ (inv.2 n a) a);
-          told = c.told-in-Err-finish.ensures;
+          lent_error = c.lent_error-in-Err-finish.ensures;
         },
       ),
     )

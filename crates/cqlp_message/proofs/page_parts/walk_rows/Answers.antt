@@ -15,7 +15,7 @@ pub loop-row-preserved : goal.loop-row-preserved
 loop-row-preserved g c =
     let ts = cell_types (metadata_of c.args.meta.now) in
     let rest = c.loop-row.rest.now in
-    let many = ap (λ (n : ℕ). drop (min n (length rest)) rest) c.columns_told-columns.ensures in
+    let many = ap (λ (n : ℕ). drop (min n (length rest)) rest) c.columns_described-columns.ensures in
     let back : c.split_at.result.1.now ≡ drop (how_many ts) rest = c.split_at.ensures.back ∙ ap (λ (n : ℕ). drop n rest) c.min.ensures ∙ many ∙ drop_min (how_many ts) rest in
     let more = rows_more c.loop-row.row c.args.rows ts rest c.loop-row-test.true in
     rw back (remains_more _ _ (rw more at c.loop-row.invariant) c.walk_row.ensures)
@@ -26,7 +26,7 @@ returns-then-columns-eq0 g c =
     let rest = c.loop-row.rest.now in
     elim c.then-columns-eq0.branch [
       | then-columns-eq0-via-then-columns-eq0 w ↦
-          remains_none (rw (rows_no_columns c.loop-row.row c.args.rows ts rest (sym c.columns_told-columns.ensures ∙ w.if-columns-eq0.true)) at c.loop-row.invariant)
+          remains_none (rw (rows_no_columns c.loop-row.row c.args.rows ts rest (sym c.columns_described-columns.ensures ∙ w.if-columns-eq0.true)) at c.loop-row.invariant)
       | then-columns-eq0-via-else-columns-eq0+then-is_empty w ↦
           let none : length rest ≡ 0 = search rules in
           remains_none (rw (rows_no_cells c.loop-row.row c.args.rows ts rest (nil_from_length rest none)) at c.loop-row.invariant)

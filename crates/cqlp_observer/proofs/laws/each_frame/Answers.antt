@@ -1,5 +1,5 @@
-use Rattle.cqlp_observer.proofs.Fed.{tells_each}
+use Rattle.cqlp_observer.proofs.Fed.{reports_each}
 use Rattle.cqlp_observer.proofs.laws.each_frame.Goals as goal
 
 pub returns : goal.returns
-returns c = tells_each
+returns c = reports_each

@@ -1,5 +1,5 @@
-use Rattle.cqlp_observer.proofs.Came.{tells_whole}
+use Rattle.cqlp_observer.proofs.Came.{reports_whole}
 use Rattle.cqlp_observer.proofs.laws.whole_frames.Goals as goal
 
 pub returns : goal.returns
-returns c = tells_whole
+returns c = reports_whole

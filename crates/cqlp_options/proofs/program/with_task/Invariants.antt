@@ -7,6 +7,6 @@ use Rattle.cqlp_options.proofs.program.with_task.Given as goal
 
 abbrev pub invariant-loop-words : goal.invariant-loop-words
 invariant-loop-words l = record {
-  told : with_rules (app_of l.command) (flat_map (λ words. map rule_for words.now) (drop l.words-index l.task.words.now)) ≡ with_rules (new_app l.task.name.now) (rules_for l.task);
+  given : with_rules (app_of l.command) (flat_map (λ words. map rule_for words.now) (drop l.words-index l.task.words.now)) ≡ with_rules (new_app l.task.name.now) (rules_for l.task);
   local : (fields_of l.command).has_globals ≡ false;
 }

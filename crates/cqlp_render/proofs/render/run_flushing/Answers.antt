@@ -4,7 +4,7 @@ use Rattle.cqlp_decode.specs.Draining.{Counts, MakesReads, RunsTo, WaitsAt, call
 use Rattle.cqlp_decode.specs.Streams.{state}
 use Rattle.cqlp_render.specs.Rendering.{rendered, with_event, FallsShortAtEvent}
 use Rattle.cqlp_render.proofs.Buffering.{flushes, goes_same, known_taken, still_rendered, breaks_short_taken, goes_then, passes_go, writes_goes}
-use Rattle.cqlp_render.proofs.Shows.{front_between, renders_or_fails, ends_early, goes_on, tells_on}
+use Rattle.cqlp_render.proofs.Shows.{front_between, renders_or_fails, ends_early, goes_on, reports_on}
 use Rattle.cqlp_render.proofs.Timely.{more_in_time, still_in_time}
 use Rattle.cqlp_render.proofs.Turns.{reads_on, reads_early, reads_flushed}
 use Rattle.cqlp_render.proofs.render.run_flushing.Goals as goal
@@ -35,20 +35,20 @@ loop-turn-preserved g c =
           subst (λ (n : ℕ). Counts c.run-outcome-in-loop-turn.result n (g.R.Source.failures c.run-outcome-in-loop-turn.new.reader)) same c.run-outcome-in-loop-turn.ensures.failures;
       ran = λ xs left known fresh.
           let ran = rw c.in-Turns.is at (c.loop-turn.invariant.ran xs left known fresh) in
-          let tells = known_taken _ _ (tells_on _ _ xs _ _ _ fresh c.loop-turn.turn ran known) in
-          let same = still_rendered c.loop-turn.sink c.flush.new.self c.in-Ok.ensures.writes c.in-Ok.ensures.form tells in
-          let told = known_taken _ _ (subst (λ r. IsSome r.output.given) (sym same) (tells_on _ _ xs _ _ _ fresh c.loop-turn.turn ran known)) in
+          let reports = known_taken _ _ (reports_on _ _ xs _ _ _ fresh c.loop-turn.turn ran known) in
+          let same = still_rendered c.loop-turn.sink c.flush.new.self c.in-Ok.ensures.writes c.in-Ok.ensures.form reports in
+          let emitted = known_taken _ _ (subst (λ r. IsSome r.output.given) (sym same) (reports_on _ _ xs _ _ _ fresh c.loop-turn.turn ran known)) in
           goes_on (state c.args.decoder.now) (state c.loop-turn.decoder) (state c.run-outcome-in-loop-turn.new.decoder) xs (g.R.Source.left c.loop-turn.reader) (g.R.Source.left c.run-outcome-in-loop-turn.new.reader) (rendered c.args.sink.now) (rendered c.loop-turn.sink) (rendered c.flush.new.self) (rendered c.run-outcome-in-loop-turn.new.sink) c.loop-turn.turn c.run-outcome-in-loop-turn.result waits ran same
-          (c.run-outcome-in-loop-turn.ensures.runs ran.0.rest ran.1 told);
+          (c.run-outcome-in-loop-turn.ensures.runs ran.0.rest ran.1 emitted);
       in_time = λ xs left known fresh.
           let ran = rw c.in-Turns.is at (c.loop-turn.invariant.ran xs left known fresh) in
-          let shown = tells_on _ _ xs _ _ _ fresh c.loop-turn.turn ran known in
-          let tells = known_taken _ _ shown in
-          let same = still_rendered c.loop-turn.sink c.flush.new.self c.in-Ok.ensures.writes c.in-Ok.ensures.form tells in
-          let told = known_taken _ _ (subst (λ r. IsSome r.output.given) (sym same) shown) in
+          let shown = reports_on _ _ xs _ _ _ fresh c.loop-turn.turn ran known in
+          let reports = known_taken _ _ shown in
+          let same = still_rendered c.loop-turn.sink c.flush.new.self c.in-Ok.ensures.writes c.in-Ok.ensures.form reports in
+          let emitted = known_taken _ _ (subst (λ r. IsSome r.output.given) (sym same) shown) in
           let onward = passes_go c.flush.new.self c.run-outcome-in-loop-turn.new.sink c.run-outcome-in-loop-turn.ensures.also in
-          let given = flushes c.loop-turn.sink.written c.flush.new.self.written c.in-Ok.ensures.writes c.in-Ok.ensures.empty tells in
-          elim (c.run-outcome-in-loop-turn.ensures.in_time ran.0.rest ran.1 told) [
+          let given = flushes c.loop-turn.sink.written c.flush.new.self.written c.in-Ok.ensures.writes c.in-Ok.ensures.empty reports in
+          elim (c.run-outcome-in-loop-turn.ensures.in_time ran.0.rest ran.1 emitted) [
             | inl none ↦
                 still_in_time c.args.sink.now.form c.args.turns _ xs _ _ _ _ _ _ _ _ (c.loop-turn.invariant.in_time xs left known fresh) none.0 (none.1 ∙ sym ran.1)
                 (goes_then _ _ _ (writes_goes c.loop-turn.sink.written c.flush.new.self.written [] (Ok _) c.in-Ok.ensures.writes) onward)
@@ -71,9 +71,9 @@ returns-in_default-clause-failures g c = c.loop-turn.invariant.failures
 pub returns-in_default-flush-clause-renders : goal.returns-in_default-flush-clause-renders
 returns-in_default-flush-clause-renders g c = λ xs left known fresh.
     let ran = rw c.in-Turns.is at (c.loop-turn.invariant.ran xs left known fresh) in
-    let tells = known_taken _ _ (tells_on _ _ xs _ _ _ fresh c.loop-turn.turn ran known) in
+    let reports = known_taken _ _ (reports_on _ _ xs _ _ _ fresh c.loop-turn.turn ran known) in
     front_between (state c.args.decoder.now) (state c.loop-turn.decoder) xs (g.R.Source.left c.loop-turn.reader) (rendered c.args.sink.now) (rendered c.loop-turn.sink) fresh c.loop-turn.turn ran (rendered c.flush.new.self).output
-    (breaks_short_taken c.loop-turn.sink.written c.flush.new.self.written [] c.in_default-flush.ensures.writes tells)
+    (breaks_short_taken c.loop-turn.sink.written c.flush.new.self.written [] c.in_default-flush.ensures.writes reports)
 
 pub returns-in_default-flush-clause-in_time : goal.returns-in_default-flush-clause-in_time
 returns-in_default-flush-clause-in_time g c = λ xs left known fresh.

@@ -1,5 +1,5 @@
 use Rattle.cqlp_text.specs.Outputs.{output}
-use Rattle.cqlp_render.proofs.Shows.{tells_read, checks_verdict, checks_failed, checks_fault}
+use Rattle.cqlp_render.proofs.Shows.{reports_read, checks_verdict, checks_failed, checks_fault}
 use Rattle.cqlp_render.proofs.showing.check.Goals as goal
 
 pub returns-in_default-clause-checks : goal.returns-in_default-clause-checks
@@ -16,7 +16,7 @@ returns-in_default-clause-checks g c = λ xs left known err_known. (
 pub returns-in_default-ending_line-clause-checks : goal.returns-in_default-ending_line-clause-checks
 returns-in_default-ending_line-clause-checks g c = λ xs left known err_known.
     let shows = c.read_through-ending.ensures.shows xs left known in
-    let reported = tells_read _ _ _ _ xs _ _ _ known (rw c.in-Finished.is at shows) in (
+    let reported = reports_read _ _ _ _ xs _ _ _ known (rw c.in-Finished.is at shows) in (
       c.read_through-ending.result.0,
       output (g.O.Target.contents c.read_through-ending.result.1) (g.O.Target.failures c.read_through-ending.result.1),
       shows,
@@ -29,7 +29,7 @@ returns-in_default-ending_line-clause-checks g c = λ xs left known err_known.
 pub returns-clause-checks : goal.returns-clause-checks
 returns-clause-checks g c = λ xs left known err_known.
     let shows = c.read_through-ending.ensures.shows xs left known in
-    let reported = tells_read _ _ _ _ xs _ _ _ known (rw c.in-Finished.is at shows) in (
+    let reported = reports_read _ _ _ _ xs _ _ _ known (rw c.in-Finished.is at shows) in (
       c.read_through-ending.result.0,
       output (g.O.Target.contents c.read_through-ending.result.1) (g.O.Target.failures c.read_through-ending.result.1),
       shows,

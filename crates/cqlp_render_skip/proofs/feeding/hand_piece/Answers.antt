@@ -10,58 +10,58 @@ use Rattle.cqlp_render_skip.proofs.feeding.hand_piece.Goals as goal
 pub stretches-init : goal.stretches-init
 stretches-init g c = record {
   goes = (goes_nowhere _, goes_nowhere _);
-  told = ([], refl, λ form k xs s later first fresh known is r. subst (λ (z : List ℕ). Reports form k xs first c.args.decoder.now z c.args.report) (sym (append-nil s)) r);
+  emitted = ([], refl, λ form k xs s later first fresh known is r. subst (λ (z : List ℕ). Reports form k xs first c.args.decoder.now z c.args.report) (sym (append-nil s)) r);
 }
 
 pub returns-in-More-clause-goes_on : goal.returns-in-More-clause-goes_on
-returns-in-More-clause-goes_on g c = kept_goes c.args.report c.stretches.told c.feed-fed.result.1 c.stretches.invariant.goes (passes_keep _ _ c.feed-fed.ensures.also)
+returns-in-More-clause-goes_on g c = kept_goes c.args.report c.stretches.reporter c.feed-fed.result.1 c.stretches.invariant.goes (passes_keep _ _ c.feed-fed.ensures.also)
 
 pub returns-in-Fault-clause-goes_on : goal.returns-in-Fault-clause-goes_on
-returns-in-Fault-clause-goes_on g c = kept_goes c.args.report c.stretches.told c.feed-fed.result.1 c.stretches.invariant.goes (passes_keep _ _ c.feed-fed.ensures.also)
+returns-in-Fault-clause-goes_on g c = kept_goes c.args.report c.stretches.reporter c.feed-fed.result.1 c.stretches.invariant.goes (passes_keep _ _ c.feed-fed.ensures.also)
 
 pub returns-in-More-clause-hands : goal.returns-in-More-clause-hands
 returns-in-More-clause-hands g c = λ form k xs s later first fresh known is r.
-    let inv = c.stretches.invariant.told in
+    let inv = c.stretches.invariant.emitted in
     let r0 = inv.2 form k xs s later first fresh known is r in
-    let keep = passes_keep c.stretches.told c.feed-fed.result.1 c.feed-fed.ensures.also in
-    let feeds = c.feed-fed.ensures.feeds (still_known form k xs first c.stretches.decoder (s ++ inv.0) c.stretches.told r0 known).0 in
-    fed_more form k xs first c.stretches.decoder c.feed-fed.new.self (s ++ inv.0) c.stretches.rest.now later c.stretches.told c.feed-fed.result.1 r0 (next_parts xs s c.args.piece.now inv.0 c.stretches.rest.now later inv.1 is)
+    let keep = passes_keep c.stretches.reporter c.feed-fed.result.1 c.feed-fed.ensures.also in
+    let feeds = c.feed-fed.ensures.feeds (still_known form k xs first c.stretches.decoder (s ++ inv.0) c.stretches.reporter r0 known).0 in
+    fed_more form k xs first c.stretches.decoder c.feed-fed.new.self (s ++ inv.0) c.stretches.rest.now later c.stretches.reporter c.feed-fed.result.1 r0 (next_parts xs s c.args.piece.now inv.0 c.stretches.rest.now later inv.1 is)
     c.feed-fed.ensures.rules c.feed-fed.ensures.place.1 keep.1 keep.2 (rw c.in-More.is at feeds) (rw c.in-More.is at c.feed-fed.ensures.refusal) s c.args.piece.now (whole_piece s c.args.piece.now inv.0 c.stretches.rest.now inv.1)
 
 pub returns-in-Fault-clause-hands : goal.returns-in-Fault-clause-hands
 returns-in-Fault-clause-hands g c = λ form k xs s later first fresh known is r.
-    let inv = c.stretches.invariant.told in
+    let inv = c.stretches.invariant.emitted in
     let r0 = inv.2 form k xs s later first fresh known is r in
-    let keep = passes_keep c.stretches.told c.feed-fed.result.1 c.feed-fed.ensures.also in
-    let feeds = c.feed-fed.ensures.feeds (still_known form k xs first c.stretches.decoder (s ++ inv.0) c.stretches.told r0 known).0 in
-    fed_fault form k xs first c.stretches.decoder c.feed-fed.new.self (s ++ inv.0) c.stretches.rest.now later c.stretches.told c.feed-fed.result.1 r0 (next_parts xs s c.args.piece.now inv.0 c.stretches.rest.now later inv.1 is)
+    let keep = passes_keep c.stretches.reporter c.feed-fed.result.1 c.feed-fed.ensures.also in
+    let feeds = c.feed-fed.ensures.feeds (still_known form k xs first c.stretches.decoder (s ++ inv.0) c.stretches.reporter r0 known).0 in
+    fed_fault form k xs first c.stretches.decoder c.feed-fed.new.self (s ++ inv.0) c.stretches.rest.now later c.stretches.reporter c.feed-fed.result.1 r0 (next_parts xs s c.args.piece.now inv.0 c.stretches.rest.now later inv.1 is)
     c.feed-fed.ensures.rules c.feed-fed.ensures.place.1 keep.1 keep.2 c.in-Fault.used (rw c.in-Fault.is at feeds)
 
 pub returns-in-Err-clause-goes_on : goal.returns-in-Err-clause-goes_on
-returns-in-Err-clause-goes_on g c = kept_goes c.args.report c.stretches.told c.feed-fed.result.1 c.stretches.invariant.goes (passes_keep _ _ c.feed-fed.ensures.also)
+returns-in-Err-clause-goes_on g c = kept_goes c.args.report c.stretches.reporter c.feed-fed.result.1 c.stretches.invariant.goes (passes_keep _ _ c.feed-fed.ensures.also)
 
 pub returns-in-Err-clause-hands : goal.returns-in-Err-clause-hands
 returns-in-Err-clause-hands g c = λ form k xs s later first fresh known is r.
-    let inv = c.stretches.invariant.told in
+    let inv = c.stretches.invariant.emitted in
     let r0 = inv.2 form k xs s later first fresh known is r in
-    let keep = passes_keep c.stretches.told c.feed-fed.result.1 c.feed-fed.ensures.also in
-    let feeds = c.feed-fed.ensures.feeds (still_known form k xs first c.stretches.decoder (s ++ inv.0) c.stretches.told r0 known).0 in
-    let r1 = fed_refused form k xs first c.stretches.decoder c.feed-fed.new.self (s ++ inv.0) c.stretches.rest.now later c.stretches.told c.feed-fed.result.1 r0 (next_parts xs s c.args.piece.now inv.0 c.stretches.rest.now later inv.1 is)
+    let keep = passes_keep c.stretches.reporter c.feed-fed.result.1 c.feed-fed.ensures.also in
+    let feeds = c.feed-fed.ensures.feeds (still_known form k xs first c.stretches.decoder (s ++ inv.0) c.stretches.reporter r0 known).0 in
+    let r1 = fed_refused form k xs first c.stretches.decoder c.feed-fed.new.self (s ++ inv.0) c.stretches.rest.now later c.stretches.reporter c.feed-fed.result.1 r0 (next_parts xs s c.args.piece.now inv.0 c.stretches.rest.now later inv.1 is)
     c.feed-fed.ensures.rules c.feed-fed.ensures.place.1 keep.1 keep.2 c.in-Refused.used c.in-Refused.refusal (rw c.in-Refused.is at feeds) in
     refused_here form k xs first c.feed-fed.new.self c.skip.new.self ((s ++ inv.0) ++ take c.in-Refused.used c.stretches.rest.now) s c.args.piece.now c.feed-fed.result.1 c.in-Refused.refusal c.in-Refused.used c.in-Err.field-0 c.skip.result r1
     (rw c.in-Refused.is at c.feed-fed.ensures.refusal) c.skip.ensures.is c.in-Err.is (rw c.in-Err.is at c.skip.ensures.anew)
 
 pub returns-in-Err-end_stretch-clause-goes_on : goal.returns-in-Err-end_stretch-clause-goes_on
 returns-in-Err-end_stretch-clause-goes_on g c =
-    both_go c.args.report c.feed-fed.result.1 c.end_stretch.new.self (kept_goes c.args.report c.stretches.told c.feed-fed.result.1 c.stretches.invariant.goes (passes_keep _ _ c.feed-fed.ensures.also)) c.end_stretch.ensures.goes_on
+    both_go c.args.report c.feed-fed.result.1 c.end_stretch.new.self (kept_goes c.args.report c.stretches.reporter c.feed-fed.result.1 c.stretches.invariant.goes (passes_keep _ _ c.feed-fed.ensures.also)) c.end_stretch.ensures.goes_on
 
 pub returns-in-Err-end_stretch-clause-hands : goal.returns-in-Err-end_stretch-clause-hands
 returns-in-Err-end_stretch-clause-hands g c = λ form k xs s later first fresh known is r.
-    let inv = c.stretches.invariant.told in
+    let inv = c.stretches.invariant.emitted in
     let r0 = inv.2 form k xs s later first fresh known is r in
-    let keep = passes_keep c.stretches.told c.feed-fed.result.1 c.feed-fed.ensures.also in
-    let feeds = c.feed-fed.ensures.feeds (still_known form k xs first c.stretches.decoder (s ++ inv.0) c.stretches.told r0 known).0 in
-    let r1 = fed_refused form k xs first c.stretches.decoder c.feed-fed.new.self (s ++ inv.0) c.stretches.rest.now later c.stretches.told c.feed-fed.result.1 r0 (next_parts xs s c.args.piece.now inv.0 c.stretches.rest.now later inv.1 is)
+    let keep = passes_keep c.stretches.reporter c.feed-fed.result.1 c.feed-fed.ensures.also in
+    let feeds = c.feed-fed.ensures.feeds (still_known form k xs first c.stretches.decoder (s ++ inv.0) c.stretches.reporter r0 known).0 in
+    let r1 = fed_refused form k xs first c.stretches.decoder c.feed-fed.new.self (s ++ inv.0) c.stretches.rest.now later c.stretches.reporter c.feed-fed.result.1 r0 (next_parts xs s c.args.piece.now inv.0 c.stretches.rest.now later inv.1 is)
     c.feed-fed.ensures.rules c.feed-fed.ensures.place.1 keep.1 keep.2 c.in-Refused.used c.in-Refused.refusal (rw c.in-Refused.is at feeds) in
     let s1 = (s ++ inv.0) ++ take c.in-Refused.used c.stretches.rest.now in
     let d1 = c.feed-fed.new.self in
@@ -85,16 +85,16 @@ stretches-smaller g c =
 
 pub stretches-preserved : goal.stretches-preserved
 stretches-preserved g c = record {
-  goes = both_go c.args.report c.feed-fed.result.1 c.end_stretch.new.self (kept_goes c.args.report c.stretches.told c.feed-fed.result.1 c.stretches.invariant.goes (passes_keep _ _ c.feed-fed.ensures.also)) c.end_stretch.ensures.goes_on;
-  told = (
-    c.stretches.invariant.told.0 ++ take c.in-Refused.used c.stretches.rest.now,
-    rw rest_is (next_split c.args.piece.now c.stretches.invariant.told.0 c.stretches.rest.now c.in-Refused.used c.stretches.invariant.told.1),
+  goes = both_go c.args.report c.feed-fed.result.1 c.end_stretch.new.self (kept_goes c.args.report c.stretches.reporter c.feed-fed.result.1 c.stretches.invariant.goes (passes_keep _ _ c.feed-fed.ensures.also)) c.end_stretch.ensures.goes_on;
+  emitted = (
+    c.stretches.invariant.emitted.0 ++ take c.in-Refused.used c.stretches.rest.now,
+    rw rest_is (next_split c.args.piece.now c.stretches.invariant.emitted.0 c.stretches.rest.now c.in-Refused.used c.stretches.invariant.emitted.1),
     λ form k xs s later first fresh known is r.
-        let inv = c.stretches.invariant.told in
+        let inv = c.stretches.invariant.emitted in
         let r0 = inv.2 form k xs s later first fresh known is r in
-        let keep = passes_keep c.stretches.told c.feed-fed.result.1 c.feed-fed.ensures.also in
-        let feeds = c.feed-fed.ensures.feeds (still_known form k xs first c.stretches.decoder (s ++ inv.0) c.stretches.told r0 known).0 in
-        let r1 = fed_refused form k xs first c.stretches.decoder c.feed-fed.new.self (s ++ inv.0) c.stretches.rest.now later c.stretches.told c.feed-fed.result.1 r0 (next_parts xs s c.args.piece.now inv.0 c.stretches.rest.now later inv.1 is)
+        let keep = passes_keep c.stretches.reporter c.feed-fed.result.1 c.feed-fed.ensures.also in
+        let feeds = c.feed-fed.ensures.feeds (still_known form k xs first c.stretches.decoder (s ++ inv.0) c.stretches.reporter r0 known).0 in
+        let r1 = fed_refused form k xs first c.stretches.decoder c.feed-fed.new.self (s ++ inv.0) c.stretches.rest.now later c.stretches.reporter c.feed-fed.result.1 r0 (next_parts xs s c.args.piece.now inv.0 c.stretches.rest.now later inv.1 is)
         c.feed-fed.ensures.rules c.feed-fed.ensures.place.1 keep.1 keep.2 c.in-Refused.used c.in-Refused.refusal (rw c.in-Refused.is at feeds) in
         let s1 = (s ++ inv.0) ++ take c.in-Refused.used c.stretches.rest.now in
         let d1 = c.feed-fed.new.self in

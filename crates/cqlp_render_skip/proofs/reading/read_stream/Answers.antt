@@ -11,33 +11,33 @@ use Rattle.cqlp_render_skip.proofs.reading.read_stream.Goals as goal
 pub loop-turn-init : goal.loop-turn-init
 loop-turn-init g c = record {
   long = refl;
-  told = λ form k xs first b. begins form k xs first TURNS (unread g.R.Source c.args.input.now) c.args.decoder.now c.args.report b;
+  emitted = λ form k xs first b. begins form k xs first TURNS (unread g.R.Source c.args.input.now) c.args.decoder.now c.args.report b;
 }
 
 pub returns-in-Err : goal.returns-in-Err
 returns-in-Err g c = λ form k xs first b.
-    let t = c.loop-turn.invariant.told form k xs first b in
+    let t = c.loop-turn.invariant.emitted form k xs first b in
     let was = unread g.R.Source c.args.input.now in
     let now = unread g.R.Source c.loop-turn.input in
     let now' = unread g.R.Source c.read.new.self in
     let more : c.loop-turn.turn + 1 ≤ TURNS = let a = c.loop-turn-test.true in omega arith in
     let long : length c.read.new.buffer ≡ 4096 = let a = c.read.auto.buffer in let b = c.loop-turn.invariant.long in omega arith in
-    read_fault form k xs first TURNS was c.loop-turn.turn now now' c.loop-turn.decoder c.loop-turn.told t more c.in-Err.ensures.reads (c.in-Err.ensures.asked ∙ ap (λ (k : ℕ). counted_up k now.asked) long) c.in-Err.ensures.failures c.in-Err.ensures.bytes
+    read_fault form k xs first TURNS was c.loop-turn.turn now now' c.loop-turn.decoder c.loop-turn.reporter t more c.in-Err.ensures.reads (c.in-Err.ensures.asked ∙ ap (λ (k : ℕ). counted_up k now.asked) long) c.in-Err.ensures.failures c.in-Err.ensures.bytes
 
 pub returns-then-count-eq0 : goal.returns-then-count-eq0
 returns-then-count-eq0 g c = λ form k xs first b.
-    let t = c.loop-turn.invariant.told form k xs first b in
+    let t = c.loop-turn.invariant.emitted form k xs first b in
     let was = unread g.R.Source c.args.input.now in
     let now = unread g.R.Source c.loop-turn.input in
     let now' = unread g.R.Source c.read.new.self in
     let more : c.loop-turn.turn + 1 ≤ TURNS = let a = c.loop-turn-test.true in omega arith in
     let long : length c.read.new.buffer ≡ 4096 = let a = c.read.auto.buffer in let b = c.loop-turn.invariant.long in omega arith in
     let within : c.in-Ok.count ≤ length c.read.new.buffer = c.in-Ok.ensures.bound in
-    input_ends form k xs first TURNS was c.loop-turn.turn now now' c.loop-turn.decoder c.loop-turn.told t more c.in-Ok.ensures.reads (c.in-Ok.ensures.asked ∙ ap (λ (k : ℕ). counted_up k now.asked) long) c.read.new.buffer c.in-Ok.count long c.in-Ok.ensures.failures c.in-Ok.ensures.bytes c.finish.result c.if-count-eq0.true c.finish.ensures
+    input_ends form k xs first TURNS was c.loop-turn.turn now now' c.loop-turn.decoder c.loop-turn.reporter t more c.in-Ok.ensures.reads (c.in-Ok.ensures.asked ∙ ap (λ (k : ℕ). counted_up k now.asked) long) c.read.new.buffer c.in-Ok.count long c.in-Ok.ensures.failures c.in-Ok.ensures.bytes c.finish.result c.if-count-eq0.true c.finish.ensures
 
 pub returns-in-Fault : goal.returns-in-Fault
 returns-in-Fault g c = λ form k xs first b.
-    let t = c.loop-turn.invariant.told form k xs first b in
+    let t = c.loop-turn.invariant.emitted form k xs first b in
     let was = unread g.R.Source c.args.input.now in
     let now = unread g.R.Source c.loop-turn.input in
     let now' = unread g.R.Source c.read.new.self in
@@ -47,16 +47,16 @@ returns-in-Fault g c = λ form k xs first b.
     let some : 0 < c.in-Ok.count = let a = c.if-count-eq0.false in omega arith in
     let d = c.loop-turn.decoder in
     let d' = c.hand_piece-handed.new.decoder in
-    let told = c.loop-turn.told in
-    let told' = c.hand_piece-handed.result.1 in
+    let emitted = c.loop-turn.reporter in
+    let emitted' = c.hand_piece-handed.result.1 in
     let x = c.hand_piece-handed.result.0 in
     let goes = c.hand_piece-handed.ensures.goes_on in
-    let h = led_to form k xs first TURNS was c.loop-turn.turn now now' d told t more c.in-Ok.ensures.reads (c.in-Ok.ensures.asked ∙ ap (λ (k : ℕ). counted_up k now.asked) long) c.read.new.buffer c.in-Ok.count long c.in-Ok.ensures.failures c.in-Ok.ensures.bytes some within d' told' told' goes x (λ later is. c.hand_piece-handed.ensures.hands form k xs t.bytes later first t.fresh t.known is t.reports) in
-    write_fault form k xs first TURNS was c.loop-turn.turn now now' d told t more c.in-Ok.ensures.reads (c.in-Ok.ensures.asked ∙ ap (λ (k : ℕ). counted_up k now.asked) long) c.read.new.buffer c.in-Ok.count long c.in-Ok.ensures.failures c.in-Ok.ensures.bytes some within d' told' told' goes (rw c.in-Fault.is at h)
+    let h = led_to form k xs first TURNS was c.loop-turn.turn now now' d emitted t more c.in-Ok.ensures.reads (c.in-Ok.ensures.asked ∙ ap (λ (k : ℕ). counted_up k now.asked) long) c.read.new.buffer c.in-Ok.count long c.in-Ok.ensures.failures c.in-Ok.ensures.bytes some within d' emitted' emitted' goes x (λ later is. c.hand_piece-handed.ensures.hands form k xs t.bytes later first t.fresh t.known is t.reports) in
+    write_fault form k xs first TURNS was c.loop-turn.turn now now' d emitted t more c.in-Ok.ensures.reads (c.in-Ok.ensures.asked ∙ ap (λ (k : ℕ). counted_up k now.asked) long) c.read.new.buffer c.in-Ok.count long c.in-Ok.ensures.failures c.in-Ok.ensures.bytes some within d' emitted' emitted' goes (rw c.in-Fault.is at h)
 
 pub returns-in-Err-flush : goal.returns-in-Err-flush
 returns-in-Err-flush g c = λ form k xs first b.
-    let t = c.loop-turn.invariant.told form k xs first b in
+    let t = c.loop-turn.invariant.emitted form k xs first b in
     let was = unread g.R.Source c.args.input.now in
     let now = unread g.R.Source c.loop-turn.input in
     let now' = unread g.R.Source c.read.new.self in
@@ -66,17 +66,17 @@ returns-in-Err-flush g c = λ form k xs first b.
     let some : 0 < c.in-Ok.count = let a = c.if-count-eq0.false in omega arith in
     let d = c.loop-turn.decoder in
     let d' = c.hand_piece-handed.new.decoder in
-    let told = c.loop-turn.told in
-    let told' = c.hand_piece-handed.result.1 in
+    let emitted = c.loop-turn.reporter in
+    let emitted' = c.hand_piece-handed.result.1 in
     let x = c.hand_piece-handed.result.0 in
-    let told'' = c.flush.new.self in
-    let goes = both_go told told' told'' c.hand_piece-handed.ensures.goes_on (flush_goes told' told'' _ c.flush.result c.flush.ensures.writes c.flush.ensures.err) in
-    let h = led_to form k xs first TURNS was c.loop-turn.turn now now' d told t more c.in-Ok.ensures.reads (c.in-Ok.ensures.asked ∙ ap (λ (k : ℕ). counted_up k now.asked) long) c.read.new.buffer c.in-Ok.count long c.in-Ok.ensures.failures c.in-Ok.ensures.bytes some within d' told' told'' goes x (λ later is. c.hand_piece-handed.ensures.hands form k xs t.bytes later first t.fresh t.known is t.reports) in
-    flush_fault form k xs first TURNS was c.loop-turn.turn now now' d told t more c.in-Ok.ensures.reads (c.in-Ok.ensures.asked ∙ ap (λ (k : ℕ). counted_up k now.asked) long) c.read.new.buffer c.in-Ok.count long c.in-Ok.ensures.failures c.in-Ok.ensures.bytes some within d' told' told'' goes x c.in_default.not-Fault h c.in-Err-flush.ensures.writes c.flush.ensures.err c.flush.ensures.passed
+    let emitted'' = c.flush.new.self in
+    let goes = both_go emitted emitted' emitted'' c.hand_piece-handed.ensures.goes_on (flush_goes emitted' emitted'' _ c.flush.result c.flush.ensures.writes c.flush.ensures.err) in
+    let h = led_to form k xs first TURNS was c.loop-turn.turn now now' d emitted t more c.in-Ok.ensures.reads (c.in-Ok.ensures.asked ∙ ap (λ (k : ℕ). counted_up k now.asked) long) c.read.new.buffer c.in-Ok.count long c.in-Ok.ensures.failures c.in-Ok.ensures.bytes some within d' emitted' emitted'' goes x (λ later is. c.hand_piece-handed.ensures.hands form k xs t.bytes later first t.fresh t.known is t.reports) in
+    flush_fault form k xs first TURNS was c.loop-turn.turn now now' d emitted t more c.in-Ok.ensures.reads (c.in-Ok.ensures.asked ∙ ap (λ (k : ℕ). counted_up k now.asked) long) c.read.new.buffer c.in-Ok.count long c.in-Ok.ensures.failures c.in-Ok.ensures.bytes some within d' emitted' emitted'' goes x c.in_default.not-Fault h c.in-Err-flush.ensures.writes c.flush.ensures.err c.flush.ensures.passed
 
 pub returns-in-Refused : goal.returns-in-Refused
 returns-in-Refused g c = λ form k xs first b.
-    let t = c.loop-turn.invariant.told form k xs first b in
+    let t = c.loop-turn.invariant.emitted form k xs first b in
     let was = unread g.R.Source c.args.input.now in
     let now = unread g.R.Source c.loop-turn.input in
     let now' = unread g.R.Source c.read.new.self in
@@ -86,19 +86,19 @@ returns-in-Refused g c = λ form k xs first b.
     let some : 0 < c.in-Ok.count = let a = c.if-count-eq0.false in omega arith in
     let d = c.loop-turn.decoder in
     let d' = c.hand_piece-handed.new.decoder in
-    let told = c.loop-turn.told in
-    let told' = c.hand_piece-handed.result.1 in
+    let emitted = c.loop-turn.reporter in
+    let emitted' = c.hand_piece-handed.result.1 in
     let x = c.hand_piece-handed.result.0 in
-    let told'' = c.flush.new.self in
-    let goes = both_go told told' told'' c.hand_piece-handed.ensures.goes_on (flush_goes told' told'' _ c.flush.result c.flush.ensures.writes c.flush.ensures.err) in
-    let h = led_to form k xs first TURNS was c.loop-turn.turn now now' d told t more c.in-Ok.ensures.reads (c.in-Ok.ensures.asked ∙ ap (λ (k : ℕ). counted_up k now.asked) long) c.read.new.buffer c.in-Ok.count long c.in-Ok.ensures.failures c.in-Ok.ensures.bytes some within d' told' told'' goes x (λ later is. c.hand_piece-handed.ensures.hands form k xs t.bytes later first t.fresh t.known is t.reports) in
-    refused_for_good form k xs first TURNS was c.loop-turn.turn now now' d told t more c.in-Ok.ensures.reads (c.in-Ok.ensures.asked ∙ ap (λ (k : ℕ). counted_up k now.asked) long) c.read.new.buffer c.in-Ok.count long c.in-Ok.ensures.failures c.in-Ok.ensures.bytes some within d' told' told'' goes c.in_default-flush.ensures.writes c.flush.ensures.empty c.flush.ensures.form c.flush.ensures.err c.flush.ensures.passed c.in-Refused.refusal (rw c.in-Refused.is at h)
+    let emitted'' = c.flush.new.self in
+    let goes = both_go emitted emitted' emitted'' c.hand_piece-handed.ensures.goes_on (flush_goes emitted' emitted'' _ c.flush.result c.flush.ensures.writes c.flush.ensures.err) in
+    let h = led_to form k xs first TURNS was c.loop-turn.turn now now' d emitted t more c.in-Ok.ensures.reads (c.in-Ok.ensures.asked ∙ ap (λ (k : ℕ). counted_up k now.asked) long) c.read.new.buffer c.in-Ok.count long c.in-Ok.ensures.failures c.in-Ok.ensures.bytes some within d' emitted' emitted'' goes x (λ later is. c.hand_piece-handed.ensures.hands form k xs t.bytes later first t.fresh t.known is t.reports) in
+    refused_for_good form k xs first TURNS was c.loop-turn.turn now now' d emitted t more c.in-Ok.ensures.reads (c.in-Ok.ensures.asked ∙ ap (λ (k : ℕ). counted_up k now.asked) long) c.read.new.buffer c.in-Ok.count long c.in-Ok.ensures.failures c.in-Ok.ensures.bytes some within d' emitted' emitted'' goes c.in_default-flush.ensures.writes c.flush.ensures.empty c.flush.ensures.form c.flush.ensures.err c.flush.ensures.passed c.in-Refused.refusal (rw c.in-Refused.is at h)
 
 pub loop-turn-preserved : goal.loop-turn-preserved
 loop-turn-preserved g c = record {
   long = let a = c.read.auto.buffer in let b = c.loop-turn.invariant.long in omega arith;
-  told = λ form k xs first b.
-      let t = c.loop-turn.invariant.told form k xs first b in
+  emitted = λ form k xs first b.
+      let t = c.loop-turn.invariant.emitted form k xs first b in
       let was = unread g.R.Source c.args.input.now in
       let now = unread g.R.Source c.loop-turn.input in
       let now' = unread g.R.Source c.read.new.self in
@@ -108,18 +108,18 @@ loop-turn-preserved g c = record {
       let some : 0 < c.in-Ok.count = let a = c.if-count-eq0.false in omega arith in
       let d = c.loop-turn.decoder in
       let d' = c.hand_piece-handed.new.decoder in
-      let told = c.loop-turn.told in
-      let told' = c.hand_piece-handed.result.1 in
+      let emitted = c.loop-turn.reporter in
+      let emitted' = c.hand_piece-handed.result.1 in
       let x = c.hand_piece-handed.result.0 in
-      let told'' = c.flush.new.self in
-      let goes = both_go told told' told'' c.hand_piece-handed.ensures.goes_on (flush_goes told' told'' _ c.flush.result c.flush.ensures.writes c.flush.ensures.err) in
-      let h = led_to form k xs first TURNS was c.loop-turn.turn now now' d told t more c.in-Ok.ensures.reads (c.in-Ok.ensures.asked ∙ ap (λ (k : ℕ). counted_up k now.asked) long) c.read.new.buffer c.in-Ok.count long c.in-Ok.ensures.failures c.in-Ok.ensures.bytes some within d' told' told'' goes x (λ later is. c.hand_piece-handed.ensures.hands form k xs t.bytes later first t.fresh t.known is t.reports) in
-      one_more form k xs first TURNS was c.loop-turn.turn now now' d told t more c.in-Ok.ensures.reads (c.in-Ok.ensures.asked ∙ ap (λ (k : ℕ). counted_up k now.asked) long) c.read.new.buffer c.in-Ok.count long c.in-Ok.ensures.failures c.in-Ok.ensures.bytes some within d' told' told'' goes c.in_default-flush.ensures.writes c.flush.ensures.empty c.flush.ensures.form c.flush.ensures.err c.flush.ensures.passed
-      (subst (λ (y : Handed). HandsTo form k xs first t.bytes (take c.in-Ok.count c.read.new.buffer) y d' told') (is_more x c.in_default.not-Fault c.in_default-handed.not-Refused) h);
+      let emitted'' = c.flush.new.self in
+      let goes = both_go emitted emitted' emitted'' c.hand_piece-handed.ensures.goes_on (flush_goes emitted' emitted'' _ c.flush.result c.flush.ensures.writes c.flush.ensures.err) in
+      let h = led_to form k xs first TURNS was c.loop-turn.turn now now' d emitted t more c.in-Ok.ensures.reads (c.in-Ok.ensures.asked ∙ ap (λ (k : ℕ). counted_up k now.asked) long) c.read.new.buffer c.in-Ok.count long c.in-Ok.ensures.failures c.in-Ok.ensures.bytes some within d' emitted' emitted'' goes x (λ later is. c.hand_piece-handed.ensures.hands form k xs t.bytes later first t.fresh t.known is t.reports) in
+      one_more form k xs first TURNS was c.loop-turn.turn now now' d emitted t more c.in-Ok.ensures.reads (c.in-Ok.ensures.asked ∙ ap (λ (k : ℕ). counted_up k now.asked) long) c.read.new.buffer c.in-Ok.count long c.in-Ok.ensures.failures c.in-Ok.ensures.bytes some within d' emitted' emitted'' goes c.in_default-flush.ensures.writes c.flush.ensures.empty c.flush.ensures.form c.flush.ensures.err c.flush.ensures.passed
+      (subst (λ (y : Handed). HandsTo form k xs first t.bytes (take c.in-Ok.count c.read.new.buffer) y d' emitted') (is_more x c.in_default.not-Fault c.in_default-handed.not-Refused) h);
 }
 
 pub returns : goal.returns
 returns g c = λ form k xs first b.
     let all : c.loop-turn.turn ≡ TURNS = let a = c.loop-turn-test.false in let e = c.loop-turn.auto.turn-end in omega arith in
-    turns_out form k xs first TURNS (unread g.R.Source c.args.input.now) (unread g.R.Source c.loop-turn.input) c.loop-turn.decoder c.loop-turn.told
-    (subst (λ (n : ℕ). Turned form k xs first TURNS (unread g.R.Source c.args.input.now) n (unread g.R.Source c.loop-turn.input) c.loop-turn.decoder c.loop-turn.told) all (c.loop-turn.invariant.told form k xs first b))
+    turns_out form k xs first TURNS (unread g.R.Source c.args.input.now) (unread g.R.Source c.loop-turn.input) c.loop-turn.decoder c.loop-turn.reporter
+    (subst (λ (n : ℕ). Turned form k xs first TURNS (unread g.R.Source c.args.input.now) n (unread g.R.Source c.loop-turn.input) c.loop-turn.decoder c.loop-turn.reporter) all (c.loop-turn.invariant.emitted form k xs first b))

@@ -12,6 +12,6 @@ use Rattle.cqlp_render_skip.proofs.reading.read_stream.Given as goal
 abbrev pub invariant-loop-turn : goal.invariant-loop-turn
 invariant-loop-turn g l = record {
   long : length l.buffer ≡ 4096;
-  told : (form : TextForm) (k : Rules) (xs : List ℕ) (first : Outputs) → Begins form k xs first (g.R.Source.left l.fn.input) l.fn.decoder l.fn.report
-      → Turned form k xs first TURNS (unread g.R.Source l.fn.input) l.turn (unread g.R.Source l.input) l.decoder l.told;
+  emitted : (form : TextForm) (k : Rules) (xs : List ℕ) (first : Outputs) → Begins form k xs first (g.R.Source.left l.fn.input) l.fn.decoder l.fn.report
+      → Turned form k xs first TURNS (unread g.R.Source l.fn.input) l.turn (unread g.R.Source l.input) l.decoder l.reporter;
 }

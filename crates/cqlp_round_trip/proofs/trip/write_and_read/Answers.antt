@@ -23,32 +23,32 @@ pub returns-in-Ok-read-clause-written : goal.returns-in-Ok-read-clause-written
 returns-in-Ok-read-clause-written g c = ((none_where_measured _ _ _ (sym c.measure.ensures.is ∙ c.in-Ok.is), c.in_ok-decoder.ensures.allowed), c.in-Ok-write.ensures.bytes)
 
 pub returns-in-Ok-read-clause-read : goal.returns-in-Ok-read-clause-read
-returns-in-Ok-read-clause-read g c = λ tells.
+returns-in-Ok-read-clause-read g c = λ reports.
     let bytes = c.deref.ensures.value ∙ c.in-Ok-write.ensures.bytes in
     subst (λ (z : List ℕ). ReadsAll g.S.Sink.after (rules_of c.args.limits) z c.in-Ok-read.finish (g.S.Sink.view c.args.sink.now) (g.S.Sink.view c.read.new.sink)) bytes
-    (c.in-Ok-read.ensures c.args.limits c.in_ok-decoder.ensures.made tells)
+    (c.in-Ok-read.ensures c.args.limits c.in_ok-decoder.ensures.made reports)
 
 pub returns-in-Ok-read-clause-back : goal.returns-in-Ok-read-clause-back
-returns-in-Ok-read-clause-back g c = λ tells.
+returns-in-Ok-read-clause-back g c = λ reports.
     let fits = none_where_measured _ _ _ (sym c.measure.ensures.is ∙ c.in-Ok.is) in
     let bytes = c.deref.ensures.value ∙ c.in-Ok-write.ensures.bytes in
     comes_back g.S.Sink.after c.args.limits (frame_of c.args.frame.now) fits c.in-Ok.ensures.range (g.S.Sink.view c.args.sink.now) (g.S.Sink.view c.read.new.sink) c.in-Ok-read.finish
     (subst (λ (z : List ℕ). ReadsAll g.S.Sink.after (rules_of c.args.limits) z c.in-Ok-read.finish (g.S.Sink.view c.args.sink.now) (g.S.Sink.view c.read.new.sink)) bytes
-    (c.in-Ok-read.ensures c.args.limits c.in_ok-decoder.ensures.made tells))
+    (c.in-Ok-read.ensures c.args.limits c.in_ok-decoder.ensures.made reports))
 
 pub returns-clause-back : goal.returns-clause-back
-returns-clause-back g c = λ tells.
+returns-clause-back g c = λ reports.
     let fits = none_where_measured _ _ _ (sym c.measure.ensures.is ∙ c.in-Ok.is) in
     let bytes = c.deref.ensures.value ∙ c.in-Ok-write.ensures.bytes in
     fails_within g.S.Sink.after c.args.limits (frame_of c.args.frame.now) fits c.in-Ok.ensures.range (g.S.Sink.view c.args.sink.now) (g.S.Sink.view c.read.new.sink) g.S.Sink.faulted
     (subst (λ (z : List ℕ). FailsReading g.S.Sink.after g.S.Sink.faulted (rules_of c.args.limits) z (g.S.Sink.view c.args.sink.now) (g.S.Sink.view c.read.new.sink)) bytes
-    (c.in-Err-read.ensures c.args.limits c.in_ok-decoder.ensures.made tells))
+    (c.in-Err-read.ensures c.args.limits c.in_ok-decoder.ensures.made reports))
 
 pub returns-clause-read : goal.returns-clause-read
-returns-clause-read g c = λ tells.
+returns-clause-read g c = λ reports.
     let bytes = c.deref.ensures.value ∙ c.in-Ok-write.ensures.bytes in
     subst (λ (z : List ℕ). FailsReading g.S.Sink.after g.S.Sink.faulted (rules_of c.args.limits) z (g.S.Sink.view c.args.sink.now) (g.S.Sink.view c.read.new.sink)) bytes
-    (c.in-Err-read.ensures c.args.limits c.in_ok-decoder.ensures.made tells)
+    (c.in-Err-read.ensures c.args.limits c.in_ok-decoder.ensures.made reports)
 
 pub returns-clause-refused : goal.returns-clause-refused
 returns-clause-refused g c = (none_where_measured _ _ _ (sym c.measure.ensures.is ∙ c.in-Ok.is), c.in_ok-decoder.ensures.allowed)

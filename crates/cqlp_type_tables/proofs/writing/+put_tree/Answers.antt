@@ -34,9 +34,9 @@ put_tree-returns-in_ok-put_count-in-Udt g t c =
     let fields : List ℕ = flat_map field_option c.in-Udt.fields.items in
     let counted = last c.put_text-in-Udt-2.new.out.items c.put_count.new.out.items new size fields r count inner in
     let named = last c.put_text-in-Udt.new.out.items c.put_text-in-Udt-2.new.out.items new name (size ++ fields) r second counted in
-    let told = last c.put_kind-in-Udt.new.out.items c.put_text-in-Udt.new.out.items new keyspace (name ++ (size ++ fields)) r first named in
+    let emitted = last c.put_kind-in-Udt.new.out.items c.put_text-in-Udt.new.out.items new keyspace (name ++ (size ++ fields)) r first named in
     rw (c.in-Udt.is, udt_bytes c.in-Udt.keyspace c.in-Udt.name c.in-Udt.fields)
-    (last c.args.out.now.items c.put_kind-in-Udt.new.out.items new id (keyspace ++ (name ++ (size ++ fields))) r c.in_ok-put_kind-in-Udt.ensures told)
+    (last c.args.out.now.items c.put_kind-in-Udt.new.out.items new id (keyspace ++ (name ++ (size ++ fields))) r c.in_ok-put_kind-in-Udt.ensures emitted)
 
 pub put_tree-returns-in_ok-put_count-in-Tuple : goal.put_tree-returns-in_ok-put_count-in-Tuple
 put_tree-returns-in_ok-put_count-in-Tuple g t c =

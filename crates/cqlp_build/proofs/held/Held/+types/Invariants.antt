@@ -1,7 +1,7 @@
 use Rattle.std.proofs.Common.{◌+◌, ◌*◌, length, map}
 use Rattle.cqlp_type.specs.TypeTrees.{tree_of}
 use Rattle.cqlp_build.specs.Held.{HoldsNoMore}
-use Rattle.cqlp_build.specs.Types.{field_told, is_built_field, is_built_type, type_told}
+use Rattle.cqlp_build.specs.Types.{field_events, is_built_field, is_built_type, type_events}
 use Rattle.cqlp_build.proofs.Several.{Remains}
 use Rattle.cqlp_build.proofs.TypeParts.{field_of}
 use Rattle.cqlp_build.proofs.held.Held.+types.Given as goal
@@ -21,12 +21,12 @@ decreases-fields l = 3 * length l.self.now.items.items + 1
 
 abbrev pub invariant-types-loop : goal.invariant-types-loop
 invariant-types-loop l = record {
-  remains : Remains type_told is_built_type l.count l.fn.self l.self l.counter (map tree_of l.types.items);
+  remains : Remains type_events is_built_type l.count l.fn.self l.self l.counter (map tree_of l.types.items);
   fewer : HoldsNoMore l.fn.self l.self;
 }
 
 abbrev pub invariant-fields-loop : goal.invariant-fields-loop
 invariant-fields-loop l = record {
-  remains : Remains field_told is_built_field l.count l.fn.self l.self l.counter (map field_of l.fields.items);
+  remains : Remains field_events is_built_field l.count l.fn.self l.self l.counter (map field_of l.fields.items);
   fewer : HoldsNoMore l.fn.self l.self;
 }

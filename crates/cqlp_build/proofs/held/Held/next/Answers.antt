@@ -3,7 +3,7 @@ use Rattle.std.specs.Prelude.{is_some}
 use denote.Enum.Bare.{same_true}
 use Rattle.cqlp_note.specs.contracts.field.Field.{the_type}
 use Rattle.cqlp_grammar.specs.Events.{Holds}
-use Rattle.cqlp_build.specs.Held.{held_in, told_by}
+use Rattle.cqlp_build.specs.Held.{held_in, item_event}
 use Rattle.cqlp_build.proofs.held.Held.next.Goals as goal
 
 none_of : {F : Type 0} (o : Option F) → is_some o ≡ false → o ≡ None
@@ -14,4 +14,4 @@ pub returns-then-eq-clause-is : goal.returns-then-eq-clause-is
 returns-then-eq-clause-is c =
     let same : c.in-Holds.found ≡ c.args.field = same_true the_type (search rules) _ _ (sym c.eq.ensures ∙ c.if-eq.true) in
     let sound : c.args.self.now.fault ≡ None = none_of c.args.self.now.fault (sym c.is_some.ensures ∙ c.if-is_some.false) in
-    (sound, ap (map told_by) c.in-Some.ensures.items ∙ ap (λ x. told_by x ∷ map told_by c.pop_front.new.self.items) c.in-Holds.is ∙ ap (λ f. Holds f (held_in c.in-Holds.content) ∷ map told_by c.pop_front.new.self.items) same, sound)
+    (sound, ap (map item_event) c.in-Some.ensures.items ∙ ap (λ x. item_event x ∷ map item_event c.pop_front.new.self.items) c.in-Holds.is ∙ ap (λ f. Holds f (held_in c.in-Holds.content) ∷ map item_event c.pop_front.new.self.items) same, sound)

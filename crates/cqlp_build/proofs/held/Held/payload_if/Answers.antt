@@ -1,7 +1,7 @@
 use Rattle.cqlp_build.proofs.Optional.{none_there, some_there, all_true}
 use Rattle.cqlp_message.specs.Bodies as body
 use Rattle.cqlp_note.specs.declared.field.Field.TheVariants as field
-use Rattle.cqlp_build.specs.Told.{payload_parts}
+use Rattle.cqlp_build.specs.Emitted.{payload_parts}
 use Rattle.cqlp_build.proofs.held.Held.payload_if.Goals as goal
 
 pub returns-then-there : goal.returns-then-there

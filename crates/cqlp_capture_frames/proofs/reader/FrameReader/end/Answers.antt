@@ -5,7 +5,7 @@ use Rattle.cqlp_capture_frames.specs.Happenings.{Ends}
 use Rattle.cqlp_capture_frames.specs.Frames.{nodes_of, types_read}
 use Rattle.cqlp_capture_frames.specs.Reading.{frame_if}
 use Rattle.cqlp_capture_frames.specs.Readers.{FrameReading}
-use Rattle.cqlp_capture_frames.specs.Directions.{IsTold, direction, ends, happens}
+use Rattle.cqlp_capture_frames.specs.Directions.{IsReported, direction, ends, happens}
 use Rattle.cqlp_capture_frames.proofs.Reading.{types_are}
 use Rattle.cqlp_capture_frames.proofs.Directions.{one_leaves}
 use Rattle.cqlp_capture_frames.proofs.reader.FrameReader.end.Goals as goal
@@ -25,6 +25,6 @@ returns g c responses heads =
     let closed = direction first.rules responses heads None in
     let is : happens t.manner (Ends c.table.result.now.nodes) known closed ≡ ends t.manner frame known before =
     (λ i. happens t.manner (Ends (types i)) known closed) ∙ (λ i. ends t.manner (frame_if (sym opened i) old.at (nodes_of first.given) old.came.bytes) known before) in
-    subst (λ (r : FrameReading). IsTold t.refuses (ends t.manner r.frame known (direction r.rules responses heads r.frame)) c.end.result a.writer.now c.end.new.writer (direction r.rules responses heads None) (t.state c.end.new.self)) c.self.view_is
-    (subst (λ z. IsTold t.refuses z c.end.result a.writer.now c.end.new.writer closed (t.state c.end.new.self)) is
+    subst (λ (r : FrameReading). IsReported t.refuses (ends t.manner r.frame known (direction r.rules responses heads r.frame)) c.end.result a.writer.now c.end.new.writer (direction r.rules responses heads None) (t.state c.end.new.self)) c.self.view_is
+    (subst (λ z. IsReported t.refuses z c.end.result a.writer.now c.end.new.writer closed (t.state c.end.new.self)) is
     (one_leaves t.refuses c.end.result a.writer.now c.end.new.writer (t.manner.text known (Ends c.table.result.now.nodes)) closed (t.manner.after known (Ends c.table.result.now.nodes)) (t.state c.end.new.self) c.end.ensures.text c.end.ensures.after))

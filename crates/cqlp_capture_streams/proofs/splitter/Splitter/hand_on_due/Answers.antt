@@ -9,9 +9,9 @@ use Rattle.cqlp_capture_streams.proofs.splitter.Splitter.hand_on_due.Goals as go
 pub returns-in_err-take_kept : goal.returns-in_err-take_kept
 returns-in_err-take_kept g c =
     let is : c.from_residual.result ≡ Err c.in_err-take_kept.field-0.0 = search rules in
-    rw is (λ tells.
-    let before = c.loop-kept.invariant tells in
-    let t = c.in_err-take_kept.ensures.tells before.3 in
+    rw is (λ reports.
+    let before = c.loop-kept.invariant reports in
+    let t = c.in_err-take_kept.ensures.reports before.3 in
     let p = packet_in c.in-Some.kept in
     let i = c.self.inside in
     let left = has_left due_left _ c.loop-kept.self c.take_kept.new.self i.connections i.order c.pop_due.new.self i.link i.time i.original i.counts p p t.0 c.self.view_is c.in-Some.ensures refl t.1 in (
@@ -26,9 +26,9 @@ loop-kept-smaller g c =
     fewer_wait due_left c.loop-kept.self c.take_kept.new.self i.connections i.order c.pop_due.new.self i.link i.time i.original i.counts (packet_in c.in-Some.kept) due_leaves c.self.view_is c.in-Some.ensures c.in_ok-take_kept.ensures.order
 
 pub loop-kept-preserved : goal.loop-kept-preserved
-loop-kept-preserved g c = λ tells.
-    let before = c.loop-kept.invariant tells in
-    let t = c.in_ok-take_kept.ensures.tells before.3 in
+loop-kept-preserved g c = λ reports.
+    let before = c.loop-kept.invariant reports in
+    let t = c.in_ok-take_kept.ensures.reports before.3 in
     let p = packet_in c.in-Some.kept in
     let i = c.self.inside in
     let left = has_left due_left _ c.loop-kept.self c.take_kept.new.self i.connections i.order c.pop_due.new.self i.link i.time i.original i.counts p p t.0 c.self.view_is c.in-Some.ensures refl t.1 in

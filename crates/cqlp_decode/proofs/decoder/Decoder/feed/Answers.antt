@@ -4,7 +4,7 @@ use Rattle.cqlp_decode.specs.Progress.{StreamState}
 use Rattle.cqlp_decode.specs.Streams.{state}
 use Rattle.cqlp_decode.proofs.Leads.{repeated}
 use Rattle.cqlp_decode.proofs.Gets.{rest_is, drains_event, drains_all, fails_event, fails_rest}
-use Rattle.cqlp_decode.proofs.Taken.{failed, still_tells, passes_handed, passes_failed, passes_none, passes_one}
+use Rattle.cqlp_decode.proofs.Taken.{failed, still_reports, passes_handed, passes_failed, passes_none, passes_one}
 use Rattle.cqlp_decode.proofs.Pieces.{begun_at_fault, ends_refused, ends_there, hands_on}
 use Rattle.cqlp_decode.proofs.Pieces.{is_none, refused_first}
 use Rattle.cqlp_decode.proofs.decoder.Decoder.feed.Goals as goal
@@ -17,10 +17,10 @@ returns-in-Err-clause-refused g c = λ r is.
     absurd (let e = cells.2 in cc)
 
 pub returns-in-Err-clause-drains : goal.returns-in-Err-clause-drains
-returns-in-Err-clause-drains g c = λ tells.
-    let cells = failed g.S.Sink _ _ _ _ _ _ (rw rest_is at c.in-Err.ensures.drains) (c.events.invariant.tells tells) in
+returns-in-Err-clause-drains g c = λ reports.
+    let cells = failed g.S.Sink _ _ _ _ _ _ (rw rest_is at c.in-Err.ensures.drains) (c.events.invariant.reports reports) in
     λ gifts s es a.
-    let d = (c.events.invariant.drained tells gifts s es a).0 in
+    let d = (c.events.invariant.drained reports gifts s es a).0 in
     let new = state c.hand_whole.new.self in
     let r = fails_rest g.S.Sink.after g.S.Sink.faulted gifts (state c.events.self) new s c.args.input.now c.events.used c.in-Err.fault.used es _ _ _ d (cells gifts _ _ d.stands) in
     let none = c.in-Err.ensures.stays.1 ∙ is_none (state c.events.self).refusal (λ r is. let cells = c.in-Err.ensures.refused r is in let e = cells.2 in cc) in
@@ -54,16 +54,16 @@ returns-in-More-clause-refused g c = λ r is.
     let again = repeated (state c.hand_whole.new.self) (state c.next.follows.lender-at-none) _ (state c.hand_whole.new.self).refusal r (ap (λ (z : StreamState). z.refusal) same ∙ is) c.next.follows.holds-at-none.2 in
     absurd (let e = sym c.in-More.is ∙ again.0 in cc)
 
-pub returns-in-More-clause-tells : goal.returns-in-More-clause-tells
-returns-in-More-clause-tells g c = λ tells more. still_tells g.S.Sink _ _ _ _ _ _ c.in-Ok.ensures.drains (c.events.invariant.tells tells)
+pub returns-in-More-clause-reports : goal.returns-in-More-clause-reports
+returns-in-More-clause-reports g c = λ reports more. still_reports g.S.Sink _ _ _ _ _ _ c.in-Ok.ensures.drains (c.events.invariant.reports reports)
 
 pub returns-in-More-clause-drains : goal.returns-in-More-clause-drains
-returns-in-More-clause-drains g c = λ tells gifts s es a.
+returns-in-More-clause-drains g c = λ reports gifts s es a.
     let old = state c.events.self in
     let mid = state c.hand_whole.new.self in
     let used = c.events.used + c.in-Ok.taken in
     let input = c.args.input.now in
-    let e = hands_on g.S.Sink gifts s input es _ old mid c.events.used c.in-Ok.taken _ _ (rw rest_is at c.in-Ok.ensures.drains) (c.events.invariant.tells tells) (c.events.invariant.drained tells gifts s es a) in
+    let e = hands_on g.S.Sink gifts s input es _ old mid c.events.used c.in-Ok.taken _ _ (rw rest_is at c.in-Ok.ensures.drains) (c.events.invariant.reports reports) (c.events.invariant.drained reports gifts s es a) in
     let d = e.0 in
     let leads = c.next.follows.holds-at-none.1 gifts _ _ d.stands in
     let goes = rw c.in-More.is at c.next.follows.holds-at-none.0 in
@@ -86,13 +86,13 @@ returns-in-Refused-clause-refused g c = λ r is.
     (refused_first (c.events.used + c.in-Ok.taken) c.in-Refused.refusal r (omega (arith, before.2, none)) own, again.1 ∙ same, cells.1 ∙ before.1)
 
 pub returns-in-Refused-clause-drains : goal.returns-in-Refused-clause-drains
-returns-in-Refused-clause-drains g c = λ tells.
+returns-in-Refused-clause-drains g c = λ reports.
     let old = state c.events.self in
     let mid = state c.hand_whole.new.self in
     let used = c.events.used + c.in-Ok.taken in
     let input = c.args.input.now in
     λ gifts s es a.
-    let e = hands_on g.S.Sink gifts s input es _ old mid c.events.used c.in-Ok.taken _ _ (rw rest_is at c.in-Ok.ensures.drains) (c.events.invariant.tells tells) (c.events.invariant.drained tells gifts s es a) in
+    let e = hands_on g.S.Sink gifts s input es _ old mid c.events.used c.in-Ok.taken _ _ (rw rest_is at c.in-Ok.ensures.drains) (c.events.invariant.reports reports) (c.events.invariant.drained reports gifts s es a) in
     let d = e.0 in
     let leads = c.next.follows.holds-at-none.1 gifts _ _ d.stands in
     let goes = rw c.in-Refused.is at c.next.follows.holds-at-none.0 in
@@ -107,18 +107,18 @@ returns-in-Err-take-clause-refused g c = λ r is.
     absurd (let e = sym c.in-Event.is ∙ again.0 in cc)
 
 pub returns-in-Err-take-clause-drains : goal.returns-in-Err-take-clause-drains
-returns-in-Err-take-clause-drains g c = λ tells.
+returns-in-Err-take-clause-drains g c = λ reports.
     let old = state c.events.self in
     let mid = state c.hand_whole.new.self in
     let used = c.events.used + c.in-Ok.taken in
     let input = c.args.input.now in
     λ gifts s es a.
-    let e = hands_on g.S.Sink gifts s input es _ old mid c.events.used c.in-Ok.taken _ _ (rw rest_is at c.in-Ok.ensures.drains) (c.events.invariant.tells tells) (c.events.invariant.drained tells gifts s es a) in
+    let e = hands_on g.S.Sink gifts s input es _ old mid c.events.used c.in-Ok.taken _ _ (rw rest_is at c.in-Ok.ensures.drains) (c.events.invariant.reports reports) (c.events.invariant.drained reports gifts s es a) in
     let d = e.0 in
     let leads = c.next.follows.holds-at-none.1 gifts _ _ d.stands in
     let new = state c.next.follows.lender-at-none in
     let led = rw (c.in-Event.is, rest_is) at leads in
-    let r = fails_event g.S.Sink.after gifts mid new s input used es _ _ d g.S.Sink.faulted c.in-Event.at c.in-Event.taken c.in-Event.event _ led (c.in-Err-take.ensures.err (still_tells g.S.Sink _ _ _ _ _ _ c.in-Ok.ensures.drains (c.events.invariant.tells tells))) in
+    let r = fails_event g.S.Sink.after gifts mid new s input used es _ _ d g.S.Sink.faulted c.in-Event.at c.in-Event.taken c.in-Event.event _ led (c.in-Err-take.ensures.err (still_reports g.S.Sink _ _ _ _ _ _ c.in-Ok.ensures.drains (c.events.invariant.reports reports))) in
     (r, ends_there gifts new _ _ led.1 led.2 r.stands)
 
 pub events-smaller : goal.events-smaller
@@ -153,14 +153,14 @@ events-preserved g c =
           absurd (let e = sym c.in-Event.is ∙ again.0 in cc);
       clear = λ none. goes.3;
       also = passes_one g.S.Sink.also _ _ _ _ _ (passes_handed g.S.Sink _ _ _ _ _ _ _ c.events.invariant.also c.in-Ok.ensures.drains) c.in-Ok-take.ensures.also;
-      tells = λ tells. (c.in-Ok-take.ensures.ok (still_tells g.S.Sink _ _ _ _ _ _ c.in-Ok.ensures.drains (c.events.invariant.tells tells))).0;
-      drained = λ tells gifts s es a.
-          let e = hands_on g.S.Sink gifts s input es _ old mid c.events.used c.in-Ok.taken _ _ (rw rest_is at c.in-Ok.ensures.drains) (c.events.invariant.tells tells) (c.events.invariant.drained tells gifts s es a) in
+      reports = λ reports. (c.in-Ok-take.ensures.ok (still_reports g.S.Sink _ _ _ _ _ _ c.in-Ok.ensures.drains (c.events.invariant.reports reports))).0;
+      drained = λ reports gifts s es a.
+          let e = hands_on g.S.Sink gifts s input es _ old mid c.events.used c.in-Ok.taken _ _ (rw rest_is at c.in-Ok.ensures.drains) (c.events.invariant.reports reports) (c.events.invariant.drained reports gifts s es a) in
           let d = e.0 in
           let leads = c.next.follows.holds-at-none.1 gifts _ _ d.stands in
           let new = state c.next.follows.lender-at-none in
           let led = rw (c.in-Event.is, rest_is) at leads in
-          let r = drains_event g.S.Sink.after gifts mid new s input used es _ _ d c.in-Event.at c.in-Event.taken c.in-Event.event _ led (c.in-Ok-take.ensures.ok (still_tells g.S.Sink _ _ _ _ _ _ c.in-Ok.ensures.drains (c.events.invariant.tells tells))).1 in
+          let r = drains_event g.S.Sink.after gifts mid new s input used es _ _ d c.in-Event.at c.in-Event.taken c.in-Event.event _ led (c.in-Ok-take.ensures.ok (still_reports g.S.Sink _ _ _ _ _ _ c.in-Ok.ensures.drains (c.events.invariant.reports reports))).1 in
           (r, inr (ends_there gifts new _ _ led.1 led.2 r.stands));
     }
 
@@ -171,7 +171,7 @@ events-init g c = record {
   given = refl;
   refused = λ r is. (refl, refl, refl);
   clear = λ none. none;
-  tells = λ tells. tells;
+  reports = λ reports. reports;
   also = passes_none g.S.Sink.also c.args.sink.now;
-  drained = λ tells gifts s es a. (record { more = []; stands = rw (append-nil s, append-nil es) a; got = refl }, inl (refl, refl));
+  drained = λ reports gifts s es a. (record { more = []; stands = rw (append-nil s, append-nil es) a; got = refl }, inl (refl, refl));
 }

@@ -15,9 +15,9 @@ invariant-events g l = record {
   given : (state l.self).given ≡ (state l.fn.self).given;
   refused : (r : Refusal) → (state l.fn.self).refusal ≡ Some r → (state l.self ≡ state l.fn.self) × (l.sink ≡ l.fn.sink) × (l.used ≡ 0);
   clear : (state l.fn.self).refusal ≡ None → (state l.self).refusal ≡ None;
-  tells : g.S.Sink.tells l.fn.sink → g.S.Sink.tells l.sink;
+  reports : g.S.Sink.reports l.fn.sink → g.S.Sink.reports l.sink;
   also : Passes g.S.Sink.also l.fn.sink l.sink;
-  drained : g.S.Sink.tells l.fn.sink → (gifts : Gifts) (s : List ℕ) (es : List (ℕ × Event)) → AfterGifts gifts (state l.fn.self) s es → Drained g.S.Sink gifts s l.input es (g.S.Sink.view l.fn.sink) (state l.self) l.used l.sink;
+  drained : g.S.Sink.reports l.fn.sink → (gifts : Gifts) (s : List ℕ) (es : List (ℕ × Event)) → AfterGifts gifts (state l.fn.self) s es → Drained g.S.Sink gifts s l.input es (g.S.Sink.view l.fn.sink) (state l.self) l.used l.sink;
 }
 
 -- an event takes some byte, or is the end of the frame or of a value that is open

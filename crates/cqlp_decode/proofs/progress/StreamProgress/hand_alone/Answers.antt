@@ -28,7 +28,7 @@ returns-in-Taken-clause-hands g c =
     let idle = sym c.is_under_way.ensures ∙ c.if-is_under_way.false in
     let empty = nothing_held q.partial.content (omega (arith, c.if-held-gt0.false, c.held.ensures.is)) in
     let has = c.in-Taken.ensures.hands in
-    alone_takes c.args.self.now q c.args.want c.requires.here c.requires.alone c.requires.lawful c.requires.unrefused idle empty c.args.input.now c.in-Taken.used has.value has.says c.expect_next.new.self c.expect_next.ensures.rest (c.expect_next.ensures.symbols q) c.expect_next.ensures.room _ has.told
+    alone_takes c.args.self.now q c.args.want c.requires.here c.requires.alone c.requires.lawful c.requires.unrefused idle empty c.args.input.now c.in-Taken.used has.value has.says c.expect_next.new.self c.expect_next.ensures.rest (c.expect_next.ensures.symbols q) c.expect_next.ensures.room _ has.emitted
 
 pub overflow_add-self-in-Fault : goal.overflow_add-self-in-Fault
 overflow_add-self-in-Fault g c =
@@ -54,4 +54,4 @@ returns-in-Fault-clause-hands g c =
     let idle = sym c.is_under_way.ensures ∙ c.if-is_under_way.false in
     let empty = nothing_held q.partial.content (omega (arith, c.if-held-gt0.false, c.held.ensures.is)) in
     let has = c.in-Fault.ensures.hands in
-    alone_takes c.args.self.now q c.args.want c.requires.here c.requires.alone c.requires.lawful c.requires.unrefused idle empty c.args.input.now c.in-Fault.used has.value has.says c.expect_next-in-Fault.new.self c.expect_next-in-Fault.ensures.rest (c.expect_next-in-Fault.ensures.symbols q) c.expect_next-in-Fault.ensures.room _ has.told
+    alone_takes c.args.self.now q c.args.want c.requires.here c.requires.alone c.requires.lawful c.requires.unrefused idle empty c.args.input.now c.in-Fault.used has.value has.says c.expect_next-in-Fault.new.self c.expect_next-in-Fault.ensures.rest (c.expect_next-in-Fault.ensures.symbols q) c.expect_next-in-Fault.ensures.room _ has.emitted

@@ -1,7 +1,7 @@
 use Rattle.std.proofs.Common.{◌+◌, drop, refl, arith}
 use Rattle.std.proofs.lemmas.List.{length-drop}
 use Rattle.cqlp_decode.specs.Progress.{nodes_of, parts_state, state_of, state_with}
-use Rattle.cqlp_decode.specs.Items.{TakesItem, at_level, part_told}
+use Rattle.cqlp_decode.specs.Items.{TakesItem, at_level, part_emitted}
 use Rattle.cqlp_decode.specs.Sinks.{Gets, Fails}
 use Rattle.cqlp_decode.proofs.Gets.{rest_is}
 use Rattle.cqlp_decode.proofs.Lists.{item_faults, item_stays, items_fault, items_stay, level_stands, stood_item, stood_items, stood_stays}
@@ -113,10 +113,10 @@ returns-in-Err-clause-stays g c =
     let k = u + m.result.used in
     let handed = stood_items (Gets g.S.Sink) old input sink here u _ i.stood behind m.result.used (rw rest_is at m.ensures.within) refl refl refl _ (rw (rest_is, c.if-handed.false) at m.ensures.drains) in
     let e = c.in-Some.end in
-    let told = part_told p.row p.column e.part in
+    let emitted = part_emitted p.row p.column e.part in
     let leaves = c.end_list.ensures.leaves (drop k input) in
     let new = state_with c.end_list.new.self c.end_list.new.parts in
-    item_stays (Gets g.S.Sink) old input sink behind k _ handed new e.used e.at told leaves
+    item_stays (Gets g.S.Sink) old input sink behind k _ handed new e.used e.at emitted leaves
 
 pub returns-in-Err-clause-drains : goal.returns-in-Err-clause-drains
 returns-in-Err-clause-drains g c =
@@ -134,10 +134,10 @@ returns-in-Err-clause-drains g c =
     let k = u + m.result.used in
     let handed = stood_items (Gets g.S.Sink) old input sink here u _ i.stood behind m.result.used (rw rest_is at m.ensures.within) refl refl refl _ (rw (rest_is, c.if-handed.false) at m.ensures.drains) in
     let e = c.in-Some.end in
-    let told = part_told p.row p.column e.part in
+    let emitted = part_emitted p.row p.column e.part in
     let leaves = c.end_list.ensures.leaves (drop k input) in
     let new = state_with c.end_list.new.self c.end_list.new.parts in
-    item_faults (Gets g.S.Sink) old input sink behind k _ handed new e.used e.at told leaves (Fails g.S.Sink) _ c.in-Err.ensures.err
+    item_faults (Gets g.S.Sink) old input sink behind k _ handed new e.used e.at emitted leaves (Fails g.S.Sink) _ c.in-Err.ensures.err
 
 pub returns-in_default-next_list-clause-stays : goal.returns-in_default-next_list-clause-stays
 returns-in_default-next_list-clause-stays g c =
@@ -155,10 +155,10 @@ returns-in_default-next_list-clause-stays g c =
     let k = u + m.result.used in
     let handed = stood_items (Gets g.S.Sink) old input sink here u _ i.stood behind m.result.used (rw rest_is at m.ensures.within) refl refl refl _ (rw (rest_is, c.if-handed.false) at m.ensures.drains) in
     let e = c.in-Some.end in
-    let told = part_told p.row p.column e.part in
+    let emitted = part_emitted p.row p.column e.part in
     let leaves = rw c.in_default-next_list.ensures.goes at (c.end_list-in_default-next_list.ensures.leaves (drop k input)) in
     let new = state_with c.end_list-in_default-next_list.new.self c.end_list-in_default-next_list.new.parts in
-    stood_stays (Gets g.S.Sink) old input sink new (k + e.used) _ (stood_item (Gets g.S.Sink) old input sink behind k _ handed new e.used e.at told leaves _ c.in-Ok.ensures.ok)
+    stood_stays (Gets g.S.Sink) old input sink new (k + e.used) _ (stood_item (Gets g.S.Sink) old input sink behind k _ handed new e.used e.at emitted leaves _ c.in-Ok.ensures.ok)
 
 pub returns-in_default-next_list-clause-drains : goal.returns-in_default-next_list-clause-drains
 returns-in_default-next_list-clause-drains g c =
@@ -176,10 +176,10 @@ returns-in_default-next_list-clause-drains g c =
     let k = u + m.result.used in
     let handed = stood_items (Gets g.S.Sink) old input sink here u _ i.stood behind m.result.used (rw rest_is at m.ensures.within) refl refl refl _ (rw (rest_is, c.if-handed.false) at m.ensures.drains) in
     let e = c.in-Some.end in
-    let told = part_told p.row p.column e.part in
+    let emitted = part_emitted p.row p.column e.part in
     let leaves = rw c.in_default-next_list.ensures.goes at (c.end_list-in_default-next_list.ensures.leaves (drop k input)) in
     let new = state_with c.end_list-in_default-next_list.new.self c.end_list-in_default-next_list.new.parts in
-    (stood_item (Gets g.S.Sink) old input sink behind k _ handed new e.used e.at told leaves _ c.in-Ok.ensures.ok).drained
+    (stood_item (Gets g.S.Sink) old input sink behind k _ handed new e.used e.at emitted leaves _ c.in-Ok.ensures.ok).drained
 
 pub returns-in-Err-hand_part-clause-lawful : goal.returns-in-Err-hand_part-clause-lawful
 returns-in-Err-hand_part-clause-lawful g c =
@@ -201,12 +201,12 @@ returns-in-Err-hand_part-clause-stays g c =
     let k = u + m.result.used in
     let handed = stood_items (Gets g.S.Sink) old input sink here u _ i.stood behind m.result.used (rw rest_is at m.ensures.within) refl refl refl _ (rw (rest_is, c.if-handed.false) at m.ensures.drains) in
     let e = c.in-Some.end in
-    let told = part_told p.row p.column e.part in
+    let emitted = part_emitted p.row p.column e.part in
     let n = c.in-Some-next_list.next in
     let goes = c.in-Some-next_list.ensures.goes in
-    let left = stood_item (Gets g.S.Sink) old input sink behind k _ handed goes.0 e.used e.at told (goes.1 (drop k input)) _ c.in-Ok.ensures.ok in
+    let left = stood_item (Gets g.S.Sink) old input sink behind k _ handed goes.0 e.used e.at emitted (goes.1 (drop k input)) _ c.in-Ok.ensures.ok in
     let on = state_of c.next_list.new.self (at_level q n.entered.level) in
-    let begins = part_told n.page.row n.page.column n.entered.item.part in
+    let begins = part_emitted n.page.row n.page.column n.entered.item.part in
     let takes : TakesItem goes.0 (drop (k + e.used) input) n.entered.item.at n.entered.item.used begins on = rw rest_is at goes.2 in
     item_stays (Gets g.S.Sink) old input sink goes.0 (k + e.used) _ left on n.entered.item.used n.entered.item.at begins takes
 
@@ -226,12 +226,12 @@ returns-in-Err-hand_part-clause-drains g c =
     let k = u + m.result.used in
     let handed = stood_items (Gets g.S.Sink) old input sink here u _ i.stood behind m.result.used (rw rest_is at m.ensures.within) refl refl refl _ (rw (rest_is, c.if-handed.false) at m.ensures.drains) in
     let e = c.in-Some.end in
-    let told = part_told p.row p.column e.part in
+    let emitted = part_emitted p.row p.column e.part in
     let n = c.in-Some-next_list.next in
     let goes = c.in-Some-next_list.ensures.goes in
-    let left = stood_item (Gets g.S.Sink) old input sink behind k _ handed goes.0 e.used e.at told (goes.1 (drop k input)) _ c.in-Ok.ensures.ok in
+    let left = stood_item (Gets g.S.Sink) old input sink behind k _ handed goes.0 e.used e.at emitted (goes.1 (drop k input)) _ c.in-Ok.ensures.ok in
     let on = state_of c.next_list.new.self (at_level q n.entered.level) in
-    let begins = part_told n.page.row n.page.column n.entered.item.part in
+    let begins = part_emitted n.page.row n.page.column n.entered.item.part in
     let takes : TakesItem goes.0 (drop (k + e.used) input) n.entered.item.at n.entered.item.used begins on = rw rest_is at goes.2 in
     rw c.set_level-in-Err-hand_part.ensures (item_faults (Gets g.S.Sink) old input sink goes.0 (k + e.used) _ left on n.entered.item.used n.entered.item.at begins takes (Fails g.S.Sink) _ c.in-Err-hand_part.ensures.err)
 
@@ -251,12 +251,12 @@ lists-preserved g c =
     let k = u + m.result.used in
     let handed = stood_items (Gets g.S.Sink) old input sink here u _ i.stood behind m.result.used (rw rest_is at m.ensures.within) refl refl refl _ (rw (rest_is, c.if-handed.false) at m.ensures.drains) in
     let e = c.in-Some.end in
-    let told = part_told p.row p.column e.part in
+    let emitted = part_emitted p.row p.column e.part in
     let n = c.in-Some-next_list.next in
     let goes = c.in-Some-next_list.ensures.goes in
-    let left = stood_item (Gets g.S.Sink) old input sink behind k _ handed goes.0 e.used e.at told (goes.1 (drop k input)) _ c.in-Ok.ensures.ok in
+    let left = stood_item (Gets g.S.Sink) old input sink behind k _ handed goes.0 e.used e.at emitted (goes.1 (drop k input)) _ c.in-Ok.ensures.ok in
     let on = state_of c.next_list.new.self (at_level q n.entered.level) in
-    let begins = part_told n.page.row n.page.column n.entered.item.part in
+    let begins = part_emitted n.page.row n.page.column n.entered.item.part in
     let takes : TakesItem goes.0 (drop (k + e.used) input) n.entered.item.at n.entered.item.used begins on = rw rest_is at goes.2 in
     record {
       lawful = goes.3;
@@ -282,12 +282,12 @@ lists-smaller g c =
     let k = u + m.result.used in
     let handed = stood_items (Gets g.S.Sink) old input sink here u _ i.stood behind m.result.used (rw rest_is at m.ensures.within) refl refl refl _ (rw (rest_is, c.if-handed.false) at m.ensures.drains) in
     let e = c.in-Some.end in
-    let told = part_told p.row p.column e.part in
+    let emitted = part_emitted p.row p.column e.part in
     let n = c.in-Some-next_list.next in
     let goes = c.in-Some-next_list.ensures.goes in
-    let left = stood_item (Gets g.S.Sink) old input sink behind k _ handed goes.0 e.used e.at told (goes.1 (drop k input)) _ c.in-Ok.ensures.ok in
+    let left = stood_item (Gets g.S.Sink) old input sink behind k _ handed goes.0 e.used e.at emitted (goes.1 (drop k input)) _ c.in-Ok.ensures.ok in
     let on = state_of c.next_list.new.self (at_level q n.entered.level) in
-    let begins = part_told n.page.row n.page.column n.entered.item.part in
+    let begins = part_emitted n.page.row n.page.column n.entered.item.part in
     let takes : TakesItem goes.0 (drop (k + e.used) input) n.entered.item.at n.entered.item.used begins on = rw rest_is at goes.2 in
     let w = rw rest_is at m.ensures.within in
     let leaves = goes.1 (drop k input) in

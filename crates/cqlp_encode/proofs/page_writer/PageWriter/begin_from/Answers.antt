@@ -33,7 +33,7 @@ invariant_of-result g c =
     let fits = none_where_measured _ _ _ measured in
     let is = size_where_measured _ _ _ measured in
     let place = first_place c.args.frame.now c.args.cells_len c.in-Ok.len c.write_parts-taken.result fits is c.cells_wanted.result c.cells_wanted.ensures (all_of_head c.args.frame.now c.args.cells_len c.in-Ok.len c.write_parts-taken.result fits is c.args.before _ _ c.write_parts-taken.ensures.continued c.write_parts-taken.ensures.size c.if-taken-page_len.false) in
-    (place, record { told = c.specs.ensures; number = c.columns.ensures })
+    (place, record { described = c.specs.ensures; number = c.columns.ensures })
 
 pub returns-clause-begins : goal.returns-clause-begins
 returns-clause-begins g c =

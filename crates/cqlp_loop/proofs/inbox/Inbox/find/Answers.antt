@@ -16,6 +16,6 @@ returns-in-Found c =
       λ hs. record {
         used = take c.in-Found.used (take (c.self.inside.end - c.self.inside.next) (drop c.self.inside.next c.self.inside.piece));
         split = ap (λ (i : InboxState). i.waiting) (sym c.self.view_is) ∙ waiting_split c.self.inside.next c.self.inside.end c.in-Found.used c.self.inside.piece e.0;
-        tells = rw (← c.self.view_is) (e.3 hs);
+        emits = rw (← c.self.view_is) (e.3 hs);
       },
     )

@@ -11,7 +11,7 @@ use Rattle.cqlp_skip.proofs.Folding.{passes_moved}
 use Rattle.cqlp_skip.proofs.skipping.SkippingDecoder.feed.Goals as goal
 
 pub returns-clause-feeds : goal.returns-clause-feeds
-returns-clause-feeds g c = λ tells xs s stretches gifts events later is after.
+returns-clause-feeds g c = λ reports xs s stretches gifts events later is after.
     let d = c.self.inside in
     let input = c.args.input.now in
     let p = c.passed_of-passed.result in
@@ -23,7 +23,7 @@ returns-clause-feeds g c = λ tells xs s stretches gifts events later is after.
     let few : p + used_of (length (drop p input)) x ≤ length input = omega (arith, within, length-drop p input, passed) in
     let used : c.used_of.result ≡ used_of (length input) (fed_from d.base p x) = c.used_of.ensures ∙ ap (λ (z : Fed). used_of (length input) z) c.fed_from-fed.ensures in
     let count : c.saturating_add-self-inside.result ≡ min (d.used + used_of (length input) (fed_from d.base p x)) (2 ^ 64 - 1) = c.saturating_add-self-inside.ensures ∙ ap (λ (n : ℕ). min (d.used + n) (2 ^ 64 - 1)) used in
-    let drains = rw rest_is at (c.feed-fed.ensures.drains tells) in
+    let drains = rw rest_is at (c.feed-fed.ensures.drains reports) in
     let new = skipping c.feed-fed.new.self d.base c.saturating_add-self-inside.result sink.frame d.last in
     let v = g.S.Sink.view c.args.sink in
     let w = g.S.Sink.view sink.sink in

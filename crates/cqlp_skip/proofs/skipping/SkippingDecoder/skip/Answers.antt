@@ -10,4 +10,4 @@ returns-clause-goes_on g c = λ xs s stretches gifts events after.
     let a = subst (λ (z : Skipping). AfterSkips xs z s stretches gifts events) (sym c.self.view_is) after in
     let there : end_within c.in-Some.frame d.base d.used ≡ Some c.in-Some-end_within.end = sym c.end_within.ensures ∙ c.in-Some-end_within.is in
     rw (← c.self.view_is)
-    (goes_behind d.decoder c.restart.new.self d.base d.used d.last c.told_at.result d.frame c.in-Some.frame c.in-Some-end_within.end c.in-Some.is c.finish.result c.in-Refused.refusal c.finish.ensures.refused c.finish.ensures.unrefused c.in-Refused.is there c.restart.ensures.fresh c.restart.ensures.unrefused c.restart.ensures.rules xs s stretches gifts events a)
+    (goes_behind d.decoder c.restart.new.self d.base d.used d.last c.stream_offset.result d.frame c.in-Some.frame c.in-Some-end_within.end c.in-Some.is c.finish.result c.in-Refused.refusal c.finish.ensures.refused c.finish.ensures.unrefused c.in-Refused.is there c.restart.ensures.fresh c.restart.ensures.unrefused c.restart.ensures.rules xs s stretches gifts events a)

@@ -1,6 +1,0 @@
-use Rattle.cqlp_capture_exchanges.specs.Reports.{report_of}
-use Rattle.cqlp_capture_exchanges.proofs.Accounts.{stops_one}
-use Rattle.cqlp_capture_exchanges.proofs.teller.Teller.report.Goals as goal
-
-pub returns-in-Err : goal.returns-in-Err
-returns-in-Err g c = λ known. stops_one c.args.number (report_of c.args.report) c.args.self.now c.tell.new.self (c.in-Err.ensures known)

@@ -1,0 +1,266 @@
+//! What is reported of connections, on its way to an output.
+
+ghost use Rattle.std.specs.Prelude.{◌≡◌, [], ◌∷◌, IsSome};
+ghost use Rattle.cqlp_text.specs.Written.{Writes};
+ghost use Rattle.cqlp_capture_summary.specs.Lines.{summary_text};
+ghost use Rattle.cqlp_capture_exchanges.specs.Forms.{ending_of, text_of};
+ghost use Rattle.cqlp_text.specs.Outputs.{written};
+ghost use Rattle.cqlp_capture_exchanges.specs.Reports.{report_of};
+
+use crate::filter::ExchangeFilter;
+use crate::form::ExchangeForm;
+use crate::lines::put_line;
+use crate::noting::note;
+use crate::object::put_json_line;
+use crate::prepared::{Preparation, add_known, is_news};
+use crate::report::{ConnectionEnd, Report, is_unread};
+use crate::sums::ExchangeSums;
+use cqlp_capture_streams::StreamsFault;
+use cqlp_capture_summary::Summary;
+use cqlp_grammar::SinkFault;
+use cqlp_note::Target;
+use cqlp_observer::{Kept, Message, Opening, Paired};
+use cqlp_text::{Buffered, TextWriter};
+use std::alloc::{Allocator, Global};
+use std::marker::Model;
+
+/// Counts what is reported of connections, and writes what is shown. Takes no memory.
+#[derive(Drop)]
+pub(crate) struct Reporter<O: Target, A: Allocator = Global> {
+    filter: ExchangeFilter,
+    form: ExchangeForm,
+    /// When the first packet with a segment was captured of which that is known.
+    first: Option<u64>,
+    /// Statements that were prepared, each by the first PREPARE whose response gave its id; of too many the one goes whose id came first.
+    known: Vec<Preparation<A>, A>,
+    summary: Summary<A>,
+    sums: ExchangeSums,
+    writer: TextWriter<Buffered<O, A>>,
+}
+
+impl<O: Target, A: Allocator> Model for Reporter<O, A> {
+    ghost use Rattle.std.specs.Prelude.{◌≡◌, ◌≤◌, [], length, vec_capacity};
+    ghost use Rattle.cqlp_text.specs.Outputs.{output};
+    ghost use Rattle.cqlp_capture_exchanges.specs.Accounts.{Account, account};
+
+    ghost Value = { Account };
+
+    ghost view = { λ t. account t.filter t.form t.first t.known.items t.summary t.sums (output t.writer.given t.writer.failures) };
+
+    ghost invariant = { λ t. (t.writer.waiting ≡ []) × (length t.known.items ≤ 256) × (vec_capacity t.known ≡ 256) };
+}
+
+impl<O: Target, A: Allocator> Reporter<O, A> {
+    ghost use Rattle.std.specs.Prelude.{◌≤◌, [], vec_capacity, vec_len};
+    ghost use Rattle.cqlp_observer.specs.declared.paired.Paired.TheVariants.{Exchange};
+    ghost use Rattle.cqlp_capture_exchanges.specs.Accounts.{Finishes, ReportsOne, ReportedAll, account, learned, no_sums, since};
+    ghost use Rattle.cqlp_capture_exchanges.specs.Reports.{Messages, messages, unread};
+
+    /// Of an output, with nothing reported. A line waits in the buffer until it is whole, as far as there is room for it.
+    pub(crate) fn new(
+        filter: ExchangeFilter,
+        form: ExchangeForm,
+        out: O,
+        buffer: Vec<u8, A>,
+        known: Vec<Preparation<A>, A>,
+        summary: Summary<A>,
+    ) -> Self
+        requires buffer { 128 ≤ vec_len buffer }
+        requires none { known.items ≡ [] }
+        requires room { vec_capacity known ≡ 256 }
+        ensures { result ≡ account filter form None [] summary no_sums (written O.Target out) }
+    {
+        Reporter {
+            filter,
+            form,
+            first: None,
+            known,
+            summary,
+            sums: ExchangeSums::none(),
+            writer: TextWriter::new(Buffered::new(out, buffer)),
+        }
+    }
+
+    /// The output and the sums.
+    pub(crate) fn into_parts(self) -> (O, ExchangeSums)
+        ensures output { written O.Target result.0 ≡ self.output }
+        ensures sums { result.1 ≡ self.sums }
+    {
+        let Reporter {
+            filter: _,
+            form: _,
+            first: _,
+            known: _,
+            summary: _,
+            sums,
+            writer,
+        } = self;
+        (writer.into_inner().into_inner(), sums)
+    }
+
+    /// Notes when a packet was captured, if it is the first of which that is known.
+    pub(crate) fn note_time(&mut self, time: Option<u64>)
+        ensures { self.new ≡ since time self.old }
+    {
+        self.first = self.first.or(time);
+    }
+
+    /// Takes a report of the connection with this number.
+    #[tactic(auto, using(crate::proofs::Accounts::reported_shown))]
+    fn take_report(&mut self, number: u64, report: &Report<A>) -> Result<(), SinkFault>
+        ensures { IsSome self.old.output.given → ReportsOne number (report_of report.now) self.old result self.new }
+    {
+        self.sums.count(report);
+        if self.filter.shows(number, report) {
+            note(&mut self.summary, self.form, &self.known, report);
+            put_report(
+                &mut self.writer,
+                self.form,
+                &self.known,
+                self.first,
+                number,
+                report,
+            )
+        } else {
+            Ok(())
+        }
+    }
+
+    /// Writes what stands at the end.
+    pub(crate) fn finish(&mut self) -> Result<(), SinkFault>
+        ensures { IsSome self.old.output.given → Finishes self.old result self.new }
+    {
+        put_ending(&mut self.writer, self.form, &self.summary)
+    }
+
+    /// Takes a report of the connection with this number, and learns from it.
+    fn report(&mut self, number: u64, report: Report<A>) -> Result<(), StreamsFault>
+        ensures { ReportedAll number (report_of report ∷ []) self.old result self.new }
+    {
+        match self.take_report(number, &report) {
+            Ok(()) => {
+                self.learn(report);
+                Ok(())
+            }
+            Err(SinkFault) => Err(StreamsFault::Write),
+        }
+    }
+
+    /// Reports messages, if there are some; where they are reported since their connection is finished, also how that ended.
+    pub(crate) fn report_messages(
+        &mut self,
+        number: u64,
+        end: Option<ConnectionEnd>,
+        exchange: Option<Paired<Kept<A>>>,
+    ) -> Result<(), StreamsFault>
+        ensures { ReportedAll number (messages end exchange) self.old result self.new }
+    {
+        match exchange {
+            Some(paired) => self.report(number, Report::Messages { paired, end }),
+            None => Ok(()),
+        }
+    }
+
+    /// Reports that a connection is not read, if a direction begins so at this time, unless that was reported.
+    pub(crate) fn report_opening(
+        &mut self,
+        number: u64,
+        time: Option<u64>,
+        was_reported: bool,
+        opening: Opening,
+    ) -> Result<(), StreamsFault>
+        ensures { ReportedAll number (unread time was_reported opening) self.old result self.new }
+    {
+        if was_reported {
+            Ok(())
+        } else if is_unread(opening) {
+            self.report(number, Report::Unread { time, opening })
+        } else {
+            Ok(())
+        }
+    }
+
+    /// Keeps a statement that was prepared, with its id.
+    fn learn(&mut self, report: Report<A>)
+        ensures { self.new ≡ learned (report_of report) self.old }
+    {
+        match report {
+            Report::Messages { paired, end } => self.learn_paired(paired, end),
+            Report::Unread { .. } => {}
+        }
+    }
+
+    fn learn_paired(&mut self, exchange: Paired<Kept<A>>, end: Option<ConnectionEnd>)
+        ensures { self.new ≡ learned (Messages exchange end) self.old }
+    {
+        match exchange {
+            Paired::Exchange { request, response } => self.learn_exchange(request, response, end),
+            Paired::Unanswered { .. } | Paired::Unasked { .. } | Paired::Event { .. } => {}
+        }
+    }
+
+    fn learn_exchange(
+        &mut self,
+        request: Message<Kept<A>>,
+        response: Message<Kept<A>>,
+        end: Option<ConnectionEnd>,
+    )
+        ensures { self.new ≡ learned (Messages (Exchange request response) end) self.old }
+    {
+        if is_news(&self.known, &request, &response) {
+            let one = Preparation { request, response };
+            add_known(&mut self.known, one);
+        }
+    }
+}
+
+/// Takes what is written of a report of the connection with this number, and passes it on.
+#[tactic(auto, using(crate::proofs::Texts::nothing_taken))]
+fn put_report<W: Target, A: Allocator, B: Allocator>(
+    writer: &mut TextWriter<Buffered<W, A>>,
+    form: ExchangeForm,
+    known: &[Preparation<B>],
+    first: Option<u64>,
+    number: u64,
+    report: &Report<B>,
+) -> Result<(), SinkFault>
+    requires { writer.old.waiting ≡ [] }
+    ensures text { Writes writer.old (text_of form known.now first number (report_of report.now)) result writer.new }
+    ensures passed { writer.new.waiting ≡ [] }
+{
+    match form {
+        ExchangeForm::Lines => put_line(writer, known, first, number, report),
+        ExchangeForm::Json => put_json_line(writer, known, first, number, report),
+        ExchangeForm::Summary(_) => Ok(()),
+    }
+}
+
+/// Takes what is written at the end, and passes it on.
+#[tactic(auto, using(crate::proofs::Texts::nothing_taken))]
+fn put_ending<W: Target, A: Allocator>(
+    writer: &mut TextWriter<Buffered<W, A>>,
+    form: ExchangeForm,
+    summary: &Summary<A>,
+) -> Result<(), SinkFault>
+    requires { writer.old.waiting ≡ [] }
+    ensures text { Writes writer.old (ending_of form summary.now) result writer.new }
+    ensures passed { writer.new.waiting ≡ [] }
+{
+    match form {
+        ExchangeForm::Lines => Ok(()),
+        ExchangeForm::Json => Ok(()),
+        ExchangeForm::Summary(_) => put_summary(writer, summary),
+    }
+}
+
+/// Takes the lines of a summary, and passes them on.
+fn put_summary<W: Target, A: Allocator>(
+    writer: &mut TextWriter<Buffered<W, A>>,
+    summary: &Summary<A>,
+) -> Result<(), SinkFault>
+    ensures text { Writes writer.old (summary_text summary.now) result writer.new }
+    ensures passed { writer.new.waiting ≡ [] }
+{
+    summary.put(writer)?;
+    writer.pass_on()
+}

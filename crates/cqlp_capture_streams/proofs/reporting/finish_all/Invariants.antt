@@ -1,0 +1,13 @@
+use Rattle.std.proofs.Common.{◌≡◌, List, length}
+use Rattle.cqlp_capture_streams.specs.ConnectionEvents.{ConnectionEvent}
+use Rattle.cqlp_capture_streams.specs.Listening.{after_all}
+use Rattle.cqlp_capture_streams.specs.Reportings.{Path, Departs}
+use Rattle.cqlp_capture_streams.proofs.reporting.finish_all.Given as goal
+
+-- the listener has got what was reported so far
+abbrev pub invariant-loop-turn : goal.invariant-loop-turn
+invariant-loop-turn g l =
+    let m = g.L.Listener in
+    m.reports l.fn.listener → (ss : List ConnectionEvent)
+    × Path Departs l.fn.connections ss l.connections
+    × m.reports l.listener × (m.view l.listener ≡ after_all m.after (m.view l.fn.listener) ss) × (length ss ≡ l.turn)

@@ -1,0 +1,203 @@
+// Written by dist/erase from crates/cqlp_capture_exchanges/src/reporter.rt.
+//! What is reported of connections, on its way to an output.
+
+use crate::kit_host::prelude::{Vec};
+use crate::cqlp_capture_exchanges::filter::ExchangeFilter;
+use crate::cqlp_capture_exchanges::form::ExchangeForm;
+use crate::cqlp_capture_exchanges::lines::put_line;
+use crate::cqlp_capture_exchanges::noting::note;
+use crate::cqlp_capture_exchanges::object::put_json_line;
+use crate::cqlp_capture_exchanges::prepared::{Preparation, add_known, is_news};
+use crate::cqlp_capture_exchanges::report::{ConnectionEnd, Report, is_unread};
+use crate::cqlp_capture_exchanges::sums::ExchangeSums;
+use crate::cqlp_capture_streams::StreamsFault;
+use crate::cqlp_capture_summary::Summary;
+use crate::cqlp_grammar::SinkFault;
+use crate::cqlp_note::Target;
+use crate::cqlp_observer::{Kept, Message, Opening, Paired};
+use crate::cqlp_text::{Buffered, TextWriter};
+use crate::kit_std::alloc::{Allocator, Global};
+
+/// Counts what is reported of connections, and writes what is shown. Takes no memory.
+pub(crate) struct Reporter<O: Target, A: Allocator = Global> {
+    filter: ExchangeFilter,
+    form: ExchangeForm,
+    /// When the first packet with a segment was captured of which that is known.
+    first: Option<u64>,
+    /// Statements that were prepared, each by the first PREPARE whose response gave its id; of too many the one goes whose id came first.
+    known: Vec<Preparation<A>, A>,
+    summary: Summary<A>,
+    sums: ExchangeSums,
+    writer: TextWriter<Buffered<O, A>>,
+}
+
+impl<O: Target, A: Allocator> Reporter<O, A> {
+    /// Of an output, with nothing reported. A line waits in the buffer until it is whole, as far as there is room for it.
+    pub(crate) fn new(
+        filter: ExchangeFilter,
+        form: ExchangeForm,
+        out: O,
+        buffer: Vec<u8, A>,
+        known: Vec<Preparation<A>, A>,
+        summary: Summary<A>,
+    ) -> Self {
+        Reporter {
+            filter,
+            form,
+            first: None,
+            known,
+            summary,
+            sums: ExchangeSums::none(),
+            writer: TextWriter::new(Buffered::new(out, buffer)),
+        }
+    }
+
+    /// The output and the sums.
+    pub(crate) fn into_parts(self) -> (O, ExchangeSums) {
+        let Reporter {
+            filter: _,
+            form: _,
+            first: _,
+            known: _,
+            summary: _,
+            sums,
+            writer,
+        } = self;
+        (writer.into_inner().into_inner(), sums)
+    }
+
+    /// Notes when a packet was captured, if it is the first of which that is known.
+    pub(crate) fn note_time(&mut self, time: Option<u64>) {
+        self.first = self.first.or(time);
+    }
+
+    /// Takes a report of the connection with this number.
+    fn take_report(&mut self, number: u64, report: &Report<A>) -> Result<(), SinkFault> {
+        self.sums.count(report);
+        if self.filter.shows(number, report) {
+            note(&mut self.summary, self.form, &self.known, report);
+            put_report(
+                &mut self.writer,
+                self.form,
+                &self.known,
+                self.first,
+                number,
+                report,
+            )
+        } else {
+            Ok(())
+        }
+    }
+
+    /// Writes what stands at the end.
+    pub(crate) fn finish(&mut self) -> Result<(), SinkFault> {
+        put_ending(&mut self.writer, self.form, &self.summary)
+    }
+
+    /// Takes a report of the connection with this number, and learns from it.
+    fn report(&mut self, number: u64, report: Report<A>) -> Result<(), StreamsFault> {
+        match self.take_report(number, &report) {
+            Ok(()) => {
+                self.learn(report);
+                Ok(())
+            }
+            Err(SinkFault) => Err(StreamsFault::Write),
+        }
+    }
+
+    /// Reports messages, if there are some; where they are reported since their connection is finished, also how that ended.
+    pub(crate) fn report_messages(
+        &mut self,
+        number: u64,
+        end: Option<ConnectionEnd>,
+        exchange: Option<Paired<Kept<A>>>,
+    ) -> Result<(), StreamsFault> {
+        match exchange {
+            Some(paired) => self.report(number, Report::Messages { paired, end }),
+            None => Ok(()),
+        }
+    }
+
+    /// Reports that a connection is not read, if a direction begins so at this time, unless that was reported.
+    pub(crate) fn report_opening(
+        &mut self,
+        number: u64,
+        time: Option<u64>,
+        was_reported: bool,
+        opening: Opening,
+    ) -> Result<(), StreamsFault> {
+        if was_reported {
+            Ok(())
+        } else if is_unread(opening) {
+            self.report(number, Report::Unread { time, opening })
+        } else {
+            Ok(())
+        }
+    }
+
+    /// Keeps a statement that was prepared, with its id.
+    fn learn(&mut self, report: Report<A>) {
+        match report {
+            Report::Messages { paired, end } => self.learn_paired(paired, end),
+            Report::Unread { .. } => {}
+        }
+    }
+
+    fn learn_paired(&mut self, exchange: Paired<Kept<A>>, end: Option<ConnectionEnd>) {
+        match exchange {
+            Paired::Exchange { request, response } => self.learn_exchange(request, response, end),
+            Paired::Unanswered { .. } | Paired::Unasked { .. } | Paired::Event { .. } => {}
+        }
+    }
+
+    fn learn_exchange(
+        &mut self,
+        request: Message<Kept<A>>,
+        response: Message<Kept<A>>,
+        end: Option<ConnectionEnd>,
+    )
+    {
+        if is_news(&self.known, &request, &response) {
+            let one = Preparation { request, response };
+            add_known(&mut self.known, one);
+        }
+    }
+}
+
+/// Takes what is written of a report of the connection with this number, and passes it on.
+fn put_report<W: Target, A: Allocator, B: Allocator>(
+    writer: &mut TextWriter<Buffered<W, A>>,
+    form: ExchangeForm,
+    known: &[Preparation<B>],
+    first: Option<u64>,
+    number: u64,
+    report: &Report<B>,
+) -> Result<(), SinkFault> {
+    match form {
+        ExchangeForm::Lines => put_line(writer, known, first, number, report),
+        ExchangeForm::Json => put_json_line(writer, known, first, number, report),
+        ExchangeForm::Summary(_) => Ok(()),
+    }
+}
+
+/// Takes what is written at the end, and passes it on.
+fn put_ending<W: Target, A: Allocator>(
+    writer: &mut TextWriter<Buffered<W, A>>,
+    form: ExchangeForm,
+    summary: &Summary<A>,
+) -> Result<(), SinkFault> {
+    match form {
+        ExchangeForm::Lines => Ok(()),
+        ExchangeForm::Json => Ok(()),
+        ExchangeForm::Summary(_) => put_summary(writer, summary),
+    }
+}
+
+/// Takes the lines of a summary, and passes them on.
+fn put_summary<W: Target, A: Allocator>(
+    writer: &mut TextWriter<Buffered<W, A>>,
+    summary: &Summary<A>,
+) -> Result<(), SinkFault> {
+    summary.put(writer)?;
+    writer.pass_on()
+}

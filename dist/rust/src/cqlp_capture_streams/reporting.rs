@@ -1,0 +1,241 @@
+// Written by dist/erase from crates/cqlp_capture_streams/src/reporting.rt.
+//! The events of a table of connections, on their way to a listener.
+
+use crate::kit_host::prelude::{Clone};
+use crate::cqlp_capture_streams::connection_event::ConnectionEvent;
+use crate::cqlp_capture_streams::fault::StreamsFault;
+use crate::cqlp_capture_streams::listener::Listener;
+use crate::cqlp_tcp_connections::{Admission, Connections, Delivery, Departure};
+use crate::cqlp_tcp_reassembly::StreamStep;
+use crate::cqlp_tcp_segment::Segment;
+use crate::kit_std::alloc::{AllocError, Allocator};
+
+/// Gives a listener an event.
+fn hear<L: Listener>(event: &ConnectionEvent<'_>, listener: &mut L) -> Result<(), StreamsFault> {
+    listener.hear(event)
+}
+
+/// Reports that a packet with a segment comes that was captured at this time, and then what the segment delivers.
+#[inline]
+pub(crate) fn take_timed<L: Listener, A: Allocator + Clone>(
+    time: Option<u64>,
+    connections: &mut Connections<A>,
+    segment: &Segment<'_>,
+    listener: &mut L,
+) -> Result<(), StreamsFault> {
+    hear(&ConnectionEvent::Packet { time }, listener)?;
+    take_segment(time, connections, segment, listener)
+}
+
+/// Has the connection of a segment take it, where need be after another one has left, and reports what that delivers.
+#[inline]
+fn take_segment<L: Listener, A: Allocator + Clone>(
+    time: Option<u64>,
+    connections: &mut Connections<A>,
+    segment: &Segment<'_>,
+    listener: &mut L,
+) -> Result<(), StreamsFault> {
+    let Ok(admission) = connections.take(&segment.head) else {
+        return Err(StreamsFault::NoMemory);
+    };
+    let Admission::Crowded { .. } = admission else {
+        return take_seen(admission, time, connections, segment, listener);
+    };
+    leave(connections, listener)?;
+    take_again(time, connections, segment, listener)
+}
+
+/// Has the connection of a segment take it after another one has left for it.
+#[cold]
+fn take_again<L: Listener, A: Allocator + Clone>(
+    time: Option<u64>,
+    connections: &mut Connections<A>,
+    segment: &Segment<'_>,
+    listener: &mut L,
+) -> Result<(), StreamsFault> {
+    match connections.take(&segment.head) {
+        Ok(admission) => take_seen(admission, time, connections, segment, listener),
+        Err(AllocError) => Err(StreamsFault::NoMemory),
+    }
+}
+
+/// Reports what a segment delivers that was admitted so. For one segment one connection leaves at most, which makes room for it.
+#[inline(always)]
+fn take_seen<L: Listener, A: Allocator + Clone>(
+    admission: Admission,
+    time: Option<u64>,
+    connections: &mut Connections<A>,
+    segment: &Segment<'_>,
+    listener: &mut L,
+) -> Result<(), StreamsFault> {
+    match admission {
+        Admission::Foreign => Ok(()),
+        Admission::Taken { number, is_new, .. } => {
+            begin(is_new, number, listener)?;
+            report_taken(time, connections, segment, listener)
+        }
+        Admission::Crowded { .. } => Ok(()),
+    }
+}
+
+/// Reports that a connection begins, if it does.
+fn begin<L: Listener>(is_new: bool, number: u64, listener: &mut L) -> Result<(), StreamsFault> {
+    if is_new {
+        hear(&ConnectionEvent::New { number }, listener)
+    } else {
+        Ok(())
+    }
+}
+
+/// Reports all that a segment delivers which was taken. One without payload, as an acknowledgement, mostly delivers nothing.
+fn report_taken<L: Listener, A: Allocator + Clone>(
+    time: Option<u64>,
+    connections: &mut Connections<A>,
+    segment: &Segment<'_>,
+    listener: &mut L,
+) -> Result<(), StreamsFault> {
+    if segment.payload.is_empty() && connections.is_done(segment, time) {
+        return Ok(());
+    }
+    pull_all(time, connections, segment, listener)
+}
+
+/// The same, whatever it has.
+fn pull_all<L: Listener, A: Allocator + Clone>(
+    time: Option<u64>,
+    connections: &mut Connections<A>,
+    segment: &Segment<'_>,
+    listener: &mut L,
+) -> Result<(), StreamsFault> {
+    for turn in 0..u64::MAX {
+        let Ok(next) = connections.pull(segment, time) else {
+            return Err(StreamsFault::NoMemory);
+        };
+        let Some(delivered) = next else {
+            return Ok(());
+        };
+        report(connections, delivered, segment.payload, listener)?;
+        let is_payload = matches!(delivered.step, StreamStep::Payload { .. });
+        if is_payload && connections.is_done(segment, time) {
+            return Ok(());
+        }
+    }
+    Err(StreamsFault::TooManyTurns)
+}
+
+/// Has the connection leave that has to.
+fn leave<L: Listener, A: Allocator>(
+    connections: &mut Connections<A>,
+    listener: &mut L,
+) -> Result<(), StreamsFault> {
+    for turn in 0..u64::MAX {
+        match connections.leave() {
+            Departure::Delivery(delivered) => report_last(connections, delivered, listener)?,
+            Departure::Left(totals) => return hear(&ConnectionEvent::Left(totals), listener),
+            Departure::Empty => return Ok(()),
+        }
+    }
+    Err(StreamsFault::TooManyTurns)
+}
+
+/// Has all connections leave.
+pub(crate) fn finish_all<L: Listener, A: Allocator>(
+    connections: &mut Connections<A>,
+    listener: &mut L,
+) -> Result<(), StreamsFault> {
+    for turn in 0..u64::MAX {
+        let is_done = finish_one(connections, listener)?;
+        if is_done {
+            return Ok(());
+        }
+    }
+    Err(StreamsFault::TooManyTurns)
+}
+
+/// Reports the next event of the connection that leaves first. Says whether there was none.
+fn finish_one<L: Listener, A: Allocator>(
+    connections: &mut Connections<A>,
+    listener: &mut L,
+) -> Result<bool, StreamsFault> {
+    match connections.finish() {
+        Departure::Delivery(delivered) => {
+            report_last(connections, delivered, listener)?;
+            Ok(false)
+        }
+        Departure::Left(totals) => {
+            hear(&ConnectionEvent::Left(totals), listener)?;
+            Ok(false)
+        }
+        Departure::Empty => Ok(true),
+    }
+}
+
+/// Reports what a segment delivers, with its bytes: those of the payload that are named, or those that the connection held.
+fn report<L: Listener, A: Allocator>(
+    connections: &mut Connections<A>,
+    delivered: Delivery,
+    payload: &[u8],
+    listener: &mut L,
+) -> Result<(), StreamsFault> {
+    match delivered.step {
+        StreamStep::Payload { from, count } => {
+            let bytes = &payload[from..from + count];
+            hear(&ConnectionEvent::Of { delivered, bytes }, listener)
+        }
+        StreamStep::Held { .. } => report_held(connections, delivered, listener),
+        StreamStep::Began { .. }
+        | StreamStep::Gap { .. }
+        | StreamStep::Kept
+        | StreamStep::Ended
+        | StreamStep::Reset
+        | StreamStep::Done => hear(
+            &ConnectionEvent::Of {
+                delivered,
+                bytes: &[],
+            },
+            listener,
+        ),
+    }
+}
+
+/// Reports what a connection delivers without a segment: of bytes those that the connection held.
+fn report_last<L: Listener, A: Allocator>(
+    connections: &mut Connections<A>,
+    delivered: Delivery,
+    listener: &mut L,
+) -> Result<(), StreamsFault> {
+    match delivered.step {
+        StreamStep::Held { .. } => report_held(connections, delivered, listener),
+        StreamStep::Payload { .. } => hear(
+            &ConnectionEvent::Of {
+                delivered,
+                bytes: &[],
+            },
+            listener,
+        ),
+        StreamStep::Began { .. }
+        | StreamStep::Gap { .. }
+        | StreamStep::Kept
+        | StreamStep::Ended
+        | StreamStep::Reset
+        | StreamStep::Done => hear(
+            &ConnectionEvent::Of {
+                delivered,
+                bytes: &[],
+            },
+            listener,
+        ),
+    }
+}
+
+/// Reports the next bytes that the connection held.
+fn report_held<L: Listener, A: Allocator>(
+    connections: &mut Connections<A>,
+    delivered: Delivery,
+    listener: &mut L,
+) -> Result<(), StreamsFault> {
+    let bytes = connections.held(delivered.way);
+    let answer = hear(&ConnectionEvent::Of { delivered, bytes }, listener);
+    connections.pass_held(delivered.way);
+    answer
+}
