@@ -88,7 +88,8 @@ def sums(objects):
             name = of["request"] if of["statement"] is None else word + "".join(shown(of["statement"], of["statement_is_whole"]))
             count = found.setdefault(name, [0, 0, 0, 0, 0])
             is_unanswered = of["told"] == "unanswered"
-            for at, more in enumerate([1, of["error"] is not None, is_unanswered, of["rows"] or 0, of["request_bytes"] + (of["response_bytes"] or 0)]):
+            sizes = of["request_bytes"] + of.get("response_bytes", 0)
+            for at, more in enumerate([1, of.get("error") is not None, is_unanswered, of.get("rows") or 0, sizes]):
                 count[at] += more
     return found
 
