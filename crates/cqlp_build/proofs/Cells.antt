@@ -146,23 +146,23 @@ pub record Comes (row column : ℕ) (start now : Held) : Type 0 where
   pub none : none_ends (cell.left now.cell) ≡ true
 
 module _ (row column : ℕ) (start now next new : Held) (c : Comes row column start now) (s : ℕ × Step) (t : TakesStep row column (Some s) now next)
-    (fault : new.fault ≡ next.fault) (rest : left new ≡ left next) (held : cell.left new.cell ≡ cell.left now.cell ++ cell.item_event s ∷ []) where
+    (fault : new.fault ≡ next.fault) (rest : left new ≡ left next) (held : cell.left new.cell ≡ cell.left now.cell ++ cell.emitted_by s ∷ []) where
   come : left start ≡ map (cell_event row column) (cell.left new.cell) ++ left new
   come =
       let es = map (cell_event row column) (cell.left now.cell) in
-      let e = cell_event row column (cell.item_event s) in
+      let e = cell_event row column (cell.emitted_by s) in
       c.came ∙ (ap (λ r. es ++ r) t.1 ∙ (ap (λ r. es ++ e ∷ r) (sym rest)
-      ∙ (sym (append_assoc es (e ∷ []) (left new)) ∙ ap (λ r. r ++ left new) (sym (map-append (cell_event row column) (cell.left now.cell) (cell.item_event s ∷ [])) ∙ ap (map (cell_event row column)) (sym held)))))
+      ∙ (sym (append_assoc es (e ∷ []) (left new)) ∙ ap (λ r. r ++ left new) (sym (map-append (cell_event row column) (cell.left now.cell) (cell.emitted_by s ∷ [])) ∙ ap (map (cell_event row column)) (sym held)))))
 
-  pub comes_on : ends (cell.item_event s) ≡ false → Comes row column start new
+  pub comes_on : ends (cell.emitted_by s) ≡ false → Comes row column start new
   comes_on e = record {
     fault = fault ∙ (t.2 ∙ (sym t.0 ∙ c.fault));
     came = come;
-    none = ap none_ends held ∙ none_both (cell.left now.cell) (cell.item_event s ∷ []) c.none (ap (λ b. not b && true) e);
+    none = ap none_ends held ∙ none_both (cell.left now.cell) (cell.emitted_by s ∷ []) c.none (ap (λ b. not b && true) e);
   }
 
-  pub comes_whole : ends (cell.item_event s) ≡ true → Gathers row column true start new
-  comes_whole e = (sym c.fault ∙ t.0, fault ∙ t.2, come, ap ends_at_last held ∙ at_last (cell.left now.cell) (cell.item_event s) c.none e)
+  pub comes_whole : ends (cell.emitted_by s) ≡ true → Gathers row column true start new
+  comes_whole e = (sym c.fault ∙ t.0, fault ∙ t.2, come, ap ends_at_last held ∙ at_last (cell.left now.cell) (cell.emitted_by s) c.none e)
 
 pub comes_not : (row column : ℕ) (start now new : Held) → Comes row column start now → TakesStep row column None now new → Gathers row column false start new
 comes_not row column start now new c t = inr (

@@ -77,7 +77,7 @@ TakesKind None old new =
 -- The next event of the cell of this row and column, which is taken; where nothing is, nothing is said, and it is taken or not.
 abbrev pub TakesStep : (row column : ℕ) → Option (ℕ × Step) → (old new : Held) → Type 0
 TakesStep row column (Some s) old new =
-    IsSound old × (left old ≡ cell_event row column (cell.item_event s) ∷ left new) × IsSound new
+    IsSound old × (left old ≡ cell_event row column (cell.emitted_by s) ∷ left new) × IsSound new
 TakesStep row column None old new =
     (new.fault ≡ old.fault) × (IsSound old → (e : CellEvent) (rest : List Event) → left old ≡ cell_event row column e ∷ rest → ⊥)
 

@@ -35,7 +35,7 @@ use Rattle.cqlp_c.proofs.Placing.{used_from}
 
 -- ---- the frame under way
 
-begun_from_c : (f : Option OpenFrame) (at : ℕ) (e : Event) (place : Ptr) → begun_after (begun_of f) (model.stream_offset at e place) ≡ begun_of (frame_after f at e)
+begun_from_c : (f : Option OpenFrame) (at : ℕ) (e : Event) (place : Ptr) → begun_after (begun_of f) (model.written_at at e place) ≡ begun_of (frame_after f at e)
 begun_from_c f at (Frame h) place = refl
 begun_from_c f at (Holds g v) place = not_edge (begun_of f) at (Holds g v) place refl
 begun_from_c f at (Node_of k) place = refl
@@ -53,7 +53,7 @@ begun_puts f begins b (c ∷ cs) (p ∷ ps) t =
 
 -- ---- offsets in the whole stream
 
-moved : (g : ℕ → ℕ) (at : ℕ) (e : Event) (place : Ptr) → ◌≡◌ {A = CqlpEvent} (record (model.stream_offset at e place) { at = g (model.stream_offset at e place).at }) (model.stream_offset (g at) e place)
+moved : (g : ℕ → ℕ) (at : ℕ) (e : Event) (place : Ptr) → ◌≡◌ {A = CqlpEvent} (record (model.written_at at e place) { at = g (model.written_at at e place).at }) (model.written_at (g at) e place)
 moved g at (Frame h) place = refl
 moved g at (Holds f (field.Byte n)) place = refl
 moved g at (Holds f (field.Short n)) place = refl

@@ -59,7 +59,7 @@ refusal_in (suc n) r = refusal_from (suc n) r
 abbrev pub AreWritten : (base : ℕ) → List CqlpEvent → List Put → Type 0
 AreWritten base [] [] = ⊤
 AreWritten base (c ∷ cs) (p ∷ ps) =
-    ((place : Ptr) × (c ≡ model.stream_offset (offset_in base p.at) p.event place)) × AreWritten base cs ps
+    ((place : Ptr) × (c ≡ model.written_at (offset_in base p.at) p.event place)) × AreWritten base cs ps
 AreWritten base cs ps = ⊥
 
 -- Where the bytes of the stretch say no more events, or what is refused: `AfterSkips` has that the stream is refused so.
