@@ -120,7 +120,7 @@ pub record AreCaptureLimits (rows : List Row) (file : Text) (limits : CaptureLim
   pub connections : IsLimit (codes "connections") 65536 rows limits.connections
   pub waiting : IsLimit (codes "open") 262144 rows limits.open
   pub early : IsLimit (codes "early") 24 rows limits.early
-  pub text : IsLimit (codes "text") 6 rows limits.text
+  pub text : IsLimit (codes "text") 7 rows limits.text
   pub order_of_input : file ≡ codes "-" → IsLimit (codes "order") 0 rows limits.order
   pub order_of_file : file ≢ codes "-" → IsLimit (codes "order") 1000 rows limits.order
 

@@ -56,7 +56,7 @@ impl CaptureLimits {
         connections: 65_536,
         open: 262_144,
         early: 24,
-        text: 6,
+        text: 7,
         order: 1_000,
     };
 

@@ -417,7 +417,7 @@ const CAPTURE: [Word; 16] = [
     Word {
         name: "text",
         form: Form::Number("MIB", CaptureLimits::TEXT),
-        help: "MiB of the texts of requests that wait, on all connections together, from 1 to 4096 [default: 6]",
+        help: "MiB of the texts of requests that wait, on all connections together, from 1 to 4096 [default: 7]",
         with: &[],
         without: &[],
     },
