@@ -1,11 +1,10 @@
 -- What the bytes of a body say, from the first to the last.
-use Rattle.std.specs.Prelude.{ℕ, suc, ◌+◌, ◌-◌, Bool, true, false, ◌&&◌, List, [], ◌∷◌, ◌++◌, length, nat_lt, if◌then◌else◌}
+use Rattle.std.specs.Prelude.{ℕ, ◌+◌, ◌-◌, Bool, true, false, ◌&&◌, List, [], ◌∷◌, ◌++◌, length, nat_lt, if◌then◌else◌}
 use Rattle.cqlp_note.specs.declared.header.Header.{Header}
 use Rattle.cqlp_note.specs.declared.opcode.Opcode.TheVariants as opcode
 use Rattle.cqlp_observer_facts.specs.declared.due.Due.{Due}
 use Rattle.cqlp_observer_facts.specs.declared.due.Due.TheVariants as due
 use Rattle.cqlp_observer_facts.specs.declared.due.Next.{Next}
-use Rattle.cqlp_observer_facts.specs.declared.facts.Facts.{Facts}
 use Rattle.cqlp_observer_facts.specs.declared.reader.FactsReader.{FactsReader}
 use Rattle.cqlp_observer_facts.specs.Announced.{opening}
 use Rattle.cqlp_observer_facts.specs.Bodies.{following, width}

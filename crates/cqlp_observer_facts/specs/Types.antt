@@ -1,6 +1,6 @@
 -- The types of columns, which lie within one another (section 4.2.5.2 of native_protocol_v4.spec). At each level so many types are still to
 -- be read, and then so many fields, each a name and a type. There is room for four levels: those of UDTs of which more is to come.
-use Rattle.std.specs.Prelude.{ℕ, ◌+◌, ◌-◌, ◌^◌, ◌==◌, ◌&&◌, Bool, true, false, min, nat_lt, Option, Some, None, if◌then◌else◌}
+use Rattle.std.specs.Prelude.{ℕ, ◌+◌, ◌-◌, ◌^◌, ◌==◌, ◌&&◌, Bool, false, min, nat_lt, Option, Some, None, if◌then◌else◌}
 use Rattle.cqlp_observer_facts.specs.declared.types.Level.{Level}
 use Rattle.cqlp_observer_facts.specs.declared.types.Types.{Types}
 use Rattle.cqlp_observer_facts.specs.declared.types.TypesNext.{TypesNext}

@@ -28,14 +28,6 @@ pub struct FactsReader {
     facts: Facts,
 }
 
-/// Bytes that were taken at once.
-#[derive(Clone, Copy)]
-struct Stretch {
-    used: usize,
-    /// How many of them lie before the message proper.
-    before: usize,
-}
-
 impl FactsReader {
     ghost use Rattle.cqlp_observer_facts.specs.Bodies.{width};
     ghost use Rattle.cqlp_observer_facts.specs.Columns.{PassesColumn};
@@ -90,10 +82,14 @@ impl FactsReader {
     {
         let mut rest = piece;
         let mut before = 0;
+        while !rest.is_empty() && self.is_before() {
+            let used = self.step_before(rest);
+            before += used;
+            rest = &rest[used..];
+        }
         while !rest.is_empty() {
-            let stretch = self.take_stretch(rest);
-            before += stretch.before;
-            rest = &rest[stretch.used..];
+            let used = self.step(rest);
+            rest = &rest[used..];
         }
         before
     }
@@ -109,22 +105,16 @@ impl FactsReader {
         }
     }
 
-    /// Takes some of these bytes.
-    #[inline(always)]
-    fn take_stretch(&mut self, rest: &[u8]) -> Stretch
+    /// What `step` does, out of line: few messages have something before them.
+    #[inline(never)]
+    fn step_before(&mut self, rest: &[u8]) -> usize
         requires { 1 ≤ length rest.now }
-        ensures some { 1 ≤ result.used }
-        ensures within { result.used ≤ length rest.now }
-        ensures few { result.before ≤ result.used }
-        ensures after { self.new ≡ read (take result.used rest.now) self.old }
-        ensures before { before (take result.used rest.now) self.old ≡ result.before }
+        ensures some { 1 ≤ result }
+        ensures within { result ≤ length rest.now }
+        ensures after { self.new ≡ read (take result rest.now) self.old }
+        ensures before { before (take result rest.now) self.old ≡ (if is_before self.old then result else 0) }
     {
-        let is_before = self.is_before();
-        let used = self.step(rest);
-        Stretch {
-            used,
-            before: if is_before { used } else { 0 },
-        }
+        self.step(rest)
     }
 
     /// Takes some of these bytes, which lie all before the message proper or none of them.

@@ -25,14 +25,6 @@ pub struct FactsReader {
     facts: Facts,
 }
 
-/// Bytes that were taken at once.
-#[derive(Clone, Copy)]
-struct Stretch {
-    used: usize,
-    /// How many of them lie before the message proper.
-    before: usize,
-}
-
 impl FactsReader {
     /// Nothing is read.
     #[must_use]
@@ -73,10 +65,14 @@ impl FactsReader {
     pub fn read(&mut self, piece: &[u8]) -> usize {
         let mut rest = piece;
         let mut before = 0;
+        while !rest.is_empty() && self.is_before() {
+            let used = self.step_before(rest);
+            before += used;
+            rest = &rest[used..];
+        }
         while !rest.is_empty() {
-            let stretch = self.take_stretch(rest);
-            before += stretch.before;
-            rest = &rest[stretch.used..];
+            let used = self.step(rest);
+            rest = &rest[used..];
         }
         before
     }
@@ -90,15 +86,10 @@ impl FactsReader {
         }
     }
 
-    /// Takes some of these bytes.
-    #[inline(always)]
-    fn take_stretch(&mut self, rest: &[u8]) -> Stretch {
-        let is_before = self.is_before();
-        let used = self.step(rest);
-        Stretch {
-            used,
-            before: if is_before { used } else { 0 },
-        }
+    /// What `step` does, out of line: few messages have something before them.
+    #[inline(never)]
+    fn step_before(&mut self, rest: &[u8]) -> usize {
+        self.step(rest)
     }
 
     /// Takes some of these bytes, which lie all before the message proper or none of them.
