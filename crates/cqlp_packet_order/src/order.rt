@@ -16,7 +16,7 @@ use std::marker::Model;
 /// in the order in which they came. A packet without a time waits for none and lets none wait: all that came before it leave, and then it.
 ///
 /// A late packet, of an earlier time than one that has left, leaves next. Memory is taken for packets that wait. `give_back` keeps that of a packet
-/// which has left for those that come, as long as no more than may wait have some, and each at most half its share of the bytes that may wait.
+/// which has left for those that come, as long as no more than may wait have some, and each at most its share of the bytes that may wait.
 #[derive(Drop)]
 pub struct PacketOrder<A: Allocator = Global> {
     alloc: A,
@@ -140,7 +140,7 @@ impl<A: Allocator> PacketOrder<A> {
     {
         let most = self.limits.packets as usize;
         let rooms = self.waiting.len().saturating_add(self.spare.len());
-        if most > 0 && rooms <= most && packet.bytes.capacity() <= self.limits.bytes / most / 2 {
+        if most > 0 && rooms <= most && packet.bytes.capacity() <= self.limits.bytes / most {
             let _ = self.spare.push(packet.bytes);
         }
     }

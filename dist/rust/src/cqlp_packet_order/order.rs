@@ -14,7 +14,7 @@ use crate::kit_std::collections::VecDeque;
 /// in the order in which they came. A packet without a time waits for none and lets none wait: all that came before it leave, and then it.
 ///
 /// A late packet, of an earlier time than one that has left, leaves next. Memory is taken for packets that wait. `give_back` keeps that of a packet
-/// which has left for those that come, as long as no more than may wait have some, and each at most half its share of the bytes that may wait.
+/// which has left for those that come, as long as no more than may wait have some, and each at most its share of the bytes that may wait.
 pub struct PacketOrder<A: Allocator = Global> {
     alloc: A,
     limits: OrderLimits,
@@ -108,7 +108,7 @@ impl<A: Allocator> PacketOrder<A> {
     pub fn give_back(&mut self, packet: KeptPacket<A>) {
         let most = self.limits.packets as usize;
         let rooms = self.waiting.len().saturating_add(self.spare.len());
-        if most > 0 && rooms <= most && packet.bytes.capacity() <= self.limits.bytes / most / 2 {
+        if most > 0 && rooms <= most && packet.bytes.capacity() <= self.limits.bytes / most {
             let _ = self.spare.push(packet.bytes);
         }
     }
