@@ -1,7 +1,7 @@
 #!/usr/bin/env bash
 # Times `cqlp capture` (lines, --summary, --streams) on captures that captures.py makes, of 300 MB: of 50 connections at a time, with 1.2 million packets;
 # of 1,000 connections at a time; of pages, whole and with each second segment with bytes lost; of small requests; and of 3,000 and 30,000 connections. The
-# program is the one that dist/assemble makes of the proved sources, or CQLP. And the example `streams` of the package for cargo, which hands on what each
+# program is the released one, which is compiled by the profile `dist`, or CQLP. And the example `streams` of the package for cargo, which hands on what each
 # end of each connection sent, and writes nothing but a line for each direction.
 # Beside them tcpflow, tcptrace and tshark, where they are installed, once each: files of both directions of each connection (tcpflow, tcptrace -e), their
 # totals (tcptrace -n, tshark -z conv,tcp), and a line for each packet with a message (tshark -Y cql), and how many times as long that takes as lines do.
@@ -15,8 +15,8 @@ kinds=("${@:2}")
 room=$(mktemp -d)
 trap 'rm -rf "$room"' EXIT
 export CARGO_TARGET_DIR=$here/../dist/out/rust
-(cd "$here/../dist/rust" && cargo build --offline --release --example streams)
-program=${CQLP:-$here/../dist/out/program/target/release/cqlp}
+(cd "$here/../dist/rust" && cargo build --offline --profile dist --features cli --bin cqlp --example streams)
+program=${CQLP:-$CARGO_TARGET_DIR/dist/cqlp}
 
 # The least processor time of so many runs of a command on a capture, which is left in the file best, and its resident memory. It runs in a new folder, flows.
 tell() {
@@ -57,7 +57,7 @@ for kind in "${kinds[@]}"; do
     python3 "$here/captures.py" "$kind" "$room/capture" "$size"
     echo "$kind: $(stat -c %s "$room/capture") bytes"
     own=0
-    tell 3 'the example' "$CARGO_TARGET_DIR/release/examples/streams" "$room/capture"
+    tell 3 'the example' "$CARGO_TARGET_DIR/dist/examples/streams" "$room/capture"
     if [ -x "$program" ]; then
         # Of 1,000 connections at a time the program writes two files for nearly each segment.
         [[ $kind =~ ^(thousand|many)$ ]] || tell 3 --streams "$program" capture --streams "$room/flows" "$room/capture"
