@@ -9,6 +9,8 @@ use Rattle.cqlp_capture_streams.specs.declared.fault.StreamsFault.TheVariants as
 use Rattle.cqlp_capture_streams.specs.Captures.{ReadsMade}
 use Rattle.cqlp_capture_streams.specs.ConnectionEvents.{ConnectionEvent, Packet, New, Of, Left}
 use Rattle.cqlp_capture_streams.specs.Streams.{ReadsCapture}
+use Rattle.cqlp_capture_streams.specs.Buffers.{Buffers}
+use Rattle.cqlp_capture_streams.proofs.Finished.{buffered_cause}
 use Rattle.cqlp_capture_streams.proofs.Causes.{EndedBy, EndedIfFault, FailsSo, ended_noted, fault_cause, none_failed}
 use Rattle.cqlp_capture_exchanges.specs.declared.filter.ExchangeFilter.{ExchangeFilter}
 use Rattle.cqlp_capture_exchanges.specs.declared.form.ExchangeForm.{ExchangeForm}
@@ -71,6 +73,14 @@ module _ (limits : StreamsLimits) (most : ExchangeLimits) (filter : ExchangeFilt
       let one : EndedBy m fault.Write out.failures out'.failures = within.failures ∙ ap (λ k. counted true k) none in
       subst (λ (z : StreamsFault). EndedBy m z out.failures out'.failures) (sym is) one
 
+  -- where the reading has no fault the output has not failed
+  well_closed : (read r : Result CaptureRead StreamsFault) (out' : Output) (x : CaptureRead) → r ≡ Ok x → ReadsCapture with_connection_event StopsAt limits ports xs m read left first w → Closes w.account read r out' → out'.failures ≡ out.failures
+  well_closed (Err f) r out' x well a (is, same) = absurd (let no = sym well ∙ is in cc)
+  well_closed (Ok y) (Ok z) out' x well a (is, same) = ap (λ (o : Output). o.failures) same ∙ none_failed with_connection_event StopsAt failures_of keeps stops limits ports xs m y left first w a
+  well_closed (Ok y) (Err f) out' x well a c = absurd (let no = well in cc)
+
 pub exchanges_causes : FaultsHaveCauses
-exchanges_causes limits most filter form ports xs m left out err out' err' (r, sums, missed, (w, read, reads, are, miss, closes), ends) =
-    ended_noted ports (note_text (losses_of limits most r sums missed)) (last_words limits most sums missed r) m r out err out' err' (closed limits most filter form ports xs m left out w read r out' reads closes) ends
+exchanges_causes b limits most filter form ports xs m left out err out' err' (r, sums, missed, (mid, whole, (w, read, reads, are, miss, closes), buffers), ends) =
+    let well = λ (x : CaptureRead) (is : mid ≡ Ok x). well_closed limits most filter form ports xs m left out w read mid whole x is reads closes in
+    let cause = closed limits most filter form ports xs m left out w read mid whole reads closes in
+    ended_noted ports (note_text (losses_of limits most r sums missed)) (last_words limits most sums missed r) m r out err out' err' (buffered_cause b m mid r out.failures whole out' well cause buffers) ends

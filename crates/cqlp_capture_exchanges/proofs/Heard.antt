@@ -13,7 +13,7 @@ account_known (New n) a k = k
 account_known (Of delivered bytes) a k = k
 account_known (Left totals) a k = k
 
-heard_known : (old new : Listening) (s : ConnectionEvent) → new ≡ with_connection_event old s → IsSome old.account.output.given → IsSome new.account.output.given
+pub heard_known : (old new : Listening) (s : ConnectionEvent) → new ≡ with_connection_event old s → IsSome old.account.output.given → IsSome new.account.output.given
 heard_known old new s e k =
     subst (λ (w : Listening). IsSome w.account.output.given) (sym e)
     (still_known (number_of s) (change_of s old).reports (account_at s old.account) (account_known s old.account k))

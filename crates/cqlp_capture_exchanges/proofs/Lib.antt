@@ -1,6 +1,7 @@
 pub mod Accounts
 pub mod Causes
 pub mod Heard
+pub mod Known
 pub mod Members
 pub mod Missing
 pub mod Talks

@@ -4,6 +4,9 @@ use Rattle.cqlp_text.specs.Outputs.{Output, with_text}
 use Rattle.cqlp_capture_streams.specs.declared.capturing.CaptureRead.{CaptureRead}
 use Rattle.cqlp_capture_streams.specs.declared.fault.StreamsFault.{StreamsFault}
 use Rattle.cqlp_capture_streams.specs.Endings.{ConcludesNoted}
+use Rattle.cqlp_capture_streams.specs.declared.buffering.Buffering.{Buffering}
+use Rattle.cqlp_capture_streams.specs.Buffers.{Buffers}
+use Rattle.cqlp_capture_streams.proofs.Finished.{buffered_well}
 use Rattle.cqlp_observer.specs.declared.missed.Missed.{Missed}
 use Rattle.cqlp_capture_streams.specs.declared.limits.StreamsLimits.{StreamsLimits}
 use Rattle.cqlp_capture_exchanges.specs.declared.pool.ExchangeLimits.{ExchangeLimits}
@@ -20,11 +23,13 @@ closed a (Err f) r x out is (e, o) = absurd (let z : Err f ≡ Ok x = sym e ∙ 
 closed a (Ok y) (Ok z) x out is (e, o) = (ap (λ k. Ok k) e, o)
 closed a (Ok y) (Err f) x out is c = absurd (let z = is in cc)
 
-ended : (ports : List ℕ) (a : Account) (read r : Result CaptureRead StreamsFault) (out err err' : Output) (status : ℕ) (note words : List ℕ) → ConcludesNoted ports note words r err status err' → status ≢ 3 → Closes a read r out → (r ≡ read) × (out ≡ with_text a.output (ending a))
-ended ports a read r out err err' status note words ends well closes =
+ended : (b : Buffering) (ports : List ℕ) (a : Account) (read mid r : Result CaptureRead StreamsFault) (whole out err err' : Output) (status : ℕ) (note words : List ℕ) → ConcludesNoted ports note words r err status err' → status ≢ 3 → Buffers b mid whole r out → Closes a read mid whole → (r ≡ read) × (out ≡ with_text a.output (ending a))
+ended b ports a read mid r whole out err err' status note words ends well buffers closes =
     let c = concluded ports note words r err err' status ends well in
     let x = well_read note r (λ is. well (c.0 ∙ is)) in
-    closed a read r x.0 out x.1 closes
+    let handed = buffered_well b mid r x.0 whole out x.1 buffers in
+    let here = closed a read mid x.0 whole (sym handed.0 ∙ x.1) closes in
+    (handed.0 ∙ here.0, handed.1 ∙ here.1)
 
 abbrev sums_of : Listening → ExchangeSums
 sums_of w = w.account.sums
@@ -46,9 +51,9 @@ abbrev words_of : StreamsLimits → ExchangeLimits → Listening → Result Capt
 words_of c l w r = last_words c l (sums_of w) (missed_of w) r
 
 pub exchanges_once : OneAnswerOfWriteExchanges
-exchanges_once limits most filter form ports xs out err made made' left left' status status' out' out'' err' err'' (r, sums, missed, (w, read, reads, are, miss, closes), ends) well (r', sums', missed', (w', read', reads', are', miss', closes'), ends') well' =
-    let c = ended ports w.account read r out' err err' status (note_text (losses_of limits most r sums missed)) (last_words limits most sums missed r) ends well closes in
-    let c' = ended ports w'.account read' r' out'' err err'' status' (note_text (losses_of limits most r' sums' missed')) (last_words limits most sums' missed' r') ends' well' closes' in
+exchanges_once b b' limits most filter form ports xs out err made made' left left' status status' out' out'' err' err'' (r, sums, missed, (mid, whole, (w, read, reads, are, miss, closes), buffers), ends) well (r', sums', missed', (mid', whole', (w', read', reads', are', miss', closes'), buffers'), ends') well' =
+    let c = ended b ports w.account read mid r whole out' err err' status (note_text (losses_of limits most r sums missed)) (last_words limits most sums missed r) ends well buffers closes in
+    let c' = ended b' ports w'.account read' mid' r' whole' out'' err err'' status' (note_text (losses_of limits most r' sums' missed')) (last_words limits most sums' missed' r') ends' well' buffers' closes' in
     let e = reported_of limits most ports w sums missed read r err err' status are miss c.0 ends in
     let e' = reported_of limits most ports w' sums' missed' read' r' err err'' status' are' miss' c'.0 ends' in
     let one = runs_noted with_connection_event StopsAt (note_of limits most) (words_of limits most) limits ports xs (new_listening most filter form out) w w' made made' left left' read read' err err' err'' status status' reads e well reads' e' well' in

@@ -1,12 +1,14 @@
 -- What becomes of a capture whose exchanges are written.
 use Rattle.std.specs.Prelude.{◌≡◌, ◌≢◌, ℕ, List, [], ◌∷◌, codes, decimal, Option, Result, Ok, Err}
 use Rattle.cqlp_text.specs.Outputs.{Output, StopsWithin, with_text}
+use Rattle.cqlp_capture_streams.specs.declared.buffering.Buffering.{Buffering}
 use Rattle.cqlp_capture_streams.specs.declared.limits.StreamsLimits.{StreamsLimits}
 use Rattle.cqlp_capture_streams.specs.declared.capturing.CaptureRead.{CaptureRead}
 use Rattle.cqlp_capture_streams.specs.declared.fault.StreamsFault.{StreamsFault}
 use Rattle.cqlp_capture_streams.specs.declared.fault.StreamsFault.TheVariants as fault
 use Rattle.cqlp_capture_streams.specs.Captures.{ReadsMade}
 use Rattle.cqlp_capture_streams.specs.Streams.{ReadsCapture}
+use Rattle.cqlp_capture_streams.specs.Buffers.{Buffers}
 use Rattle.cqlp_capture_streams.specs.Endings.{ConcludesNoted}
 use Rattle.cqlp_observer.specs.declared.missed.Missed.{Missed}
 use Rattle.cqlp_capture_streams.specs.Causes.{HasCause}
@@ -53,25 +55,32 @@ Listens c l filter form ports xs m r left out sums missed out' =
     × ReadsCapture with_connection_event StopsAt c ports xs m read left (new_listening l filter form out) w
     × (sums ≡ w.account.sums) × (missed ≡ w.table.missed) × Closes w.account read r out'
 
+-- The lines went to the output at once, or in blocks.
+abbrev pub ListensBy : Buffering → StreamsLimits → ExchangeLimits → ExchangeFilter → ExchangeForm → (ports : List ℕ) → (xs : List ℕ) → ReadsMade
+    → Result CaptureRead StreamsFault → (left : Option (List ℕ)) → (out : Output) → ExchangeSums → Missed → (out' : Output) → Type 0
+ListensBy b c l filter form ports xs m r left out sums missed out' =
+    (read : Result CaptureRead StreamsFault) × (whole : Output)
+    × Listens c l filter form ports xs m read left out sums missed whole × Buffers b read whole r out'
+
 -- Its exchanges were written, and then the lines of how it ended, with its status.
-abbrev pub WritesExchanges : StreamsLimits → ExchangeLimits → ExchangeFilter → ExchangeForm → (ports : List ℕ) → (xs : List ℕ) → ReadsMade
+abbrev pub WritesExchanges : Buffering → StreamsLimits → ExchangeLimits → ExchangeFilter → ExchangeForm → (ports : List ℕ) → (xs : List ℕ) → ReadsMade
     → (left : Option (List ℕ)) → (out err : Output) → (status : ℕ) → (out' err' : Output) → Type 0
-WritesExchanges c l filter form ports xs m left out err status out' err' =
-    (r : Result CaptureRead StreamsFault) × (sums : ExchangeSums) × (missed : Missed) × Listens c l filter form ports xs m r left out sums missed out'
+WritesExchanges b c l filter form ports xs m left out err status out' err' =
+    (r : Result CaptureRead StreamsFault) × (sums : ExchangeSums) × (missed : Missed) × ListensBy b c l filter form ports xs m r left out sums missed out'
     × ConcludesSums c l ports sums missed r err status err'
 
 -- Where nothing outside fails, so that the status is not that of a fault, the same bytes, limits, ports, filter, form and outputs lead to the
--- same status, the same text and the same last line.
+-- same status, the same text and the same last line, at once or in blocks.
 abbrev pub OneAnswerOfWriteExchanges : Type 0
 OneAnswerOfWriteExchanges =
-    (c : StreamsLimits) (l : ExchangeLimits) (filter : ExchangeFilter) (form : ExchangeForm) (ports xs : List ℕ) (out err : Output) (m n : ReadsMade) (left left' : Option (List ℕ))
+    (b b' : Buffering) (c : StreamsLimits) (l : ExchangeLimits) (filter : ExchangeFilter) (form : ExchangeForm) (ports xs : List ℕ) (out err : Output) (m n : ReadsMade) (left left' : Option (List ℕ))
     (status status' : ℕ) (out' out'' err' err'' : Output)
-    → WritesExchanges c l filter form ports xs m left out err status out' err' → status ≢ 3
-    → WritesExchanges c l filter form ports xs n left' out err status' out'' err'' → status' ≢ 3
+    → WritesExchanges b c l filter form ports xs m left out err status out' err' → status ≢ 3
+    → WritesExchanges b' c l filter form ports xs n left' out err status' out'' err'' → status' ≢ 3
     → (status' ≡ status) × (out'' ≡ out') × (err'' ≡ err')
 
 -- The status is that of a fault only where something outside failed, or the line says that there was no memory or no end.
 abbrev pub FaultsHaveCauses : Type 0
 FaultsHaveCauses =
-    (c : StreamsLimits) (l : ExchangeLimits) (filter : ExchangeFilter) (form : ExchangeForm) (ports xs : List ℕ) (m : ReadsMade) (left : Option (List ℕ)) (out err out' err' : Output)
-    → WritesExchanges c l filter form ports xs m left out err 3 out' err' → HasCause m out err out' err'
+    (b : Buffering) (c : StreamsLimits) (l : ExchangeLimits) (filter : ExchangeFilter) (form : ExchangeForm) (ports xs : List ℕ) (m : ReadsMade) (left : Option (List ℕ)) (out err out' err' : Output)
+    → WritesExchanges b c l filter form ports xs m left out err 3 out' err' → HasCause m out err out' err'

@@ -1,14 +1,15 @@
 //! A capture whose exchanges are written.
 
-ghost use Rattle.std.specs.Prelude.{◌≡◌, ℕ, true, List, IsSome, OnOk, Some};
+ghost use Rattle.std.specs.Prelude.{◌≡◌, ℕ, true, List, [], IsSome, OnOk, Some};
 ghost use Rattle.cqlp_text.specs.Endings.{IsStatusOfTask};
-ghost use Rattle.cqlp_text.specs.Outputs.{written};
+ghost use Rattle.cqlp_text.specs.Outputs.{output, written};
 ghost use Rattle.cqlp_text.specs.Written.{Writes};
 ghost use Rattle.cqlp_tcp_connections.specs.Limits.{is_in_range};
 ghost use Rattle.cqlp_capture_streams.specs.Captures.{AreCounted, ReadsMade, read_counts};
+ghost use Rattle.cqlp_capture_streams.specs.declared.buffering.Buffering.TheVariants.{Block};
 ghost use Rattle.cqlp_observer.specs.Misses.{none_missed};
 ghost use Rattle.cqlp_capture_exchanges.specs.Accounts.{no_sums};
-ghost use Rattle.cqlp_capture_exchanges.specs.Capturing.{Closes, ConcludesSums, Listens, WritesExchanges, sums_words, words_of};
+ghost use Rattle.cqlp_capture_exchanges.specs.Capturing.{Closes, ConcludesSums, Listens, ListensBy, WritesExchanges, sums_words, words_of};
 ghost use Rattle.cqlp_capture_exchanges.specs.Losses.{note_text};
 
 use crate::exchanges::Exchanges;
@@ -18,7 +19,8 @@ use crate::losses::{Losses, losses_of, put_losses};
 use crate::pool::ExchangeLimits;
 use crate::sums::ExchangeSums;
 use cqlp_capture_streams::{
-    CaptureRead, LastWords, StreamsFault, StreamsLimits, conclude_capture, read_capture,
+    BlockWriter, Buffering, CaptureRead, LastWords, StreamsFault, StreamsLimits, conclude_capture,
+    finish_blocks, read_capture,
 };
 use cqlp_grammar::SinkFault;
 use cqlp_note::{Source, Target};
@@ -29,7 +31,8 @@ use std::alloc::Global;
 /// Pairs the requests on the connections of a capture with their responses, of nodes that listen on these ports, within these limits. Writes each that the
 /// filter shows to `out` in this form, and what the capture was, or the fault line, to `err`. Answers the exit status and the two outputs.
 ///
-/// After a fault nothing more is asked of what failed.
+/// Lines are written at once, or in blocks; without memory for a block also at once. The last block is written before the last line. After a fault
+/// nothing more is asked of what failed.
 pub fn write_exchanges<R: Source, O: Target, E: Target>(
     alloc: Global,
     streams: StreamsLimits,
@@ -37,6 +40,7 @@ pub fn write_exchanges<R: Source, O: Target, E: Target>(
     ports: &[u16],
     filter: ExchangeFilter,
     form: ExchangeForm,
+    buffering: Buffering,
     input: &mut R,
     out: O,
     err: E,
@@ -45,10 +49,12 @@ pub fn write_exchanges<R: Source, O: Target, E: Target>(
     ensures task { IsStatusOfTask result.0 }
     ensures exchanges { (xs : List ℕ) → R.left input.old ≡ Some xs → IsSome (O.contents out) → IsSome (E.contents err) →
         (m : ReadsMade) × AreCounted m (read_counts R.Source input.old) (read_counts R.Source input.new)
-        × WritesExchanges streams limits filter form ports.now xs m (R.left input.new) (written O.Target out) (written E.Target err)
+        × WritesExchanges buffering streams limits filter form ports.now xs m (R.left input.new) (written O.Target out) (written E.Target err)
         result.0 (written O.Target result.1) (written E.Target result.2) }
 {
-    let (answer, counts, out) = listen(alloc, streams, limits, ports, filter, form, input, out);
+    let (answer, counts, out) = listen_by(
+        alloc, streams, limits, ports, filter, form, buffering, input, out,
+    );
     let (status, err) = conclude(streams, limits, ports, &answer, &counts, err);
     (status, out, err)
 }
@@ -71,6 +77,58 @@ impl Counts {
             missed: Missed::NONE,
         }
     }
+}
+
+/// Reads the capture, and writes the lines, at once or in blocks. Answers what it was, what was reported, and the output.
+fn listen_by<R: Source, O: Target>(
+    alloc: Global,
+    streams: StreamsLimits,
+    limits: ExchangeLimits,
+    ports: &[u16],
+    filter: ExchangeFilter,
+    form: ExchangeForm,
+    buffering: Buffering,
+    input: &mut R,
+    out: O,
+) -> (Result<CaptureRead, StreamsFault>, Counts, O)
+    requires { is_in_range streams.connections ≡ true }
+    ensures { (xs : List ℕ) → R.left input.old ≡ Some xs → IsSome (O.contents out) →
+        (m : ReadsMade) × AreCounted m (read_counts R.Source input.old) (read_counts R.Source input.new)
+        × ListensBy buffering streams limits filter form ports.now xs m result.0 (R.left input.new) (written O.Target out) result.1.sums result.1.missed
+        (written O.Target result.2) }
+{
+    match buffering {
+        Buffering::Line => listen(alloc, streams, limits, ports, filter, form, input, out),
+        Buffering::Block => match BlockWriter::new(alloc, out) {
+            Ok(blocks) => {
+                listen_in_blocks(alloc, streams, limits, ports, filter, form, input, blocks)
+            }
+            Err(out) => listen(alloc, streams, limits, ports, filter, form, input, out),
+        },
+    }
+}
+
+/// Reads the capture, and writes the lines in blocks, of which none waits yet.
+fn listen_in_blocks<R: Source, O: Target>(
+    alloc: Global,
+    streams: StreamsLimits,
+    limits: ExchangeLimits,
+    ports: &[u16],
+    filter: ExchangeFilter,
+    form: ExchangeForm,
+    input: &mut R,
+    blocks: BlockWriter<O>,
+) -> (Result<CaptureRead, StreamsFault>, Counts, O)
+    requires range { is_in_range streams.connections ≡ true }
+    requires none { blocks.waiting ≡ [] }
+    ensures { (xs : List ℕ) → R.left input.old ≡ Some xs → IsSome blocks.given →
+        (m : ReadsMade) × AreCounted m (read_counts R.Source input.old) (read_counts R.Source input.new)
+        × ListensBy Block streams limits filter form ports.now xs m result.0 (R.left input.new) (output blocks.given blocks.failures)
+        result.1.sums result.1.missed (written O.Target result.2) }
+{
+    let (read, counts, blocks) = listen(alloc, streams, limits, ports, filter, form, input, blocks);
+    let (answer, out) = finish_blocks(read, blocks);
+    (answer, counts, out)
 }
 
 /// Reads the capture, and writes the lines. Answers what it was, what was reported, and the output.

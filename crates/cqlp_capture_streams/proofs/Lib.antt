@@ -12,3 +12,6 @@ pub mod OneAnswer
 pub mod Causes
 pub mod Ports
 pub mod Leaving
+pub mod Blocks
+pub mod Finished
+pub mod Keeping

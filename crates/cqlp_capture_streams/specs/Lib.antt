@@ -8,5 +8,7 @@ pub mod Packets
 pub mod Endings
 pub mod Captures
 pub mod Streams
+pub mod Blocks
+pub mod Buffers
 pub mod Causes
 pub mod Laws

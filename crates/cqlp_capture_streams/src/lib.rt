@@ -1,6 +1,8 @@
 //! The bytes of each direction of each connection of a capture, apart, and a line for each connection.
 #![tactic(auto)]
 
+mod block_writer;
+mod buffering;
 mod busiest;
 mod capturing;
 mod connection_event;
@@ -21,6 +23,8 @@ mod splitter;
 mod summary;
 mod writing;
 
+pub use block_writer::BlockWriter;
+pub use buffering::{Buffering, finish_blocks};
 pub use capturing::{CaptureRead, read_capture};
 pub use connection_event::ConnectionEvent;
 pub use ending::conclude_capture;

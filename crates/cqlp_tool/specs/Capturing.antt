@@ -12,6 +12,7 @@ use Rattle.cqlp_render.specs.Streams.{Input, Streams, IfKnown}
 use Rattle.cqlp_capture_streams.specs.declared.limits.StreamsLimits.{StreamsLimits}
 use Rattle.cqlp_capture_streams.specs.Captures.{AreCounted, ReadCounts, ReadsMade}
 use Rattle.cqlp_capture_streams.specs.Streams.{WritesStreamsBy}
+use Rattle.cqlp_capture_streams.specs.declared.buffering.Buffering.{Buffering}
 use Rattle.cqlp_capture_exchanges.specs.declared.filter.ExchangeFilter.{ExchangeFilter}
 use Rattle.cqlp_capture_exchanges.specs.declared.form.ExchangeForm.{ExchangeForm}
 use Rattle.cqlp_capture_exchanges.specs.declared.form.ExchangeForm.TheVariants as form
@@ -66,11 +67,11 @@ form_of (asked_as.Summary false) = form.Summary naming.Fingerprint
 form_of (asked_as.Summary true) = form.Summary naming.Literal
 
 -- The input's exchanges that were asked for went to the output, and how it ended was reported with its status, after so many reads.
-abbrev pub PrintsExchanges : StreamsLimits → ExchangeLimits → ExchangeOptions → (ports : List ℕ) → (before : Streams) → (status : ℕ) → (after : Streams) → Type 0
-PrintsExchanges l most asked ports before status after =
+abbrev pub PrintsExchanges : Buffering → StreamsLimits → ExchangeLimits → ExchangeOptions → (ports : List ℕ) → (before : Streams) → (status : ℕ) → (after : Streams) → Type 0
+PrintsExchanges b l most asked ports before status after =
     IfKnown before.input before.out (λ xs. IsSome before.err.given →
     (m : ReadsMade) × ReadsInput m before after
-    × WritesExchanges l most (filter_of asked) (form_of asked.form) ports xs m after.input.left before.out before.err status after.out after.err)
+    × WritesExchanges b l most (filter_of asked) (form_of asked.form) ports xs m after.input.left before.out before.err status after.out after.err)
 
 -- The lines of the input's frames went to the output, those of one connection if one is asked for, and how it ended was reported with its
 -- status, after so many reads.
@@ -87,10 +88,11 @@ PrintsRows l asked ports before status after =
     (m : ReadsMade) × ReadsInput m before after
     × WritesRows l asked ports xs m after.input.left before.out before.err status after.out after.err)
 
--- What a task does with a capture, the input, of nodes that listen on these ports, within these limits.
-abbrev pub DoesCaptureTask : CaptureLimits → CaptureTask → (ports : List ℕ) → (before : Streams) → (status : ℕ) → (after : Streams) → Type 0
-DoesCaptureTask l (task.Streams folder) ports before status after = SplitsCapture (streams_limits_of l) folder.now ports before status after
-DoesCaptureTask l (task.Exchanges asked) ports before status after =
-    PrintsExchanges (streams_limits_of l) (exchange_limits_of l) asked ports before status after
-DoesCaptureTask l (task.Events asked) ports before status after = PrintsEvents (streams_limits_of l) asked ports before status after
-DoesCaptureTask l (task.Rows asked) ports before status after = PrintsRows (streams_limits_of l) asked ports before status after
+-- What a task does with a capture, the input, of nodes that listen on these ports, within these limits. The lines of
+-- exchanges are written at once, or in blocks.
+abbrev pub DoesCaptureTask : Buffering → CaptureLimits → CaptureTask → (ports : List ℕ) → (before : Streams) → (status : ℕ) → (after : Streams) → Type 0
+DoesCaptureTask b l (task.Streams folder) ports before status after = SplitsCapture (streams_limits_of l) folder.now ports before status after
+DoesCaptureTask b l (task.Exchanges asked) ports before status after =
+    PrintsExchanges b (streams_limits_of l) (exchange_limits_of l) asked ports before status after
+DoesCaptureTask b l (task.Events asked) ports before status after = PrintsEvents (streams_limits_of l) asked ports before status after
+DoesCaptureTask b l (task.Rows asked) ports before status after = PrintsRows (streams_limits_of l) asked ports before status after

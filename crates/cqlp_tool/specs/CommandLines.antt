@@ -27,6 +27,7 @@ use Rattle.cqlp_render.specs.Streams.{Streams}
 use Rattle.cqlp_render_skip.specs.Showing as skipping
 pub use Rattle.cqlp_tool.specs.Faults.{ReportsFault}
 use Rattle.cqlp_options.specs.Ports.{named}
+use Rattle.cqlp_capture_streams.specs.declared.buffering.Buffering.TheVariants as buffering
 use Rattle.cqlp_tool.specs.Capturing.{DoesCaptureTask, IsCaptureOfInput}
 use Rattle.cqlp_tool.specs.Files.{DoesOn}
 use Rattle.cqlp_tool.specs.Conversing.{ConversesAndReports}
@@ -106,7 +107,7 @@ Executes files (Ok (line.Stream options)) before status after =
 Executes files (Ok (line.Loop queries)) before status after =
     ConversesAndReports queries before.out before.err status after.out after.err
 Executes files (Ok (line.Capture options)) before status after =
-    IsCaptureOfInput options → DoesCaptureTask options.limits options.task (named options.ports) before status after
+    IsCaptureOfInput options → DoesCaptureTask buffering.Line options.limits options.task (named options.ports) before status after
 Executes files (Err reason) before status after =
     PrintsNoTask reason before.out before.err status after.out after.err
 

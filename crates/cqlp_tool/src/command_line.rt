@@ -7,6 +7,7 @@ ghost use Rattle.cqlp_options.specs.CaptureLimits.{AreWithin as AreWithinRanges}
 ghost use Rattle.cqlp_options.specs.Ports.{AreWithin, named};
 ghost use Rattle.cqlp_options.specs.declared.capture.CaptureTask.TheVariants as tasks;
 ghost use Rattle.cqlp_tcp_connections.specs.Limits.{is_in_range};
+ghost use Rattle.cqlp_capture_streams.specs.declared.buffering.Buffering.TheVariants.{Line};
 ghost use Rattle.cqlp_tool.specs.Capturing.{DoesCaptureTask, IsCaptureOfInput, SplitsToFolder, filter_of, form_of};
 ghost use Rattle.cqlp_tool.specs.CommandLines.{Complains, DoesTask, Executes, Helps, NeedsNoInput, Performs, ReadsNoCapture};
 ghost use Rattle.cqlp_tool.specs.CommandLines.{ReportsFault, ReportsWrong, PrintsNoTask, form_of_events, form_of_rows, rules_for};
@@ -24,7 +25,7 @@ use crate::progress::Progress;
 use cqlp_capture_events::write_events;
 use cqlp_capture_exchanges::{ExchangeFilter, ExchangeForm, Naming, write_exchanges};
 use cqlp_capture_rows::write_rows;
-use cqlp_capture_streams::{StreamsLimits, write_streams};
+use cqlp_capture_streams::{Buffering, StreamsLimits, write_streams};
 use cqlp_decode::SinkFault;
 use cqlp_note::{OfStd, Source, Target};
 use cqlp_options::{
@@ -178,7 +179,7 @@ fn capture<R: Files + AllocGlobal, I: Source, O: Target, E: Target, N: Target + 
     requires ports { AreWithin options.ports }
     requires limits { AreWithinRanges options.limits }
     ensures captures { let view = streams I.Source O.Target E.Target in
-        IsCaptureOfInput options.entry → DoesCaptureTask options.entry.limits options.entry.task (named options.entry.ports)
+        IsCaptureOfInput options.entry → DoesCaptureTask Line options.entry.limits options.entry.task (named options.entry.ports)
         (view input.old out err) result.0 (view input.new result.1 result.2) }
     ensures status { IsStatusOfTask result.0 }
     ensures untouched { options.entry.file.now ≢ codes "-" → input.new ≡ input.old }
@@ -189,7 +190,7 @@ fn capture<R: Files + AllocGlobal, I: Source, O: Target, E: Target, N: Target + 
         return (status, out, err);
     }
     if options.file == "-" {
-        return read_capture(rt, &options, input, out, err);
+        return read_capture(rt, &options, Buffering::Line, input, out, err);
     }
     match File::open(rt, options.file) {
         Ok(file) => read_file(rt, &options, file, notes.take(), out, err),
@@ -213,7 +214,8 @@ fn missing_folder<'a, R: Files>(rt: &R, asked: CaptureTask<'a>) -> Option<&'a st
     }
 }
 
-/// Does the task with a capture in a file. Where the file is long, `notes` gets how much of it was read.
+/// Does the task with a capture in a file. Of a regular file lines are written in blocks; of any other, as a pipe, at once. Where the file is long,
+/// `notes` gets how much of it was read.
 fn read_file<R: Files + AllocGlobal, O: Target, E: Target, N: Target + Drop>(
     rt: &R,
     options: &CaptureOptions<'_>,
@@ -226,12 +228,21 @@ fn read_file<R: Files + AllocGlobal, O: Target, E: Target, N: Target + Drop>(
     requires limits { AreWithinRanges options.now.limits }
     ensures status { IsStatusOfTask result.0 }
 {
+    let buffering = buffering_for(&file);
     match (notes, long_length(&file)) {
         (Some(notes), Some(length)) => {
             let mut input = Progress::new(OfStd::new(file), length, notes);
-            read_capture(rt, options, &mut input, out, err)
+            read_capture(rt, options, buffering, &mut input, out, err)
         }
-        _ => read_capture(rt, options, &mut OfStd::new(file), out, err),
+        _ => { read_capture(rt, options, buffering, &mut OfStd::new(file), out, err) }
+    }
+}
+
+/// When the lines of a capture in this file are written.
+fn buffering_for<F: OpenFile>(file: &F) -> Buffering {
+    match file.metadata() {
+        Ok(metadata) if metadata.is_file() => Buffering::Block,
+        _ => Buffering::Line,
     }
 }
 
@@ -249,6 +260,7 @@ fn long_length<F: OpenFile>(file: &F) -> Option<u64>
 fn read_capture<R: Files + AllocGlobal, I: Source, O: Target, E: Target>(
     rt: &R,
     options: &CaptureOptions<'_>,
+    buffering: Buffering,
     input: &mut I,
     out: O,
     err: E,
@@ -256,7 +268,7 @@ fn read_capture<R: Files + AllocGlobal, I: Source, O: Target, E: Target>(
     requires ports { AreWithin options.now.ports }
     requires limits { AreWithinRanges options.now.limits }
     ensures task { let view = streams I.Source O.Target E.Target in
-        DoesCaptureTask options.now.limits options.now.task (named options.now.ports)
+        DoesCaptureTask buffering options.now.limits options.now.task (named options.now.ports)
         (view input.old out err) result.0 (view input.new result.1 result.2) }
     ensures status { IsStatusOfTask result.0 }
 {
@@ -274,6 +286,7 @@ fn read_capture<R: Files + AllocGlobal, I: Source, O: Target, E: Target>(
                 ports,
                 filter_of(asked),
                 form_of(asked.form),
+                buffering,
                 input,
                 out,
                 err,

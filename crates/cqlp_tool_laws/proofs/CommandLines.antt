@@ -39,6 +39,8 @@ use Rattle.cqlp_capture_events.proofs.WrittenOnce.{events_once}
 use Rattle.cqlp_capture_rows.proofs.Causes.{rows_causes}
 use Rattle.cqlp_capture_rows.proofs.WrittenOnce.{rows_once}
 use Rattle.cqlp_tool.specs.Limits.{exchange_limits_of, streams_limits_of}
+use Rattle.cqlp_capture_streams.specs.declared.buffering.Buffering.{Buffering}
+use Rattle.cqlp_capture_streams.specs.declared.buffering.Buffering.TheVariants as buffering
 use Rattle.cqlp_tool.specs.Capturing.{DoesCaptureTask, ReadsInput, SplitsCapture, filter_of, form_of}
 use Rattle.cqlp_tool.specs.Faults.{ReportsFault}
 use Rattle.cqlp_tool.specs.CommandLines.{DoesTask, Executes, Complains, Helps, Shows, form_of_events, form_of_rows, rules_for, turns}
@@ -204,19 +206,19 @@ module _ (before : Streams) (status status' : ℕ) (after after' : Streams) wher
       let one = streams_once l ports known.bytes None before.out before.err after.input.left after'.input.left status status' None None after.out after'.out after.err after'.err (x.0, x.2) alike.0 (y.0, y.2) alike.1 in
       (one.0, inl one.2, inl one.3)
 
-  capture_once : (l : CaptureLimits) (t : CaptureTask) (ports : List ℕ) (known : AreKnown before) (a : DoesCaptureTask l t ports before status after) (b : DoesCaptureTask l t ports before status' after') → IsCaptureMetAlike before status status' after after' l t ports a b → IsOneAnswer before status status' after after'
-  capture_once l (capture_task.Streams folder) ports known a b alike = split_once (streams_limits_of l) folder.now ports known a b alike
-  capture_once l (capture_task.Exchanges asked) ports known a b alike =
+  capture_once : (by : Buffering) (l : CaptureLimits) (t : CaptureTask) (ports : List ℕ) (known : AreKnown before) (a : DoesCaptureTask by l t ports before status after) (b : DoesCaptureTask by l t ports before status' after') → IsCaptureMetAlike before status status' after after' by l t ports a b → IsOneAnswer before status status' after after'
+  capture_once by l (capture_task.Streams folder) ports known a b alike = split_once (streams_limits_of l) folder.now ports known a b alike
+  capture_once by l (capture_task.Exchanges asked) ports known a b alike =
       let x = a known.bytes known.left known.out known.err in
       let y = b known.bytes known.left known.out known.err in
-      let one = exchanges_once (streams_limits_of l) (exchange_limits_of l) (filter_of asked) (form_of asked.form) ports known.bytes before.out before.err x.0 y.0 after.input.left after'.input.left status status' after.out after'.out after.err after'.err x.2 alike.0 y.2 alike.1 in
+      let one = exchanges_once by by (streams_limits_of l) (exchange_limits_of l) (filter_of asked) (form_of asked.form) ports known.bytes before.out before.err x.0 y.0 after.input.left after'.input.left status status' after.out after'.out after.err after'.err x.2 alike.0 y.2 alike.1 in
       (one.0, inl one.1, inl one.2)
-  capture_once l (capture_task.Events asked) ports known a b alike =
+  capture_once by l (capture_task.Events asked) ports known a b alike =
       let x = a known.bytes known.left known.out known.err in
       let y = b known.bytes known.left known.out known.err in
       let one = events_once (streams_limits_of l) asked ports known.bytes before.out before.err x.0 y.0 after.input.left after'.input.left status status' after.out after'.out after.err after'.err x.2 alike.0 y.2 alike.1 in
       (one.0, inl one.1, inl one.2)
-  capture_once l (capture_task.Rows asked) ports known a b alike =
+  capture_once by l (capture_task.Rows asked) ports known a b alike =
       let x = a known.bytes known.left known.out known.err in
       let y = b known.bytes known.left known.out known.err in
       let one = rows_once (streams_limits_of l) asked ports known.bytes before.out before.err x.0 y.0 after.input.left after'.input.left status status' after.out after'.out after.err after'.err x.2 alike.0 y.2 alike.1 in
@@ -229,14 +231,14 @@ caused before after m reads (inl failed) = inl (reads.1 ∙ ap (λ (b : Bool). c
 caused before after m reads (inr x) = inr x
 
 pub captures_caused : CaptureFaultsHaveCauses
-captures_caused l (capture_task.Streams folder) ports before after known does = tt
-captures_caused l (capture_task.Exchanges asked) ports before after known does =
+captures_caused b l (capture_task.Streams folder) ports before after known does = tt
+captures_caused b l (capture_task.Exchanges asked) ports before after known does =
     let x = does known.bytes known.left known.out known.err in
-    caused before after x.0 x.1 (exchanges_causes (streams_limits_of l) (exchange_limits_of l) (filter_of asked) (form_of asked.form) ports known.bytes x.0 after.input.left before.out before.err after.out after.err x.2)
-captures_caused l (capture_task.Events asked) ports before after known does =
+    caused before after x.0 x.1 (exchanges_causes b (streams_limits_of l) (exchange_limits_of l) (filter_of asked) (form_of asked.form) ports known.bytes x.0 after.input.left before.out before.err after.out after.err x.2)
+captures_caused b l (capture_task.Events asked) ports before after known does =
     let x = does known.bytes known.left known.out known.err in
     caused before after x.0 x.1 (events_causes (streams_limits_of l) asked ports known.bytes x.0 after.input.left before.out before.err after.out after.err x.2)
-captures_caused l (capture_task.Rows asked) ports before after known does =
+captures_caused b l (capture_task.Rows asked) ports before after known does =
     let x = does known.bytes known.left known.out known.err in
     caused before after x.0 x.1 (rows_causes (streams_limits_of l) asked ports known.bytes x.0 after.input.left before.out before.err after.out after.err x.2)
 
@@ -253,7 +255,7 @@ module _ {F : Type 0} (files : Ghosts F) (before : Streams) (status status' : �
       let reports : Reports a.0 before.err status' after'.err = subst (λ (r : Result (Unit {0}) LoopFault). Reports r before.err status' after'.err) one.0 (b.2 met.error.known) in
       let reported = reported_once a.0 before.err after.err after'.err status status' met.error.fails (a.2 met.error.known) reports in
       (reported.0, inl one.1, reported.1)
-  line_once (Ok (line.Capture options)) a b alike = capture_once before status status' after after' options.limits options.task (named options.ports) alike.1 (a alike.0) (b alike.0) alike.2
+  line_once (Ok (line.Capture options)) a b alike = capture_once before status status' after after' buffering.Line options.limits options.task (named options.ports) alike.1 (a alike.0) (b alike.0) alike.2
   line_once (Err (no_task.Help text)) a b alike = helped_once before status status' after after' (string_bytes text) alike.fails alike.error.fails (a alike.known alike.error.known) (b alike.known alike.error.known)
   line_once (Err (no_task.Mistake text)) a b alike =
       let one = complained_once (string_bytes text) before.err after.err after'.err status status' alike.fails (a alike.known).1 (b alike.known).1 in

@@ -34,6 +34,8 @@ use Rattle.cqlp_capture_streams.specs.Endings.{fault_line, no_memory_line}
 use Rattle.cqlp_options.specs.declared.limits.CaptureLimits.{CaptureLimits}
 use Rattle.cqlp_capture_streams.specs.declared.limits.StreamsLimits.{StreamsLimits}
 use Rattle.cqlp_tool.specs.Limits.{streams_limits_of}
+use Rattle.cqlp_capture_streams.specs.declared.buffering.Buffering.{Buffering}
+use Rattle.cqlp_capture_streams.specs.declared.buffering.Buffering.TheVariants as buffering
 use Rattle.cqlp_tool.specs.Capturing.{DoesCaptureTask, IsCaptureOfInput, SplitsCapture}
 use Rattle.cqlp_tool.specs.CommandLines.{DoesTask, Executes, Shows, form_of_events, form_of_rows, rules_for, turns}
 use Rattle.cqlp_tool.specs.Files.{DoesOn, DoesWithFile, opened}
@@ -207,12 +209,12 @@ module _ (before : Streams) (status status' : ℕ) (after after' : Streams) wher
   AreSplitAlike l folder ports (inr splits) (inr splits') = (status ≢ 3) × (status' ≢ 3)
   AreSplitAlike l folder ports does does' = ⊥
 
-  abbrev pub IsCaptureMetAlike : (l : CaptureLimits) (t : CaptureTask) (ports : List ℕ) → DoesCaptureTask l t ports before status after
-      → DoesCaptureTask l t ports before status' after' → Type 0
-  IsCaptureMetAlike l (capture_task.Streams folder) ports does does' = AreSplitAlike (streams_limits_of l) folder.now ports does does'
-  IsCaptureMetAlike l (capture_task.Exchanges asked) ports does does' = (status ≢ 3) × (status' ≢ 3)
-  IsCaptureMetAlike l (capture_task.Events asked) ports does does' = (status ≢ 3) × (status' ≢ 3)
-  IsCaptureMetAlike l (capture_task.Rows asked) ports does does' = (status ≢ 3) × (status' ≢ 3)
+  abbrev pub IsCaptureMetAlike : (b : Buffering) (l : CaptureLimits) (t : CaptureTask) (ports : List ℕ) → DoesCaptureTask b l t ports before status after
+      → DoesCaptureTask b l t ports before status' after' → Type 0
+  IsCaptureMetAlike b l (capture_task.Streams folder) ports does does' = AreSplitAlike (streams_limits_of l) folder.now ports does does'
+  IsCaptureMetAlike b l (capture_task.Exchanges asked) ports does does' = (status ≢ 3) × (status' ≢ 3)
+  IsCaptureMetAlike b l (capture_task.Events asked) ports does does' = (status ≢ 3) × (status' ≢ 3)
+  IsCaptureMetAlike b l (capture_task.Rows asked) ports does does' = (status ≢ 3) × (status' ≢ 3)
 
 -- A read of the input failed, or the output, or the error output; or the line that was written says that there was no memory, or too
 -- many turns: all reads were made that may be, or there was no end to what is reported.
@@ -234,8 +236,8 @@ IsCaused (capture_task.Rows asked) before after = HasFault before after
 -- The status of a task with a capture is that of a fault only where one came.
 abbrev pub CaptureFaultsHaveCauses : Type 0
 CaptureFaultsHaveCauses =
-    (l : CaptureLimits) (t : CaptureTask) (ports : List ℕ) (before after : Streams)
-    → AreKnown before → DoesCaptureTask l t ports before 3 after → IsCaused t before after
+    (b : Buffering) (l : CaptureLimits) (t : CaptureTask) (ports : List ℕ) (before after : Streams)
+    → AreKnown before → DoesCaptureTask b l t ports before 3 after → IsCaused t before after
 
 -- ---- a command line
 
@@ -250,7 +252,7 @@ module _ {F : Type 0} (files : Ghosts F) (before : Streams) (status status' : �
   AreMetAlike (Ok (line.Loop queries)) does does' = AreLoopsMetAlike queries before status status' after after' does does'
   AreMetAlike (Ok (line.Capture options)) does does' =
       (is : IsCaptureOfInput options) × (known : AreKnown before)
-      × IsCaptureMetAlike before status status' after after' options.limits options.task (named options.ports) (does is) (does' is)
+      × IsCaptureMetAlike before status status' after after' buffering.Line options.limits options.task (named options.ports) (does is) (does' is)
   AreMetAlike (Err (no_task.Help text)) does does' = AreOutputsMetAlike before after after'
   AreMetAlike (Err (no_task.Mistake text)) does does' = IsErrorMetAlike before after after'
   AreMetAlike (Err no_task.NoMemory) does does' = IsErrorMetAlike before after after'

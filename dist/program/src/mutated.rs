@@ -7,7 +7,7 @@ use crate::cqlp_capture_events::write_events;
 use crate::cqlp_capture_rows::write_rows;
 use crate::cqlp_capture_exchanges::{ExchangeFilter, ExchangeForm, ExchangeLimits, Naming, write_exchanges};
 use crate::cqlp_note::{IoFault, OfStd, Source};
-use crate::cqlp_capture_streams::{FileFault, StreamFile, StreamFiles, StreamsLimits, write_streams};
+use crate::cqlp_capture_streams::{Buffering, FileFault, StreamFile, StreamFiles, StreamsLimits, write_streams};
 use crate::heap::measured;
 use crate::kit_std::alloc::Global;
 use std::collections::HashMap;
@@ -131,7 +131,7 @@ fn told(file: &[u8], most: usize, room: isize, write: impl Fn(&mut Pieces, OfStd
 
 /// The exchanges in a file that are asked for, in this form.
 fn exchanges(file: &[u8], most: usize, ports: &[u16], filter: ExchangeFilter, form: ExchangeForm) -> Told {
-    told(file, most, 64, |pieces, out, err| write_exchanges(Global, StreamsLimits::DEFAULT, ExchangeLimits::DEFAULT, ports, filter, form, pieces, out, err))
+    told(file, most, 64, |pieces, out, err| write_exchanges(Global, StreamsLimits::DEFAULT, ExchangeLimits::DEFAULT, ports, filter, form, Buffering::Block, pieces, out, err))
 }
 
 /// The events of the frames in a file.

@@ -9,7 +9,8 @@ use crate::cqlp_capture_exchanges::losses::{Losses, losses_of, put_losses};
 use crate::cqlp_capture_exchanges::pool::ExchangeLimits;
 use crate::cqlp_capture_exchanges::sums::ExchangeSums;
 use crate::cqlp_capture_streams::{
-    CaptureRead, LastWords, StreamsFault, StreamsLimits, conclude_capture, read_capture,
+    BlockWriter, Buffering, CaptureRead, LastWords, StreamsFault, StreamsLimits, conclude_capture,
+    finish_blocks, read_capture,
 };
 use crate::cqlp_grammar::SinkFault;
 use crate::cqlp_note::{Source, Target};
@@ -20,7 +21,8 @@ use crate::kit_std::alloc::Global;
 /// Pairs the requests on the connections of a capture with their responses, of nodes that listen on these ports, within these limits. Writes each that the
 /// filter shows to `out` in this form, and what the capture was, or the fault line, to `err`. Answers the exit status and the two outputs.
 ///
-/// After a fault nothing more is asked of what failed.
+/// Lines are written at once, or in blocks; without memory for a block also at once. The last block is written before the last line. After a fault
+/// nothing more is asked of what failed.
 pub(crate) fn write_exchanges<R: Source, O: Target, E: Target>(
     alloc: Global,
     streams: StreamsLimits,
@@ -28,11 +30,14 @@ pub(crate) fn write_exchanges<R: Source, O: Target, E: Target>(
     ports: &[u16],
     filter: ExchangeFilter,
     form: ExchangeForm,
+    buffering: Buffering,
     input: &mut R,
     out: O,
     err: E,
 ) -> (u8, O, E) {
-    let (answer, counts, out) = listen(alloc, streams, limits, ports, filter, form, input, out);
+    let (answer, counts, out) = listen_by(
+        alloc, streams, limits, ports, filter, form, buffering, input, out,
+    );
     let (status, err) = conclude(streams, limits, ports, &answer, &counts, err);
     (status, out, err)
 }
@@ -52,6 +57,45 @@ impl Counts {
             missed: Missed::NONE,
         }
     }
+}
+
+/// Reads the capture, and writes the lines, at once or in blocks. Answers what it was, what was reported, and the output.
+fn listen_by<R: Source, O: Target>(
+    alloc: Global,
+    streams: StreamsLimits,
+    limits: ExchangeLimits,
+    ports: &[u16],
+    filter: ExchangeFilter,
+    form: ExchangeForm,
+    buffering: Buffering,
+    input: &mut R,
+    out: O,
+) -> (Result<CaptureRead, StreamsFault>, Counts, O) {
+    match buffering {
+        Buffering::Line => listen(alloc, streams, limits, ports, filter, form, input, out),
+        Buffering::Block => match BlockWriter::new(alloc, out) {
+            Ok(blocks) => {
+                listen_in_blocks(alloc, streams, limits, ports, filter, form, input, blocks)
+            }
+            Err(out) => listen(alloc, streams, limits, ports, filter, form, input, out),
+        },
+    }
+}
+
+/// Reads the capture, and writes the lines in blocks, of which none waits yet.
+fn listen_in_blocks<R: Source, O: Target>(
+    alloc: Global,
+    streams: StreamsLimits,
+    limits: ExchangeLimits,
+    ports: &[u16],
+    filter: ExchangeFilter,
+    form: ExchangeForm,
+    input: &mut R,
+    blocks: BlockWriter<O>,
+) -> (Result<CaptureRead, StreamsFault>, Counts, O) {
+    let (read, counts, blocks) = listen(alloc, streams, limits, ports, filter, form, input, blocks);
+    let (answer, out) = finish_blocks(read, blocks);
+    (answer, counts, out)
 }
 
 /// Reads the capture, and writes the lines. Answers what it was, what was reported, and the output.

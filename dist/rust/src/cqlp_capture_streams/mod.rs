@@ -1,6 +1,8 @@
 // Written by dist/erase from crates/cqlp_capture_streams/src/lib.rt.
 //! The bytes of each direction of each connection of a capture, apart, and a line for each connection.
 
+mod block_writer;
+mod buffering;
 mod busiest;
 mod capturing;
 mod connection_event;
@@ -20,6 +22,8 @@ mod splitter;
 mod summary;
 mod writing;
 
+pub use block_writer::BlockWriter;
+pub use buffering::{Buffering, finish_blocks};
 pub use capturing::{CaptureRead};
 pub(crate) use capturing::{read_capture};
 pub use connection_event::ConnectionEvent;

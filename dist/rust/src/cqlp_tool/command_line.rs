@@ -10,7 +10,7 @@ use crate::cqlp_tool::progress::Progress;
 use crate::cqlp_capture_events::write_events;
 use crate::cqlp_capture_exchanges::{ExchangeFilter, ExchangeForm, Naming, write_exchanges};
 use crate::cqlp_capture_rows::write_rows;
-use crate::cqlp_capture_streams::{StreamsLimits, write_streams};
+use crate::cqlp_capture_streams::{Buffering, StreamsLimits, write_streams};
 use crate::cqlp_decode::SinkFault;
 use crate::cqlp_note::{OfStd, Source, Target};
 use crate::cqlp_options::{
@@ -137,7 +137,7 @@ fn capture<R: Files + AllocGlobal, I: Source, O: Target, E: Target, N: Target>(
         return (status, out, err);
     }
     if options.file == "-" {
-        return read_capture(rt, &options, input, out, err);
+        return read_capture(rt, &options, Buffering::Line, input, out, err);
     }
     match File::open(rt, options.file) {
         Ok(file) => read_file(rt, &options, file, notes.take(), out, err),
@@ -159,7 +159,8 @@ fn missing_folder<'a, R: Files>(rt: &R, asked: CaptureTask<'a>) -> Option<&'a st
     }
 }
 
-/// Does the task with a capture in a file. Where the file is long, `notes` gets how much of it was read.
+/// Does the task with a capture in a file. Of a regular file lines are written in blocks; of any other, as a pipe, at once. Where the file is long,
+/// `notes` gets how much of it was read.
 fn read_file<R: Files + AllocGlobal, O: Target, E: Target, N: Target>(
     rt: &R,
     options: &CaptureOptions<'_>,
@@ -168,12 +169,21 @@ fn read_file<R: Files + AllocGlobal, O: Target, E: Target, N: Target>(
     out: O,
     err: E,
 ) -> (u8, O, E) {
+    let buffering = buffering_for(&file);
     match (notes, long_length(&file)) {
         (Some(notes), Some(length)) => {
             let mut input = Progress::new(OfStd::new(file), length, notes);
-            read_capture(rt, options, &mut input, out, err)
+            read_capture(rt, options, buffering, &mut input, out, err)
         }
-        _ => read_capture(rt, options, &mut OfStd::new(file), out, err),
+        _ => { read_capture(rt, options, buffering, &mut OfStd::new(file), out, err) }
+    }
+}
+
+/// When the lines of a capture in this file are written.
+fn buffering_for<F: OpenFile>(file: &F) -> Buffering {
+    match file.metadata() {
+        Ok(metadata) if metadata.is_file() => Buffering::Block,
+        _ => Buffering::Line,
     }
 }
 
@@ -189,6 +199,7 @@ fn long_length<F: OpenFile>(file: &F) -> Option<u64> {
 fn read_capture<R: Files + AllocGlobal, I: Source, O: Target, E: Target>(
     rt: &R,
     options: &CaptureOptions<'_>,
+    buffering: Buffering,
     input: &mut I,
     out: O,
     err: E,
@@ -207,6 +218,7 @@ fn read_capture<R: Files + AllocGlobal, I: Source, O: Target, E: Target>(
                 ports,
                 filter_of(asked),
                 form_of(asked.form),
+                buffering,
                 input,
                 out,
                 err,
