@@ -1,3 +1,2 @@
 pub mod Doubles
-pub mod Opened
 pub mod ReadBack

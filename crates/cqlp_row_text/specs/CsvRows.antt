@@ -15,7 +15,8 @@ use Rattle.cqlp_grammar.specs.Events as reading
 use Rattle.cqlp_text.specs.CellText.{cell_text}
 use Rattle.cqlp_text.specs.PageText.{innermost, opening, closing, separator, without_open}
 use Rattle.cqlp_text.specs.declared.page_text.WrittenValue.{WrittenValue}
-use Rattle.cqlp_row_text.specs.Places.{TablePlace, table_after, at_first, at_last}
+use Rattle.cqlp_row_text.specs.declared.place.TablePlace.{TablePlace}
+use Rattle.cqlp_row_text.specs.Places.{table_after, at_first, at_last}
 use Rattle.cqlp_row_text.specs.Quotes.{text_field, text_item}
 
 -- ---- what stands around values

@@ -17,7 +17,8 @@ use Rattle.cqlp_text.specs.declared.page_text.WrittenValue.{WrittenValue}
 use Rattle.cqlp_text.specs.declared.page_text.Turn.{Turn}
 use Rattle.cqlp_text.specs.declared.page_text.Turn.TheVariants.{First, Paired, Another}
 use Rattle.cqlp_json.specs.Values.{scalar_text, string}
-use Rattle.cqlp_row_text.specs.Places.{TablePlace, table_after, at_first, at_last}
+use Rattle.cqlp_row_text.specs.declared.place.TablePlace.{TablePlace}
+use Rattle.cqlp_row_text.specs.Places.{table_after, at_first, at_last}
 
 -- ---- what stands around values
 

@@ -1,23 +1,14 @@
 -- What the rows of a page, as JSON or CSV, depend on of the events before: the place on the page, as its text has it, and
 -- whether a column's name has come.
-use Rattle.std.specs.Prelude.{◌==◌, ℕ, Bool, true, false, if◌then◌else◌, List, [], Option, None, Some, option_map}
+use Rattle.std.specs.Prelude.{◌==◌, ℕ, Bool, true, false, if◌then◌else◌, List, []}
 use Rattle.cqlp_note.specs.declared.field.Field.{Field}
 use Rattle.cqlp_note.specs.declared.field.Field.TheVariants as field
 use Rattle.cqlp_note.specs.Field.{FieldValue}
 use Rattle.cqlp_note.specs.Field as value
 use Rattle.cqlp_grammar.specs.Events.{Event}
 use Rattle.cqlp_grammar.specs.Events as reading
-use Rattle.cqlp_text.specs.PageText.{PagePlace, no_page, place_after}
-use Rattle.cqlp_text.specs.declared.page_text.WrittenValue.{WrittenValue}
-use Rattle.cqlp_text.specs.declared.page_text.Turn as written
-use Rattle.cqlp_text.specs.declared.page_text.Turn.TheVariants as written_turn
-use Rattle.cqlp_row_text.specs.declared.place.OpenValue.{OpenValue}
-use Rattle.cqlp_row_text.specs.declared.place.Turn.{Turn}
-use Rattle.cqlp_row_text.specs.declared.place.Turn.TheVariants.{First, Paired, Another}
-
-pub record TablePlace : Type 0 where
-  pub page : PagePlace
-  pub is_named : Bool
+use Rattle.cqlp_text.specs.PageText.{no_page, place_after}
+use Rattle.cqlp_row_text.specs.declared.place.TablePlace.{TablePlace}
 
 abbrev pub no_table : TablePlace
 no_table = record { page = no_page; is_named = false }
@@ -43,13 +34,3 @@ at_first offset text = if offset == 0 then text else []
 -- what stands after its last part alone
 abbrev pub at_last : (last : Bool) → List ℕ → List ℕ
 at_last last text = if last then text else []
-
--- ---- as the code has them
-
-abbrev pub turn_of : Turn → written.Turn
-turn_of First = written_turn.First
-turn_of Paired = written_turn.Paired
-turn_of Another = written_turn.Another
-
-abbrev pub as_written : OpenValue → WrittenValue
-as_written o = record { kind = o.kind; turn = turn_of o.turn }

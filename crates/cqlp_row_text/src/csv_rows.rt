@@ -1,25 +1,25 @@
 //! Rows as CSV.
 
-ghost use Rattle.std.specs.Prelude.{◌≡◌, ◌++◌, ◌+◌, ◌==◌, ℕ, [], codes, option_map};
+ghost use Rattle.std.specs.Prelude.{◌≡◌, ◌++◌, ◌+◌, ◌==◌, ℕ, [], codes};
 ghost use Rattle.cqlp_grammar.specs.Events.{event_of};
 ghost use Rattle.cqlp_kind.specs.CellStep as cell;
 ghost use Rattle.cqlp_kind.specs.Contents.{value_of};
 ghost use Rattle.cqlp_note.specs.Field.{Count as CountValue, Text as TextValue};
 ghost use Rattle.cqlp_text.specs.Outputs.{AppendsText, written};
-ghost use Rattle.cqlp_text.specs.PageText.{closing as closing_of, opening as opening_of, separator as separator_of};
+ghost use Rattle.cqlp_text.specs.PageText.{separator as separator_of};
 ghost use Rattle.cqlp_text.specs.Written.{Writes};
 ghost use Rattle.cqlp_row_text.specs.CsvRows.{after, after_value, before, before_value, csv_part as text_of, empty_value};
 ghost use Rattle.cqlp_row_text.specs.CsvRows.{end_part, event_part, field_part, field_quote, null_value, scalar_value, value_part};
 ghost use Rattle.cqlp_row_text.specs.CsvRows.{csv_break as break_of, text_value};
-ghost use Rattle.cqlp_row_text.specs.Places.{as_written, table_after, turn_of};
+ghost use Rattle.cqlp_row_text.specs.Places.{table_after};
 ghost use Rattle.cqlp_row_text.specs.Shows.{content_text, shown_text};
 
-use crate::place::{OpenValue, TablePlace, Turn};
+use crate::place::TablePlace;
 use crate::shown::{Content, Shown, put_shown};
 use cqlp_grammar::{Event, SinkFault};
 use cqlp_kind::{Kind, Scalar};
 use cqlp_note::{Field, Target};
-use cqlp_text::{Pen, TextWriter};
+use cqlp_text::{Pen, TextWriter, Turn, WrittenValue, closing, opening};
 
 /// Appends what is written of an event of a page as CSV, which nothing is of an event of another frame, and goes to the
 /// place after it, also at a fault, which is the target's own.
@@ -61,7 +61,7 @@ pub fn put_csv_part<P: Pen>(
     ensures part { Writes writer.old (text_of place.old (event_of event.now)) result writer.new }
     ensures place { place.new ≡ table_after place.old (event_of event.now) }
 {
-    if !place.is_page() {
+    if !place.page.is_page() {
         place.pass(event);
         return Ok(());
     }
@@ -75,10 +75,10 @@ pub fn put_csv_part<P: Pen>(
 pub fn csv_break(place: &TablePlace) -> &'static str
     ensures { result.now ≡ break_of place.now }
 {
-    if !place.is_page() {
+    if !place.page.is_page() {
         return "";
     }
-    match place.innermost() {
+    match place.page.innermost() {
         None => "\r\n",
         Some(_) => "\"\r\n",
     }
@@ -113,7 +113,7 @@ fn shown_name<'a>(place: &TablePlace, field: Field, name: &'a str) -> Shown<'a>
 {
     match field {
         Field::ColumnName => Shown {
-            before: if place.is_named() { "," } else { "" },
+            before: if place.is_named { "," } else { "" },
             content: Content::TextField(name),
             ..Shown::NOTHING
         },
@@ -126,7 +126,7 @@ fn shown_count(place: &TablePlace, field: Field) -> Shown<'static>
     ensures { (count : ℕ) → shown_text result ≡ field_part place.now field (CountValue count) }
 {
     match field {
-        Field::Rows if place.is_named() => Shown {
+        Field::Rows if place.is_named => Shown {
             after: "\r\n",
             ..Shown::NOTHING
         },
@@ -139,18 +139,18 @@ fn shown_count(place: &TablePlace, field: Field) -> Shown<'static>
 fn shown_scalar<'a>(place: &TablePlace, column: u32, scalar: Scalar<'a>) -> Shown<'a>
     ensures { shown_text result ≡ value_part place.now column (cell.Leaf 0 (value_of scalar.entry)) }
 {
-    let around = place.innermost();
+    let around = place.page.innermost();
     Shown {
         before: before(column, around),
         content: scalar_content(around, scalar),
-        after: after(place.is_last(column), around),
+        after: after(place.page.is_last(column), around),
         ..Shown::NOTHING
     }
 }
 
 #[inline]
-fn scalar_content<'a>(around: Option<OpenValue>, scalar: Scalar<'a>) -> Content<'a>
-    ensures { content_text result ≡ scalar_value (option_map as_written around) (value_of scalar.entry) }
+fn scalar_content<'a>(around: Option<WrittenValue>, scalar: Scalar<'a>) -> Content<'a>
+    ensures { content_text result ≡ scalar_value around (value_of scalar.entry) }
 {
     match scalar {
         Scalar::Ascii(text) | Scalar::Varchar(text) => text_content(around, text),
@@ -176,8 +176,8 @@ fn scalar_content<'a>(around: Option<OpenValue>, scalar: Scalar<'a>) -> Content<
     }
 }
 
-fn text_content<'a>(around: Option<OpenValue>, text: &'a str) -> Content<'a>
-    ensures { content_text result ≡ text_value (option_map as_written around) text.now }
+fn text_content<'a>(around: Option<WrittenValue>, text: &'a str) -> Content<'a>
+    ensures { content_text result ≡ text_value around text.now }
 {
     match around {
         None => Content::TextField(text),
@@ -188,17 +188,17 @@ fn text_content<'a>(around: Option<OpenValue>, text: &'a str) -> Content<'a>
 fn shown_null(place: &TablePlace, column: u32) -> Shown<'static>
     ensures { shown_text result ≡ value_part place.now column (cell.Null 0) }
 {
-    let around = place.innermost();
+    let around = place.page.innermost();
     Shown {
         before: before(column, around),
         begin: null(around),
-        after: after(place.is_last(column), around),
+        after: after(place.page.is_last(column), around),
         ..Shown::NOTHING
     }
 }
 
-fn null(around: Option<OpenValue>) -> &'static str
-    ensures { result.now ≡ null_value (option_map as_written around) }
+fn null(around: Option<WrittenValue>) -> &'static str
+    ensures { result.now ≡ null_value around }
 {
     match around {
         None => "",
@@ -209,17 +209,17 @@ fn null(around: Option<OpenValue>) -> &'static str
 fn shown_empty(place: &TablePlace, column: u32) -> Shown<'static>
     ensures { shown_text result ≡ value_part place.now column (cell.Empty 0) }
 {
-    let around = place.innermost();
+    let around = place.page.innermost();
     Shown {
         before: before(column, around),
         begin: empty(around),
-        after: after(place.is_last(column), around),
+        after: after(place.page.is_last(column), around),
         ..Shown::NOTHING
     }
 }
 
-fn empty(around: Option<OpenValue>) -> &'static str
-    ensures { result.now ≡ empty_value (option_map as_written around) }
+fn empty(around: Option<WrittenValue>) -> &'static str
+    ensures { result.now ≡ empty_value around }
 {
     match around {
         None => "\"\"",
@@ -230,7 +230,7 @@ fn empty(around: Option<OpenValue>) -> &'static str
 fn shown_opening(place: &TablePlace, column: u32, kind: Kind) -> Shown<'static>
     ensures { shown_text result ≡ value_part place.now column (cell.Enter 0 kind 0) }
 {
-    let around = place.innermost();
+    let around = place.page.innermost();
     Shown {
         before: before(column, around),
         begin: quote(around),
@@ -242,13 +242,13 @@ fn shown_opening(place: &TablePlace, column: u32, kind: Kind) -> Shown<'static>
 fn shown_closing(place: &TablePlace) -> Shown<'static>
     ensures { shown_text result ≡ end_part place.now.page.columns place.now.page.column place.now.page.open_values }
 {
-    let outer = place.outer();
-    match place.innermost() {
+    let outer = place.page.outer();
+    match place.page.innermost() {
         None => Shown::NOTHING,
         Some(open) => Shown {
             before: closing(open.kind),
             begin: quote(outer),
-            after: after(place.is_last(place.column()), outer),
+            after: after(place.page.is_last(place.page.column()), outer),
             ..Shown::NOTHING
         },
     }
@@ -264,14 +264,14 @@ fn shown_part<'a>(
 ) -> Shown<'a>
     ensures { shown_text result ≡ value_part place.now column (cell.Part 0 offset bytes.now last) }
 {
-    let around = place.innermost();
+    let around = place.page.innermost();
     let (before, begin) = if offset == 0 {
         (before(column, around), "0x")
     } else {
         ("", "")
     };
     let after = if last {
-        after(place.is_last(column), around)
+        after(place.page.is_last(column), around)
     } else {
         ""
     };
@@ -286,8 +286,8 @@ fn shown_part<'a>(
 
 /// What stands before a cell of this column, or before an item of the open value.
 #[inline(always)]
-fn before(column: u32, around: Option<OpenValue>) -> &'static str
-    ensures { result.now ≡ before column (option_map as_written around) }
+fn before(column: u32, around: Option<WrittenValue>) -> &'static str
+    ensures { result.now ≡ before column around }
 {
     match around {
         None if column == 0 => "",
@@ -298,7 +298,7 @@ fn before(column: u32, around: Option<OpenValue>) -> &'static str
 
 #[inline(always)]
 fn separator(turn: Turn) -> &'static str
-    ensures { result.now ≡ separator_of (turn_of turn) }
+    ensures { result.now ≡ separator_of turn }
 {
     match turn {
         Turn::First => "",
@@ -309,9 +309,9 @@ fn separator(turn: Turn) -> &'static str
 
 /// What stands after a cell, which may be the last of its row, or after an item of the open value.
 #[inline(always)]
-fn after(is_last: bool, around: Option<OpenValue>) -> &'static str
+fn after(is_last: bool, around: Option<WrittenValue>) -> &'static str
     ensures { (columns column : ℕ) → is_last ≡ (column + 1 == columns)
-        → result.now ≡ after columns column (option_map as_written around) }
+        → result.now ≡ after columns column around }
 {
     match around {
         None if is_last => "\r\n",
@@ -321,33 +321,11 @@ fn after(is_last: bool, around: Option<OpenValue>) -> &'static str
 
 /// The quote around a value with items that is a field.
 #[inline]
-fn quote(around: Option<OpenValue>) -> &'static str
-    ensures { result.now ≡ field_quote (option_map as_written around) }
+fn quote(around: Option<WrittenValue>) -> &'static str
+    ensures { result.now ≡ field_quote around }
 {
     match around {
         None => "\"",
         Some(_) => "",
-    }
-}
-
-#[inline]
-fn opening(kind: Kind) -> &'static str
-    ensures { result.now ≡ opening_of kind }
-{
-    match kind {
-        Kind::List => "[",
-        Kind::Set | Kind::Map => "{",
-        _ => "(",
-    }
-}
-
-#[inline]
-fn closing(kind: Kind) -> &'static str
-    ensures { result.now ≡ closing_of kind }
-{
-    match kind {
-        Kind::List => "]",
-        Kind::Set | Kind::Map => "}",
-        _ => ")",
     }
 }

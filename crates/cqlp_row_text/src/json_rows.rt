@@ -1,24 +1,26 @@
 //! Rows as JSON.
 
-ghost use Rattle.std.specs.Prelude.{◌≡◌, ◌++◌, ◌+◌, ◌==◌, ℕ, codes, option_map};
+ghost use Rattle.std.specs.Prelude.{◌≡◌, ◌++◌, ◌+◌, ◌==◌, ℕ, codes};
 ghost use Rattle.cqlp_grammar.specs.Events.{event_of};
 ghost use Rattle.cqlp_kind.specs.CellStep as cell;
 ghost use Rattle.cqlp_kind.specs.Contents.{value_of};
 ghost use Rattle.cqlp_note.specs.Field.{Count as CountValue, Text as TextValue};
 ghost use Rattle.cqlp_text.specs.Outputs.{AppendsText, written};
+ghost use Rattle.cqlp_text.specs.PageText.{innermost, with_item};
 ghost use Rattle.cqlp_text.specs.Written.{Writes};
 ghost use Rattle.cqlp_json.specs.Values.{scalar_text};
 ghost use Rattle.cqlp_row_text.specs.JsonRows.{after, after_item as after_item_of, after_value, before, before_item as before_item_of};
 ghost use Rattle.cqlp_row_text.specs.JsonRows.{before_value, end_part, event_part, field_part, json_break as break_of, json_part as text_of, value_part};
-ghost use Rattle.cqlp_row_text.specs.Places.{TablePlace, as_written, table_after, turn_of};
+ghost use Rattle.cqlp_row_text.specs.Places.{table_after};
+ghost use Rattle.cqlp_row_text.specs.declared.place.TablePlace.{TablePlace};
 ghost use Rattle.cqlp_row_text.specs.Shows.{content_text, shown_text};
 
-use crate::place::{OpenValue, TablePlace, Turn};
+use crate::place::TablePlace;
 use crate::shown::{Content, Shown, put_shown};
 use cqlp_grammar::{Event, SinkFault};
 use cqlp_kind::{Kind, Scalar};
 use cqlp_note::{Field, Target};
-use cqlp_text::{Pen, TextWriter};
+use cqlp_text::{PagePlace, Pen, TextWriter, Turn, WrittenValue};
 
 /// Appends what is written of an event of a page as JSON, which nothing is of an event of another frame, and goes to the
 /// place after it, also at a fault, which is the target's own.
@@ -60,7 +62,7 @@ pub fn put_json_part<P: Pen>(
     ensures part { Writes writer.old (text_of place.old (event_of event.now)) result writer.new }
     ensures place { place.new ≡ table_after place.old (event_of event.now) }
 {
-    if !place.is_page() {
+    if !place.page.is_page() {
         place.pass(event);
         return Ok(());
     }
@@ -73,7 +75,7 @@ pub fn put_json_part<P: Pen>(
 pub fn json_break(place: &TablePlace) -> &'static str
     ensures { result.now ≡ break_of place.now }
 {
-    if place.is_page() { "\n" } else { "" }
+    if place.page.is_page() { "\n" } else { "" }
 }
 
 /// What is written of an event on a page.
@@ -105,7 +107,7 @@ fn shown_name<'a>(place: &TablePlace, field: Field, name: &'a str) -> Shown<'a>
 {
     match field {
         Field::ColumnName => Shown {
-            before: if place.is_named() { "," } else { "" },
+            before: if place.is_named { "," } else { "" },
             content: Content::Json(Scalar::Varchar(name)),
             ..Shown::NOTHING
         },
@@ -141,9 +143,12 @@ fn shown_value<'a>(place: &TablePlace, column: u32, content: Content<'a>) -> Sho
         ≡ before_value place.now column ++ (content_text content.entry ++ after_value place.now column) }
 {
     Shown {
-        before: before(column, place.innermost()),
+        before: before(column, place.page.innermost()),
         content,
-        after: after(place.is_last(column), place.after_item()),
+        after: after(
+            place.page.is_last(column),
+            innermost_after_item(&place.page),
+        ),
         ..Shown::NOTHING
     }
 }
@@ -154,9 +159,12 @@ fn shown_word(place: &TablePlace, column: u32, word: &'static str) -> Shown<'sta
     ensures { shown_text result ≡ before_value place.now column ++ (word.now ++ after_value place.now column) }
 {
     Shown {
-        before: before(column, place.innermost()),
+        before: before(column, place.page.innermost()),
         begin: word,
-        after: after(place.is_last(column), place.after_item()),
+        after: after(
+            place.page.is_last(column),
+            innermost_after_item(&place.page),
+        ),
         ..Shown::NOTHING
     }
 }
@@ -165,7 +173,7 @@ fn shown_opening(place: &TablePlace, column: u32) -> Shown<'static>
     ensures { shown_text result ≡ before_value place.now column ++ codes "[" }
 {
     Shown {
-        before: before(column, place.innermost()),
+        before: before(column, place.page.innermost()),
         begin: "[",
         ..Shown::NOTHING
     }
@@ -174,13 +182,24 @@ fn shown_opening(place: &TablePlace, column: u32) -> Shown<'static>
 fn shown_closing(place: &TablePlace) -> Shown<'static>
     ensures { shown_text result ≡ end_part place.now.page.columns place.now.page.column place.now.page.open_values }
 {
-    match place.innermost() {
+    match place.page.innermost() {
         None => Shown::NOTHING,
         Some(_) => Shown {
             end: "]",
-            after: after(place.is_last(place.column()), place.outer()),
+            after: after(place.page.is_last(place.page.column()), place.page.outer()),
             ..Shown::NOTHING
         },
+    }
+}
+
+/// The innermost open value as it is after one more item.
+#[inline(always)]
+fn innermost_after_item(place: &PagePlace) -> Option<WrittenValue>
+    ensures { result ≡ innermost (with_item place.now.open_values) }
+{
+    match place.innermost() {
+        Some(open) => Some(open.after_item()),
+        None => None,
     }
 }
 
@@ -195,12 +214,18 @@ fn shown_part<'a>(
     ensures { shown_text result ≡ value_part place.now column (cell.Part 0 offset bytes.now last) }
 {
     let (before, begin) = if offset == 0 {
-        (before(column, place.innermost()), "\"")
+        (before(column, place.page.innermost()), "\"")
     } else {
         ("", "")
     };
     let (end, after) = if last {
-        ("\"", after(place.is_last(column), place.after_item()))
+        (
+            "\"",
+            after(
+                place.page.is_last(column),
+                innermost_after_item(&place.page),
+            ),
+        )
     } else {
         ("", "")
     };
@@ -215,8 +240,8 @@ fn shown_part<'a>(
 
 /// What stands before a cell of this column, or before an item of the open value.
 #[inline(always)]
-fn before(column: u32, around: Option<OpenValue>) -> &'static str
-    ensures { result.now ≡ before column (option_map as_written around) }
+fn before(column: u32, around: Option<WrittenValue>) -> &'static str
+    ensures { result.now ≡ before column around }
 {
     match around {
         None if column == 0 => "[",
@@ -227,7 +252,7 @@ fn before(column: u32, around: Option<OpenValue>) -> &'static str
 
 #[inline(always)]
 fn before_item(kind: Kind, turn: Turn) -> &'static str
-    ensures { result.now ≡ before_item_of kind (turn_of turn) }
+    ensures { result.now ≡ before_item_of kind turn }
 {
     match (kind, turn) {
         (Kind::Map, Turn::First) => "[",
@@ -239,9 +264,9 @@ fn before_item(kind: Kind, turn: Turn) -> &'static str
 
 /// What stands after a cell, which may be the last of its row, or after an item of the open value.
 #[inline(always)]
-fn after(is_last: bool, around: Option<OpenValue>) -> &'static str
+fn after(is_last: bool, around: Option<WrittenValue>) -> &'static str
     ensures { (columns column : ℕ) → is_last ≡ (column + 1 == columns)
-        → result.now ≡ after columns column (option_map as_written around) }
+        → result.now ≡ after columns column around }
 {
     match around {
         None if is_last => "]\n",
@@ -252,7 +277,7 @@ fn after(is_last: bool, around: Option<OpenValue>) -> &'static str
 
 #[inline(always)]
 fn after_item(kind: Kind, turn: Turn) -> &'static str
-    ensures { result.now ≡ after_item_of kind (turn_of turn) }
+    ensures { result.now ≡ after_item_of kind turn }
 {
     match (kind, turn) {
         (Kind::Map, Turn::Another) => "]",

@@ -1,164 +1,31 @@
-//! The place on a page.
+//! The place on a page, and whether a column's name has come.
 
-ghost use Rattle.std.specs.Prelude.{◌≡◌, drop, map, option_map};
+ghost use Rattle.std.specs.Prelude.{◌≡◌};
 ghost use Rattle.cqlp_grammar.specs.Events.{event_of};
-ghost use Rattle.cqlp_text.specs.PageText.{innermost as innermost_of, turn_after as next_turn};
-ghost use Rattle.cqlp_row_text.specs.Places.{as_written, turn_of};
+ghost use Rattle.cqlp_row_text.specs.Places.{no_table, table_after};
 
 use cqlp_grammar::Event;
-use cqlp_kind::Kind;
 use cqlp_note::Field;
-use std::marker::Model;
-
-/// How many values are open at most: no type is deeper.
-const ROOM: usize = 64;
-
-/// The kind of a result that is a page.
-const ROWS: i32 = 2;
-
-/// What comes next in an open value.
-#[derive(Clone, Copy)]
-pub(crate) enum Turn {
-    /// Its first item.
-    First,
-    /// A map's value, after its key.
-    Paired,
-    /// One more item.
-    Another,
-}
-
-/// A value whose items are written.
-#[derive(Clone, Copy)]
-pub(crate) struct OpenValue {
-    pub kind: Kind,
-    pub turn: Turn,
-}
-
-impl OpenValue {
-    /// After an item.
-    #[inline(always)]
-    fn after_item(self) -> OpenValue
-        ensures { as_written result
-            ≡ record (as_written self) { turn = next_turn self.kind (turn_of self.turn) } }
-    {
-        OpenValue {
-            kind: self.kind,
-            turn: turn_after(self.kind, self.turn),
-        }
-    }
-}
+use cqlp_text::PagePlace;
 
 /// What the rows of a page depend on of the events before.
 #[derive(Drop)]
 pub struct TablePlace {
-    is_page: bool,
-    is_named: bool,
-    columns: u32,
-    column: u32,
-    /// The open values from `free` on, the innermost first.
-    open_values: [OpenValue; ROOM],
-    free: usize,
-}
-
-impl Model for TablePlace {
-    ghost use Rattle.std.specs.Prelude.{◌≡◌, ◌≤◌, length, drop, map};
-    ghost use Rattle.cqlp_row_text.specs.Places.{TablePlace, as_written};
-
-    ghost Value = { TablePlace };
-
-    ghost view = { λ p. record {
-      page = record {
-        is_page = p.is_page;
-        columns = p.columns;
-        column = p.column;
-        open_values = map as_written (drop p.free p.open_values);
-      };
-      is_named = p.is_named;
-    } };
-
-    ghost invariant = { λ p. (p.free ≤ 64) × (length p.open_values ≡ 64) };
+    pub(crate) page: PagePlace,
+    /// Whether a column's name has come.
+    pub(crate) is_named: bool,
 }
 
 impl TablePlace {
-    ghost use Rattle.std.specs.Prelude.{true, ◌==◌, ◌+◌, List, ℕ};
-    ghost use Rattle.cqlp_note.specs.Field.{Count as CountValue, Int as IntValue, Text as TextValue};
-    ghost use Rattle.cqlp_text.specs.PageText.{no_page, innermost, with_item, with_item_if};
-    ghost use Rattle.cqlp_text.specs.PageText.{with_open, without_open, place_after_field};
-    ghost use Rattle.cqlp_row_text.specs.Places.{no_table, table_after, named_after_field};
-
     /// Before any frame.
     #[must_use]
     pub fn new() -> Self
         ensures { result ≡ no_table }
     {
         TablePlace {
-            is_page: false,
+            page: PagePlace::new(),
             is_named: false,
-            columns: 0,
-            column: 0,
-            open_values: [OpenValue {
-                kind: Kind::Raw,
-                turn: Turn::First,
-            }; ROOM],
-            free: ROOM,
         }
-    }
-
-    #[inline]
-    pub(crate) fn is_page(&self) -> bool
-        ensures { result ≡ self.now.page.is_page }
-    {
-        self.is_page
-    }
-
-    #[inline]
-    pub(crate) fn is_named(&self) -> bool
-        ensures { result ≡ self.now.is_named }
-    {
-        self.is_named
-    }
-
-    /// The column of the cell that is open.
-    #[inline]
-    pub(crate) fn column(&self) -> u32
-        ensures { result ≡ self.now.page.column }
-    {
-        self.column
-    }
-
-    /// Whether a cell of this column is the last of its row.
-    #[inline(always)]
-    pub(crate) fn is_last(&self, column: u32) -> bool
-        ensures { result ≡ (column + 1 == self.now.page.columns) }
-    {
-        u64::from(column) + 1 == u64::from(self.columns)
-    }
-
-    /// The innermost open value.
-    #[inline(always)]
-    pub(crate) fn innermost(&self) -> Option<OpenValue>
-        ensures { option_map as_written result ≡ innermost self.now.page.open_values }
-    {
-        value_at(&self.open_values, self.free)
-    }
-
-    /// The innermost open value as it is after one more item.
-    #[inline(always)]
-    pub(crate) fn after_item(&self) -> Option<OpenValue>
-        ensures { option_map as_written result ≡ innermost (with_item self.now.page.open_values) }
-    {
-        match self.innermost() {
-            Some(open) => Some(open.after_item()),
-            None => None,
-        }
-    }
-
-    /// The open value around the innermost one.
-    #[inline(always)]
-    pub(crate) fn outer(&self) -> Option<OpenValue>
-        ensures { option_map as_written result ≡ innermost (without_open self.now.page.open_values) }
-    {
-        value_at(&self.open_values, self.free + 1)
     }
 
     /// Goes to the place after an event.
@@ -166,160 +33,14 @@ impl TablePlace {
     pub(crate) fn pass(&mut self, event: &Event<'_>)
         ensures { self.new ≡ table_after self.old (event_of event.now) }
     {
+        self.page.pass(event);
         match *event {
-            Event::Int { field, value } => self.pass_int(field, value),
-            Event::Count { field, count } => self.pass_count(field, count),
-            Event::Text { field, .. } => self.pass_text(field),
-            Event::Leaf { column, .. } | Event::Null { column, .. } | Event::Empty { column, .. } =>
-                self.pass_item(column),
-            Event::Enter { column, kind, .. } => self.enter(column, kind),
-            Event::Leave { .. } => self.leave(),
-            Event::Part { column, last, .. } => self.pass_part(column, last),
-            Event::End { .. } => {
-                self.start(false);
-                self.is_named = false;
-            }
+            Event::Text {
+                field: Field::ColumnName,
+                ..
+            } => self.is_named = true,
+            Event::End { .. } => self.is_named = false,
             _ => {}
         }
-    }
-
-    /// Goes to the begin of a result, which is a page or not.
-    fn start(&mut self, is_page: bool)
-        ensures { self.new ≡ record self.old { page = record no_page { is_page = is_page } } }
-    {
-        self.is_page = is_page;
-        self.columns = 0;
-        self.column = 0;
-        self.free = ROOM;
-    }
-
-    #[inline]
-    fn pass_int(&mut self, field: Field, value: i32)
-        ensures { self.new ≡ record self.old { page = place_after_field self.old.page field (IntValue value) } }
-    {
-        if let Field::ResultKind = field {
-            if value == ROWS {
-                self.start(true);
-            }
-        }
-    }
-
-    #[inline]
-    fn pass_count(&mut self, field: Field, count: u32)
-        ensures { self.new ≡ record self.old { page = place_after_field self.old.page field (CountValue count) } }
-    {
-        if let Field::Columns = field {
-            self.columns = count;
-        }
-    }
-
-    #[inline]
-    fn pass_text(&mut self, field: Field)
-        ensures { (text : List ℕ) → self.new
-            ≡ record self.old { is_named = named_after_field self.old.is_named field (TextValue text) } }
-    {
-        if let Field::ColumnName = field {
-            self.is_named = true;
-        }
-    }
-
-    /// Goes to the place after a cell of this column, or after an item of the open value.
-    #[inline(always)]
-    fn pass_item(&mut self, column: u32)
-        ensures { self.new ≡ record self.old {
-          page =
-              record self.old.page { column = column; open_values = with_item self.old.page.open_values };
-        } }
-    {
-        self.column = column;
-        self.count_item();
-    }
-
-    #[inline]
-    fn pass_part(&mut self, column: u32, last: bool)
-        ensures { self.new ≡ record self.old {
-          page =
-              record self.old.page { column = column; open_values = with_item_if last self.old.page.open_values };
-        } }
-    {
-        self.column = column;
-        if last {
-            self.count_item();
-        }
-    }
-
-    /// Goes to the place after an item of the open value, if there is one.
-    #[inline(always)]
-    fn count_item(&mut self)
-        ensures { self.new ≡ record self.old {
-          page =
-              record self.old.page { open_values = with_item self.old.page.open_values };
-        } }
-    {
-        if self.free < ROOM {
-            self.open_values[self.free] = self.open_values[self.free].after_item();
-        }
-    }
-
-    /// Goes into a value of this kind, an item of the one that was open.
-    #[inline]
-    fn enter(&mut self, column: u32, kind: Kind)
-        ensures { self.new ≡ record self.old {
-          page = record self.old.page {
-            column = column;
-            open_values = with_open kind (with_item self.old.page.open_values);
-          };
-        } }
-    {
-        self.pass_item(column);
-        self.push(kind);
-    }
-
-    #[inline]
-    fn push(&mut self, kind: Kind)
-        ensures { self.new ≡ record self.old {
-          page =
-              record self.old.page { open_values = with_open kind self.old.page.open_values };
-        } }
-    {
-        if self.free == 0 {
-            return;
-        }
-        self.free -= 1;
-        self.open_values[self.free] = OpenValue {
-            kind,
-            turn: Turn::First,
-        };
-    }
-
-    #[inline]
-    fn leave(&mut self)
-        ensures { self.new ≡ record self.old {
-          page =
-              record self.old.page { open_values = without_open self.old.page.open_values };
-        } }
-    {
-        if self.free < ROOM {
-            self.free += 1;
-        }
-    }
-}
-
-/// The open value that is this many after the first.
-#[inline(always)]
-fn value_at(values: &[OpenValue], at: usize) -> Option<OpenValue>
-    ensures { option_map as_written result ≡ innermost_of (map as_written (drop at values.now)) }
-{
-    values.get(at).copied()
-}
-
-/// What comes next after an item of a value of this kind.
-#[inline(always)]
-fn turn_after(kind: Kind, turn: Turn) -> Turn
-    ensures { turn_of result ≡ next_turn kind (turn_of turn) }
-{
-    match (kind, turn) {
-        (Kind::Map, Turn::First | Turn::Another) => Turn::Paired,
-        _ => Turn::Another,
     }
 }

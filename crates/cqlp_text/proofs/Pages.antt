@@ -6,7 +6,6 @@ use Rattle.std.proofs.lemmas.Option.{same_Some}
 use Rattle.cqlp_grammar.specs.declared.sink.SinkFault.{SinkFault}
 use Rattle.cqlp_kind.specs.declared.kind.Kind.{Kind}
 use Rattle.cqlp_text.specs.declared.page_text.WrittenValue.{WrittenValue}
-use Rattle.cqlp_text.specs.declared.page_text.Turn.{Turn}
 use Rattle.cqlp_text.specs.declared.page_text.Turn.TheVariants.{First}
 use Rattle.cqlp_text.specs.PageText.{PagePlace, after, closing, end_part, innermost, turn_after, with_item, with_open, without_open}
 use Rattle.cqlp_text.specs.Written.{Written, Writes}
@@ -31,11 +30,11 @@ after_item columns column n [] lt = absurd (omega arith)
 after_item columns column zero (x ∷ xs) lt = refl
 after_item columns column (suc n) (x ∷ xs) lt = after_item columns column n xs (omega arith)
 
-pub item_counted : (n : ℕ) (xs : List WrittenValue) (d : WrittenValue) (t : Turn) → n < length xs → t ≡ turn_after (get_or xs n d).kind (get_or xs n d).turn
-    → drop n (set xs n (record { kind = (get_or xs n d).kind; turn = t })) ≡ with_item (drop n xs)
-item_counted n [] d t lt e = absurd (omega arith)
-item_counted zero (x ∷ xs) d t lt e = ap (λ (u : Turn). let o : WrittenValue = record { kind = x.kind; turn = u } in o ∷ xs) e
-item_counted (suc n) (x ∷ xs) d t lt e = item_counted n xs d t (omega arith) e
+pub item_counted : (n : ℕ) (xs : List WrittenValue) (d o : WrittenValue) → n < length xs
+    → o ≡ record (get_or xs n d) { turn = turn_after (get_or xs n d).kind (get_or xs n d).turn } → drop n (set xs n o) ≡ with_item (drop n xs)
+item_counted n [] d o lt e = absurd (omega arith)
+item_counted zero (x ∷ xs) d o lt e = ap (λ (v : WrittenValue). v ∷ xs) e
+item_counted (suc n) (x ∷ xs) d o lt e = item_counted n xs d o (omega arith) e
 
 pub pushed : (n : ℕ) (xs : List WrittenValue) (k : Kind) → n ≢ 0 → n ≤ 64 → length xs ≡ 64 → drop (n - 1) (set xs (n - 1) (record { kind = k; turn = First })) ≡ with_open k (drop n xs)
 pushed n xs k some within long =

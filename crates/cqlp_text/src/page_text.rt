@@ -2,7 +2,7 @@
 
 ghost use Rattle.std.specs.Prelude.{◌≡◌, ◌++◌, IsSome, []};
 ghost use Rattle.cqlp_grammar.specs.Events.{event_of};
-ghost use Rattle.cqlp_text.specs.PageText.{page_part as text_of, place_after};
+ghost use Rattle.cqlp_text.specs.PageText.{page_part as text_of, place_after, turn_after as next_turn};
 ghost use Rattle.cqlp_text.specs.Outputs.{AppendsText, written};
 
 use crate::digits::SHORT;
@@ -49,7 +49,7 @@ pub fn page_part<W: Target>(
 
 /// What comes next in an open value.
 #[derive(Clone, Copy)]
-pub(crate) enum Turn {
+pub enum Turn {
     /// Its first item.
     First,
     /// A map's value, after its key.
@@ -60,9 +60,23 @@ pub(crate) enum Turn {
 
 /// A value whose items are written.
 #[derive(Clone, Copy)]
-pub(crate) struct WrittenValue {
-    kind: Kind,
-    turn: Turn,
+pub struct WrittenValue {
+    pub kind: Kind,
+    pub turn: Turn,
+}
+
+impl WrittenValue {
+    /// After one more item.
+    #[must_use]
+    #[inline(always)]
+    pub fn after_item(self) -> WrittenValue
+        ensures { result ≡ record self { turn = next_turn self.kind self.turn } }
+    {
+        WrittenValue {
+            kind: self.kind,
+            turn: turn_after(self.kind, self.turn),
+        }
+    }
 }
 
 /// What the text of an event depends on of those before it.
@@ -93,7 +107,7 @@ impl Model for PagePlace {
 }
 
 impl PagePlace {
-    ghost use Rattle.std.specs.Prelude.{false, if◌then◌else◌, codes};
+    ghost use Rattle.std.specs.Prelude.{false, ◌+◌, ◌==◌, if◌then◌else◌, codes};
     ghost use Rattle.cqlp_note.specs.Field.{Count as CountValue, Int as IntValue};
     ghost use Rattle.cqlp_text.specs.PageText.{no_page, before, after, gap_text, innermost, with_item, with_item_if};
     ghost use Rattle.cqlp_text.specs.PageText.{with_open, without_open, place_after_field};
@@ -115,8 +129,10 @@ impl PagePlace {
         }
     }
 
+    /// Whether the frame is a page.
+    #[must_use]
     #[inline]
-    fn is_page(&self) -> bool
+    pub fn is_page(&self) -> bool
         ensures { result ≡ self.now.is_page }
     {
         self.is_page
@@ -147,12 +163,40 @@ impl PagePlace {
         self.columns
     }
 
-    /// The innermost open value.
+    /// The column of the cell that is open.
+    #[must_use]
+    #[inline]
+    pub fn column(&self) -> u32
+        ensures { result ≡ self.now.column }
+    {
+        self.column
+    }
+
+    /// Whether a cell of this column is the last of its row.
+    #[must_use]
     #[inline(always)]
-    fn innermost(&self) -> Option<WrittenValue>
+    pub fn is_last(&self, column: u32) -> bool
+        ensures { result ≡ (column + 1 == self.now.columns) }
+    {
+        u64::from(column) + 1 == u64::from(self.columns)
+    }
+
+    /// The innermost open value.
+    #[must_use]
+    #[inline(always)]
+    pub fn innermost(&self) -> Option<WrittenValue>
         ensures { result ≡ innermost self.now.open_values }
     {
-        self.open_values.get(self.free).copied()
+        value_at(&self.open_values, self.free)
+    }
+
+    /// The open value around the innermost one.
+    #[must_use]
+    #[inline(always)]
+    pub fn outer(&self) -> Option<WrittenValue>
+        ensures { result ≡ innermost (without_open self.now.open_values) }
+    {
+        value_at(&self.open_values, self.free + 1)
     }
 
     /// What stands before a cell of this column, or before an item of the open value.
@@ -175,7 +219,7 @@ impl PagePlace {
         if self.free < ROOM {
             return false;
         }
-        is_last(column, self.columns)
+        self.is_last(column)
     }
 
     /// Whether a row ends after the innermost open value, which no item of another one is.
@@ -187,12 +231,12 @@ impl PagePlace {
         if self.free + 1 < ROOM {
             return false;
         }
-        is_last(self.column, self.columns)
+        self.is_last(self.column)
     }
 
     /// Goes to the place after an event.
     #[inline(always)]
-    fn pass(&mut self, event: &Event<'_>)
+    pub fn pass(&mut self, event: &Event<'_>)
         ensures { self.new ≡ place_after self.old (event_of event.now) }
     {
         match *event {
@@ -263,11 +307,7 @@ impl PagePlace {
         ensures { self.new ≡ record self.old { open_values = with_item self.old.open_values } }
     {
         if self.free < ROOM {
-            let open = self.open_values[self.free];
-            self.open_values[self.free] = WrittenValue {
-                kind: open.kind,
-                turn: turn_after(open.kind, open.turn),
-            };
+            self.open_values[self.free] = self.open_values[self.free].after_item();
         }
     }
 
@@ -811,16 +851,16 @@ impl<P: Pen> TextWriter<P> {
     }
 }
 
-ghost use Rattle.std.specs.Prelude.{if◌then◌else◌, codes};
-ghost use Rattle.cqlp_text.specs.PageText.{after as text_after, closing as text_closing, opening as text_opening};
-ghost use Rattle.cqlp_text.specs.PageText.{gap_text, separator as text_at, turn_after as next_turn};
+ghost use Rattle.std.specs.Prelude.{drop};
+ghost use Rattle.cqlp_text.specs.PageText.{closing as text_closing, opening as text_opening};
+ghost use Rattle.cqlp_text.specs.PageText.{gap_text, innermost as innermost_of, separator as text_at};
 
-/// Whether a row ends after a cell of this column.
+/// The open value that is this many after the first.
 #[inline(always)]
-fn is_last(column: u32, columns: u32) -> bool
-    ensures { text_after columns column [] ≡ (if result then codes "\n" else []) }
+fn value_at(values: &[WrittenValue], at: usize) -> Option<WrittenValue>
+    ensures { result ≡ innermost_of (drop at values.now) }
 {
-    u64::from(column) + 1 == u64::from(columns)
+    values.get(at).copied()
 }
 
 /// What stands before an item of an open value.
@@ -835,8 +875,10 @@ fn gap_at(turn: Turn) -> Gap
     }
 }
 
+/// What stands before the items of a value of this kind.
+#[must_use]
 #[inline]
-fn opening(kind: Kind) -> &'static str
+pub fn opening(kind: Kind) -> &'static str
     ensures { result.now ≡ text_opening kind }
 {
     match kind {
@@ -846,8 +888,10 @@ fn opening(kind: Kind) -> &'static str
     }
 }
 
+/// What stands after the items of a value of this kind.
+#[must_use]
 #[inline]
-fn closing(kind: Kind) -> &'static str
+pub fn closing(kind: Kind) -> &'static str
     ensures { result.now ≡ text_closing kind }
 {
     match kind {

@@ -12,7 +12,7 @@ use Rattle.cqlp_text.specs.Outputs.{Offered, Output, with_text, WritesText}
 use Rattle.cqlp_text.specs.PageText.{PagePlace, page_part}
 use Rattle.cqlp_row_text.specs.CsvRows.{csv_part}
 use Rattle.cqlp_row_text.specs.JsonRows.{json_part}
-use Rattle.cqlp_row_text.specs.Places.{TablePlace}
+use Rattle.cqlp_row_text.specs.declared.place.TablePlace.{TablePlace}
 
 -- The target failed in both of two calls or in neither: it counts as many failures, and had not counted all
 -- that it can.

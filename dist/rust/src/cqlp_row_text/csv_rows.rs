@@ -1,12 +1,12 @@
 // Written by dist/erase from crates/cqlp_row_text/src/csv_rows.rt.
 //! Rows as CSV.
 
-use crate::cqlp_row_text::place::{OpenValue, TablePlace, Turn};
+use crate::cqlp_row_text::place::TablePlace;
 use crate::cqlp_row_text::shown::{Content, Shown, put_shown};
 use crate::cqlp_grammar::{Event, SinkFault};
 use crate::cqlp_kind::{Kind, Scalar};
 use crate::cqlp_note::{Field, Target};
-use crate::cqlp_text::{Pen, TextWriter};
+use crate::cqlp_text::{Pen, TextWriter, Turn, WrittenValue, closing, opening};
 
 /// Appends what is written of an event of a page as CSV, which nothing is of an event of another frame, and goes to the
 /// place after it, also at a fault, which is the target's own.
@@ -41,7 +41,7 @@ pub fn put_csv_part<P: Pen>(
     event: &Event<'_>,
     writer: &mut TextWriter<P>,
 ) -> Result<(), SinkFault> {
-    if !place.is_page() {
+    if !place.page.is_page() {
         place.pass(event);
         return Ok(());
     }
@@ -53,10 +53,10 @@ pub fn put_csv_part<P: Pen>(
 /// What ends the record under way on a page that is cut at this place: the quote of its field, where that is between quotes, and the line.
 /// Nothing where there is no page.
 pub fn csv_break(place: &TablePlace) -> &'static str {
-    if !place.is_page() {
+    if !place.page.is_page() {
         return "";
     }
-    match place.innermost() {
+    match place.page.innermost() {
         None => "\r\n",
         Some(_) => "\"\r\n",
     }
@@ -87,7 +87,7 @@ fn shown_of<'a>(place: &TablePlace, event: &Event<'a>) -> Shown<'a> {
 fn shown_name<'a>(place: &TablePlace, field: Field, name: &'a str) -> Shown<'a> {
     match field {
         Field::ColumnName => Shown {
-            before: if place.is_named() { "," } else { "" },
+            before: if place.is_named { "," } else { "" },
             content: Content::TextField(name),
             ..Shown::NOTHING
         },
@@ -98,7 +98,7 @@ fn shown_name<'a>(place: &TablePlace, field: Field, name: &'a str) -> Shown<'a> 
 /// The end of the names, before the rows.
 fn shown_count(place: &TablePlace, field: Field) -> Shown<'static> {
     match field {
-        Field::Rows if place.is_named() => Shown {
+        Field::Rows if place.is_named => Shown {
             after: "\r\n",
             ..Shown::NOTHING
         },
@@ -109,17 +109,17 @@ fn shown_count(place: &TablePlace, field: Field) -> Shown<'static> {
 /// A cell or an item that has no items.
 #[inline]
 fn shown_scalar<'a>(place: &TablePlace, column: u32, scalar: Scalar<'a>) -> Shown<'a> {
-    let around = place.innermost();
+    let around = place.page.innermost();
     Shown {
         before: before(column, around),
         content: scalar_content(around, scalar),
-        after: after(place.is_last(column), around),
+        after: after(place.page.is_last(column), around),
         ..Shown::NOTHING
     }
 }
 
 #[inline]
-fn scalar_content<'a>(around: Option<OpenValue>, scalar: Scalar<'a>) -> Content<'a> {
+fn scalar_content<'a>(around: Option<WrittenValue>, scalar: Scalar<'a>) -> Content<'a> {
     match scalar {
         Scalar::Ascii(text) | Scalar::Varchar(text) => text_content(around, text),
         Scalar::Custom(_)
@@ -144,7 +144,7 @@ fn scalar_content<'a>(around: Option<OpenValue>, scalar: Scalar<'a>) -> Content<
     }
 }
 
-fn text_content<'a>(around: Option<OpenValue>, text: &'a str) -> Content<'a> {
+fn text_content<'a>(around: Option<WrittenValue>, text: &'a str) -> Content<'a> {
     match around {
         None => Content::TextField(text),
         Some(_) => Content::TextItem(text),
@@ -152,16 +152,16 @@ fn text_content<'a>(around: Option<OpenValue>, text: &'a str) -> Content<'a> {
 }
 
 fn shown_null(place: &TablePlace, column: u32) -> Shown<'static> {
-    let around = place.innermost();
+    let around = place.page.innermost();
     Shown {
         before: before(column, around),
         begin: null(around),
-        after: after(place.is_last(column), around),
+        after: after(place.page.is_last(column), around),
         ..Shown::NOTHING
     }
 }
 
-fn null(around: Option<OpenValue>) -> &'static str {
+fn null(around: Option<WrittenValue>) -> &'static str {
     match around {
         None => "",
         Some(_) => "null",
@@ -169,16 +169,16 @@ fn null(around: Option<OpenValue>) -> &'static str {
 }
 
 fn shown_empty(place: &TablePlace, column: u32) -> Shown<'static> {
-    let around = place.innermost();
+    let around = place.page.innermost();
     Shown {
         before: before(column, around),
         begin: empty(around),
-        after: after(place.is_last(column), around),
+        after: after(place.page.is_last(column), around),
         ..Shown::NOTHING
     }
 }
 
-fn empty(around: Option<OpenValue>) -> &'static str {
+fn empty(around: Option<WrittenValue>) -> &'static str {
     match around {
         None => "\"\"",
         Some(_) => "''",
@@ -186,7 +186,7 @@ fn empty(around: Option<OpenValue>) -> &'static str {
 }
 
 fn shown_opening(place: &TablePlace, column: u32, kind: Kind) -> Shown<'static> {
-    let around = place.innermost();
+    let around = place.page.innermost();
     Shown {
         before: before(column, around),
         begin: quote(around),
@@ -196,13 +196,13 @@ fn shown_opening(place: &TablePlace, column: u32, kind: Kind) -> Shown<'static> 
 }
 
 fn shown_closing(place: &TablePlace) -> Shown<'static> {
-    let outer = place.outer();
-    match place.innermost() {
+    let outer = place.page.outer();
+    match place.page.innermost() {
         None => Shown::NOTHING,
         Some(open) => Shown {
             before: closing(open.kind),
             begin: quote(outer),
-            after: after(place.is_last(place.column()), outer),
+            after: after(place.page.is_last(place.page.column()), outer),
             ..Shown::NOTHING
         },
     }
@@ -216,14 +216,14 @@ fn shown_part<'a>(
     bytes: &'a [u8],
     last: bool,
 ) -> Shown<'a> {
-    let around = place.innermost();
+    let around = place.page.innermost();
     let (before, begin) = if offset == 0 {
         (before(column, around), "0x")
     } else {
         ("", "")
     };
     let after = if last {
-        after(place.is_last(column), around)
+        after(place.page.is_last(column), around)
     } else {
         ""
     };
@@ -238,7 +238,7 @@ fn shown_part<'a>(
 
 /// What stands before a cell of this column, or before an item of the open value.
 #[inline(always)]
-fn before(column: u32, around: Option<OpenValue>) -> &'static str {
+fn before(column: u32, around: Option<WrittenValue>) -> &'static str {
     match around {
         None if column == 0 => "",
         None => ",",
@@ -257,7 +257,7 @@ fn separator(turn: Turn) -> &'static str {
 
 /// What stands after a cell, which may be the last of its row, or after an item of the open value.
 #[inline(always)]
-fn after(is_last: bool, around: Option<OpenValue>) -> &'static str {
+fn after(is_last: bool, around: Option<WrittenValue>) -> &'static str {
     match around {
         None if is_last => "\r\n",
         None | Some(_) => "",
@@ -266,27 +266,9 @@ fn after(is_last: bool, around: Option<OpenValue>) -> &'static str {
 
 /// The quote around a value with items that is a field.
 #[inline]
-fn quote(around: Option<OpenValue>) -> &'static str {
+fn quote(around: Option<WrittenValue>) -> &'static str {
     match around {
         None => "\"",
         Some(_) => "",
-    }
-}
-
-#[inline]
-fn opening(kind: Kind) -> &'static str {
-    match kind {
-        Kind::List => "[",
-        Kind::Set | Kind::Map => "{",
-        _ => "(",
-    }
-}
-
-#[inline]
-fn closing(kind: Kind) -> &'static str {
-    match kind {
-        Kind::List => "]",
-        Kind::Set | Kind::Map => "}",
-        _ => ")",
     }
 }

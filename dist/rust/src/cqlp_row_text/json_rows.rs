@@ -1,12 +1,12 @@
 // Written by dist/erase from crates/cqlp_row_text/src/json_rows.rt.
 //! Rows as JSON.
 
-use crate::cqlp_row_text::place::{OpenValue, TablePlace, Turn};
+use crate::cqlp_row_text::place::TablePlace;
 use crate::cqlp_row_text::shown::{Content, Shown, put_shown};
 use crate::cqlp_grammar::{Event, SinkFault};
 use crate::cqlp_kind::{Kind, Scalar};
 use crate::cqlp_note::{Field, Target};
-use crate::cqlp_text::{Pen, TextWriter};
+use crate::cqlp_text::{PagePlace, Pen, TextWriter, Turn, WrittenValue};
 
 /// Appends what is written of an event of a page as JSON, which nothing is of an event of another frame, and goes to the
 /// place after it, also at a fault, which is the target's own.
@@ -41,7 +41,7 @@ pub fn put_json_part<P: Pen>(
     event: &Event<'_>,
     writer: &mut TextWriter<P>,
 ) -> Result<(), SinkFault> {
-    if !place.is_page() {
+    if !place.page.is_page() {
         place.pass(event);
         return Ok(());
     }
@@ -52,7 +52,7 @@ pub fn put_json_part<P: Pen>(
 
 /// What ends the line under way on a page that is cut at this place, which is no JSON then. Nothing where there is no page.
 pub fn json_break(place: &TablePlace) -> &'static str {
-    if place.is_page() { "\n" } else { "" }
+    if place.page.is_page() { "\n" } else { "" }
 }
 
 /// What is written of an event on a page.
@@ -80,7 +80,7 @@ fn shown_of<'a>(place: &TablePlace, event: &Event<'a>) -> Shown<'a> {
 fn shown_name<'a>(place: &TablePlace, field: Field, name: &'a str) -> Shown<'a> {
     match field {
         Field::ColumnName => Shown {
-            before: if place.is_named() { "," } else { "" },
+            before: if place.is_named { "," } else { "" },
             content: Content::Json(Scalar::Varchar(name)),
             ..Shown::NOTHING
         },
@@ -111,9 +111,12 @@ fn shown_count(field: Field, count: u32) -> Shown<'static> {
 #[inline]
 fn shown_value<'a>(place: &TablePlace, column: u32, content: Content<'a>) -> Shown<'a> {
     Shown {
-        before: before(column, place.innermost()),
+        before: before(column, place.page.innermost()),
         content,
-        after: after(place.is_last(column), place.after_item()),
+        after: after(
+            place.page.is_last(column),
+            innermost_after_item(&place.page),
+        ),
         ..Shown::NOTHING
     }
 }
@@ -122,29 +125,41 @@ fn shown_value<'a>(place: &TablePlace, column: u32, content: Content<'a>) -> Sho
 #[inline]
 fn shown_word(place: &TablePlace, column: u32, word: &'static str) -> Shown<'static> {
     Shown {
-        before: before(column, place.innermost()),
+        before: before(column, place.page.innermost()),
         begin: word,
-        after: after(place.is_last(column), place.after_item()),
+        after: after(
+            place.page.is_last(column),
+            innermost_after_item(&place.page),
+        ),
         ..Shown::NOTHING
     }
 }
 
 fn shown_opening(place: &TablePlace, column: u32) -> Shown<'static> {
     Shown {
-        before: before(column, place.innermost()),
+        before: before(column, place.page.innermost()),
         begin: "[",
         ..Shown::NOTHING
     }
 }
 
 fn shown_closing(place: &TablePlace) -> Shown<'static> {
-    match place.innermost() {
+    match place.page.innermost() {
         None => Shown::NOTHING,
         Some(_) => Shown {
             end: "]",
-            after: after(place.is_last(place.column()), place.outer()),
+            after: after(place.page.is_last(place.page.column()), place.page.outer()),
             ..Shown::NOTHING
         },
+    }
+}
+
+/// The innermost open value as it is after one more item.
+#[inline(always)]
+fn innermost_after_item(place: &PagePlace) -> Option<WrittenValue> {
+    match place.innermost() {
+        Some(open) => Some(open.after_item()),
+        None => None,
     }
 }
 
@@ -157,12 +172,18 @@ fn shown_part<'a>(
     last: bool,
 ) -> Shown<'a> {
     let (before, begin) = if offset == 0 {
-        (before(column, place.innermost()), "\"")
+        (before(column, place.page.innermost()), "\"")
     } else {
         ("", "")
     };
     let (end, after) = if last {
-        ("\"", after(place.is_last(column), place.after_item()))
+        (
+            "\"",
+            after(
+                place.page.is_last(column),
+                innermost_after_item(&place.page),
+            ),
+        )
     } else {
         ("", "")
     };
@@ -177,7 +198,7 @@ fn shown_part<'a>(
 
 /// What stands before a cell of this column, or before an item of the open value.
 #[inline(always)]
-fn before(column: u32, around: Option<OpenValue>) -> &'static str {
+fn before(column: u32, around: Option<WrittenValue>) -> &'static str {
     match around {
         None if column == 0 => "[",
         None => ",",
@@ -197,7 +218,7 @@ fn before_item(kind: Kind, turn: Turn) -> &'static str {
 
 /// What stands after a cell, which may be the last of its row, or after an item of the open value.
 #[inline(always)]
-fn after(is_last: bool, around: Option<OpenValue>) -> &'static str {
+fn after(is_last: bool, around: Option<WrittenValue>) -> &'static str {
     match around {
         None if is_last => "]\n",
         None => "",

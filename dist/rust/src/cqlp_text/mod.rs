@@ -26,7 +26,7 @@ pub use ending::{Ending, cannot_open_line, ending_line};
 pub use events::event_line;
 pub use gap::Gap;
 pub use names::{field_name, kind_name, opcode_name, reason_name};
-pub use page_text::{PagePlace, page_part};
+pub use page_text::{PagePlace, Turn, WrittenValue, closing, opening, page_part};
 pub use pen::Pen;
 pub use sending::put_text;
 pub use text_writer::TextWriter;

@@ -40,7 +40,7 @@ pub fn page_part<W: Target>(
 
 /// What comes next in an open value.
 #[derive(Clone, Copy)]
-pub(crate) enum Turn {
+pub enum Turn {
     /// Its first item.
     First,
     /// A map's value, after its key.
@@ -51,9 +51,21 @@ pub(crate) enum Turn {
 
 /// A value whose items are written.
 #[derive(Clone, Copy)]
-pub(crate) struct WrittenValue {
-    kind: Kind,
-    turn: Turn,
+pub struct WrittenValue {
+    pub kind: Kind,
+    pub turn: Turn,
+}
+
+impl WrittenValue {
+    /// After one more item.
+    #[must_use]
+    #[inline(always)]
+    pub fn after_item(self) -> WrittenValue {
+        WrittenValue {
+            kind: self.kind,
+            turn: turn_after(self.kind, self.turn),
+        }
+    }
 }
 
 /// What the text of an event depends on of those before it.
@@ -82,8 +94,10 @@ impl PagePlace {
         }
     }
 
+    /// Whether the frame is a page.
+    #[must_use]
     #[inline]
-    fn is_page(&self) -> bool {
+    pub fn is_page(&self) -> bool {
         self.is_page
     }
 
@@ -108,10 +122,32 @@ impl PagePlace {
         self.columns
     }
 
-    /// The innermost open value.
+    /// The column of the cell that is open.
+    #[must_use]
+    #[inline]
+    pub fn column(&self) -> u32 {
+        self.column
+    }
+
+    /// Whether a cell of this column is the last of its row.
+    #[must_use]
     #[inline(always)]
-    fn innermost(&self) -> Option<WrittenValue> {
-        self.open_values.get(self.free).copied()
+    pub fn is_last(&self, column: u32) -> bool {
+        u64::from(column) + 1 == u64::from(self.columns)
+    }
+
+    /// The innermost open value.
+    #[must_use]
+    #[inline(always)]
+    pub fn innermost(&self) -> Option<WrittenValue> {
+        value_at(&self.open_values, self.free)
+    }
+
+    /// The open value around the innermost one.
+    #[must_use]
+    #[inline(always)]
+    pub fn outer(&self) -> Option<WrittenValue> {
+        value_at(&self.open_values, self.free + 1)
     }
 
     /// What stands before a cell of this column, or before an item of the open value.
@@ -130,7 +166,7 @@ impl PagePlace {
         if self.free < ROOM {
             return false;
         }
-        is_last(column, self.columns)
+        self.is_last(column)
     }
 
     /// Whether a row ends after the innermost open value, which no item of another one is.
@@ -139,12 +175,12 @@ impl PagePlace {
         if self.free + 1 < ROOM {
             return false;
         }
-        is_last(self.column, self.columns)
+        self.is_last(self.column)
     }
 
     /// Goes to the place after an event.
     #[inline(always)]
-    fn pass(&mut self, event: &Event<'_>) {
+    pub fn pass(&mut self, event: &Event<'_>) {
         match *event {
             Event::Int { field, value } => self.pass_int(field, value),
             Event::Count { field, count } => self.pass_count(field, count),
@@ -201,11 +237,7 @@ impl PagePlace {
     #[inline(always)]
     fn count_item(&mut self) {
         if self.free < ROOM {
-            let open = self.open_values[self.free];
-            self.open_values[self.free] = WrittenValue {
-                kind: open.kind,
-                turn: turn_after(open.kind, open.turn),
-            };
+            self.open_values[self.free] = self.open_values[self.free].after_item();
         }
     }
 
@@ -643,10 +675,10 @@ impl<P: Pen> TextWriter<P> {
     }
 }
 
-/// Whether a row ends after a cell of this column.
+/// The open value that is this many after the first.
 #[inline(always)]
-fn is_last(column: u32, columns: u32) -> bool {
-    u64::from(column) + 1 == u64::from(columns)
+fn value_at(values: &[WrittenValue], at: usize) -> Option<WrittenValue> {
+    values.get(at).copied()
 }
 
 /// What stands before an item of an open value.
@@ -659,8 +691,10 @@ fn gap_at(turn: Turn) -> Gap {
     }
 }
 
+/// What stands before the items of a value of this kind.
+#[must_use]
 #[inline]
-fn opening(kind: Kind) -> &'static str {
+pub fn opening(kind: Kind) -> &'static str {
     match kind {
         Kind::List => "[",
         Kind::Set | Kind::Map => "{",
@@ -668,8 +702,10 @@ fn opening(kind: Kind) -> &'static str {
     }
 }
 
+/// What stands after the items of a value of this kind.
+#[must_use]
 #[inline]
-fn closing(kind: Kind) -> &'static str {
+pub fn closing(kind: Kind) -> &'static str {
     match kind {
         Kind::List => "]",
         Kind::Set | Kind::Map => "}",

@@ -9,4 +9,4 @@ pub returns-then-self-lt-ROOM : goal.returns-then-self-lt-ROOM
 returns-then-self-lt-ROOM c =
     let p = c.self.inside in
     rw (← c.self.view_is)
-    (ap (λ (os : List WrittenValue). placed p.is_page p.columns p.column os) (item_counted p.free p.open_values (record { kind = Custom; turn = First }) c.turn_after.result (omega arith) c.turn_after.ensures))
+    (ap (λ (os : List WrittenValue). placed p.is_page p.columns p.column os) (item_counted p.free p.open_values (record { kind = Custom; turn = First }) c.after_item.result (omega arith) c.after_item.ensures))

@@ -1,7 +1,7 @@
-use Rattle.std.proofs.Common.{◌+◌, ◌∙◌, List, sym, ap, arith}
+use Rattle.std.proofs.Common.{◌≡◌, ◌+◌, ◌==◌, subst, ◌∙◌, Bool, if◌then◌else◌, List, [], codes, sym, ap, arith}
 use Rattle.std.proofs.lemmas.List.{drop_all}
 use Rattle.cqlp_text.specs.declared.page_text.WrittenValue.{WrittenValue}
-use Rattle.cqlp_text.specs.PageText.{after}
+use Rattle.cqlp_text.specs.PageText.{PagePlace, after}
 use Rattle.cqlp_text.proofs.Pages.{after_item, drop_next}
 use Rattle.cqlp_text.proofs.page_text.PagePlace.ends_row_after_innermost.Goals as goal
 
@@ -14,5 +14,8 @@ returns-then-self-lt-ROOM c =
 pub returns : goal.returns
 returns c =
     let p = c.self.inside in
+    let last : c.is_last.result ≡ (p.column + 1 == p.columns) =
+    subst (λ (place : PagePlace). c.is_last.result ≡ (p.column + 1 == place.columns)) (sym c.self.view_is) c.is_last.ensures in
     rw (← c.self.view_is)
-    (ap (λ (os : List WrittenValue). after p.columns p.column os) (sym (drop_next p.free p.open_values) ∙ drop_all (p.free + 1) p.open_values (omega arith)) ∙ c.is_last.ensures)
+    (ap (λ (os : List WrittenValue). after p.columns p.column os) (sym (drop_next p.free p.open_values) ∙ drop_all (p.free + 1) p.open_values (omega arith))
+    ∙ ap (λ (b : Bool). if b then codes "\n" else []) (sym last))
