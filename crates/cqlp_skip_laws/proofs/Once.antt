@@ -20,7 +20,7 @@ use Rattle.cqlp_laws.proofs.PieceEnds.{EndsUp, behind, has_read, stand_once, use
 
 -- ---- one list
 
-refused_same : (r r' : Refusal) → ◌≡◌ {A = Verdict} (Refused r'.at r'.why) (Refused r.at r.why) → r' ≡ r
+pub refused_same : (r r' : Refusal) → ◌≡◌ {A = Verdict} (Refused r'.at r'.why) (Refused r.at r.why) → r' ≡ r
 refused_same r r' e = let a : r'.at ≡ r.at = cc in let b : r'.why ≡ r.why = cc in λ i. record { at = a i; why = b i }
 
 stretch_same : (x y : Stretch) → y.from ≡ x.from → y.gifts ≡ x.gifts → y.events ≡ x.events → y.frame ≡ x.frame → y.refusal ≡ x.refusal → y ≡ x

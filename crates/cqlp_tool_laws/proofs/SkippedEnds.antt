@@ -16,7 +16,7 @@ use Rattle.cqlp_skip.specs.Pieces.{refusal_from}
 use Rattle.cqlp_skip.specs.Skipping.{Skipping, FinishesAs, finish_from, stream}
 use Rattle.cqlp_skip.specs.Stretches.{Stretch, GivenUp, base_after, frame_under_way, stream_offset}
 use Rattle.cqlp_skip_laws.specs.Laws.{gifts_of}
-use Rattle.cqlp_skip_laws.proofs.Once.{once}
+use Rattle.cqlp_skip_laws.proofs.Once.{once, refused_same}
 use Rattle.cqlp_text.specs.declared.ending.Ending.TheVariants as ending
 use Rattle.cqlp_text.specs.Outputs.{Output, with_text}
 use Rattle.cqlp_render_skip.specs.Reporting.{Outputs}
@@ -114,9 +114,6 @@ last_same (x ∷ xs) m n some p q = q ∙ sym p
 
 cut_same : (at at' n n' : ℕ) → at' ≡ at → n' ≡ n → ◌≡◌ {A = Finish} (finish.Cut at' n') (finish.Cut at n)
 cut_same at at' n n' a b = λ i. finish.Cut (a i) (b i)
-
-refused_same : (r r' : Refusal) → ◌≡◌ {A = Verdict} (Refused r'.at r'.why) (Refused r.at r.why) → r' ≡ r
-refused_same r r' e = let a : r'.at ≡ r.at = cc in let b : r'.why ≡ r.why = cc in λ i. record { at = a i; why = b i }
 
 module _ (form : TextForm) (l : Rules) (xs : List ℕ) (before : Outputs) where
   -- what the stream that was read to its end says there
