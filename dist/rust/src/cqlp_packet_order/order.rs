@@ -7,6 +7,9 @@ use crate::cqlp_packet_order::packet::{KeptPacket, Packet};
 use crate::kit_std::alloc::{AllocError, Allocator, Global};
 use crate::kit_std::collections::VecDeque;
 
+/// Of how many packets that have left the memory is kept.
+const SPARES: usize = 64;
+
 /// Packets in the order of their times, within a window.
 ///
 /// Of each packet `pass` says whether it may pass as it is; where it may not, `push` keeps a copy. Then `pop_due` gives the packets that
@@ -14,7 +17,7 @@ use crate::kit_std::collections::VecDeque;
 /// in the order in which they came. A packet without a time waits for none and lets none wait: all that came before it leave, and then it.
 ///
 /// A late packet, of an earlier time than one that has left, leaves next. Memory is taken for packets that wait. `give_back` keeps that of a packet
-/// which has left for those that come, as long as no more than may wait have some, and each at most its share of the bytes that may wait.
+/// which has left for those that come: that of 64 packets at most, and of each at most its share of the bytes that may wait.
 pub struct PacketOrder<A: Allocator = Global> {
     alloc: A,
     limits: OrderLimits,
@@ -107,8 +110,8 @@ impl<A: Allocator> PacketOrder<A> {
     /// Keeps the memory of a packet that has left for those that come, if it is small, and few have some.
     pub fn give_back(&mut self, packet: KeptPacket<A>) {
         let most = self.limits.packets as usize;
-        let rooms = self.waiting.len().saturating_add(self.spare.len());
-        if most > 0 && rooms <= most && packet.bytes.capacity() <= self.limits.bytes / most {
+        let has_room = most > 0 && self.spare.len() < SPARES;
+        if has_room && packet.bytes.capacity() <= self.limits.bytes / most {
             let _ = self.spare.push(packet.bytes);
         }
     }
