@@ -9,11 +9,11 @@ abbrev pub mebibytes : ℕ → ℕ
 mebibytes n = n * 1048576
 
 -- Each direction holds at most 1 MiB of what came early. Packets wait to be put in order that are captured at most one second apart, with at
--- most 2 MiB.
+-- most 1.5 MiB.
 abbrev pub streams_limits_of : CaptureLimits → StreamsLimits
 streams_limits_of l = record {
   connections = record { connections = l.connections; early = mebibytes l.early; early_each = 1048576 };
-  order = record { packets = l.order; nanoseconds = 1000000000; bytes = 2097152 };
+  order = record { packets = l.order; nanoseconds = 1000000000; bytes = 1572864 };
 }
 
 abbrev pub exchange_limits_of : CaptureLimits → ExchangeLimits

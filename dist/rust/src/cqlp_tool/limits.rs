@@ -13,7 +13,7 @@ fn mebibytes(count: u32) -> usize {
 }
 
 /// What the reading of a capture keeps: of what came early at most 1 MiB for each direction, and packets that are captured at most one
-/// second apart, with at most 2 MiB, wait to be put in order.
+/// second apart, with at most 1.5 MiB, wait to be put in order.
 pub(crate) fn streams_limits_of(limits: &CaptureLimits) -> StreamsLimits {
     StreamsLimits {
         connections: ConnectionLimits {
@@ -24,7 +24,7 @@ pub(crate) fn streams_limits_of(limits: &CaptureLimits) -> StreamsLimits {
         order: OrderLimits {
             packets: limits.order,
             nanoseconds: 1_000_000_000,
-            bytes: 2_097_152,
+            bytes: 1_572_864,
         },
     }
 }
