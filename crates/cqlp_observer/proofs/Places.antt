@@ -1,6 +1,7 @@
 -- Messages in the order of their ids, by their places.
-use Rattle.std.proofs.Common.{◌≡◌, ℕ, zero, suc, ◌+◌, ◌<◌, ◌≤◌, true, false, List, [], ◌∷◌, length, drop, refl, sym, ap, subst, ◌∙◌, arith, Option, Some, None, Result, Ok, Err, IfOk, IfErr, ℤ}
+use Rattle.std.proofs.Common.{◌≡◌, ℕ, zero, suc, ◌+◌, ◌<◌, ◌≤◌, true, false, List, [], ◌∷◌, length, drop, refl, sym, ap, subst, ◌∙◌, arith, Bor, Option, Some, None, IsSome, IfSome, Result, Ok, Err, IfOk, IfErr, ℤ}
 use Rattle.std.specs.Prelude.{slice_index_or, slice_set}
+use Rattle.std.specs.Option.{option_copied}
 use Rattle.std.specs.declared.cmp.Ordering.{Ordering}
 use Rattle.std.specs.declared.cmp.Ordering.TheVariants.{Less, Equal, Greater}
 use Rattle.std.specs.Ordering.{int_cmp, is_eq, is_lt, ordering_reverse}
@@ -13,7 +14,7 @@ use Rattle.std.proofs.lemmas.List.Sorted.{searchable_from_sorted}
 use Rattle.std.proofs.lemmas.Map.Lookups.{exact_signed}
 use Rattle.cqlp_observer.specs.declared.message.Message.{Message}
 use Rattle.cqlp_observer.specs.Messages.{id_of}
-use Rattle.cqlp_observer.specs.Pairings.{IsGap, IsPlace, Waiting, by_id, under, with_message, without}
+use Rattle.cqlp_observer.specs.Pairings.{IsGap, IsPlace, IsPlaced, Waiting, by_id, under, with_message, without}
 use Rattle.cqlp_observer.proofs.Entries.{own_key, sorted_with, sorted_without}
 
 -- ---- ids in their order
@@ -44,6 +45,24 @@ sorted_by xs sorted k d from lt =
     let next : suc k ≡ k + 1 = omega arith in
     subst (λ (n : ℕ). is_lt (int_cmp (id_of (slice_index_or xs n d)) (id_of (slice_index_or xs k d))) ≡ false) next (ap (λ (r : Ordering). is_lt r) back)
 
+-- ---- messages by those that wait
+
+messages_in : {T : Type 0} → Waiting T → List (Message T)
+messages_in [] = []
+messages_in (e ∷ w) = e.1 ∷ messages_in w
+
+own_messages : {T : Type 0} (xs : List (Message T)) → messages_in (by_id xs) ≡ xs
+unfolding messages_in
+own_messages [] = refl
+own_messages {T} (x ∷ xs) = ap (λ (ys : List (Message T)). x ∷ ys) (own_messages xs)
+
+same_messages : {T : Type 0} (xs ys : List (Message T)) → by_id xs ≡ by_id ys → xs ≡ ys
+same_messages {T} xs ys same = sym (own_messages xs) ∙ ap (λ (w : Waiting T). messages_in w) same ∙ own_messages ys
+
+pub placed : {T : Type 0} (xs : List (Message T)) (id : ℤ) (r : Result ℕ ℕ) (w : Waiting T) → w ≡ by_id xs → IfOk r (IsPlace id xs) → IfErr r (IsGap id xs) → IsPlaced id w r
+placed {T} xs id r w is found none ys same =
+    subst (λ (zs : List (Message T)). IfOk r (IsPlace id zs) × IfErr r (IsGap id zs)) (same_messages xs ys (sym is ∙ same)) (found, none)
+
 -- ---- what a binary search says
 
 pub searched : {T : Type 0} (xs : List (Message T)) (id : ℤ) (r : Result ℕ ℕ) → IsOrdered xs → IsSearchInRange r (length xs) → IsBinarySearchResult (λ y. int_cmp (id_of y) id) xs r → IfOk r (IsPlace id xs) × IfErr r (IsGap id xs)
@@ -72,6 +91,10 @@ first_less x xs id at sorted p =
 later_place : {T : Type 0} (x : Message T) (xs : List (Message T)) (id : ℤ) (at : ℕ) → IsPlace id (x ∷ xs) (suc at) → IsPlace id xs at
 later_place x xs id at p = record { within = omega (arith, p.within); is = λ d. p.is d }
 
+all_behind : {T : Type 0} (x : Message T) (xs : List (Message T)) → IsOrdered (x ∷ xs) → AllByRecursion (λ y. int_cmp (id_of x) y ≡ Less) (keys_of (by_id xs))
+unfolding IsStrictlySortedBy
+all_behind x xs sorted = sorted.0
+
 later_order : {T : Type 0} (x : Message T) (xs : List (Message T)) → IsOrdered (x ∷ xs) → IsOrdered xs
 unfolding IsStrictlySortedBy
 later_order x xs sorted = sorted.1
@@ -81,6 +104,10 @@ under_place [] id at m sorted p is = absurd (omega (arith, p.within))
 under_place (x ∷ xs) id zero m sorted p is = rw (is_there id (id_of x) (p.is x)) (ap Some (sym is))
 under_place (x ∷ xs) id (suc at) m sorted p is =
     rw (isnt_before id (id_of x) (first_less x xs id at sorted p)) (under_place xs id at m (later_order x xs sorted) (later_place x xs id at p) is)
+
+pub got_place : {T : Type 0} (xs : List (Message T)) (id : ℤ) (at : ℕ) (r : Option (Bor (Message T))) → IsOrdered xs → IsPlace id xs at → IsSome r → IfSome r (λ x. x.now ≡ slice_index_or xs at x.now) → option_copied r ≡ under id (by_id xs)
+got_place xs id at None sorted p some lookup = absurd (cc some)
+got_place xs id at (Some x) sorted p some lookup = sym (under_place xs id at x.now sorted p lookup)
 
 pub without_place : {T : Type 0} (xs : List (Message T)) (id : ℤ) (at : ℕ) → IsOrdered xs → IsPlace id xs at → by_id (remove xs at) ≡ without id (by_id xs)
 without_place [] id at sorted p = absurd (omega (arith, p.within))
@@ -106,6 +133,21 @@ with_place {T} (x ∷ xs) zero m sorted p =
 with_place {T} (x ∷ xs) (suc at) m sorted p =
     rw (turned_less (id_of x) (id_of m) (first_less x xs (id_of m) at sorted p))
     (ap (λ (w : Waiting T). (id_of x, x) ∷ w) (with_place xs at m (later_order x xs sorted) (later_place x xs (id_of m) at p)))
+
+-- one comes in the place of the one under its id
+pub instead_of_place : {T : Type 0} (xs : List (Message T)) (at : ℕ) (m : Message T) → IsOrdered xs → IsPlace (id_of m) xs at → by_id (slice_set xs at m) ≡ with_message m (without (id_of m) (by_id xs))
+instead_of_place [] at m sorted p = absurd (omega (arith, p.within))
+instead_of_place {T} (x ∷ xs) zero m sorted p =
+    let same : id_of x ≡ id_of m = p.is x in
+    rw (is_there (id_of m) (id_of x) same) (first_with xs (subst (λ (i : ℤ). AllByRecursion (λ y. int_cmp i y ≡ Less) (keys_of (by_id xs))) same (all_behind x xs sorted)))
+  where
+    first_with : (ys : List (Message T)) → AllByRecursion (λ y. int_cmp (id_of m) y ≡ Less) (keys_of (by_id ys)) → (id_of m, m) ∷ by_id ys ≡ with_message m (by_id ys)
+    first_with [] all = refl
+    first_with (y ∷ ys) all = rw all.0 refl
+instead_of_place {T} (x ∷ xs) (suc at) m sorted p =
+    let less = first_less x xs (id_of m) at sorted p in
+    rw (isnt_before (id_of m) (id_of x) less, turned_less (id_of x) (id_of m) less)
+    (ap (λ (w : Waiting T). (id_of x, x) ∷ w) (instead_of_place xs at m (later_order x xs sorted) (later_place x xs (id_of m) at p)))
 
 -- ---- where none is under an id
 

@@ -1,5 +1,5 @@
 -- The messages that wait, and what is reported of each message.
-use Rattle.std.specs.Prelude.{◌≡◌, ℕ, ◌<◌, ◌≤◌, Bool, true, false, ℤ, List, [], ◌∷◌, ◌++◌, length, map, slice_index_or, Option, Some, None, if◌then◌else◌}
+use Rattle.std.specs.Prelude.{◌≡◌, ℕ, ◌<◌, ◌≤◌, Bool, true, false, ℤ, List, [], ◌∷◌, ◌++◌, length, map, slice_index_or, IfErr, IfOk, Option, Some, None, Result, if◌then◌else◌}
 use Rattle.std.specs.declared.cmp.Ordering.TheVariants.{Less, Greater}
 use Rattle.std.specs.Ordering.{int_cmp}
 use Rattle.std.specs.BTreeMap.{insert_entry, is_at}
@@ -28,6 +28,10 @@ pub record IsGap {T : Type 0} (id : ℤ) (ms : List (Message T)) (at : ℕ) : Ty
   pub within : at ≤ length ms
   pub less : (k : ℕ) (d : Message T) → k < at → int_cmp (id_of (slice_index_or ms k d)) id ≡ Less
   pub greater : (k : ℕ) (d : Message T) → at ≤ k → k < length ms → int_cmp (id_of (slice_index_or ms k d)) id ≡ Greater
+
+-- so of a search for an id, whatever messages those are that wait
+abbrev pub IsPlaced : {T : Type 0} → ℤ → Waiting T → Result ℕ ℕ → Type 0
+IsPlaced {T} id w place = (ms : List (Message T)) → w ≡ by_id ms → IfOk place (IsPlace id ms) × IfErr place (IsGap id ms)
 
 abbrev pub none_wait : {T : Type 0} → Waiting T
 none_wait = []

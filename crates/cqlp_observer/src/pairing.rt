@@ -54,9 +54,9 @@ impl<T, A: Allocator> Model for Pairing<T, A> {
 }
 
 impl<T: Drop, A: Allocator + Clone> Pairing<T, A> {
-    ghost use Rattle.std.specs.Prelude.{Some};
+    ghost use Rattle.std.specs.Prelude.{Bool, Ok, ℤ};
     ghost use Rattle.cqlp_observer.specs.Messages.{id_of};
-    ghost use Rattle.cqlp_observer.specs.Pairings.{ended, met, none_wait, overtakes, paired, taken, under, with_message, without};
+    ghost use Rattle.cqlp_observer.specs.Pairings.{IsPlaced, ended, none_wait, overtakes, paired, taken, taken_after, under, without};
 
     /// No message waits. Takes no memory.
     ///
@@ -87,13 +87,21 @@ impl<T: Drop, A: Allocator + Clone> Pairing<T, A> {
         self.waiting.len() == 0
     }
 
-    /// The message that waits under a stream id.
-    #[inline]
-    pub(crate) fn under(&self, id: i16) -> Option<&MessageRecord<T>>
-        ensures { option_copied result ≡ under id self.now }
+    /// Where the message under a stream id waits, or where it would.
+    #[inline(always)]
+    pub(crate) fn place(&self, id: i16) -> Result<usize, usize>
+        ensures { IsPlaced id self.now result }
     {
-        match place_in(&self.waiting, id) {
-            Ok(at) => Some(&self.waiting[at]),
+        place_in(&self.waiting, id)
+    }
+
+    /// The message that waits under the stream id of a place.
+    #[inline(always)]
+    pub(crate) fn at(&self, place: Result<usize, usize>) -> Option<&MessageRecord<T>>
+        ensures { (id : ℤ) → IsPlaced id self.now place → option_copied result ≡ under id self.now }
+    {
+        match place {
+            Ok(at) => self.waiting.get(at),
             Err(_) => None,
         }
     }
@@ -102,7 +110,8 @@ impl<T: Drop, A: Allocator + Clone> Pairing<T, A> {
     pub fn overtakes(&self, message: &Message<T>, has_room: bool) -> bool
         ensures { result ≡ overtakes message.now has_room self.now }
     {
-        is_overtaken(fate_of(self.under(message.stream()), message, has_room))
+        let place = self.place(message.stream());
+        is_overtaken(fate_of(self.at(place), message, has_room))
     }
 
     /// Takes the next frame of either direction. If it and the one that waits under its stream id are a request and its response, that
@@ -121,16 +130,31 @@ impl<T: Drop, A: Allocator + Clone> Pairing<T, A> {
     ) -> Result<Option<Paired<T>>, AllocError>
         ensures { IfOk result (λ reported. paired reported self.new ≡ taken message has_room self.old) }
     {
+        let place = self.place(message.stream());
+        self.take_at(place, message, has_room)
+    }
+
+    /// Takes the next frame as `take` does, whose place is known.
+    #[inline]
+    pub(crate) fn take_at(
+        &mut self,
+        place: Result<usize, usize>,
+        message: Message<T>,
+        has_room: bool,
+    ) -> Result<Option<Paired<T>>, AllocError>
+        requires { IsPlaced (id_of message) self.old place }
+        ensures { IfOk result (λ reported. paired reported self.new ≡ taken message has_room self.old) }
+    {
         if message.is_event() {
             return Ok(Some(Paired::Event { event: message }));
         }
-        match self.leave(message.stream()) {
-            Some(first) => Ok(Some(self.meet(first, message)?)),
-            None if has_room => {
-                self.wait(message)?;
+        match place {
+            Ok(at) => Ok(self.meet(at, message)),
+            Err(at) if has_room => {
+                self.waiting.insert(at, MessageRecord::new(message))?;
                 Ok(None)
             }
-            None => Ok(Some(Paired::alone(message))),
+            Err(_) => Ok(Some(Paired::alone(message))),
         }
     }
 
@@ -144,48 +168,20 @@ impl<T: Drop, A: Allocator + Clone> Pairing<T, A> {
         }
     }
 
-    /// A message comes after one that waited under its stream id.
+    /// A message comes after the one at a place, which waited under its stream id.
     #[inline]
-    fn meet(&mut self, first: Message<T>, second: Message<T>) -> Result<Paired<T>, AllocError>
-        ensures { IfOk result (λ reported. paired (Some reported) self.new ≡ met first second self.old) }
+    fn meet(&mut self, at: usize, second: Message<T>) -> Option<Paired<T>>
+        requires { IsPlaced (id_of second) self.old (Ok at) }
+        ensures { (has_room : Bool) → paired result self.new
+            ≡ taken_after (under (id_of second) self.old) second has_room (without (id_of second) self.old) }
     {
-        if first.meets(&second) {
-            Ok(Paired::exchange(first, second))
+        if self.waiting[at].meets(&second) {
+            let first = self.waiting.remove(at)?;
+            self.shrink();
+            Some(Paired::exchange(first.into_message(), second))
         } else {
-            self.wait(second)?;
-            Ok(Paired::alone(first))
-        }
-    }
-
-    /// A message waits under its stream id.
-    #[inline]
-    fn wait(&mut self, message: Message<T>) -> Result<(), AllocError>
-        ensures { IfOk result (λ _. self.new ≡ with_message message self.old) }
-    {
-        let id = message.stream();
-        let record = MessageRecord::new(message);
-        match place_in(&self.waiting, id) {
-            Ok(at) => {
-                self.waiting[at] = record;
-                Ok(())
-            }
-            Err(at) => Ok(self.waiting.insert(at, record)?),
-        }
-    }
-
-    /// The message under a stream id waits no more.
-    #[inline]
-    fn leave(&mut self, id: i16) -> Option<Message<T>>
-        ensures which { result ≡ under id self.old }
-        ensures others { self.new ≡ without id self.old }
-    {
-        match place_in(&self.waiting, id) {
-            Ok(at) => {
-                let message = message_in(self.waiting.remove(at));
-                self.shrink();
-                message
-            }
-            Err(_) => None,
+            let first = std::mem::replace(&mut self.waiting[at], MessageRecord::new(second));
+            Some(Paired::alone(first.into_message()))
         }
     }
 
@@ -197,16 +193,6 @@ impl<T: Drop, A: Allocator + Clone> Pairing<T, A> {
         if len <= self.waiting.capacity() / 4 {
             self.waiting.shrink_to(2 * len);
         }
-    }
-}
-
-/// The message that waited so, if one did.
-fn message_in<T>(waited: Option<MessageRecord<T>>) -> Option<Message<T>>
-    ensures { result ≡ waited }
-{
-    match waited {
-        Some(message) => Some(message.into_message()),
-        None => None,
     }
 }
 

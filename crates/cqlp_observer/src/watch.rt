@@ -58,9 +58,11 @@ impl<A: Allocator> Model for Watch<A> {
 
 impl<A: Allocator + Clone> Watch<A> {
     ghost use Rattle.std.specs.Prelude.{Some};
-    ghost use Rattle.cqlp_observer.specs.Watches.{after_end, after_gap, begun, finished, fitted, fitting, heard};
+    ghost use Rattle.cqlp_observer.specs.Messages.{id_of};
     ghost use Rattle.cqlp_observer.specs.Nothing.{has_nothing};
-    ghost use Rattle.cqlp_observer.specs.Watches.{is_keeping_on, new_watched, opening_of, paired_if, read, reading, settled, stepping, report_then, with_recount};
+    ghost use Rattle.cqlp_observer.specs.Pairings.{IsPlaced};
+    ghost use Rattle.cqlp_observer.specs.Watches.{after_end, after_gap, begun, finished, fitted, fitting, heard, is_keeping_on, new_watched, opening_of};
+    ghost use Rattle.cqlp_observer.specs.Watches.{paired_if, read, reading, report_then, settled, stepping, with_recount};
 
     /// A connection of which nothing was seen. Takes no memory beside what clones of `alloc` do.
     ///
@@ -303,21 +305,24 @@ impl<A: Allocator + Clone> Watch<A> {
         ensures { IfOk result (λ reported. report_then reported self.new ≡ paired_if (Some message) room self.old) }
     {
         let has_room = self.pairing.len() < room.messages;
-        let message = self.settle(message, has_room, room)?;
-        self.pairing.take(message, has_room)
+        let place = self.pairing.place(message.stream());
+        let message = self.settle(place, message, has_room, room)?;
+        self.pairing.take_at(place, message, has_room)
     }
 
-    /// The message as it is paired, where there is room for one more that waits, or none: what becomes of it is counted.
+    /// The message as it is paired, whose place is known, where there is room for one more that waits, or none: what becomes of it is counted.
     #[inline]
     fn settle(
         &mut self,
+        place: Result<usize, usize>,
         message: Message<Kept<A>>,
         has_room: bool,
         room: WatchRoom,
     ) -> Result<Message<Kept<A>>, AllocError>
+        requires { IsPlaced (id_of message) self.old.waiting place }
         ensures { IfOk result (λ m. fitting m self.new ≡ settled message has_room room self.old) }
     {
-        let first = self.pairing.under(message.stream());
+        let first = self.pairing.at(place);
         let beside = self.text.saturating_sub(text_in(first));
         match fate_of(first, &message, has_room) {
             Fate::IsReported => Ok(message),

@@ -56,18 +56,25 @@ impl<T, A: Allocator + Clone> Pairing<T, A> {
         self.waiting.len() == 0
     }
 
-    /// The message that waits under a stream id.
-    #[inline]
-    pub(crate) fn under(&self, id: i16) -> Option<&MessageRecord<T>> {
-        match place_in(&self.waiting, id) {
-            Ok(at) => Some(&self.waiting[at]),
+    /// Where the message under a stream id waits, or where it would.
+    #[inline(always)]
+    pub(crate) fn place(&self, id: i16) -> Result<usize, usize> {
+        place_in(&self.waiting, id)
+    }
+
+    /// The message that waits under the stream id of a place.
+    #[inline(always)]
+    pub(crate) fn at(&self, place: Result<usize, usize>) -> Option<&MessageRecord<T>> {
+        match place {
+            Ok(at) => self.waiting.get(at),
             Err(_) => None,
         }
     }
 
     /// Whether `take` reports this message alone for want of room: none waits under its stream id, and there is no room for one more.
     pub fn overtakes(&self, message: &Message<T>, has_room: bool) -> bool {
-        is_overtaken(fate_of(self.under(message.stream()), message, has_room))
+        let place = self.place(message.stream());
+        is_overtaken(fate_of(self.at(place), message, has_room))
     }
 
     /// Takes the next frame of either direction. If it and the one that waits under its stream id are a request and its response, that
@@ -84,16 +91,28 @@ impl<T, A: Allocator + Clone> Pairing<T, A> {
         message: Message<T>,
         has_room: bool,
     ) -> Result<Option<Paired<T>>, AllocError> {
+        let place = self.place(message.stream());
+        self.take_at(place, message, has_room)
+    }
+
+    /// Takes the next frame as `take` does, whose place is known.
+    #[inline]
+    pub(crate) fn take_at(
+        &mut self,
+        place: Result<usize, usize>,
+        message: Message<T>,
+        has_room: bool,
+    ) -> Result<Option<Paired<T>>, AllocError> {
         if message.is_event() {
             return Ok(Some(Paired::Event { event: message }));
         }
-        match self.leave(message.stream()) {
-            Some(first) => Ok(Some(self.meet(first, message)?)),
-            None if has_room => {
-                self.wait(message)?;
+        match place {
+            Ok(at) => Ok(self.meet(at, message)),
+            Err(at) if has_room => {
+                self.waiting.insert(at, MessageRecord::new(message))?;
                 Ok(None)
             }
-            None => Ok(Some(Paired::alone(message))),
+            Err(_) => Ok(Some(Paired::alone(message))),
         }
     }
 
@@ -105,41 +124,16 @@ impl<T, A: Allocator + Clone> Pairing<T, A> {
         }
     }
 
-    /// A message comes after one that waited under its stream id.
+    /// A message comes after the one at a place, which waited under its stream id.
     #[inline]
-    fn meet(&mut self, first: Message<T>, second: Message<T>) -> Result<Paired<T>, AllocError> {
-        if first.meets(&second) {
-            Ok(Paired::exchange(first, second))
+    fn meet(&mut self, at: usize, second: Message<T>) -> Option<Paired<T>> {
+        if self.waiting[at].meets(&second) {
+            let first = self.waiting.remove(at)?;
+            self.shrink();
+            Some(Paired::exchange(first.into_message(), second))
         } else {
-            self.wait(second)?;
-            Ok(Paired::alone(first))
-        }
-    }
-
-    /// A message waits under its stream id.
-    #[inline]
-    fn wait(&mut self, message: Message<T>) -> Result<(), AllocError> {
-        let id = message.stream();
-        let record = MessageRecord::new(message);
-        match place_in(&self.waiting, id) {
-            Ok(at) => {
-                self.waiting[at] = record;
-                Ok(())
-            }
-            Err(at) => Ok(self.waiting.insert(at, record)?),
-        }
-    }
-
-    /// The message under a stream id waits no more.
-    #[inline]
-    fn leave(&mut self, id: i16) -> Option<Message<T>> {
-        match place_in(&self.waiting, id) {
-            Ok(at) => {
-                let message = message_in(self.waiting.remove(at));
-                self.shrink();
-                message
-            }
-            Err(_) => None,
+            let first = core::mem::replace(&mut self.waiting[at], MessageRecord::new(second));
+            Some(Paired::alone(first.into_message()))
         }
     }
 
@@ -149,14 +143,6 @@ impl<T, A: Allocator + Clone> Pairing<T, A> {
         if len <= self.waiting.capacity() / 4 {
             self.waiting.shrink_to(2 * len);
         }
-    }
-}
-
-/// The message that waited so, if one did.
-fn message_in<T>(waited: Option<MessageRecord<T>>) -> Option<Message<T>> {
-    match waited {
-        Some(message) => Some(message.into_message()),
-        None => None,
     }
 }
 

@@ -250,19 +250,21 @@ impl<A: Allocator + Clone> Watch<A> {
         room: WatchRoom,
     ) -> Result<Option<Paired<Kept<A>>>, AllocError> {
         let has_room = self.pairing.len() < room.messages;
-        let message = self.settle(message, has_room, room)?;
-        self.pairing.take(message, has_room)
+        let place = self.pairing.place(message.stream());
+        let message = self.settle(place, message, has_room, room)?;
+        self.pairing.take_at(place, message, has_room)
     }
 
-    /// The message as it is paired, where there is room for one more that waits, or none: what becomes of it is counted.
+    /// The message as it is paired, whose place is known, where there is room for one more that waits, or none: what becomes of it is counted.
     #[inline]
     fn settle(
         &mut self,
+        place: Result<usize, usize>,
         message: Message<Kept<A>>,
         has_room: bool,
         room: WatchRoom,
     ) -> Result<Message<Kept<A>>, AllocError> {
-        let first = self.pairing.under(message.stream());
+        let first = self.pairing.at(place);
         let beside = self.text.saturating_sub(text_in(first));
         match fate_of(first, &message, has_room) {
             Fate::IsReported => Ok(message),

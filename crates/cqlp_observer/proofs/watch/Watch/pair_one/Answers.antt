@@ -1,6 +1,9 @@
-use Rattle.std.proofs.Common.{ap, ◌∙◌, ◌≡◌, ℕ, nat_lt, length}
+use Rattle.std.proofs.Common.{ap, subst, ◌∙◌, ◌≡◌, ℕ, nat_lt, length, rules, w16, SFits}
+use Rattle.std.proofs.lemmas.Int.{to_z-of_z}
+use Rattle.cqlp_observer.specs.Messages.{id_of}
+use Rattle.cqlp_observer.specs.Pairings.{IsPlaced}
 use Rattle.cqlp_observer.specs.Watches.{Watched, fitting, has_room, watched}
-use Rattle.cqlp_observer.proofs.Settled.{paired_settled}
+use Rattle.cqlp_observer.proofs.Settled.{paired_settled, placed_settled}
 use Rattle.cqlp_observer.proofs.watch.Watch.pair_one.Goals as goal
 
 pub returns : goal.returns
@@ -11,4 +14,14 @@ returns g c =
     let i = c.self-2.inside in
     let w = watched i.requests i.responses i.pairing i.text i.missed in
     let settles = ap (λ (v : Watched). fitting c.in_ok-message.message v) c.self-2.view_is ∙ c.in_ok-message.ensures in
-    paired_settled c.take.result c.take.new.self hr (has_room c.args.room c.args.self.now) c.args.message c.in_ok-message.message c.args.room c.args.self.now w same settles c.take.ensures
+    paired_settled c.take_at.result c.take_at.new.self hr (has_room c.args.room c.args.self.now) c.args.message c.in_ok-message.message c.args.room c.args.self.now w same settles c.take_at.ensures
+
+pub take_at-requires : goal.take_at-requires
+take_at-requires g c =
+    let fits : SFits w16 c.stream.result = search rules in
+    let placed = rw (to_z-of_z w16 c.stream.result fits, c.stream.ensures) at c.place-place.ensures in
+    let known = subst (λ (v : Watched). IsPlaced (id_of c.args.message) v.waiting c.place-place.result) c.self.view_is placed in
+    let i = c.self-2.inside in
+    let w = watched i.requests i.responses i.pairing i.text i.missed in
+    let settles = ap (λ (v : Watched). fitting c.in_ok-message.message v) c.self-2.view_is ∙ c.in_ok-message.ensures in
+    placed_settled c.args.message c.in_ok-message.message (nat_lt c.len.result c.args.room.messages) c.args.room c.args.self.now w c.place-place.result settles known
