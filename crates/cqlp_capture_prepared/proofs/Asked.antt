@@ -1,6 +1,5 @@
 -- What requests say, step by step.
-use Rattle.std.proofs.Common.{◌≡◌, ◌-◌, ◌<◌, ◌&&◌, ◌==◌, length, ℕ, zero, suc, Bool, true, false, List, take, drop, if◌then◌else◌, None, refl, sym, ap, arith}
-use Rattle.std.proofs.lemmas.Grind.{common_steps}
+use Rattle.std.proofs.Common.{◌≡◌, ◌-◌, ◌<◌, ◌&&◌, ◌==◌, ℕ, zero, suc, Bool, true, false, List, take, drop, if◌then◌else◌, None, refl, sym, ap, arith}
 use Rattle.cqlp_observer.specs.declared.heads.Heads.{Heads}
 use Rattle.cqlp_observer.specs.declared.heads.Heard.{Heard}
 use Rattle.cqlp_observer.specs.declared.heads.HeardStep.{HeardStep}
@@ -36,6 +35,3 @@ next_is_done h t k e = if_true (is_done h) t k e
 
 pub next_goes_on : (h : Heard) (t k : Asked) → is_done h ≡ false → next h t k ≡ k
 next_goes_on h t k e = if_false (is_done h) t k e
-
-pub rest_is : (n : ℕ) (b : List ℕ) → take (length b - n) (drop n b) ≡ drop n b
-rest_is n b = grind (arith, common_steps)
