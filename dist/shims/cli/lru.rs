@@ -38,10 +38,13 @@ impl Hasher for Hashed {
     }
 }
 
-/// The keyed hash of what a key hashes of itself: each piece is folded in by a 128-bit product with the map's own random number.
+/// The keyed hash of what a key hashes of itself, which are octets of addresses, each with its port behind it: each piece is folded in by a 128-bit
+/// product with the map's own random number.
 struct Folded {
     state: u64,
     factor: u64,
+    /// The first octets of the address, which are folded in with its port.
+    four: u32,
 }
 
 impl Folded {
@@ -60,16 +63,15 @@ impl Hasher for Folded {
 
     #[inline]
     fn write(&mut self, bytes: &[u8]) {
-        for octets in bytes.chunks(4) {
-            let mut four = [0; 4];
-            four[..octets.len()].copy_from_slice(octets);
-            self.fold(u64::from(u32::from_ne_bytes(four)));
-        }
+        let mut fours = bytes.chunks_exact(4).map(|four| u32::from_ne_bytes([four[0], four[1], four[2], four[3]]));
+        self.four = fours.next().unwrap_or_default();
+        fours.for_each(|four| self.fold(four.into()));
     }
 
     #[inline]
     fn write_u16(&mut self, n: u16) {
-        self.fold(u64::from(n));
+        self.fold(u64::from(self.four) << 16 | u64::from(n));
+        self.four = 0;
     }
 
     /// Which of its kinds an address is: those of another kind have another number of pieces.
@@ -129,7 +131,7 @@ impl<K: Copy + Eq + Hash, V, S, A: Allocator> LruCache<K, V, S, A> {
 
     #[inline]
     fn hash(&self, key: &K) -> u64 {
-        let mut hasher = Folded { state: self.state, factor: self.factor };
+        let mut hasher = Folded { state: self.state, factor: self.factor, four: 0 };
         key.hash(&mut hasher);
         hasher.finish()
     }

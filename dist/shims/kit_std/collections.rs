@@ -79,9 +79,10 @@ impl<T, A: Allocator> DerefMut for VecDeque<T, A> {
     }
 }
 
-/// Rust's `BTreeMap`, but that what needs memory may be refused: its entries lie in rows of at most 64, and a full row becomes two.
+/// Rust's `BTreeMap`, but that what needs memory may be refused: its keys, and its values beside them, lie in rows of at most 64, and a full
+/// row becomes two.
 pub struct BTreeMap<K, V, A: Allocator = Global> {
-    rows: Rows<Rows<(K, V)>>,
+    rows: Rows<(Rows<K>, Rows<V>)>,
     len: usize,
     alloc: PhantomData<A>,
 }
@@ -103,7 +104,7 @@ impl<K: Ord, V, A: Allocator> BTreeMap<K, V, A> {
     pub fn get_mut(&mut self, key: &K) -> Option<&mut V> {
         let (row, found) = self.find(key);
         let at = found.ok()?;
-        Some(&mut self.rows[row][at].1)
+        Some(&mut self.rows[row].1[at])
     }
 
     /// Puts a value, and takes the one away that the key had.
@@ -114,12 +115,13 @@ impl<K: Ord, V, A: Allocator> BTreeMap<K, V, A> {
     pub fn insert(&mut self, key: K, value: V) -> Result<Option<V>, AllocFailed<(K, V)>> {
         let (row, found) = self.find(&key);
         match found {
-            Ok(at) => Ok(Some(replace(&mut self.rows[row][at].1, value))),
+            Ok(at) => Ok(Some(replace(&mut self.rows[row].1[at], value))),
             Err(at) => {
                 let Ok((row, at)) = self.make_room(row, at) else {
                     return Err(AllocFailed((key, value)));
                 };
-                self.rows[row].insert(at, (key, value));
+                self.rows[row].0.insert(at, key);
+                self.rows[row].1.insert(at, value);
                 self.len += 1;
                 Ok(None)
             }
@@ -135,44 +137,42 @@ impl<K: Ord, V, A: Allocator> BTreeMap<K, V, A> {
 
     /// Takes the first entry away.
     pub fn pop_first(&mut self) -> Option<(K, V)> {
-        if self.rows.is_empty() { None } else { Some(self.take(0, 0)) }
+        if self.len == 0 { None } else { Some(self.take(0, 0)) }
     }
 
     /// The row of a key, and its place there, or where it would be.
     fn find(&self, key: &K) -> (usize, Result<usize, usize>) {
-        let row = self.rows.partition_point(|row| row[0].0 <= *key).saturating_sub(1);
-        (row, self.rows.get(row).map_or(Err(0), |row| row.binary_search_by(|entry| entry.0.cmp(key))))
+        let row = self.rows.partition_point(|row| row.0.first() <= Some(key)).saturating_sub(1);
+        (row, self.rows.get(row).map_or(Err(0), |row| row.0.binary_search(key)))
     }
 
     /// Room for one more entry at this place, which may lie in another row then: behind all others in a new one, so that ascending keys fill rows.
     fn make_room(&mut self, row: usize, at: usize) -> Result<(usize, usize), AllocError> {
         if self.rows.is_empty() {
-            let mut first = Rows::new();
-            first.try_reserve_exact(1).map_err(|_| AllocError)?;
             self.rows.try_reserve(1).map_err(|_| AllocError)?;
-            self.rows.push(first);
+            self.rows.push((Rows::new(), Rows::new()));
         }
-        if self.rows[row].len() < MOST {
-            self.rows[row].try_reserve(1).map_err(|_| AllocError)?;
+        if self.rows[row].0.len() < MOST {
+            self.rows[row].0.try_reserve(1).and_then(|()| self.rows[row].1.try_reserve(1)).map_err(|_| AllocError)?;
             return Ok((row, at));
         }
-        let mut behind = Rows::new();
-        behind.try_reserve_exact(MOST).map_err(|_| AllocError)?;
+        let mut behind = (Rows::new(), Rows::new());
+        behind.0.try_reserve_exact(MOST).and_then(|()| behind.1.try_reserve_exact(MOST)).map_err(|_| AllocError)?;
         self.rows.try_reserve(1).map_err(|_| AllocError)?;
         let kept = if at == MOST && row + 1 == self.rows.len() { MOST } else { MOST / 2 };
-        behind.extend(self.rows[row].drain(kept..));
+        behind.0.extend(self.rows[row].0.drain(kept..));
+        behind.1.extend(self.rows[row].1.drain(kept..));
         self.rows.insert(row + 1, behind);
         Ok(if at <= MOST / 2 { (row, at) } else { (row + 1, at - kept) })
     }
 
     fn take(&mut self, row: usize, at: usize) -> (K, V) {
-        let entry = self.rows[row].remove(at);
+        let entry = (self.rows[row].0.remove(at), self.rows[row].1.remove(at));
         self.len -= 1;
-        if self.rows[row].is_empty() {
-            self.rows.remove(row);
-        }
-        if self.rows.is_empty() {
+        if self.len == 0 {
             self.rows = Rows::new();
+        } else if self.rows[row].0.is_empty() {
+            self.rows.remove(row);
         }
         entry
     }
