@@ -15,10 +15,10 @@ pub struct ExchangeLimits {
 }
 
 impl ExchangeLimits {
-    /// 262,144 messages, and 6 MiB.
+    /// 262,144 messages, and 7 MiB.
     pub const DEFAULT: ExchangeLimits = ExchangeLimits {
         open: 262_144,
-        text: 6_291_456,
+        text: 7_340_032,
     };
 }
 

@@ -25,11 +25,11 @@ pub struct OrderCounts {
 }
 
 impl OrderLimits {
-    /// 1,000 packets, one second and 2 MiB.
+    /// 1,000 packets, one second and 1.5 MiB.
     pub const DEFAULT: OrderLimits = OrderLimits {
         packets: 1_000,
         nanoseconds: 1_000_000_000,
-        bytes: 2_097_152,
+        bytes: 1_572_864,
     };
 
     /// Each packet passes as it comes.

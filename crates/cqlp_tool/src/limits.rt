@@ -29,12 +29,11 @@ pub(crate) fn streams_limits_of(limits: &CaptureLimits) -> StreamsLimits
         connections: ConnectionLimits {
             connections: limits.connections,
             early: mebibytes(limits.early),
-            early_each: 1_048_576,
+            early_each: ConnectionLimits::DEFAULT.early_each,
         },
         order: OrderLimits {
             packets: limits.order,
-            nanoseconds: 1_000_000_000,
-            bytes: 1_572_864,
+            ..OrderLimits::DEFAULT
         },
     }
 }
