@@ -3,8 +3,8 @@
 those that it has to write. They are made of what said.txt has of the exchanges on its connections, which expected.py writes by a reading of
 its own, and of the driver's and the server's own bytes. Of a message that was cut what it says is not compared.
 
-captures/lines.py live NAME COMMAND..: gives the capture to the command through a pipe, packet after packet, and each only when all lines
-are there that were due before it.
+captures/lines.py live NAME COMMAND..: gives the capture to the command through a pipe, its last word (standard input where that is -), packet after
+packet, and each only when all lines are there that were due before it.
 
 Both print what is not so."""
 import re
@@ -255,10 +255,11 @@ def live(name, command):
     file = (HERE / "data" / name).read_bytes()
     due = [when for _, when in patterns(name)]
     program = subprocess.Popen(command, stdin=subprocess.PIPE, stdout=subprocess.PIPE, stderr=subprocess.DEVNULL, bufsize=0)
-    program.stdin.write(file[:24])
+    pipe = program.stdin if command[-1] == "-" else open(command[-1], "wb", buffering=0)
+    pipe.write(file[:24])
     written, latest = b"", 0
     for when, packet in records(file):
-        program.stdin.write(packet)
+        pipe.write(packet)
         wanted, end = len([other for other in due if other <= when]), time.monotonic() + PATIENCE
         while written.count(b"\n") < wanted and select.select([program.stdout], [], [], max(end - time.monotonic(), 0))[0]:
             written += program.stdout.read(65536)
@@ -266,7 +267,7 @@ def live(name, command):
             print(f"{written.count(bytes([10]))} lines after the packet at {when}, and {wanted} are due")
             break
         latest = max(latest, wanted)
-    program.stdin.close()
+    pipe.close()
     compare(name, (written + program.stdout.read()).decode().splitlines())
     if program.wait() != 0:
         print(f"status {program.returncode}")

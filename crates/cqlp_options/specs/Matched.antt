@@ -1,5 +1,5 @@
 -- What a command line asks for, by its words. `rows` are what the parser found at the names of a task's options.
-use Rattle.std.specs.Prelude.{◌≡◌, ◌≢◌, ℕ, ◌^◌, ◌<◌, Bool, true, false, not, List, Option, Some, None, IfSome, IsSomeAnd, codes, unwrap_or}
+use Rattle.std.specs.Prelude.{◌≡◌, ℕ, ◌^◌, ◌<◌, Bool, true, false, not, List, Option, Some, None, IfSome, IsSomeAnd, codes, unwrap_or}
 use Rattle.std.specs.Str.Parse.{IsNumeral, digits_value, without_leading_plus}
 use Rattle.clap.specs.Words.{Row, Text, first_of, one_of, subcommand_of}
 use Rattle.cqlp_options.specs.Program.{program}
@@ -115,18 +115,17 @@ IsCaptureTask rows (capture.Events connection) =
 IsCaptureTask rows (capture.Exchanges asked) =
     HasNoFolder rows × IsFlag (codes "rows") rows false × IsFlag (codes "events") rows false × AreExchanges rows asked
 
--- each limit is the number that is given, and else its default; packets of standard input are put in order only where that is asked for
-pub record AreCaptureLimits (rows : List Row) (file : Text) (limits : CaptureLimits) : Type 0 where
+-- each limit is the number that is given, and else its default; how many packets wait to be put in order has none here
+pub record AreCaptureLimits (rows : List Row) (limits : CaptureLimits) : Type 0 where
   pub connections : IsLimit (codes "connections") 65536 rows limits.connections
   pub waiting : IsLimit (codes "open") 262144 rows limits.open
   pub early : IsLimit (codes "early") 24 rows limits.early
   pub text : IsLimit (codes "text") 7 rows limits.text
-  pub order_of_input : file ≡ codes "-" → IsLimit (codes "order") 0 rows limits.order
-  pub order_of_file : file ≢ codes "-" → IsLimit (codes "order") 1000 rows limits.order
+  pub order : IsNumber 32 (codes "order") rows limits.order
 
 pub record AreCaptureOptions (rows : List Row) (options : CaptureOptions) : Type 0 where
   pub task : IsCaptureTask rows options.task
-  pub limits : AreCaptureLimits rows options.file.now options.limits
+  pub limits : AreCaptureLimits rows options.limits
   pub file : IsPath (codes "file") rows options.file.now
 
 -- ---- a command line

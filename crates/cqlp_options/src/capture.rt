@@ -165,7 +165,7 @@ impl<'a> CaptureOptions<'a> {
     {
         let file = path(matches, "file")?;
         let task = CaptureTask::matched(matches)?;
-        let limits = CaptureLimits::matched(matches, file)?;
+        let limits = CaptureLimits::matched(matches)?;
         let ports = ports_of(matches)?;
         Some(CaptureOptions {
             task,

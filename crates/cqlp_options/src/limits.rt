@@ -1,6 +1,6 @@
 //! How much of a capture is kept at one time.
 
-ghost use Rattle.std.specs.Prelude.{◌≡◌, ◌≢◌, ◌↔◌, IsTrue, IfSome, codes};
+ghost use Rattle.std.specs.Prelude.{◌≤◌, ◌↔◌, IsTrue, IfSome};
 ghost use Rattle.clap.specs.Words.{found_of, rows_of};
 ghost use Rattle.cqlp_options.specs.CaptureLimits.{AreWithin};
 ghost use Rattle.cqlp_options.specs.Matched.{AreCaptureLimits};
@@ -20,8 +20,8 @@ pub struct CaptureLimits {
     pub early: u32,
     /// MiB of the texts of messages that wait, on all connections: 1 to 4,096.
     pub text: u32,
-    /// Packets that wait to be put in order by their times: 0 to 65,536.
-    pub order: u32,
+    /// Packets that wait to be put in order by their times: 0 to 65,536. None where no number is given, since it is another for a file than for a pipe.
+    pub order: Option<u32>,
 }
 
 impl CaptureLimits {
@@ -55,19 +55,19 @@ impl CaptureLimits {
         greatest: 65_536,
     };
 
-    /// Those of a file where none are given.
+    /// Those where none are given.
     pub const DEFAULT: CaptureLimits = CaptureLimits {
         connections: 65_536,
         open: 262_144,
         early: 24,
         text: 7,
-        order: 1_000,
+        order: None,
     };
 
-    /// The limits that are given, and the defaults of this file in place of the others, if all are in their ranges.
-    pub(crate) fn matched(matches: &ArgMatches<'_>, file: &str) -> Option<CaptureLimits>
+    /// The limits that are given, and the defaults in place of the others, if all are in their ranges.
+    pub(crate) fn matched(matches: &ArgMatches<'_>) -> Option<CaptureLimits>
         ensures within { IfSome result AreWithin }
-        ensures words { IfSome result (AreCaptureLimits (rows_of (found_of matches.now)) file.now) }
+        ensures words { IfSome result (AreCaptureLimits (rows_of (found_of matches.now))) }
     {
         let CaptureLimits {
             connections,
@@ -81,7 +81,7 @@ impl CaptureLimits {
             open: number(matches, "open").unwrap_or(open),
             early: number(matches, "early").unwrap_or(early),
             text: number(matches, "text").unwrap_or(text),
-            order: number(matches, "order").unwrap_or(default_order(file)),
+            order: number(matches, "order"),
         };
         if limits.are_within() {
             Some(limits)
@@ -98,18 +98,16 @@ impl CaptureLimits {
             && CaptureLimits::OPEN.contains(self.open)
             && CaptureLimits::EARLY.contains(self.early)
             && CaptureLimits::TEXT.contains(self.text)
-            && CaptureLimits::ORDER.contains(self.order)
+            && is_order_within(self.order)
     }
 }
 
-/// `order` where it is not given. Standard input may be a live capture, whose packets would have to wait for later ones.
-fn default_order(file: &str) -> u32
-    ensures input { file.now ≡ codes "-" → result ≡ 0 }
-    ensures file { file.now ≢ codes "-" → result ≡ 1000 }
+/// Whether `order` is in its range, if it is given.
+fn is_order_within(order: Option<u32>) -> bool
+    ensures { IsTrue result ↔ IfSome order (λ packets. packets ≤ 65536) }
 {
-    if file == "-" {
-        0
-    } else {
-        CaptureLimits::DEFAULT.order
+    match order {
+        Some(packets) => CaptureLimits::ORDER.contains(packets),
+        None => true,
     }
 }

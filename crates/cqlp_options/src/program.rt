@@ -447,7 +447,7 @@ const CAPTURE: [Word; 16] = [
     Word {
         name: "order",
         form: Form::Number("N", CaptureLimits::ORDER),
-        help: "Packets that wait to be put in order by their times, from 0 to 65536; with - none unless given [default: 1000]",
+        help: "Packets that wait to be put in order by their times, from 0 to 65536; of - or a pipe none unless given [default: 1000]",
         with: &[],
         without: &[],
     },

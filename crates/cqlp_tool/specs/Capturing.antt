@@ -91,8 +91,8 @@ PrintsRows l asked ports before status after =
 -- What a task does with a capture, the input, of nodes that listen on these ports, within these limits. The lines of
 -- exchanges are written at once, or in blocks.
 abbrev pub DoesCaptureTask : Buffering → CaptureLimits → CaptureTask → (ports : List ℕ) → (before : Streams) → (status : ℕ) → (after : Streams) → Type 0
-DoesCaptureTask b l (task.Streams folder) ports before status after = SplitsCapture (streams_limits_of l) folder.now ports before status after
+DoesCaptureTask b l (task.Streams folder) ports before status after = SplitsCapture (streams_limits_of b l) folder.now ports before status after
 DoesCaptureTask b l (task.Exchanges asked) ports before status after =
-    PrintsExchanges b (streams_limits_of l) (exchange_limits_of l) asked ports before status after
-DoesCaptureTask b l (task.Events asked) ports before status after = PrintsEvents (streams_limits_of l) asked ports before status after
-DoesCaptureTask b l (task.Rows asked) ports before status after = PrintsRows (streams_limits_of l) asked ports before status after
+    PrintsExchanges b (streams_limits_of b l) (exchange_limits_of l) asked ports before status after
+DoesCaptureTask b l (task.Events asked) ports before status after = PrintsEvents (streams_limits_of b l) asked ports before status after
+DoesCaptureTask b l (task.Rows asked) ports before status after = PrintsRows (streams_limits_of b l) asked ports before status after

@@ -273,7 +273,7 @@ fn read_capture<R: Files + AllocGlobal, I: Source, O: Target, E: Target>(
     ensures status { IsStatusOfTask result.0 }
 {
     let ports = options.ports.as_slice();
-    let limits = streams_limits_of(&options.limits);
+    let limits = streams_limits_of(&options.limits, buffering);
     match options.task {
         CaptureTask::Streams { folder } => {
             split_to_folder(rt, folder, limits, ports, input, out, err)

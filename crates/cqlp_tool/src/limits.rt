@@ -3,10 +3,10 @@
 ghost use Rattle.std.specs.Prelude.{◌≡◌, ◌≤◌, true};
 ghost use Rattle.cqlp_options.specs.CaptureLimits.{AreWithin};
 ghost use Rattle.cqlp_tcp_connections.specs.Limits.{is_in_range};
-ghost use Rattle.cqlp_tool.specs.Limits.{exchange_limits_of, mebibytes, streams_limits_of};
+ghost use Rattle.cqlp_tool.specs.Limits.{exchange_limits_of, mebibytes, streams_limits_of, window_of};
 
 use cqlp_capture_exchanges::ExchangeLimits;
-use cqlp_capture_streams::StreamsLimits;
+use cqlp_capture_streams::{Buffering, StreamsLimits};
 use cqlp_options::CaptureLimits;
 use cqlp_packet_order::OrderLimits;
 use cqlp_tcp_connections::ConnectionLimits;
@@ -18,11 +18,23 @@ fn mebibytes(count: u32) -> usize
     count as usize * 1_048_576
 }
 
+/// How many packets wait to be put in order: as many as is given. Else the default of a regular file, and none of any other, as a pipe, since a line would
+/// wait for later packets.
+fn window_of(given: Option<u32>, buffering: Buffering) -> u32
+    ensures { result ≡ window_of given buffering }
+{
+    match (given, buffering) {
+        (Some(packets), _) => packets,
+        (None, Buffering::Block) => OrderLimits::DEFAULT.packets,
+        (None, Buffering::Line) => OrderLimits::OFF.packets,
+    }
+}
+
 /// What the reading of a capture keeps: of what came early at most 1 MiB for each direction, and packets that are captured at most one
 /// second apart, with at most 1.5 MiB, wait to be put in order.
-pub(crate) fn streams_limits_of(limits: &CaptureLimits) -> StreamsLimits
+pub(crate) fn streams_limits_of(limits: &CaptureLimits, buffering: Buffering) -> StreamsLimits
     requires { AreWithin limits.now }
-    ensures is { result ≡ streams_limits_of limits.now }
+    ensures is { result ≡ streams_limits_of buffering limits.now }
     ensures in_range { is_in_range result.connections ≡ true }
 {
     StreamsLimits {
@@ -32,7 +44,7 @@ pub(crate) fn streams_limits_of(limits: &CaptureLimits) -> StreamsLimits
             early_each: ConnectionLimits::DEFAULT.early_each,
         },
         order: OrderLimits {
-            packets: limits.order,
+            packets: window_of(limits.order, buffering),
             ..OrderLimits::DEFAULT
         },
     }

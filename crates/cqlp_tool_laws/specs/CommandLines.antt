@@ -211,7 +211,7 @@ module _ (before : Streams) (status status' : ℕ) (after after' : Streams) wher
 
   abbrev pub IsCaptureMetAlike : (b : Buffering) (l : CaptureLimits) (t : CaptureTask) (ports : List ℕ) → DoesCaptureTask b l t ports before status after
       → DoesCaptureTask b l t ports before status' after' → Type 0
-  IsCaptureMetAlike b l (capture_task.Streams folder) ports does does' = AreSplitAlike (streams_limits_of l) folder.now ports does does'
+  IsCaptureMetAlike b l (capture_task.Streams folder) ports does does' = AreSplitAlike (streams_limits_of b l) folder.now ports does does'
   IsCaptureMetAlike b l (capture_task.Exchanges asked) ports does does' = (status ≢ 3) × (status' ≢ 3)
   IsCaptureMetAlike b l (capture_task.Events asked) ports does does' = (status ≢ 3) × (status' ≢ 3)
   IsCaptureMetAlike b l (capture_task.Rows asked) ports does does' = (status ≢ 3) × (status' ≢ 3)

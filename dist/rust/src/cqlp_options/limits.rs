@@ -16,8 +16,8 @@ pub struct CaptureLimits {
     pub early: u32,
     /// MiB of the texts of messages that wait, on all connections: 1 to 4,096.
     pub text: u32,
-    /// Packets that wait to be put in order by their times: 0 to 65,536.
-    pub order: u32,
+    /// Packets that wait to be put in order by their times: 0 to 65,536. None where no number is given, since it is another for a file than for a pipe.
+    pub order: Option<u32>,
 }
 
 impl CaptureLimits {
@@ -51,17 +51,17 @@ impl CaptureLimits {
         greatest: 65_536,
     };
 
-    /// Those of a file where none are given.
+    /// Those where none are given.
     pub const DEFAULT: CaptureLimits = CaptureLimits {
         connections: 65_536,
         open: 262_144,
         early: 24,
         text: 7,
-        order: 1_000,
+        order: None,
     };
 
-    /// The limits that are given, and the defaults of this file in place of the others, if all are in their ranges.
-    pub(crate) fn matched(matches: &ArgMatches<'_>, file: &str) -> Option<CaptureLimits> {
+    /// The limits that are given, and the defaults in place of the others, if all are in their ranges.
+    pub(crate) fn matched(matches: &ArgMatches<'_>) -> Option<CaptureLimits> {
         let CaptureLimits {
             connections,
             open,
@@ -74,7 +74,7 @@ impl CaptureLimits {
             open: number(matches, "open").unwrap_or(open),
             early: number(matches, "early").unwrap_or(early),
             text: number(matches, "text").unwrap_or(text),
-            order: number(matches, "order").unwrap_or(default_order(file)),
+            order: number(matches, "order"),
         };
         if limits.are_within() {
             Some(limits)
@@ -89,15 +89,14 @@ impl CaptureLimits {
             && CaptureLimits::OPEN.contains(self.open)
             && CaptureLimits::EARLY.contains(self.early)
             && CaptureLimits::TEXT.contains(self.text)
-            && CaptureLimits::ORDER.contains(self.order)
+            && is_order_within(self.order)
     }
 }
 
-/// `order` where it is not given. Standard input may be a live capture, whose packets would have to wait for later ones.
-fn default_order(file: &str) -> u32 {
-    if file == "-" {
-        0
-    } else {
-        CaptureLimits::DEFAULT.order
+/// Whether `order` is in its range, if it is given.
+fn is_order_within(order: Option<u32>) -> bool {
+    match order {
+        Some(packets) => CaptureLimits::ORDER.contains(packets),
+        None => true,
     }
 }
