@@ -6,22 +6,22 @@ use Rattle.cqlp_decode.specs.declared.running.Outcome.{Outcome}
 use Rattle.cqlp_decode.specs.declared.running.Outcome.TheVariants as outcome
 use Rattle.cqlp_decode.specs.Progress.{StreamState}
 use Rattle.cqlp_decode.specs.Streams.{After}
-use Rattle.cqlp_decode.specs.Draining.{FeedsInto, RunsTo}
+use Rattle.cqlp_decode.specs.Draining.{Counts, FeedsInto, RunsTo}
 use Rattle.cqlp_render.specs.declared.text_form.TextForm.{TextForm}
 use Rattle.cqlp_render.specs.Forms.{text, text_of, form_after_all}
 use Rattle.cqlp_text.specs.Written.{Written, Receives, BreaksOff, bare, taken}
 use Rattle.cqlp_text.specs.Outputs.{Output, output, with_text, StopsWithin}
 use Rattle.cqlp_text.proofs.Writing.{known_then}
-use Rattle.cqlp_render.specs.Rendering.{Rendering, with_event, StopsWithinEvent, FallsShort, FallsShortAtEvent, RendersFront}
+use Rattle.cqlp_render.specs.Rendering.{Rendering, with_event, StopsWithinEvent, FallsShort, FallsShortAtEvent, GoesOn, RendersFront}
 use Rattle.cqlp_render.specs.Streams.{Input}
-use Rattle.cqlp_render.specs.Showing.{ReadsBy, RunReads, RendersOrFails, ShowsTo, Concludes, ConcludesCheck, ending_of}
+use Rattle.cqlp_render.specs.Showing.{CountsReads, FlushesTo, IsPassedOn, ReadsBy, RunReads, RendersOrFails, ShowsTo, Concludes, ConcludesCheck, ending_of}
 use Rattle.cqlp_text.specs.declared.ending.Ending.{Ending}
 use Rattle.cqlp_text.specs.declared.ending.Ending.TheVariants as ending
 use Rattle.cqlp_text.specs.Endings.{ending_line, status_of}
 use Rattle.cqlp_grammar.specs.declared.event.Finish.{Finish}
 use Rattle.cqlp_note.specs.Limits.{Rules}
 use Rattle.cqlp_render.proofs.Renders.{known_nothing, known_still, text-last, fold-text, renders_to, texts_to, Renders, RendersPart}
-use Rattle.cqlp_render.proofs.Buffering.{known_taken, breaks_short, flushes}
+use Rattle.cqlp_render.proofs.Buffering.{known_taken, breaks_short, flushes, goes_same, goes_then}
 use Rattle.cqlp_render.proofs.Turns.{runs_on}
 
 -- ---- fronts
@@ -177,7 +177,7 @@ module _ (form : TextForm) (turns : ℕ) (o : Outcome) (old new : StreamState) (
   ran_from = subst (λ (x : Output). RendersOrFails form turns o old new xs left x (output (taken b) b.failures)) first_given ran
 
   -- the target failed where the run says so
-  pub failed_in : o ≡ outcome.SinkFault → RendersFront form old new xs (output given f) (output b.given b.failures)
+  failed_in : o ≡ outcome.SinkFault → RendersFront form old new xs (output given f) (output b.given b.failures)
   failed_in is = front_of_front form old new xs (output given f) b.given b.waiting b.failures (subst (λ (p : Outcome). RendersOrFails form turns p old new xs left (output given f) (output (taken b) b.failures)) is ran_from)
 
   reports_taken : IsSome given → o ≢ outcome.SinkFault → IsSome (taken b)
@@ -189,14 +189,33 @@ module _ (form : TextForm) (turns : ℕ) (o : Outcome) (old new : StreamState) (
   reports_given known sound = known_taken b.given b.waiting (reports_taken known sound)
 
   -- the target failed as the buffer was flushed
-  pub failed_later : (c : Written) → IsSome given → o ≢ outcome.SinkFault → BreaksOff b [] c → RendersFront form old new xs (output given f) (output c.given c.failures)
+  failed_later : (c : Written) → IsSome given → o ≢ outcome.SinkFault → BreaksOff b [] c → RendersFront form old new xs (output given f) (output c.given c.failures)
   failed_later c known sound breaks =
       all_is_front form old new xs (output given f) (output (taken b) b.failures) (output c.given c.failures) (breaks_short b c [] breaks (reports_given known sound)) (all_events form turns o old new xs left _ _ sound ran_from)
 
   -- all was passed on
-  pub passed_through : (c : Written) → IsSome given → o ≢ outcome.SinkFault → Receives b [] c → c.waiting ≡ [] → RendersOrFails form turns o old new xs left (output given f) (output c.given c.failures)
+  passed_through : (c : Written) → IsSome given → o ≢ outcome.SinkFault → Receives b [] c → c.waiting ≡ [] → RendersOrFails form turns o old new xs left (output given f) (output c.given c.failures)
   passed_through c known sound takes none =
       subst (λ (x : Output). RendersOrFails form turns o old new xs left (output given f) x) (flushes b c takes none (reports_given known sound)) ran_from
+
+  flushed_on : (ends : Outcome) (after : Output) (c : Written) → IsSome given → o ≢ outcome.SinkFault → FlushesTo o b ends c → after ≡ output c.given c.failures → RendersOrFails form turns ends old new xs left (output given f) after
+  flushed_on ends after c known sound (inl all) is = rw (all.0, is) (passed_through c known sound all.1 all.2)
+  flushed_on ends after c known sound (inr failed) is = rw (failed.0, is) (failed_later c known sound failed.1)
+
+  -- the run's text, with what waited after it
+  pub passed_on : (ends : Outcome) (after : Output) → IsSome given → IsPassedOn o b ends after → RendersOrFails form turns ends old new xs left (output given f) after
+  passed_on ends after known (inl failed) = rw (failed.1, failed.2) (failed_in failed.0)
+  passed_on ends after known (inr later) = flushed_on ends after later.1 known later.0 later.2 later.3
+
+-- no less was given
+flushed_goes : (o ends : Outcome) (b c : Written) → FlushesTo o b ends c → GoesOn b.given c.given
+flushed_goes o ends b c (inl all) text is = let p = all.1.passed text is in (p.0, p.1)
+flushed_goes o ends b c (inr failed) text is = let p = failed.1.passed text is in (p.0, p.1)
+
+pub passed_on_goes : (o ends : Outcome) (b : Written) (after : Output) → IsPassedOn o b ends after → GoesOn b.given after.given
+passed_on_goes o ends b after (inl failed) = goes_same b.given after.given (sym (ap (λ x. x.given) failed.2))
+passed_on_goes o ends b after (inr later) =
+    goes_then b.given later.1.given after.given (flushed_goes o ends b later.1 later.2) (goes_same later.1.given after.given (sym (ap (λ x. x.given) later.3)))
 
 -- the buffer reports what it was given
 pub reports_at_first : (a : Written) (given : Option (List ℕ)) (f : ℕ) → a ≡ bare given f → IsSome given → IsSome (taken a)
@@ -214,6 +233,29 @@ reads_by turns (outcome.Finished f) old new reads = reads
 reads_by turns outcome.ReadFault old new reads = reads
 reads_by turns outcome.Turns old new reads = reads
 reads_by turns outcome.SinkFault old new reads = (outcome.SinkFault, reads)
+
+reads_flushed : (turns : ℕ) (o ends : Outcome) (b c : Written) (old new : Input) → RunReads turns o old new → FlushesTo o b ends c → ReadsBy turns (ending_of ends) old new
+reads_flushed turns o ends b c old new reads (inl all) = rw all.0 (reads_by turns o old new reads)
+reads_flushed turns o ends b c old new reads (inr failed) = rw failed.0 (o, reads)
+
+-- and passing on reads nothing
+pub reads_passed_on : (turns : ℕ) (o ends : Outcome) (b : Written) (after : Output) (old new : Input) → RunReads turns o old new → IsPassedOn o b ends after → ReadsBy turns (ending_of ends) old new
+reads_passed_on turns o ends b after old new reads (inl failed) = rw failed.1 (o, reads)
+reads_passed_on turns o ends b after old new reads (inr later) = reads_flushed turns o ends b later.1 old new reads later.2
+
+counts_by : (o : Outcome) (old new : ℕ) → Counts o old new → CountsReads (ending_of o) old new
+counts_by (outcome.Finished f) old new counts = counts
+counts_by outcome.ReadFault old new counts = counts
+counts_by outcome.Turns old new counts = counts
+counts_by outcome.SinkFault old new counts = tt
+
+counts_flushed : (o ends : Outcome) (b c : Written) (old new : ℕ) → Counts o old new → FlushesTo o b ends c → CountsReads (ending_of ends) old new
+counts_flushed o ends b c old new counts (inl all) = rw all.0 (counts_by o old new counts)
+counts_flushed o ends b c old new counts (inr failed) = rw failed.0 tt
+
+pub counts_passed_on : (o ends : Outcome) (b : Written) (after : Output) (old new : ℕ) → Counts o old new → IsPassedOn o b ends after → CountsReads (ending_of ends) old new
+counts_passed_on o ends b after old new counts (inl failed) = rw failed.1 tt
+counts_passed_on o ends b after old new counts (inr later) = counts_flushed o ends b later.1 old new counts later.2
 
 -- ---- how a check ends
 

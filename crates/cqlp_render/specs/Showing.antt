@@ -1,5 +1,5 @@
 -- What a command that shows a stream writes.
-use Rattle.std.specs.Prelude.{◌≡◌, ℕ, true, List, [], Option, None, IsSome, ◌⊎◌}
+use Rattle.std.specs.Prelude.{◌≡◌, ◌≢◌, ℕ, true, List, [], Option, None, IsSome, ◌⊎◌}
 use Rattle.cqlp_note.specs.Limits.{Rules}
 use Rattle.cqlp_note.specs.Streams.{counted}
 use Rattle.cqlp_decode.specs.declared.running.Outcome.{Outcome}
@@ -12,7 +12,8 @@ use Rattle.cqlp_text.specs.declared.ending.Ending.TheVariants as ending
 use Rattle.cqlp_text.specs.Endings.{ending_line, finish_status, status_of}
 use Rattle.cqlp_render.specs.declared.text_form.TextForm.{TextForm}
 use Rattle.cqlp_render.specs.declared.text_form.TextForm.TheVariants as forms
-use Rattle.cqlp_text.specs.Outputs.{Output, with_text, StopsWithin}
+use Rattle.cqlp_text.specs.Outputs.{Output, output, with_text, StopsWithin}
+use Rattle.cqlp_text.specs.Written.{Written, Receives, BreaksOff}
 use Rattle.cqlp_render.specs.Rendering.{ReadsOnlyAfterText, RendersFront, RendersTo}
 use Rattle.cqlp_render.specs.Streams.{Input, Streams, IfKnown}
 
@@ -28,6 +29,19 @@ abbrev pub RendersOrFails : TextForm → (turns : ℕ) → Outcome → (old new 
     → (left : Option (List ℕ)) → (before after : Output) → Type 0
 RendersOrFails form turns outcome.SinkFault old new xs left before after = RendersFront form old new xs before after
 RendersOrFails form turns o old new xs left before after = RendersTo form turns o old new xs left before after
+
+-- All that waits in a buffer was passed on, and the run ends as it did; or the target failed.
+abbrev pub FlushesTo : (ran : Outcome) → (waits : Written) → (ends : Outcome) → (flushed : Written) → Type 0
+FlushesTo ran waits ends flushed =
+    ((ends ≡ ran) × Receives waits [] flushed × (flushed.waiting ≡ []))
+    ⊎ ((ends ≡ outcome.SinkFault) × BreaksOff waits [] flushed)
+
+-- The target after a run over a buffer: it was given all that waits, unless it had failed in the run.
+abbrev pub IsPassedOn : (ran : Outcome) → (waits : Written) → (ends : Outcome) → (after : Output) → Type 0
+IsPassedOn ran waits ends after =
+    ((ran ≡ outcome.SinkFault) × (ends ≡ outcome.SinkFault) × (after ≡ output waits.given waits.failures))
+    ⊎ ((ran ≢ outcome.SinkFault) × (flushed : Written) × FlushesTo ran waits ends flushed
+    × (after ≡ output flushed.given flushed.failures))
 
 -- A decoder that was just made with these limits, and has refused nothing, rendered the bytes xs of a reader.
 pub record RendersNew (form : TextForm) (limits : Rules) (turns : ℕ) (o : Outcome) (xs : List ℕ)

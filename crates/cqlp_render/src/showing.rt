@@ -1,15 +1,14 @@
 //! A whole stream, shown or checked.
 
-ghost use Rattle.std.specs.Prelude.{◌≡◌, ◌≤◌, ◌↔◌, [], Err, IfOk, IfSome, IsErrOf, vec_len};
+ghost use Rattle.std.specs.Prelude.{◌≡◌, ◌↔◌, [], Err, IfOk, IfSome, IsErrOf};
 ghost use Rattle.cqlp_decode.specs.Streams.{After, state};
 ghost use Rattle.cqlp_note.specs.Limits.{first_bad, rules_of, with_lenient};
 ghost use Rattle.cqlp_note.specs.declared.limits.BadLimits.{BadLimits as Bad};
 ghost use Rattle.cqlp_text.specs.Endings.{IsStatusOfTask};
 ghost use Rattle.cqlp_text.specs.PageText.{no_page};
 ghost use Rattle.cqlp_text.specs.Outputs.{Output, written};
-ghost use Rattle.cqlp_render.specs.Rendering.{ReadsOnlyAfterText};
 ghost use Rattle.cqlp_render.specs.Streams.{IfKnown, streams, unread};
-ghost use Rattle.cqlp_render.specs.Showing.{ending_of, ChecksAndReports, ConcludesIfKnown, CountsReads, ReadsBy, ReadsNew, RendersOrFails};
+ghost use Rattle.cqlp_render.specs.Showing.{ending_of, ChecksAndReports, ConcludesIfKnown, CountsReads, IsPassedOn, ReadsBy, ReadsNew};
 ghost use Rattle.cqlp_render.specs.Showing.{ShowsAndReports, ShowsTo};
 ghost use Rattle.cqlp_text.specs.declared.ending.Ending.{Ending};
 ghost use Rattle.cqlp_render.specs.declared.text_form.TextForm.TheVariants as forms;
@@ -90,8 +89,48 @@ pub fn show_as<R: Source, O: Target, E: Target, A: Allocator>(
         ShowsAndReports form (with_lenient lenient (rules_of limits)) TURNS
         (view input.old out err) result.0 (view input.new result.1 result.2) }
 {
-    let (ending, out) = write_as(alloc, limits, lenient, form, input, out);
-    let (status, err) = conclude(ending, err);
+    match form {
+        TextForm::Lines => show_in(alloc, limits, lenient, Lines, input, out, err),
+        TextForm::JsonLines => show_in(alloc, limits, lenient, JsonLines, input, out, err),
+        TextForm::Pages(place) => show_in(alloc, limits, lenient, place, input, out, err),
+        TextForm::JsonRows(place) => {
+            show_in(alloc, limits, lenient, JsonRows(place), input, out, err)
+        }
+        TextForm::CsvRows(place) => {
+            show_in(alloc, limits, lenient, CsvRows(place), input, out, err)
+        }
+        TextForm::Nothing => show_in(alloc, limits, lenient, Nothing, input, out, err),
+    }
+}
+
+/// Does what `show_as` does, with the type of the form.
+fn show_in<R: Source, O: Target, E: Target, F: Form + Drop, A: Allocator>(
+    alloc: &A,
+    limits: Limits,
+    lenient: bool,
+    form: F,
+    input: &mut R,
+    out: O,
+    err: E,
+) -> (u8, O, E)
+    requires { first_bad limits ≡ Ok tt }
+    ensures status { IsStatusOfTask result.0 }
+    ensures shows { let view = streams R.Source O.Target E.Target in
+        ShowsAndReports (F.form form) (with_lenient lenient (rules_of limits)) TURNS
+        (view input.old out err) result.0 (view input.new result.1 result.2) }
+{
+    let Some(mut decoder) = decoder_within(alloc, limits, lenient) else {
+        let (status, err) = conclude(Ending::NoMemory, err);
+        return (status, out, err);
+    };
+    let Ok(buffer) = vec![in alloc; 0; ROOM] else {
+        let (status, err) = conclude(Ending::NoMemory, err);
+        return (status, out, err);
+    };
+    let mut sink = BufferedSink::new(Buffered::new(out, buffer), form);
+    let outcome = run_flushing(&mut decoder, input, &mut sink, TURNS);
+    let (outcome, out) = pass_on(outcome, sink.into_inner());
+    let (status, err) = conclude(ending_of(outcome), err);
     (status, out, err)
 }
 
@@ -149,71 +188,6 @@ fn read_through<R: Source, O: Target, A: Allocator>(
     (ending_of(outcome), sink.into_inner())
 }
 
-/// Writes the text of the events of a stream within these limits, in a form, by the writer of that form.
-fn write_as<R: Source, O: Target, A: Allocator>(
-    alloc: &A,
-    limits: Limits,
-    lenient: bool,
-    form: TextForm,
-    input: &mut R,
-    out: O,
-) -> (Ending, O)
-    requires { first_bad limits ≡ Ok tt }
-    ensures shows { IfKnown (unread R.Source input.old) (written O.Target out) (λ xs.
-        ShowsTo form (with_lenient lenient (rules_of limits)) TURNS result.0 xs (R.left input.new) (written O.Target out)
-        (written O.Target result.1)) }
-    ensures failures { CountsReads result.0 (R.failures input.old) (R.failures input.new) }
-    ensures reads { ReadsBy TURNS result.0 (unread R.Source input.old) (unread R.Source input.new) }
-    ensures in_time { IfKnown (unread R.Source input.old) (written O.Target out) (λ xs.
-        ReadsNew form (with_lenient lenient (rules_of limits)) TURNS xs (unread R.Source input.old) (unread R.Source input.new)
-        (written O.Target out) (written O.Target result.1)) }
-{
-    match form {
-        TextForm::Lines => write_text(alloc, limits, lenient, Lines, input, out),
-        TextForm::JsonLines => write_text(alloc, limits, lenient, JsonLines, input, out),
-        TextForm::Pages(place) => write_text(alloc, limits, lenient, place, input, out),
-        TextForm::JsonRows(place) => write_text(
-            alloc,
-            limits,
-            lenient,
-            JsonRows(place),
-            input,
-            out,
-        ),
-        TextForm::CsvRows(place) => write_text(alloc, limits, lenient, CsvRows(place), input, out),
-        TextForm::Nothing => write_text(alloc, limits, lenient, Nothing, input, out),
-    }
-}
-
-/// Writes the text of the events of a stream within these limits, in a form.
-fn write_text<R: Source, O: Target, F: Form + Drop, A: Allocator>(
-    alloc: &A,
-    limits: Limits,
-    lenient: bool,
-    form: F,
-    input: &mut R,
-    out: O,
-) -> (Ending, O)
-    requires { first_bad limits ≡ Ok tt }
-    ensures shows { IfKnown (unread R.Source input.old) (written O.Target out) (λ xs.
-        ShowsTo (F.form form) (with_lenient lenient (rules_of limits)) TURNS result.0 xs (R.left input.new) (written O.Target out)
-        (written O.Target result.1)) }
-    ensures failures { CountsReads result.0 (R.failures input.old) (R.failures input.new) }
-    ensures reads { ReadsBy TURNS result.0 (unread R.Source input.old) (unread R.Source input.new) }
-    ensures in_time { IfKnown (unread R.Source input.old) (written O.Target out) (λ xs.
-        ReadsNew (F.form form) (with_lenient lenient (rules_of limits)) TURNS xs (unread R.Source input.old) (unread R.Source input.new)
-        (written O.Target out) (written O.Target result.1)) }
-{
-    let Some(mut decoder) = decoder_within(alloc, limits, lenient) else {
-        return (Ending::NoMemory, out);
-    };
-    let Ok(buffer) = vec![in alloc; 0; ROOM] else {
-        return (Ending::NoMemory, out);
-    };
-    let (outcome, out) = render_buffered(&mut decoder, input, out, form, buffer);
-    (ending_of(outcome), out)
-}
-
 /// A decoder at the start of a stream, within these limits, lenient or not; none where memory was wanting.
 fn decoder_within<'a, A: Allocator>(
     alloc: &'a A,
@@ -262,28 +236,10 @@ fn ending_of(outcome: Outcome) -> Ending
     }
 }
 
-/// Writes the text of the events of a reader's bytes, in pieces as large as the buffer where the input does not stop.
-fn render_buffered<R: Source, O: Target, F: Form + Drop, A: Allocator, B: Allocator>(
-    decoder: &mut Decoder<A>,
-    input: &mut R,
-    out: O,
-    form: F,
-    buffer: Vec<u8, B>,
-) -> (Outcome, O)
-    requires { 128 ≤ vec_len buffer }
-    ensures renders { IfKnown (unread R.Source input.old) (written O.Target out) (λ xs.
-        After (state decoder.old) [] [] → RendersOrFails (F.form form) TURNS result.0 (state decoder.old)
-        (state decoder.new) xs (R.left input.new) (written O.Target out) (written O.Target result.1)) }
-    ensures failures { CountsReads (ending_of result.0) (R.failures input.old) (R.failures input.new) }
-    ensures reads { ReadsBy TURNS (ending_of result.0) (unread R.Source input.old) (unread R.Source input.new) }
-    ensures in_time { IfKnown (unread R.Source input.old) (written O.Target out) (λ xs.
-        After (state decoder.old) [] [] → ReadsOnlyAfterText (F.form form) TURNS (state decoder.old) xs
-        (R.reads input.old) (R.reads input.new) (R.left input.new) (written O.Target out) (O.contents result.1)) }
-    ensures rules { (state decoder.new).rules ≡ (state decoder.old).rules }
+/// Passes on what waits in a buffer after a run, unless the target failed in it. Answers how it ends, and the target.
+fn pass_on<O: Target, A: Allocator>(outcome: Outcome, mut buffered: Buffered<O, A>) -> (Outcome, O)
+    ensures { IsPassedOn outcome buffered result.0 (written O.Target result.1) }
 {
-    let mut sink = BufferedSink::new(Buffered::new(out, buffer), form);
-    let outcome = run_flushing(decoder, input, &mut sink, TURNS);
-    let mut buffered = sink.into_inner();
     if let Outcome::SinkFault = outcome {
         return (outcome, buffered.into_inner());
     }

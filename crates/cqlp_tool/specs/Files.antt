@@ -1,5 +1,5 @@
 -- What is done with a stream that is the input or a file.
-use Rattle.std.specs.Prelude.{◌≡◌, ◌≢◌, ℕ, List, IsSome, Result, Ok, Err, ◌⊎◌, codes}
+use Rattle.std.specs.Prelude.{◌≡◌, ◌≢◌, ℕ, List, IsSome, ◌⊎◌, codes}
 use Rattle.std.specs.declared.io.traits.Read.{Ghosts}
 use Rattle.cqlp_text.specs.Endings.{cannot_open_line}
 use Rattle.cqlp_text.specs.Outputs.{Output}
@@ -24,12 +24,6 @@ MissesFile path out err status out' err' =
 
 module _ {F : Type 0} (files : Ghosts F) (path : List ℕ)
     (Does : (before : Streams) → (status : ℕ) → (after : Streams) → Type 0) where
-  -- This was done with the file, if it was opened.
-  abbrev pub DoesIfOpened : {E : Type 0} → Result F E
-      → (out err : Output) → (status : ℕ) → (out' err' : Output) → Type 0
-  DoesIfOpened (Ok file) out err status out' err' = DoesWith Does (opened files file) out err status out' err'
-  DoesIfOpened (Err e) out err status out' err' = MissesFile path out err status out' err'
-
   -- This was done with a file, or none was opened.
   abbrev pub DoesWithFile : (out err : Output) → (status : ℕ) → (out' err' : Output) → Type 0
   DoesWithFile out err status out' err' =

@@ -11,7 +11,7 @@ ghost use Rattle.cqlp_capture_streams.specs.declared.buffering.Buffering.TheVari
 ghost use Rattle.cqlp_tool.specs.Capturing.{DoesCaptureTask, IsCaptureOfInput, SplitsToFolder, filter_of, form_of};
 ghost use Rattle.cqlp_tool.specs.CommandLines.{Complains, DoesTask, Executes, Helps, NeedsNoInput, Performs, ReadsNoCapture};
 ghost use Rattle.cqlp_tool.specs.CommandLines.{ReportsFault, ReportsWrong, PrintsNoTask, form_of_events, form_of_rows, rules_for};
-ghost use Rattle.cqlp_tool.specs.Files.{DoesIfOpened, DoesOn};
+ghost use Rattle.cqlp_tool.specs.Files.{DoesOn};
 ghost use Rattle.cqlp_text.specs.Endings.{IsStatusOfTask, cannot_open_line as cannot_open_line_of};
 ghost use Rattle.cqlp_text.specs.Outputs.{written};
 ghost use Rattle.cqlp_render.specs.Streams.{streams};
@@ -39,8 +39,6 @@ use cqlp_text::exit_status::{BAD_COMMAND_LINE, DONE, FAULT};
 use cqlp_text::{Ending, PagePlace, cannot_open_line, put_text};
 use std::alloc::Allocator;
 use std::fs::{File, OpenFile};
-use std::io;
-use std::io::Read;
 use std::net::{Net, TcpListener, TcpStream};
 use std::rt::Files;
 
@@ -142,24 +140,8 @@ fn stream<R: Files + AllocGlobal, I: Source, O: Target, E: Target>(
     if options.file == "-" {
         return perform(&heap, options, input, out, err);
     }
-    perform_with_file(&heap, options, File::open(rt, options.file), out, err)
-}
-
-/// Does the task with a stream in a file, if it was opened.
-fn perform_with_file<A: Allocator, F: Read + Drop, O: Target, E: Target>(
-    heap: &A,
-    options: Options<'_>,
-    opened: io::Result<F>,
-    out: O,
-    err: E,
-) -> (u8, O, E)
-    requires { first_bad options.limits ≡ Ok tt }
-    ensures task { DoesIfOpened F.Read options.entry.file.now (DoesTask options.entry.task (rules_for options.entry)) opened
-        (written O.Target out) (written E.Target err) result.0 (written O.Target result.1) (written E.Target result.2) }
-    ensures status { IsStatusOfTask result.0 }
-{
-    match opened {
-        Ok(file) => perform(heap, options, &mut OfStd::new(file), out, err),
+    match File::open(rt, options.file) {
+        Ok(file) => perform(&heap, options, &mut OfStd::new(file), out, err),
         Err(_) => {
             let (status, err) = cannot_open(options.file, err);
             (status, out, err)

@@ -1,7 +1,7 @@
 // Written by dist/erase from crates/cqlp_render/src/showing.rt.
 //! A whole stream, shown or checked.
 
-use crate::kit_std::prelude::{Clone, Vec, vec};
+use crate::kit_std::prelude::{Clone, vec};
 use crate::cqlp_render::buffered_sink::BufferedSink;
 use crate::cqlp_render::form::{CsvRows, Form, JsonLines, JsonRows, Lines, Nothing};
 use crate::cqlp_render::render::{TextSink, run_flushing};
@@ -61,8 +61,42 @@ pub(crate) fn show_as<R: Source, O: Target, E: Target, A: Allocator>(
     out: O,
     err: E,
 ) -> (u8, O, E) {
-    let (ending, out) = write_as(alloc, limits, lenient, form, input, out);
-    let (status, err) = conclude(ending, err);
+    match form {
+        TextForm::Lines => show_in(alloc, limits, lenient, Lines, input, out, err),
+        TextForm::JsonLines => show_in(alloc, limits, lenient, JsonLines, input, out, err),
+        TextForm::Pages(place) => show_in(alloc, limits, lenient, place, input, out, err),
+        TextForm::JsonRows(place) => {
+            show_in(alloc, limits, lenient, JsonRows(place), input, out, err)
+        }
+        TextForm::CsvRows(place) => {
+            show_in(alloc, limits, lenient, CsvRows(place), input, out, err)
+        }
+        TextForm::Nothing => show_in(alloc, limits, lenient, Nothing, input, out, err),
+    }
+}
+
+/// Does what `show_as` does, with the type of the form.
+fn show_in<R: Source, O: Target, E: Target, F: Form, A: Allocator>(
+    alloc: &A,
+    limits: Limits,
+    lenient: bool,
+    form: F,
+    input: &mut R,
+    out: O,
+    err: E,
+) -> (u8, O, E) {
+    let Some(mut decoder) = decoder_within(alloc, limits, lenient) else {
+        let (status, err) = conclude(Ending::NoMemory, err);
+        return (status, out, err);
+    };
+    let Ok(buffer) = vec![in alloc; 0; ROOM] else {
+        let (status, err) = conclude(Ending::NoMemory, err);
+        return (status, out, err);
+    };
+    let mut sink = BufferedSink::new(Buffered::new(out, buffer), form);
+    let outcome = run_flushing(&mut decoder, input, &mut sink, TURNS);
+    let (outcome, out) = pass_on(outcome, sink.into_inner());
+    let (status, err) = conclude(ending_of(outcome), err);
     (status, out, err)
 }
 
@@ -104,51 +138,6 @@ fn read_through<R: Source, O: Target, A: Allocator>(
     (ending_of(outcome), sink.into_inner())
 }
 
-/// Writes the text of the events of a stream within these limits, in a form, by the writer of that form.
-fn write_as<R: Source, O: Target, A: Allocator>(
-    alloc: &A,
-    limits: Limits,
-    lenient: bool,
-    form: TextForm,
-    input: &mut R,
-    out: O,
-) -> (Ending, O) {
-    match form {
-        TextForm::Lines => write_text(alloc, limits, lenient, Lines, input, out),
-        TextForm::JsonLines => write_text(alloc, limits, lenient, JsonLines, input, out),
-        TextForm::Pages(place) => write_text(alloc, limits, lenient, place, input, out),
-        TextForm::JsonRows(place) => write_text(
-            alloc,
-            limits,
-            lenient,
-            JsonRows(place),
-            input,
-            out,
-        ),
-        TextForm::CsvRows(place) => write_text(alloc, limits, lenient, CsvRows(place), input, out),
-        TextForm::Nothing => write_text(alloc, limits, lenient, Nothing, input, out),
-    }
-}
-
-/// Writes the text of the events of a stream within these limits, in a form.
-fn write_text<R: Source, O: Target, F: Form, A: Allocator>(
-    alloc: &A,
-    limits: Limits,
-    lenient: bool,
-    form: F,
-    input: &mut R,
-    out: O,
-) -> (Ending, O) {
-    let Some(mut decoder) = decoder_within(alloc, limits, lenient) else {
-        return (Ending::NoMemory, out);
-    };
-    let Ok(buffer) = vec![in alloc; 0; ROOM] else {
-        return (Ending::NoMemory, out);
-    };
-    let (outcome, out) = render_buffered(&mut decoder, input, out, form, buffer);
-    (ending_of(outcome), out)
-}
-
 /// A decoder at the start of a stream, within these limits, lenient or not; none where memory was wanting.
 fn decoder_within<'a, A: Allocator>(
     alloc: &'a A,
@@ -185,17 +174,8 @@ fn ending_of(outcome: Outcome) -> Ending {
     }
 }
 
-/// Writes the text of the events of a reader's bytes, in pieces as large as the buffer where the input does not stop.
-fn render_buffered<R: Source, O: Target, F: Form, A: Allocator, B: Allocator>(
-    decoder: &mut Decoder<A>,
-    input: &mut R,
-    out: O,
-    form: F,
-    buffer: Vec<u8, B>,
-) -> (Outcome, O) {
-    let mut sink = BufferedSink::new(Buffered::new(out, buffer), form);
-    let outcome = run_flushing(decoder, input, &mut sink, TURNS);
-    let mut buffered = sink.into_inner();
+/// Passes on what waits in a buffer after a run, unless the target failed in it. Answers how it ends, and the target.
+fn pass_on<O: Target, A: Allocator>(outcome: Outcome, mut buffered: Buffered<O, A>) -> (Outcome, O) {
     if let Outcome::SinkFault = outcome {
         return (outcome, buffered.into_inner());
     }

@@ -24,8 +24,6 @@ use crate::cqlp_text::exit_status::{BAD_COMMAND_LINE, DONE, FAULT};
 use crate::cqlp_text::{Ending, PagePlace, cannot_open_line, put_text};
 use crate::kit_std::alloc::Allocator;
 use crate::kit_host::fs::{File, OpenFile};
-use std::io;
-use std::io::Read;
 use crate::kit_host::net::{Net, TcpListener, TcpStream};
 use crate::kit_host::rt::Files;
 
@@ -103,19 +101,8 @@ fn stream<R: Files + AllocGlobal, I: Source, O: Target, E: Target>(
     if options.file == "-" {
         return perform(&heap, options, input, out, err);
     }
-    perform_with_file(&heap, options, File::open(rt, options.file), out, err)
-}
-
-/// Does the task with a stream in a file, if it was opened.
-fn perform_with_file<A: Allocator, F: Read, O: Target, E: Target>(
-    heap: &A,
-    options: Options<'_>,
-    opened: io::Result<F>,
-    out: O,
-    err: E,
-) -> (u8, O, E) {
-    match opened {
-        Ok(file) => perform(heap, options, &mut OfStd::new(file), out, err),
+    match File::open(rt, options.file) {
+        Ok(file) => perform(&heap, options, &mut OfStd::new(file), out, err),
         Err(_) => {
             let (status, err) = cannot_open(options.file, err);
             (status, out, err)
