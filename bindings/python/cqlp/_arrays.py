@@ -5,6 +5,7 @@ import sys
 from array import array
 from dataclasses import dataclass
 from functools import lru_cache
+from itertools import repeat
 from typing import Any, Dict, FrozenSet, Iterable, Iterator, List, NamedTuple, Optional, Tuple, Union
 
 from . import _arrow, _native
@@ -19,6 +20,11 @@ from ._types import Column, Type, column_text
 from .numbers import Code, Field, Kind, Stop, Tag
 
 _compiled: Any = _native.compiled("_nested")
+_batches: Any = _native.compiled("_batches")
+# Where the calls lie that _batches.c makes.
+_NEXT, _GET = (ctypes.cast(getattr(_native.library, name), ctypes.c_void_p).value for name in ("cqlp_next", "cqlp_columns_get"))
+# How many bytes the arrays of a reader that has ended may have, so that the next reader begins with them.
+_SPARE = 1 << 23
 
 # The kinds whose values are numbers in their array, and the code of its items.
 _CODES: Dict[int, str] = {
@@ -233,32 +239,68 @@ class Batches(Iterator[ArrayBatch]):
             batch = next(self._found, None)
 
 
+class _Store:
+    """Columns that the library fills, for values of these kinds: this many rows, bytes before the last row, and bytes of one value."""
+
+    def __init__(self, kinds: Tuple[int, ...] = (), sizes: Tuple[int, int, int] = (0, 0, 0)) -> None:
+        self.handle = _native.Handle(0, None)
+        self.kinds = kinds
+        self.sizes = sizes
+        if kinds:
+            limits = _native.BatchLimits(len(kinds), *sizes)
+            code = _native.library.cqlp_columns_new(limits, bytes(kinds), len(kinds), self.handle)
+            if code == Code.UNSUPPORTED:
+                raise BadCall(code)
+            _must_be_done(code)
+
+    def serves(self, kinds: Tuple[int, ...], sizes: Tuple[int, int, int], most: Tuple[int, int, int]) -> bool:
+        """Whether it is as large as is wanted, and no larger than it may be."""
+        return self.kinds == kinds and all(low <= there <= high for low, there, high in zip(sizes, self.sizes, most))
+
+    def is_small(self) -> bool:
+        rows, before, one = self.sizes
+        return len(self.kinds) * (9 * rows + before + one) <= _SPARE
+
+    def __del__(self, _free: Any = _native.library.cqlp_columns_free) -> None:
+        if hasattr(self, "handle"):
+            _free(self.handle)
+
+
+# Those of the reader that ended last: memory for columns is written with zeros when it is made, which takes as long as some thousand rows.
+_spare: List[_Store] = []
+
+
+def _taken_spare() -> _Store:
+    try:
+        return _spare.pop()
+    except IndexError:  # also where another thread took it
+        return _Store()
+
+
 class _Arrays:
-    """The columns that the library fills, in a handle."""
+    """The columns that the library fills for a reader."""
 
     def __init__(self, limits: Limits, rows: int, memory: int) -> None:
         self.limits = limits
         self.rows = rows
         self.memory = memory
-        self.handle = _native.Handle(0, None)
+        self.store = _Store()
         self.native = _native.Column()
-        self.kinds: Tuple[int, ...] = ()
-        self.sizes = (0, 0, 0)
+
+    @property
+    def handle(self) -> Any:
+        return self.store.handle
 
     def begin(self, kinds: Tuple[int, ...], rows: int, body: int) -> None:
         """Makes columns without rows for a page with values of these kinds, with this many rows and in a body of this many bytes. Those that
         are there are used again where they are as large."""
-        sizes = self.sizes_for(kinds, rows, body)
-        if self.handle.live and self.kinds == kinds and all(there >= wanted for there, wanted in zip(self.sizes, sizes)):
+        sizes, most = self.sizes_for(kinds, rows, body), self.sizes_for(kinds, self.rows, 1 << 32)
+        if not self.store.serves(kinds, sizes, most):
+            self.store = _taken_spare()
+        if self.store.serves(kinds, sizes, most):
             _native.library.cqlp_columns_clear(self.handle)
-            return
-        self.close()
-        limits = _native.BatchLimits(len(kinds), *sizes)
-        code = _native.library.cqlp_columns_new(limits, bytes(kinds), len(kinds), self.handle)
-        if code == Code.UNSUPPORTED:
-            raise BadCall(code)
-        _must_be_done(code)
-        self.kinds, self.sizes = kinds, sizes
+        else:
+            self.store = _Store(kinds, sizes)
 
     def sizes_for(self, kinds: Tuple[int, ...], rows: int, body: int) -> Tuple[int, int, int]:
         """How many rows, how many bytes of values before the last row, and how many bytes of one value, such that all columns together have no
@@ -272,9 +314,16 @@ class _Arrays:
 
     def take(self, columns: Tuple[Column, ...]) -> List[ColumnArray]:
         """The whole rows that came, and no row from then on."""
-        width = len(self.kinds)
-        count = self.view(width - 1)[6]
-        arrays = [_array_of(self.view(at), columns[at] if columns else None, count) for at in range(width)]
+        width, told = len(self.store.kinds), columns or repeat(None)
+        if _batches:
+            count, found = _batches.copied(_GET, ctypes.addressof(self.handle), width)
+            arrays = [
+                ColumnArray(column, _KINDS[kind], count, values, offsets, validity, empties)
+                for column, (kind, values, offsets, validity, empties) in zip(told, found)
+            ]
+        else:
+            count = self.view(width - 1)[6]
+            arrays = [_array_of(self.view(at), column, count) for at, column in zip(range(width), told)]
         _native.library.cqlp_columns_clear(self.handle)
         return arrays
 
@@ -284,17 +333,16 @@ class _Arrays:
         return _native.VIEW.unpack_from(self.native)
 
     def close(self) -> None:
-        _native.library.cqlp_columns_free(self.handle)
+        """Lets go of the columns, or leaves them to the next reader."""
+        store, self.store = self.store, _Store()
+        if store.kinds and store.is_small() and not _spare:
+            _spare.append(store)
 
     def __enter__(self) -> "_Arrays":
         return self
 
     def __exit__(self, *_: object) -> None:
         self.close()
-
-    def __del__(self, _free: Any = _native.library.cqlp_columns_free) -> None:
-        if hasattr(self, "handle"):
-            _free(self.handle)
 
 
 def _array_of(view: Tuple[Any, ...], column: Optional[Column], count: int) -> ColumnArray:
@@ -375,6 +423,7 @@ class _Reader:
         self.cells: Any = None
         self.rows: List[Row] = []
         self.event, self.batch = _native.Event(), _native.Batch()
+        self.places = tuple(map(ctypes.addressof, (decoder._handle, self.event, self.batch)))
         self.placed = Placed(self.event, self.event)
         self.placed.count = 1
 
@@ -400,9 +449,14 @@ class _Reader:
         self.behind.add(ctypes.string_at(place + length - last, last))
 
     def call(self, place: int, length: int) -> None:
-        """One call of the library: within a page it fills the arrays, or puts many events and none of the next frame; else it puts one."""
+        """Within a page one call of the library, which fills the arrays, or puts many events and none of the next frame. Else it puts one, after those
+        that only say more of the frame under way."""
         decoder, event, batch = self.decoder._handle, self.event, self.batch
-        if self.nested:
+        if self.page is None and _batches:
+            code, found = _batches.before(_NEXT, self.places[0], place, length, *self.places[1:])
+            for record, content in found:
+                self.metadata.add(event_of(record, content))
+        elif self.nested:
             code = _native.library.cqlp_next(decoder, place, min(length, self.end - self.offset), ctypes.addressof(self.many), _MANY, batch)
         elif self.page is None or self.cells:
             code = _native.library.cqlp_next(decoder, place, length, ctypes.addressof(event), 1, batch)

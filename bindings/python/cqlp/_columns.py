@@ -258,14 +258,15 @@ def _filled(
     behind = Behind()
     with Decoder(limits, room=_ROOM, lenient=lenient) as decoder:
         filling = _Filling(found, decoder, limits)
-        for data, total in pieces:
-            for batch, refusal in decoder._placed(data, skip):
-                yield from filling.take(batch)
-                if refusal:
-                    raise Refused(*refusal, [event_of(*one) for one in batch], header=behind.header(refusal, data))
-            behind.add(data)
-            if progress:
-                progress(behind.offset, total)
+        with filling.arrays:
+            for data, total in pieces:
+                for batch, refusal in decoder._placed(data, skip):
+                    yield from filling.take(batch)
+                    if refusal:
+                        raise Refused(*refusal, [event_of(*one) for one in batch], header=behind.header(refusal, data))
+                behind.add(data)
+                if progress:
+                    progress(behind.offset, total)
         _must_be_whole(decoder.finish())
 
 

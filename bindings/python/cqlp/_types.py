@@ -87,6 +87,10 @@ class _Open:
         return Type(self.kind, tuple(self.inner), tuple(self.names), ".".join(self.words))
 
 
+# The types of scalars but the custom ones, which have a class.
+_PLAIN: Dict[int, Type] = {kind: Type(kind) for kind in Kind if kind not in _ARITY and kind not in (Kind.CUSTOM, Kind.TUPLE, Kind.UDT)}
+
+
 class TypeReader:
     """Makes a type of the events of a type option."""
 
@@ -96,6 +100,8 @@ class TypeReader:
     def add(self, event: Event) -> Optional[Type]:
         """The type, once it is whole."""
         if event.tag == Tag.TYPE_NODE:
+            if not self.open and event.kind in _PLAIN:
+                return _PLAIN[event.kind]
             self.open.append(_Open(event.kind))
         elif event.tag == Tag.COUNT:
             self.open[-1].wanted = event.number

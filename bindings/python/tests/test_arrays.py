@@ -335,6 +335,58 @@ class Arrays(unittest.TestCase):
         give(Tag.LEAVE, 0)
         self.assertEqual(begun.arrays()[0], 1)
 
+    @unittest.skipUnless(_arrays._batches, "the module in C was not built")
+    def test_batches_by_either_way(self) -> None:
+        """The module in C makes the same batches as Python alone, also where bits and rows are cut off."""
+        pages = made("kinds", "40") + SMALL + made("rows", "bare", "9") + (BINDINGS / "pages.bin").read_bytes()
+        wide = page([INT, BOOLEAN, VARCHAR] * 200, [[cell(b"\0\0\0\1"), NULL, NOTHING] * 200] * 3)
+        for data in (pages, wide, pages[:-1], pages.replace(b"shop", b"sh\377p")):
+            for rows in (1, 7, 8, 9, 64, 8192):
+                for piece in (100, 1 << 18):
+                    found = read(data, rows=rows, piece=piece)
+                    with mock.patch.object(_arrays, "_batches", None):
+                        self.assertEqual(found, read(data, rows=rows, piece=piece))
+
+    @unittest.skipUnless(_arrays._batches, "the module in C was not built")
+    def test_many_events_before_the_rows(self) -> None:
+        """Those of frames that are no page do not stand in memory together."""
+        batch = cqlp.messages.Query("SELECT", values=[b"x"] * 60_000)
+        data = cqlp.encode(batch) + SMALL
+        self.assertEqual(rows_of(read(data)[0]), list(cqlp.rows(SMALL)))
+        tracemalloc.start()
+        read(data)
+        peak = tracemalloc.get_traced_memory()[1]
+        tracemalloc.stop()
+        self.assertLess(peak, 2_000_000)
+
+    @unittest.skipUnless(_arrays._batches, "the module in C was not built")
+    def test_the_module_in_c_is_told_of_no_columns(self) -> None:
+        none = _native.Handle(0, None)
+        place = ctypes.addressof(none)
+        for wrong in ((0, place, 1), (_arrays._GET, 0, 1), (_arrays._GET, place, 1), (_arrays._GET, place, 0)):
+            self.assertRaises(ValueError, _arrays._batches.copied, *wrong)
+        self.assertRaises(TypeError, _arrays._batches.copied, "here", 1, 1)
+        self.assertRaises(ValueError, _arrays._batches.before, 0, 0, 0, 0, 0, 0)
+
+    def test_the_next_reader_has_the_arrays_of_the_last(self) -> None:
+        """But none that are larger than it may have, and no more than are spared."""
+        data = made("rows", "100")
+        list(cqlp.arrays(data))
+        (spare,) = _arrays._spare
+        for words in ({}, {"rows": 7}, {"memory": 1 << 12}):
+            batches = list(cqlp.arrays(data, **words))
+            self.assertEqual(_arrays._spare[0] is spare, not words)
+            self.assertEqual(len(_arrays._spare), 1)
+            self.assertEqual(rows_of(batches), list(cqlp.rows(data)))
+            self.holds(batches, words.get("rows", 100))
+        long = page([VARCHAR], [[cell(b"x" * 100)]])
+        list(cqlp.arrays(long))
+        self.assertRaises(cqlp.CellTooLong, list, cqlp.arrays(long, cqlp.Limits(cell=99 + 1), memory=300))
+        with mock.patch.object(_arrays, "_SPARE", 1000):
+            _arrays._spare.clear()
+            list(cqlp.arrays(data))
+            self.assertEqual(_arrays._spare, [])
+
     def test_what_arrays_do_not_have(self) -> None:
         for words in ({"rows": 0}, {"memory": 0}):
             self.assertRaises(ValueError, cqlp.arrays, SMALL, **words)
