@@ -1,5 +1,3 @@
-//go:build cgo
-
 package cqlp
 
 // What writes bodies. This is plain Go, and nothing of the proved library stands behind it but the header; the tests read all that it writes

@@ -1,5 +1,3 @@
-//go:build cgo
-
 package cqlp
 
 // What writes values. This is plain Go, as AppendMessage is.

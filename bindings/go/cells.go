@@ -1,5 +1,3 @@
-//go:build cgo
-
 package cqlp
 
 // Empty is a value of no bytes, of a type that is neither a text nor bytes.

@@ -1,3 +1,5 @@
+//go:build cgo
+
 package cqlp
 
 import (
@@ -297,7 +299,7 @@ func TestNumbersAreThoseOfTheHeader(t *testing.T) {
 		wanted[strings.ReplaceAll(found[1], "_", "")], _ = strconv.ParseUint(found[2], 0, 64)
 	}
 	counts := map[string]int{}
-	for _, name := range []string{"numbers.go", "names.go"} {
+	for _, name := range []string{"numbers.go", "groups.go"} {
 		source, err := os.ReadFile(name)
 		if err != nil {
 			t.Fatal(err)

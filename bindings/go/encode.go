@@ -5,35 +5,9 @@ import "C"
 
 import (
 	"errors"
-	"fmt"
 	"io"
 	"unsafe"
 )
-
-// An EventError says that no frame has the events that were given, and that nothing was written; of a PageWriter, that nothing more is.
-type EventError struct {
-	// Index is which event is refused, from 0, or -1 where no one is, but all together.
-	Index int
-	// Tag and Field are the event's.
-	Tag   Tag
-	Field Field
-	// Code says why, as include/cqlp.h does of cqlp_encode: of one event it is CodeNoEvent, CodeMisplaced or CodeUnbuilt, and of all together
-	// CodeNoSuchFrame, where one is of another field than is due, or does not agree with what comes before it, or some are missing.
-	Code Code
-}
-
-func (e *EventError) Error() string {
-	switch {
-	case e.Index < 0:
-		return fmt.Sprint("cqlp: the events together: ", wordOf(GroupCode, int64(e.Code)))
-	case e.Field == 0:
-		return fmt.Sprintf("cqlp: event %d, %v: %s", e.Index, e.Tag, wordOf(GroupCode, int64(e.Code)))
-	}
-	return fmt.Sprintf("cqlp: event %d, %v %v: %s", e.Index, e.Tag, e.Field, wordOf(GroupCode, int64(e.Code)))
-}
-
-// Unwrap makes it the Code, for errors.Is.
-func (e *EventError) Unwrap() error { return e.Code }
 
 // EncodeEvents is the bytes of the frame that has these events, those that a decoder gives of it, in their order: that of its header, then its
 // fields, and that of its end, which may be left out. Fields of an Event that its tag has no use for are not looked at, nor are offsets, the
@@ -101,22 +75,6 @@ func (e *Encoder) add(event *Event) {
 		e.contents = append(e.contents, event.Content...)
 	}
 	e.native = append(e.native, native)
-}
-
-// hasContent says whether the content is one of those that the library takes.
-func (e *Event) hasContent() bool {
-	switch e.Tag {
-	case TagText:
-		return true
-	case TagBytes, TagBound:
-		return e.Mark == MarkNone
-	case TagLeaf:
-		switch e.Kind {
-		case KindCustom, KindASCII, KindBlob, KindDecimal, KindVarchar, KindVarint, KindRaw:
-			return true
-		}
-	}
-	return false
 }
 
 // most is how many bytes an event has in its frame beside its content, at most.

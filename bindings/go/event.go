@@ -1,5 +1,3 @@
-//go:build cgo
-
 package cqlp
 
 import (
@@ -229,4 +227,20 @@ func varintText(content []byte) string {
 		return hexed(content)
 	}
 	return varint(content).String()
+}
+
+// hasContent says whether the content is one of those that the library takes.
+func (e *Event) hasContent() bool {
+	switch e.Tag {
+	case TagText:
+		return true
+	case TagBytes, TagBound:
+		return e.Mark == MarkNone
+	case TagLeaf:
+		switch e.Kind {
+		case KindCustom, KindASCII, KindBlob, KindDecimal, KindVarchar, KindVarint, KindRaw:
+			return true
+		}
+	}
+	return false
 }

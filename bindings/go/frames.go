@@ -1,5 +1,3 @@
-//go:build cgo
-
 package cqlp
 
 import (

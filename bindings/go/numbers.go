@@ -1,5 +1,3 @@
-//go:build cgo
-
 package cqlp
 
 // The numbers of include/cqlp.h, by name. They never change; new ones come at the end of their group.
