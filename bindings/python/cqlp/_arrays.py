@@ -616,6 +616,8 @@ def arrays(
         raise ValueError("rows and memory are over 0")
     if decimals not in ("decimal", "text", "bytes"):
         raise ValueError('decimals is "decimal", "text" or "bytes"')
+    if isinstance(columns, (str, bytes)):
+        raise TypeError("columns is a list of names, and a %s is none" % type(columns).__name__)
     places = _places(source, piece, types is not None)
     names = None if columns is None else frozenset(columns)
     return Batches(_batches_of(places, limits, min(rows, 1 << 24), memory, progress, types, skip, names, decimals))

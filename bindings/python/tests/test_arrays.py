@@ -390,6 +390,8 @@ class Arrays(unittest.TestCase):
     def test_what_arrays_do_not_have(self) -> None:
         for words in ({"rows": 0}, {"memory": 0}):
             self.assertRaises(ValueError, cqlp.arrays, SMALL, **words)
+        for name in ("column0", b"column0"):  # else each letter would be a name, and no column have it
+            self.assertRaises(TypeError, cqlp.arrays, SMALL, columns=name)
         self.assertRaises(cqlp.BadLimits, list, cqlp.arrays(SMALL, cqlp.Limits(cell=1)))
 
     def test_a_number_of_columns_that_lies_takes_no_memory(self) -> None:
