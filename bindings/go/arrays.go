@@ -35,7 +35,7 @@ func DefaultBatchLimits() BatchLimits { return BatchLimits{Rows: 8192, Memory: 1
 // A ColumnArray has the values of a column of a batch, in the layout of Apache Arrow, copied out of the library's memory: each array begins at a
 // multiple of 8 bytes. The ColumnReader writes the next batch over them, and nothing else does: they outlive the reader.
 type ColumnArray struct {
-	// Column is what is told of the column; its name is empty where nothing is.
+	// Column describes the column; its name is empty where neither the page nor its types name it.
 	Column Column
 	// Kind is that of the values: KindRaw where they are not read by their type.
 	Kind Kind

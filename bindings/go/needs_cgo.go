@@ -108,7 +108,7 @@ func (r *ColumnReader) Rows() int { return 0 }
 // First is 0.
 func (r *ColumnReader) First() int { return 0 }
 
-// Page tells nothing.
+// Page is empty.
 func (r *ColumnReader) Page() Page { return Page{} }
 
 // Err is ErrNoLibrary.

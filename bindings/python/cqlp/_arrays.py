@@ -60,7 +60,7 @@ class ColumnArray(NamedTuple):
     """The values of a column of a batch, in the layout of Apache Arrow."""
 
     column: Optional[Column]
-    """What is told of the column, if anything is."""
+    """What the page, or its types, say of the column, if they do."""
     kind: Union[Kind, int]
     """Of which kind the values are: RAW where they are not read by their type."""
     cells: int
@@ -314,16 +314,16 @@ class _Arrays:
 
     def take(self, columns: Tuple[Column, ...]) -> List[ColumnArray]:
         """The whole rows that came, and no row from then on."""
-        width, told = len(self.store.kinds), columns or repeat(None)
+        width, described = len(self.store.kinds), columns or repeat(None)
         if _batches:
             count, found = _batches.copied(_GET, ctypes.addressof(self.handle), width)
             arrays = [
                 ColumnArray(column, _KINDS[kind], count, values, offsets, validity, empties)
-                for column, (kind, values, offsets, validity, empties) in zip(told, found)
+                for column, (kind, values, offsets, validity, empties) in zip(described, found)
             ]
         else:
             count = self.view(width - 1)[6]
-            arrays = [_array_of(self.view(at), column, count) for at, column in zip(range(width), told)]
+            arrays = [_array_of(self.view(at), column, count) for at, column in zip(range(width), described)]
         _native.library.cqlp_columns_clear(self.handle)
         return arrays
 
@@ -387,7 +387,7 @@ def _repeated(bit: bool, count: int) -> bytes:
 
 
 class _Page(NamedTuple):
-    """What is told of the page under way."""
+    """What came of the metadata of the page under way."""
 
     columns: Tuple[Column, ...]
     number: int

@@ -1,5 +1,5 @@
 /* Calls the library for arrays: makes copies of the arrays that cqlp_columns_next filled, as `_array_of` of _arrays.py does, and reads the events before
- * the rows of a page. It is told where the calls of the library lie, and is linked with none. It is of the stable ABI, from Python 3.9 on, and
+ * the rows of a page. It is given where the calls of the library lie, and is linked with none. It is of the stable ABI, from Python 3.9 on, and
  * bindings/build makes cqlp/_batches.abi3.so of it. Where that is not there, _arrays.py does it alone. */
 #define Py_LIMITED_API 0x03090000
 #define PY_SSIZE_T_CLEAN
