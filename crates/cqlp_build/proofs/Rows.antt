@@ -92,7 +92,7 @@ no_column zero (Type_and k inner ts) h = absurd (omega (arith, h))
 no_column (suc n) NoMore h = refl
 no_column (suc n) (Type_and k inner ts) h = no_column n ts (omega (arith, h))
 
--- How far a row is built, whose first cells stand behind others.
+-- How far a row is built, whose first cells are behind others.
 pub record Row (row : ℕ) (ts : Types) (before : List Values) (start now : Held) (column : ℕ) (cells : List Values) : Type 0 where
   pub made : List Values
   pub same : cells ≡ before ++ made

@@ -9,7 +9,7 @@ use Rattle.cqlp_kind.specs.TypeStep.{arity_of}
 use Rattle.cqlp_grammar.specs.Events.{Event, Holds, Node_of}
 
 -- The type options in which others are still to begin, the innermost first, are a list of how many: of each, how many inner
--- options have not begun. Behind one that has some stand those around it, also where they have none.
+-- options have not begun. Behind one that has some are those around it, also where they have none.
 
 -- how many inner options of a type option of this kind are to begin; where they are counted, one before their count comes
 abbrev pub inner_due : Kind → ℕ

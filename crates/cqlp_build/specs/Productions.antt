@@ -24,7 +24,7 @@ use Rattle.cqlp_build.specs.Types.{are_built_columns, are_built_if, is_built_met
 use Rattle.cqlp_build_cells.specs.Said.{Fit, values_said}
 use Rattle.cqlp_message.specs.Parts.{Part, cell_fits}
 
--- what stands after the message of an error of this code
+-- what comes after the message of an error of this code
 abbrev pub BuildsExtra : (code : ℕ) → ErrorExtra → (old new : Held) → Type 0
 BuildsExtra code x old new = Builds (λ y. emitted (extra_parts y)) (λ y. extra_agrees code y ≡ true) x old new
 

@@ -15,7 +15,7 @@ use cqlp_message::{ErrorExtra, SchemaChange, SchemaOptions, ServerEvent};
 use cqlp_note::Field;
 
 impl Held {
-    /// Takes what stands after the message of an error of this code.
+    /// Takes what comes after the message of an error of this code.
     pub fn extra(&mut self, code: u32) -> ErrorExtra
         ensures { Builds (λ x. emitted (body.extra_parts x)) (λ x. extra_agrees code x ≡ true) (extra_of result) self.old self.new }
     {

@@ -15,7 +15,7 @@ use Rattle.cqlp_c.specs.Events.{of_frame}
 use Rattle.cqlp_c.specs.Headers.{header_in, header_of}
 use Rattle.cqlp_c.specs.Servers.{event_fields}
 use Rattle.cqlp_c.specs.Talked.{is_stream, signal_in}
-use Rattle.cqlp_c.proofs.Standing.{code_stands}
+use Rattle.cqlp_c.proofs.Conforming.{code_conforms}
 
 started : {C : Type 0} (fresh : ℕ → C) (slots : ℕ) (b : Bool) (code code' : ℕ) (new new' : Option C) → StartsAnew fresh slots b code new → StartsAnew fresh slots b code' new' → ((code ≡ numbers.NO_MEMORY) ↔ (code' ≡ numbers.NO_MEMORY)) → (code' ≡ code) × (new' ≡ new)
 started fresh slots false code code' new new' x y same = (y.0 ∙ sym x.0, y.1 ∙ sym x.1)
@@ -33,7 +33,7 @@ marked true = refl
 marked false = refl
 
 pub heard : (at : ℕ) (h : Header) → is_stream h.stream ≡ true → signal_in (of_frame at h) ≡ Some (signal_of h)
-heard at h is = rw is (rw (code_stands h.opcode) (rw (marked h.response) refl))
+heard at h is = rw is (rw (code_conforms h.opcode) (rw (marked h.response) refl))
 
 pushed_by : (l f : ℕ) (h : Header) (c : ClientCore) (compressed long : Bool) → (if compressed then Err bad.Compressed else (if long then Err bad.Length else Ok (header_of (event_fields l f) opcode.Event))) ≡ Ok h → reply_to c (signal_of h) ≡ Ok reply.ServerEvent
 pushed_by l f h c true long is = absurd cc

@@ -37,7 +37,7 @@ ends_so d s events (Some r) (finish.Refused q) used le h = refl
 pub finishes : FinishEndsThere
 finishes xs s d c stretches gifts events f a is = record {
   within = λ lt. rw (lt-ltb c.used c.base lt) refl;
-  behind = λ le. (f, is.0, rw (le-ltb c.used c.base le) (ends_so (skipping_of d c (frame_under_way events)) s events (state d).refusal f a.stands.used le (is.0 gifts (drop c.base s) events a.stands.stands)));
+  behind = λ le. (f, is.0, rw (le-ltb c.used c.base le) (ends_so (skipping_of d c (frame_under_way events)) s events (state d).refusal f a.conforms.used le (is.0 gifts (drop c.base s) events a.conforms.conforms)));
 }
 
 -- ---- one answer

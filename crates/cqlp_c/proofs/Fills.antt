@@ -8,7 +8,7 @@ use Rattle.cqlp_note.specs.declared.refusal.Refusal.{Refusal}
 use Rattle.cqlp_decode.specs.declared.step.Step.TheVariants as steps
 use Rattle.cqlp_decode.specs.Reading.{Event, Gifts, Reads, start_with}
 use Rattle.cqlp_decode.specs.Progress.{StreamState, IsPending}
-use Rattle.cqlp_decode.specs.Streams.{AfterGifts, AfterBy, Stands, LeadsAfter, Refuses}
+use Rattle.cqlp_decode.specs.Streams.{AfterGifts, AfterBy, Conforms, LeadsAfter, Refuses}
 use Rattle.cqlp_decode.proofs.Gets.{take_two, refuses_new}
 use Rattle.cqlp_laws.proofs.OneAnswer.{pending_none}
 use Rattle.cqlp_c.specs.declared.event.CqlpEvent.{CqlpEvent}
@@ -75,7 +75,7 @@ LeadsTo gifts s es input at used e new =
 -- what was read, where nothing has come of what is next
 is_read : (gifts : Gifts) (l : Rules) (d : StreamState) (s : List ℕ) (es : List (ℕ × Event)) → d.rules ≡ l → d.refusal ≡ None → IsPending d.pending [] → AfterGifts gifts d s es → IsRead gifts l s es
 is_read gifts l d s es rules none begun a =
-    let st : Stands gifts d s es = subst (λ (o : Option Refusal). AfterBy o gifts d s es) none a in (
+    let st : Conforms gifts d s es = subst (λ (o : Option Refusal). AfterBy o gifts d s es) none a in (
       st.place,
       subst (λ (z : Rules). Reads z (start_with gifts) s es st.place []) rules (subst (λ (b : List ℕ). Reads d.rules (start_with gifts) s es st.place b) (pending_none d.pending st.bytes begun st.pending) st.read),
     )

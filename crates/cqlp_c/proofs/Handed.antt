@@ -16,7 +16,7 @@ use Rattle.cqlp_decode.specs.Progress.{StreamState, IsPending}
 use Rattle.cqlp_decode.specs.Streams.{AfterBy}
 use Rattle.cqlp_decode.specs.Items.{TakesItem}
 use Rattle.cqlp_decode.specs.Cells.{Item, TakesItems, bytes_of}
-use Rattle.cqlp_decode.proofs.Leads.{hands_stands}
+use Rattle.cqlp_decode.proofs.Leads.{hands_conforms}
 use Rattle.cqlp_decode.specs.Progress.{content_size_of}
 use Rattle.cqlp_laws.specs.Contents.{before_content, content_in}
 use Rattle.cqlp_laws.proofs.Heads.{ends_what_is_read}
@@ -111,7 +111,7 @@ module _ (gifts : Gifts) (l : Rules) (s input : List ℕ) (begins : Ptr) (es : L
     filled_item : IsFilled gifts l new s input begins es (used + x.used) (cs ++ c ∷ [])
     filled_item =
         let after = subst (λ (o : Option Refusal). AfterBy o gifts old (s ++ take used input) (es ++ events_of f.puts)) none f.after in
-        let leads : LeadsTo gifts (s ++ take used input) (es ++ events_of f.puts) (drop used input) x.at x.used x.event new = (t.3.within, t.0 ∙ none, t.3.begun, hands_stands old new (drop used input) (s ++ take used input) (es ++ events_of f.puts) gifts x.at x.used x.event t.3 (t.0 ∙ none) t.1 after) in
+        let leads : LeadsTo gifts (s ++ take used input) (es ++ events_of f.puts) (drop used input) x.at x.used x.event new = (t.3.within, t.0 ∙ none, t.3.begun, hands_conforms old new (drop used input) (s ++ take used input) (es ++ events_of f.puts) gifts x.at x.used x.event t.3 (t.0 ∙ none) t.1 after) in
         let put : Put = record { at = x.at; event = x.event; from = used; end = used + x.used } in
         let read = read_more gifts l old new s input begins es used cs f x.at x.used x.event (t.1 ∙ rules) within leads in
         let at : (b : Buffer) → LiesBy begins b put (content_in x.event) writes.0 = λ b.

@@ -30,7 +30,7 @@ pub mod Putting
 pub mod Services
 pub mod Skipping
 pub mod Spans
-pub mod Standing
+pub mod Conforming
 pub mod Stretching
 pub mod Tables
 pub mod There

@@ -186,8 +186,8 @@ module _ (gifts : Gifts) (old new new' : StreamState) (s input : List ℕ) (begi
     events = writes_all_once begins buffer buffer' (take b.events after) (take b.events after') f.puts f.written (subst (λ (z : Batch). WritesAll begins buffer' (take z.events after') f.puts) batch (subst (λ (z : List Put). WritesAll begins buffer' (take b'.events after') z) puts g.written));
     lie = lie;
     others = subst (λ (z : Batch). drop z.events after' ≡ drop z.events before) batch y.others ∙ sym x.others;
-    stands = f.after;
-    stands_too = subst (λ (z : Batch). AfterGifts gifts new' (s ++ take z.used input) (es ++ events_of f.puts)) batch (subst (λ (z : List Put). AfterGifts gifts new' (s ++ take b'.used input) (es ++ events_of z)) puts g.after);
+    conforms = f.after;
+    conforms_too = subst (λ (z : Batch). AfterGifts gifts new' (s ++ take z.used input) (es ++ events_of f.puts)) batch (subst (λ (z : List Put). AfterGifts gifts new' (s ++ take b'.used input) (es ++ events_of z)) puts g.after);
     rules = y.rules ∙ sym x.rules;
   }
 

@@ -29,7 +29,7 @@ use Rattle.cqlp_c.specs.Talked.{is_stream}
 use Rattle.cqlp_c.specs.FromC.{content_len, direction_from_c, event_from_c, event_with, field_from_c, header_from_c, header_with, is_event, number_from_c, value_from_c}
 use Rattle.cqlp_c.specs.CellFromC.{below, enter_from_c, signed_to, text_in}
 use Rattle.cqlp_c.specs.FromCLaws.{CellIsInRange, EventIsInRange, IsReadBack, ValueIsInRange, is_part, kept}
-use Rattle.cqlp_c.proofs.Standing.{code_stands, field_stands, kind_stands}
+use Rattle.cqlp_c.proofs.Conforming.{code_conforms, field_conforms, kind_conforms}
 use Rattle.cqlp_c.proofs.Written.{lt_false}
 
 -- ---- numbers, texts and addresses
@@ -88,7 +88,7 @@ written_with c content others e w =
 -- ---- fields
 
 by_field : (c : CqlpEvent) (content : List ℕ) (f : Field) (v : FieldValue) → c.field ≡ number_of_field f → value_from_c c content ≡ Some v → field_from_c c (beside_number c.field fields) content ≡ Some (Holds f v)
-by_field c content f v e is = ap (λ (n : ℕ). field_from_c c (beside_number n fields) content) e ∙ ap (λ (o : Option Field). field_from_c c o content) (field_stands f) ∙ ap (option_map (Holds f)) is
+by_field c content f v e is = ap (λ (n : ℕ). field_from_c c (beside_number n fields) content) e ∙ ap (λ (o : Option Field). field_from_c c o content) (field_conforms f) ∙ ap (option_map (Holds f)) is
 
 module _ (at : ℕ) (f : Field) (p : Ptr) where
   abbrev of_value_from_c : FieldValue → CqlpEvent
@@ -165,7 +165,7 @@ module _ (at row column : ℕ) (p : Ptr) where
   of_enter level k items = written_at at (Cell_at row column (cell.Enter level k items)) p
 
   enter_back : (level : ℕ) (k : Kind) (items : ℕ) → items < 2 ^ 32 → enter_from_c (of_enter level k items) (beside_number (number_of_kind k) kinds) ≡ Some (Cell_at row column (cell.Enter level k items))
-  enter_back level k items r = ap (enter_from_c (of_enter level k items)) (kind_stands k) ∙ ap (option_map (λ (n : ℕ). Cell_at row column (cell.Enter level k n))) (below_back (2 ^ 32) items r)
+  enter_back level k items r = ap (enter_from_c (of_enter level k items)) (kind_conforms k) ∙ ap (option_map (λ (n : ℕ). Cell_at row column (cell.Enter level k n))) (below_back (2 ^ 32) items r)
 
   cell_back : (e : CellEvent) → CellIsInRange e → is_part (Cell_at row column e) ≡ false → IsWith (written_at at (Cell_at row column e) p) (content_of (Cell_at row column e)) (Cell_at row column e)
   cell_back (cell.Leaf level v) r w = leaf_back level v r
@@ -184,14 +184,14 @@ marked false = refl
 header_back : (at : ℕ) (h : Header) (p : Ptr) → FitsSigned w16 h.stream → header_from_c (written_at at (Frame h) p) ≡ Some (record h { length = 0 })
 header_back at h p r =
     let c = written_at at (Frame h) p in
-    ap (λ (o : Option Opcode). header_with c o (direction_from_c c.mark)) (code_stands h.opcode)
+    ap (λ (o : Option Opcode). header_with c o (direction_from_c c.mark)) (code_conforms h.opcode)
     ∙ ap (λ (o : Option Bool). header_with c (Some h.opcode) o) (marked h.response)
     ∙ ap (λ (b : Bool). if b then Some (record h { length = 0 }) else None) (stream_back h.stream r)
 
 event_back : (at : ℕ) (e : Event) (p : Ptr) → EventIsInRange e → is_part e ≡ false → IsWith (written_at at e p) (content_of e) (kept e)
 event_back at (Frame h) p r w = (refl, refl, ap (option_map Frame) (header_back at h p r))
 event_back at (Holds f v) p r w = holds_back at f p v r
-event_back at (Node_of k) p r w = (refl, refl, ap (option_map Node_of) (kind_stands k))
+event_back at (Node_of k) p r w = (refl, refl, ap (option_map Node_of) (kind_conforms k))
 event_back at (Cell_at row column e) p r w = cell_back at row column p e r w
 event_back at (Leave level items) p r w = (refl, refl, ap (option_map (λ (n : ℕ). Leave level n)) (below_back (2 ^ 32) items r))
 event_back at (End extra) p r w = (refl, refl, refl)

@@ -27,11 +27,11 @@ module _ (xs s : List ℕ) (old new : Decoding) (from to : CqlpCourse) (stretche
       let behind : from.used + (end - from.used) ≡ end = omega (arith, e.1) in
       let reached : CqlpCourse = record { base = end; used = from.used; last = stream_offset from.base f.at; frame = course.no_frame } in
       let at : to ≡ reached = h.2 ∙ ap (λ (n : ℕ). record reached { base = n }) behind in
-      let stands : AfterCalls xs new reached s (stretch_given_up (skipping_of old from (Some f)) gifts events f r ∷ stretches) [] [] = record {
-        stands = skips_on old new from.base from.used from.last (stream_offset from.base f.at) f r end refused there h.1.fresh h.1.unrefused h.1.rules xs s stretches gifts events a;
+      let conforms : AfterCalls xs new reached s (stretch_given_up (skipping_of old from (Some f)) gifts events f r ∷ stretches) [] [] = record {
+        conforms = skips_on old new from.base from.used from.last (stream_offset from.base f.at) f r end refused there h.1.fresh h.1.unrefused h.1.rules xs s stretches gifts events a;
         frame = refl;
       } in
-      (h.0, h.3, f, r, under, refused, subst (λ (c : CqlpCourse). AfterCalls xs new c s (stretch_given_up (skipping_of old from (Some f)) gifts events f r ∷ stretches) [] []) (sym at) stands)
+      (h.0, h.3, f, r, under, refused, subst (λ (c : CqlpCourse). AfterCalls xs new c s (stretch_given_up (skipping_of old from (Some f)) gifts events f r ∷ stretches) [] []) (sym at) conforms)
 
   skips_by : (o : Option Refusal) → (state old).refusal ≡ o → (f : Option OpenFrame) → frame_under_way events ≡ f → AfterSkips xs (skipping_of old from f) s stretches gifts events
       → PassesBy (course.skip_by o (record from { frame = begun_of f })) old from code new to was written → SkipsBy (skip_by o f from.base from.used) xs old new from to s stretches gifts events code was written
@@ -40,7 +40,7 @@ module _ (xs s : List ℕ) (old new : Decoding) (from to : CqlpCourse) (stretche
   skips_by (Some r) refused (Some f) under a h = skips_to f r refused under a (end_within f from.base from.used) refl h
 
   pub skips : AfterCalls xs old from s stretches gifts events → PassesOver old from code new to was written → SkipsBy (skip_of (skipping_of old from (frame_under_way events))) xs old new from to s stretches gifts events code was written
-  skips a h = skips_by (state old).refusal refl (frame_under_way events) refl a.stands (subst (λ (g : CqlpBegun). PassesBy (course.skip_by (state old).refusal (record from { frame = g })) old from code new to was written) a.frame h)
+  skips a h = skips_by (state old).refusal refl (frame_under_way events) refl a.conforms (subst (λ (g : CqlpBegun). PassesBy (course.skip_by (state old).refusal (record from { frame = g })) old from code new to was written) a.frame h)
 
 -- ---- one answer
 

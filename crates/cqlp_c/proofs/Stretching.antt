@@ -164,7 +164,7 @@ full_in (suc n) new s input gifts events = tt
 module _ (xs s later : List ℕ) (old new : Decoding) (from to : CqlpCourse) (input : List ℕ) (begins : Ptr) (b : Batch) (before after : List CqlpEvent) (stretches : List Stretch) (gifts : Gifts) (events : List (ℕ × Event))
     (is : xs ≡ (s ++ input) ++ later) (a : AfterCalls xs old from s stretches gifts events) (p : PutsOn old new from to input begins b before after) where
   abbrev f : Fills gifts (state old) (state new) (drop from.base s) (drop p.passed input) (begins +ₚ p.passed) (buffer_in new) events (length before) p.own p.events
-  f = p.puts.fills gifts (drop from.base s) events a.stands.stands
+  f = p.puts.fills gifts (drop from.base s) events a.conforms.conforms
 
   abbrev more : List (ℕ × Event)
   more = events_of f.puts
@@ -173,7 +173,7 @@ module _ (xs s later : List ℕ) (old new : Decoding) (from to : CqlpCourse) (in
   bytes = drop from.base s ++ drop p.passed input
 
   first : p.passed ≡ min (from.base - length s) (length input)
-  first = omega (arith, p.is_passed, a.stands.used, a.stands.near)
+  first = omega (arith, p.is_passed, a.conforms.used, a.conforms.near)
 
   used : b.used ≡ p.passed + p.own.used
   used = ap (λ (z : Batch). z.used) p.batch ∙ used_from from.base p.passed p.own (λ none. omega (arith, none, p.is_passed))
@@ -198,7 +198,7 @@ module _ (xs s later : List ℕ) (old new : Decoding) (from to : CqlpCourse) (in
       let same : events ++ more ≡ events = ap (λ (z : List Put). events ++ events_of z) none ∙ append-nil events in
       let then : (state old).refusal ≡ Some q = sym (ap (λ (z : StreamState). z.refusal) again.1) ∙ now in
       subst (λ (l : Rules). Says l (start_with gifts) (drop from.base xs) (events ++ more) (Refused q.at q.why)) (sym p.puts.rules)
-      (subst (λ (z : List (ℕ × Event)). Says (state old).rules (start_with gifts) (drop from.base xs) z (Refused q.at q.why)) (sym same) (a.stands.refused q then))
+      (subst (λ (z : List (ℕ × Event)). Says (state old).rules (start_with gifts) (drop from.base xs) z (Refused q.at q.why)) (sym same) (a.conforms.refused q then))
 
   refused_by : (x : Stop) → p.own.stop ≡ x → (state old).refusal ≡ None → StopsBy gifts (state old) (state new) (drop from.base s) (drop p.passed input) events (length before) p.own.used f.puts x → (q : Refusal) → (state new).refusal ≡ Some q
       → Says (state new).rules (start_with gifts) (drop from.base xs) (events ++ more) (Refused q.at q.why)
@@ -220,9 +220,9 @@ module _ (xs s later : List ℕ) (old new : Decoding) (from to : CqlpCourse) (in
   abbrev reached : CqlpCourse
   reached = record (gone_on from b.used) { frame = begun_by from.frame (take p.own.events p.events) }
 
-  stands : AfterCalls xs new reached (s ++ take b.used input) stretches gifts (events ++ more)
-  stands = record {
-    stands = goes_on old new from.base from.used (min (from.used + b.used) (2 ^ 64 - 1)) from.last (frame_under_way events) (frame_under_way (events ++ more)) xs s input later stretches gifts events p.passed a.stands is p.is_passed p.puts.rules
+  conforms : AfterCalls xs new reached (s ++ take b.used input) stretches gifts (events ++ more)
+  conforms = record {
+    conforms = goes_on old new from.base from.used (min (from.used + b.used) (2 ^ 64 - 1)) from.last (frame_under_way events) (frame_under_way (events ++ more)) xs s input later stretches gifts events p.passed a.conforms is p.is_passed p.puts.rules
         (s ++ take b.used input) more p.own.used (ap (λ (n : ℕ). s ++ take n input) used) few f.after frame (ap (λ (n : ℕ). min (from.used + n) (2 ^ 64 - 1)) used) (refused (state old).refusal refl);
     frame = ap (λ (g : CqlpBegun). begun_by g (take p.own.events p.events)) a.frame ∙ begun_puts (frame_under_way events) (begins +ₚ p.passed) (buffer_in new) (take p.own.events p.events) f.puts f.written ∙ ap begun_of (sym frame);
   }
@@ -243,7 +243,7 @@ module _ (xs s later : List ℕ) (old new : Decoding) (from to : CqlpCourse) (in
   reads_on = record {
     puts = f.puts;
     count = f.count ∙ sym count;
-    stands = subst (λ (c : CqlpCourse). AfterCalls xs new c (s ++ take b.used input) stretches gifts (events ++ more)) (sym p.course) stands;
+    conforms = subst (λ (c : CqlpCourse). AfterCalls xs new c (s ++ take b.used input) stretches gifts (events ++ more)) (sym p.course) conforms;
     written = written_here;
     ends = subst (λ (x : Stop). EndsBy x new from.base s input gifts (events ++ more)) (sym (ap (λ (z : Batch). z.stop) p.batch ∙ stops_in from.base p.passed p.own)) (ends p.own.stop f.stops);
   }

@@ -50,7 +50,7 @@ IsOneAnswerOfTypesOf =
     (old d e : Option Decoding) (was x y : Option (Option Table)) (a b : ℕ)
     → Copies old a d was x → Copies old b e was y → (d ≡ e) × (((a ≡ b) × (x ≡ y)) ⊎ LacksMemory a b)
 
--- two decoders stand at one place of a stream, and hold the same
+-- two decoders are at one place of a stream, and hold the same
 abbrev pub AreLeftAlike : (x y : Option Decoding) → Type 0
 AreLeftAlike None None = ⊤
 AreLeftAlike (Some d) (Some e) = (state d ≡ state e) × (levels_of d.parts ≡ levels_of e.parts)

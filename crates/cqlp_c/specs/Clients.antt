@@ -54,9 +54,9 @@ Cancels (Some c) t code new =
     (code ≡ (if cancels c.core (given_ticket t) then numbers.DONE else numbers.NOT_CANCELLED))
     × (new ≡ Some (cancelled_with c (given_ticket t)))
 
-abbrev pub Stands : (old : Option ClientCore) → (code : ℕ) → (new : Option ClientCore) → (was written : ℕ) → Type 0
-Stands None code new was written = (code ≡ numbers.NO_CLIENT) × (new ≡ None) × (written ≡ was)
-Stands (Some c) code new was written = (code ≡ numbers.DONE) × (new ≡ Some c) × (written ≡ number_of_phase c.core.phase)
+abbrev pub Conforms : (old : Option ClientCore) → (code : ℕ) → (new : Option ClientCore) → (was written : ℕ) → Type 0
+Conforms None code new was written = (code ≡ numbers.NO_CLIENT) × (new ≡ None) × (written ≡ was)
+Conforms (Some c) code new was written = (code ≡ numbers.DONE) × (new ≡ Some c) × (written ≡ number_of_phase c.core.phase)
 
 abbrev pub code_of_free : Option ClientCore → ℕ
 code_of_free None = numbers.NO_CLIENT

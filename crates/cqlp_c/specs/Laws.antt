@@ -48,8 +48,8 @@ pub record AreOneAnswer (gifts : Gifts) (new new' : StreamState) (s input : List
   pub events : AreSame buffer.at buffer'.at puts (take b.events after) (take b.events after')
   pub lie : OthersInInput puts
   pub others : drop b.events after' ≡ drop b.events after
-  pub stands : AfterGifts gifts new (s ++ take b.used input) (es ++ events_of puts)
-  pub stands_too : AfterGifts gifts new' (s ++ take b.used input) (es ++ events_of puts)
+  pub conforms : AfterGifts gifts new (s ++ take b.used input) (es ++ events_of puts)
+  pub conforms_too : AfterGifts gifts new' (s ++ take b.used input) (es ++ events_of puts)
   pub rules : new'.rules ≡ new.rules
 
 -- After the same gifts, bytes and events, over the same input and into the same array, there is one answer.

@@ -2,7 +2,7 @@
 use Rattle.std.specs.Prelude.{◌≡◌, ℕ, ◌++◌, Bool, true, false, nat_lt, List, length, drop}
 use Rattle.cqlp_c.specs.declared.numbers.TheConstants as numbers
 
--- The bytes stand at the front of the room, and what lies after them is as it was; where the room is too short for them,
+-- The bytes are at the front of the room, and what lies after them is as it was; where the room is too short for them,
 -- all of it is as it was, and the code says so.
 abbrev pub PutsWhere : (short : Bool) → (bytes : List ℕ) → (code : ℕ) → (before after : List ℕ) → Type 0
 PutsWhere true bytes code before after = (code ≡ numbers.NO_ROOM) × (after ≡ before)

@@ -52,9 +52,9 @@ event_fields length flags =
 
 -- ---- phase and free
 
-abbrev pub Stands : (old : Option ServerCore) → (code : ℕ) → (new : Option ServerCore) → (was written : ℕ) → Type 0
-Stands None code new was written = (code ≡ numbers.NO_SERVER) × (new ≡ None) × (written ≡ was)
-Stands (Some c) code new was written = (code ≡ numbers.DONE) × (new ≡ Some c) × (written ≡ number_of_phase c.core.phase)
+abbrev pub Conforms : (old : Option ServerCore) → (code : ℕ) → (new : Option ServerCore) → (was written : ℕ) → Type 0
+Conforms None code new was written = (code ≡ numbers.NO_SERVER) × (new ≡ None) × (written ≡ was)
+Conforms (Some c) code new was written = (code ≡ numbers.DONE) × (new ≡ Some c) × (written ≡ number_of_phase c.core.phase)
 
 abbrev pub code_of_free : Option ServerCore → ℕ
 code_of_free None = numbers.NO_SERVER

@@ -51,7 +51,7 @@ WritesItems o [] [] = ⊤
 WritesItems o (c ∷ cs) (x ∷ xs) = WritesIn o c x.at x.event × WritesItems o cs xs
 WritesItems o cs xs = ⊥
 
--- Items were taken one after the other, of this many bytes, and their events, as C sees them, stand after the first n
+-- Items were taken one after the other, of this many bytes, and their events, as C sees them, are after the first n
 -- of the array, which is the same otherwise. The frame is under way that is after them.
 pub record PutsWhole (old new : StreamState) (input : Bor (List ℕ)) (n : ℕ) (put : WholePut)
     (before after : List CqlpEvent) (was now : CqlpBegun) : Type 0 where

@@ -41,7 +41,7 @@ skipping_of d c f = record { decoder = d; base = c.base; used = c.used; frame = 
 -- Of the stream xs the bytes s were used, and these stretches were given up. Over the present stretch the caller gave this, and these events were handed out.
 pub record AfterCalls (xs : List ℕ) (d : Decoding) (c : CqlpCourse) (s : List ℕ) (stretches : List Stretch) (gifts : Gifts)
     (events : List (ℕ × Event)) : Type 0 where
-  pub stands : AfterSkips xs (skipping_of d c (frame_under_way events)) s stretches gifts events
+  pub conforms : AfterSkips xs (skipping_of d c (frame_under_way events)) s stretches gifts events
   pub frame : c.frame ≡ begun_of (frame_under_way events)
 
 -- ---- a batch
@@ -75,7 +75,7 @@ pub record ReadsOn (xs : List ℕ) (new : Decoding) (from to : CqlpCourse) (s in
     (gifts : Gifts) (events : List (ℕ × Event)) (b : Batch) (after : List CqlpEvent) : Type 0 where
   pub puts : List Put
   pub count : length puts ≡ b.events
-  pub stands : AfterCalls xs new to (s ++ take b.used input) stretches gifts (events ++ events_of puts)
+  pub conforms : AfterCalls xs new to (s ++ take b.used input) stretches gifts (events ++ events_of puts)
   pub written : AreWritten from.base (take b.events after) puts
   pub ends : EndsBy b.stop new from.base s input gifts (events ++ events_of puts)
 

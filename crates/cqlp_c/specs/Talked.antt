@@ -46,7 +46,7 @@ abbrev pub code_of_begin : Result Ticket BeginError → ℕ
 code_of_begin (Ok t) = numbers.DONE
 code_of_begin (Err e) = code_of_refused e
 
--- the ticket that stands in C's memory after this answer
+-- the ticket that is in C's memory after this answer
 abbrev pub ticket_after : Result Ticket BeginError → (was : CqlpTicket) → CqlpTicket
 ticket_after (Ok t) was = ticket_of t
 ticket_after (Err e) was = was
@@ -95,7 +95,7 @@ reply_of (reply.Answer t k) carried = record {
 reply_of (reply.Dropped t) carried =
     record { number = t.number; carried = number_in carried; id = t.id; what = numbers.REPLY_DROPPED; request = 0 }
 
--- the reply that stands in C's memory after this answer
+-- the reply that is in C's memory after this answer
 abbrev pub reply_after : Result Reply Stray → (carried : Option ℕ) → (was : CqlpReply) → CqlpReply
 reply_after (Ok r) carried was = reply_of r carried
 reply_after (Err e) carried was = was
@@ -128,7 +128,7 @@ abbrev pub code_of_answer : Result RequestKind AnswerError → ℕ
 code_of_answer (Ok k) = numbers.DONE
 code_of_answer (Err e) = code_of_unanswered e
 
--- what stands in C's memory after this answer
+-- what is in C's memory after this answer
 abbrev pub answered_after : Result RequestKind AnswerError → (carried : Option ℕ) → (was : CqlpAnswered) → CqlpAnswered
 answered_after (Ok k) carried was = answered_of k (number_in carried)
 answered_after (Err e) carried was = was

@@ -9,7 +9,7 @@ ghost use Rattle.cqlp_session.specs.Carried.{CarryingClient, new_carrying_client
 ghost use Rattle.cqlp_session.specs.declared.refusal.SlotsOrMemory.TheVariants as error;
 ghost use Rattle.cqlp_session.specs.contracts.client_of.ClientOf as client;
 ghost use Rattle.cqlp_c.specs.Handle.{flag_of, owned_in};
-ghost use Rattle.cqlp_c.specs.Clients.{Begins, BeginsKind, Cancels, Hears, HearsSignal, Stands, code_of_free};
+ghost use Rattle.cqlp_c.specs.Clients.{Begins, BeginsKind, Cancels, Hears, HearsSignal, Conforms, code_of_free};
 ghost use Rattle.cqlp_c.specs.Cores.{Starts, is_slot_count};
 ghost use Rattle.cqlp_c.specs.Talked as talked;
 
@@ -243,7 +243,7 @@ pub extern "C" fn cqlp_client_cancel(
 /// How far the setting up of the connection has come.
 #[unsafe(no_mangle)]
 pub extern "C" fn cqlp_client_phase(alloc: Global, client: &mut CqlpClient, phase: &mut u8) -> u32
-    ensures { Stands client.old.place.value result client.new.place.value phase.old phase.new }
+    ensures { Conforms client.old.place.value result client.new.place.value phase.old phase.new }
 {
     match taken(std::mem::replace(client, none(alloc)), alloc) {
         Some(boxed) => {

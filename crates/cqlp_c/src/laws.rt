@@ -127,12 +127,12 @@ pub fn one_answer_of_types_of()
     ensures { IsOneAnswerOfTypesOf }
 {}
 
-/// Given the same, one decoder has one answer to `cqlp_give`, gives back the same, and stands at one place of its stream.
+/// Given the same, one decoder has one answer to `cqlp_give`, gives back the same, and is at one place of its stream.
 pub fn one_answer_of_give()
     ensures { IsOneAnswerOfGive }
 {}
 
-/// One decoder has one answer to `cqlp_take_given`, gives back the same, and stands at one place of its stream, but where memory is refused.
+/// One decoder has one answer to `cqlp_take_given`, gives back the same, and is at one place of its stream, but where memory is refused.
 pub fn one_answer_of_take_given()
     ensures { IsOneAnswerOfTakeGiven }
 {}

@@ -12,7 +12,7 @@ ghost use Rattle.cqlp_note.specs.Heading.{beside_number, opcodes};
 ghost use Rattle.cqlp_c.specs.Cores.{Starts, is_slot_count};
 ghost use Rattle.cqlp_c.specs.Handle.{flag_of, owned_in};
 ghost use Rattle.cqlp_c.specs.Headers.{Writes, header_in};
-ghost use Rattle.cqlp_c.specs.Servers.{Accepts, AcceptsSignal, Answers, AnswersBy, Stands, code_of_free, event_fields};
+ghost use Rattle.cqlp_c.specs.Servers.{Accepts, AcceptsSignal, Answers, AnswersBy, Conforms, code_of_free, event_fields};
 ghost use Rattle.cqlp_c.specs.Talked as talked;
 
 use crate::event::CqlpEvent;
@@ -239,7 +239,7 @@ pub extern "C" fn cqlp_server_event(length: u32, flags: u8, bytes: &mut [u8; 9])
 /// How far the setting up of the connection has come.
 #[unsafe(no_mangle)]
 pub extern "C" fn cqlp_server_phase(alloc: Global, server: &mut CqlpServer, phase: &mut u8) -> u32
-    ensures { Stands server.old.place.value result server.new.place.value phase.old phase.new }
+    ensures { Conforms server.old.place.value result server.new.place.value phase.old phase.new }
 {
     match taken(std::mem::replace(server, none(alloc)), alloc) {
         Some(boxed) => {

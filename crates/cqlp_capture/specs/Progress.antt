@@ -1,4 +1,4 @@
--- Where a reader of captures stands, and what its calls lead to.
+-- Where a reader of captures is, and what its calls lead to.
 use Rattle.std.specs.Prelude.{◌≡◌, ℕ, ◌+◌, ◌-◌, ◌<◌, ◌≤◌, ◌++◌, ◌==◌, ◌&&◌, Bool, true, List, [], ◌∷◌, length, take, drop, Option, Some, None}
 use Rattle.std.specs.Prelude.{if◌then◌else◌, ⊤}
 use Rattle.cqlp_note.specs.Reader.{More, Bad, Got, says}
@@ -22,7 +22,7 @@ use Rattle.cqlp_capture.specs.Reading.{Waits, Refused}
 use Rattle.cqlp_capture.specs.Places.{IsSpot, is_between, began, due}
 use Rattle.cqlp_capture.specs.Gathering.{Gathered, LieThere, bytes_at}
 
--- What contracts see of a reader: the limits, where the reading stands, the bytes that were used after the last step, those
+-- What contracts see of a reader: the limits, where the reading is, the bytes that were used after the last step, those
 -- that are held, and the refusal, if there was one.
 pub record CaptureState : Type 0 where
   pub limits : CaptureLimits

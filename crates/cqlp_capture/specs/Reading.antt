@@ -90,12 +90,12 @@ read_at l known offset (BlockEnd b) bytes = read_block_end l.interfaces known of
 
 -- ---- steps
 
--- where the reading stands, and the interfaces of the section so far
+-- where the reading is, and the interfaces of the section so far
 pub record Spot : Type 0 where
   pub place : Place
   pub known : List KnownInterface
 
--- an event at an offset, or none, and where the reading stands after it
+-- an event at an offset, or none, and where the reading is after it
 pub record Emitted : Type 0 where
   pub at : ℕ
   pub event : Option Event

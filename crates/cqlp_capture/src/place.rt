@@ -1,4 +1,4 @@
-//! Where the reading of a capture stands.
+//! Where the reading of a capture is.
 
 ghost use Rattle.std.specs.Prelude.{◌≡◌, ◌<◌, ◌^◌, length};
 ghost use Rattle.cqlp_capture.specs.Reading.{read_at, wanted};

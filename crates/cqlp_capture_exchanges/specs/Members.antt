@@ -15,7 +15,7 @@ use Rattle.cqlp_capture_exchanges.specs.Times.{joined, sign}
 abbrev pub null : List ℕ
 null = codes "null"
 
--- ---- Numbers above 2^53, which many readers do not keep exactly, stand between quotes.
+-- ---- Numbers above 2^53, which many readers do not keep exactly, are between quotes.
 
 abbrev pub quote : (n : ℕ) → List ℕ
 quote n = if nat_lt 9_007_199_254_740_992 n then codes "\"" else []

@@ -77,7 +77,7 @@ impl<O: Target, A: Allocator + Clone> Exchanges<O, A> {
         }
     }
 
-    /// Writes what stands at the end: the lines of a summary.
+    /// Writes what is at the end: the lines of a summary.
     pub fn finish(&mut self) -> Result<(), SinkFault>
         ensures ends { IsSome self.old.account.output.given → Finishes self.old.account result self.new.account }
         ensures table { self.new.table ≡ self.old.table }

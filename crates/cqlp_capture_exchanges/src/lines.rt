@@ -443,14 +443,14 @@ fn put_id<P: Pen>(writer: &mut TextWriter<P>, id: &[u8], is_whole: bool) -> Resu
     writer.put_str(more(is_whole))
 }
 
-/// What stands in place of a text that was given up.
+/// What is in place of a text that was given up.
 fn given_up_mark(is_given_up: bool) -> &'static str
     ensures { result.now ≡ given_up_mark is_given_up }
 {
     if is_given_up { " .." } else { "" }
 }
 
-/// What stands behind a text that is not whole.
+/// What comes behind a text that is not whole.
 fn more(is_whole: bool) -> &'static str
     ensures { result.now ≡ more is_whole }
 {

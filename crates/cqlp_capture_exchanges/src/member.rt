@@ -141,7 +141,7 @@ fn put_id<P: Pen>(writer: &mut TextWriter<P>, id: [u8; 16]) -> Result<(), SinkFa
     writer.put(b"\"")
 }
 
-/// What stands before and behind a number: quotes, where many readers of JSON do not keep it exactly.
+/// What comes before and behind a number: quotes, where many readers of JSON do not keep it exactly.
 fn quote(number: u64) -> &'static str
     ensures { result.now ≡ quote number }
 {

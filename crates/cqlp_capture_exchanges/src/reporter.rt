@@ -126,7 +126,7 @@ impl<O: Target, A: Allocator> Reporter<O, A> {
         }
     }
 
-    /// Writes what stands at the end.
+    /// Writes what is at the end.
     pub(crate) fn finish(&mut self) -> Result<(), SinkFault>
         ensures { IsSome self.old.output.given → Finishes self.old result self.new }
     {

@@ -11,7 +11,7 @@ use Rattle.cqlp_note.proofs.Runs.{runs_stay}
 use Rattle.cqlp_kind.specs.declared.node.Node.{Node}
 use Rattle.cqlp_decode.specs.Reading.{Event, Place, Read, Reads, Verdict, Waits, Refused, Ends, Says, reading, start_with, step, then_read}
 use Rattle.cqlp_decode.specs.Progress.{StreamState}
-use Rattle.cqlp_decode.specs.Streams.{AfterBy, AfterGifts, Stands}
+use Rattle.cqlp_decode.specs.Streams.{AfterBy, AfterGifts, Conforms}
 use Rattle.cqlp_laws.proofs.EventCounts.{no_more_events, no_more_handed_out}
 use Rattle.cqlp_laws.proofs.OneRun.{after_reads}
 use Rattle.cqlp_text.specs.Written.{Receives, Written}
@@ -103,7 +103,7 @@ types_are d bytes some r =
     let given : Option (List Node) = nodes_of d.given in
     let es : List (ℕ × Event) = (read d.rules given bytes).0 in
     let start : Place = start_with (gifts_of given) in
-    let s : Stands (gifts_of given) d bytes es = subst (λ (o : Option Refusal). AfterBy o (gifts_of given) d bytes es) r.free r.after in
+    let s : Conforms (gifts_of given) d bytes es = subst (λ (o : Option Refusal). AfterBy o (gifts_of given) d bytes es) r.free r.after in
     let few : length es ≤ length bytes = no_more_handed_out (gifts_of given) d bytes es some r.after in
     let there = place_reached d.rules (length bytes + 1) start s.place bytes s.bytes es s.read (omega (arith, few)) in
     let on = reading_on d.rules (length bytes + 1) start s.place bytes s.bytes es s.read (omega (arith, few)) in

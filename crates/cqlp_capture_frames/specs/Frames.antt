@@ -49,7 +49,7 @@ place_on next p bytes More = p
 place_on next p bytes (Bad fault) = p
 place_on next p bytes (Got x used) = next (x.after used) (drop used bytes)
 
--- where the reading stands after n events, or after all that there are
+-- where the reading is after n events, or after all that there are
 abbrev pub place_behind : Rules → (n : ℕ) → Place → List ℕ → Place
 place_behind l zero p bytes = p
 place_behind l (suc n) p bytes = place_on (place_behind l n) p bytes (reported (step l p) 0 bytes)

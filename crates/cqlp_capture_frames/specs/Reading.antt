@@ -16,7 +16,7 @@ pub record IsReading (d : StreamState) (bytes : List ℕ) : Type 0 where
   pub after : AfterGifts (gifts_of (nodes_of d.given)) d bytes (read d.rules (nodes_of d.given) bytes).0
   pub waits : (read d.rules (nodes_of d.given) bytes).1 ≡ Waits
 
--- It stands before the first byte of a frame, with these types, if they are taken.
+-- It is before the first byte of a frame, with these types, if they are taken.
 pub record IsNew (types : Option (List Node)) (d : StreamState) : Type 0 where
   pub free : d.refusal ≡ None
   pub given : nodes_of d.given ≡ taken d.rules types

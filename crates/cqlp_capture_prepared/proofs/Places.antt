@@ -1,4 +1,4 @@
--- What stands at the place of a key.
+-- What is at the place of a key.
 use Rattle.std.proofs.Common.{◌≡◌, ℕ, zero, suc, ◌<◌, Bool, true, false, cond, List, [], ◌∷◌, length, get_or, refl, ap, arith, Some, None}
 use Rattle.std.specs.List.{position, position_or_len, remove}
 use Rattle.std.specs.Map.{lookup, lookup_entry, remove_entry}

@@ -135,9 +135,9 @@ at_most (Prepared own types ∷ later) es apart h = fewer own (λ k. is_named k 
 at_most (Executed stream own ∷ later) es apart h = fewer own (λ k. is_named k later) (ids_named later) (at_most later) es apart h
 at_most (Other stream ∷ later) es apart h = at_most later es apart h
 
--- ---- An entry with these types stands behind entries whose ids were named.
+-- ---- An entry with these types is behind entries whose ids were named.
 
-record Stands (q : List ℕ) (t : List Node) (p : List ℕ → Bool) (es : Entries) : Type 0 where
+record Conforms (q : List ℕ) (t : List Node) (p : List ℕ → Bool) (es : Entries) : Type 0 where
   key : List ℕ
   front : Entries
   rest : Entries
@@ -146,17 +146,17 @@ record Stands (q : List ℕ) (t : List Node) (p : List ℕ → Bool) (es : Entri
   apart : Apart bytes_eq one_id front
   named : AreNamed p front
 
-reported : (q : List ℕ) (t : List Node) (p : List ℕ → Bool) (es : Entries) → Stands q t p es → p q ≡ false → lookup (bytes_eq q) es ≡ Some t
+reported : (q : List ℕ) (t : List Node) (p : List ℕ → Bool) (es : Entries) → Conforms q t p es → p q ≡ false → lookup (bytes_eq q) es ≡ Some t
 reported q t p es s isnt = ap (lookup (bytes_eq q)) s.split ∙ found_behind (bytes_eq q) s.front s.rest (s.key, t) (none_named p q s.front s.named isnt) s.is
 
-wider : (q : List ℕ) (t : List Node) (p : List ℕ → Bool) (own : List ℕ) (es : Entries) → Stands q t p es → Stands q t (or_own own p) es
+wider : (q : List ℕ) (t : List Node) (p : List ℕ → Bool) (own : List ℕ) (es : Entries) → Conforms q t p es → Conforms q t (or_own own p) es
 wider q t p own es s =
     record { key = s.key; front = s.front; rest = s.rest; split = s.split; is = s.is; apart = s.apart; named = named_more p (or_own own p) (λ z h. second_or (bytes_eq z own) (p z) h) s.front s.named }
 
 abbrev AreFew : (own : List ℕ) (p : List ℕ → Bool) (limit : ℕ) → Type 0
 AreFew own p limit = (es : Entries) → Apart bytes_eq one_id es → AreNamed (or_own own p) es → suc (length es) ≤ limit
 
-step : (q : List ℕ) (t : List Node) (p : List ℕ → Bool) (own : List ℕ) (e : List ℕ × List Node) (l : Latest (List ℕ) (List Node)) → AreFew own p l.limit → bytes_eq q own ≡ false → bytes_eq own e.0 ≡ true → Stands q t p l.entries → Stands q t (or_own own p) (in_front e (without (bytes_eq own) l)).entries
+step : (q : List ℕ) (t : List Node) (p : List ℕ → Bool) (own : List ℕ) (e : List ℕ × List Node) (l : Latest (List ℕ) (List Node)) → AreFew own p l.limit → bytes_eq q own ≡ false → bytes_eq own e.0 ≡ true → Conforms q t p l.entries → Conforms q t (or_own own p) (in_front e (without (bytes_eq own) l)).entries
 step q t p own e l few isnt here s =
     let own_is : own ≡ e.0 = one_id own e.0 here in
     let key_isnt : bytes_eq own s.key ≡ false = subst (λ (k : List ℕ). bytes_eq own k ≡ false) (one_id q s.key s.is) (turned_id q own isnt) in
@@ -178,7 +178,7 @@ step q t p own e l few isnt here s =
       named = named;
     }
 
-used_step : (q : List ℕ) (t : List Node) (p : List ℕ → Bool) (own : List ℕ) (l : Latest (List ℕ) (List Node)) → AreFew own p l.limit → bytes_eq q own ≡ false → Stands q t p l.entries → Stands q t (or_own own p) (used (bytes_eq own) l).entries
+used_step : (q : List ℕ) (t : List Node) (p : List ℕ → Bool) (own : List ℕ) (l : Latest (List ℕ) (List Node)) → AreFew own p l.limit → bytes_eq q own ≡ false → Conforms q t p l.entries → Conforms q t (or_own own p) (used (bytes_eq own) l).entries
 used_step q t p own l few isnt s = elim (cases_Option (lookup_entry (bytes_eq own) l.entries)) [
   | inl none ↦ rw none (wider q t p own l.entries s)
   | inr some ↦ rw some.1 (step q t p own some.0 l few isnt (found (bytes_eq own) l.entries some.0 some.1).0 s)
@@ -198,7 +198,7 @@ fewer_then : (b : Bool) (k n : ℕ) → (if b then k else suc k) < n → k < n
 fewer_then true k n h = h
 fewer_then false k n h = omega arith
 
-stays : (n m : ℕ) (base : List Heard) (q : List ℕ) (t : List Node) → Stands q t (λ k. false) (after n m base).known.entries → (later : List Heard) → is_named q later ≡ false → ids_named later < n → Stands q t (λ k. is_named k later) (after n m (later ++ base)).known.entries
+stays : (n m : ℕ) (base : List Heard) (q : List ℕ) (t : List Node) → Conforms q t (λ k. false) (after n m base).known.entries → (later : List Heard) → is_named q later ≡ false → ids_named later < n → Conforms q t (λ k. is_named k later) (after n m (later ++ base)).known.entries
 stays n m base q t s [] isnt few = s
 stays n m base q t s (Prepared own types ∷ later) isnt few =
     let apart = or_false (bytes_eq q own) (is_named q later) isnt in
@@ -231,13 +231,13 @@ none_found t (x ∷ es) e = elim (cases_Bool (t x.0)) [
   | inr isnt ↦ rw isnt (none_found t es (rw isnt at e))
 ]
 
-first : (q : List ℕ) (t : List Node) (x : List ℕ × List Node) (rest : Entries) → bytes_eq q x.0 ≡ true → lookup (bytes_eq q) (x ∷ rest) ≡ Some t → Stands q t (λ k. false) (x ∷ rest)
+first : (q : List ℕ) (t : List Node) (x : List ℕ × List Node) (rest : Entries) → bytes_eq q x.0 ≡ true → lookup (bytes_eq q) (x ∷ rest) ≡ Some t → Conforms q t (λ k. false) (x ∷ rest)
 first q t x rest is e =
     let f : Some x.1 ≡ Some t = rw is at e in
     let same : x.1 ≡ t = cc f in
     record { key = x.0; front = []; rest = rest; split = ap (λ (u : List Node). (x.0, u) ∷ rest) same; is = is; apart = tt; named = tt }
 
-begins : (n m : ℕ) (h : Heard) (before : List Heard) (q : List ℕ) (t : List Node) → nat_le (length q) 64 ≡ true → is_named q (h ∷ []) ≡ true → types_of q (after n m (h ∷ before)) ≡ Some t → Stands q t (λ k. false) (after n m (h ∷ before)).known.entries
+begins : (n m : ℕ) (h : Heard) (before : List Heard) (q : List ℕ) (t : List Node) → nat_le (length q) 64 ≡ true → is_named q (h ∷ []) ≡ true → types_of q (after n m (h ∷ before)) ≡ Some t → Conforms q t (λ k. false) (after n m (h ∷ before)).known.entries
 begins n m (Prepared own types) before q t few named e =
     let is = or_none (bytes_eq q own) named in
     let short : nat_le (length own) 64 ≡ true = subst (λ (z : List ℕ). nat_le (length z) 64 ≡ true) (one_id q own is) few in

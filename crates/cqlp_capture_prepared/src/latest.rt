@@ -8,7 +8,7 @@ use crate::error::NewPreparedError;
 use std::alloc::{Allocator, Global};
 use std::marker::Model;
 
-/// Values under their keys, at most as many as the limit: the one that was put or used last stands first, and where all places are taken the
+/// Values under their keys, at most as many as the limit: the one that was put or used last comes first, and where all places are taken the
 /// one goes that was put or used longest ago. All memory is taken in `new`.
 #[derive(Drop)]
 pub struct Latest<K, V, A: Allocator = Global> {
@@ -88,7 +88,7 @@ impl<K: Eq + Drop, V: Drop, A: Allocator> Latest<K, V, A> {
         self.entries.clear();
     }
 
-    /// The place of what stands under a key.
+    /// The place of what is under a key.
     fn place_of(&self, key: &K) -> Option<usize>
         ensures { result ≡ position (λ e. K.eq key.now e.0) self.now.entries }
     {

@@ -16,7 +16,7 @@ use Rattle.cqlp_capture_frames.specs.Reportings.{Faults, WritesFront}
 use Rattle.cqlp_capture_frames.specs.Directions.{Direction, Reporting, begun, closes, step_reported}
 use Rattle.cqlp_capture_rows.specs.Responses.{Responses, new_responses, page_manner, rules, with_known}
 
--- the number of the connection that is asked for, its requests, where its responses stand, what is known of them, and the output
+-- the number of the connection that is asked for, its requests, where its responses are, what is known of them, and the output
 pub record Listening : Type 0 where
   pub asked : ℕ
   pub requests : Requests

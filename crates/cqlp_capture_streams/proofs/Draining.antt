@@ -52,7 +52,7 @@ drained_more after faulted l t before s piece k d d' u v used h same none answer
   record {
     events = h.events;
     connection_events = h.connection_events;
-    stands = leads.2;
+    conforms = leads.2;
     reports = h.reports;
     got = h.got;
   },
@@ -70,7 +70,7 @@ drained_refused after faulted l t before s piece k d d' u v r h same none answer
       record {
         events = h.events;
         connection_events = h.connection_events;
-        stands = leads.1;
+        conforms = leads.1;
         reports = h.reports;
         got = h.got;
       },

@@ -55,7 +55,7 @@ has_more after t before s input d d' u u' v v' at used e ts h leads reports is =
   record {
     events = h.events ++ (at, event_of e) ∷ [];
     connection_events = h.connection_events ++ ts;
-    stands = leads.3;
+    conforms = leads.3;
     reports = events_more t u u' h.events (at, event_of e) h.connection_events ts h.reports reports;
     got = is ∙ ap (λ z. after_all after z ts) h.got ∙ sym (after_others after before h.connection_events ts);
   },
@@ -95,7 +95,7 @@ never_ends after faulted l t before s later d u v h many none same = (
     events = h.events;
     spot = d.spot;
     rest = d.pending;
-    hears = subst (λ (z : CaptureLimits). Hears z start s h.events d.spot d.pending) same (hears_here d s h.events none h.stands);
+    hears = subst (λ (z : CaptureLimits). Hears z start s h.events d.spot d.pending) same (hears_here d s h.events none h.conforms);
     reports = inl h.reports;
   },
   inl (refl, inr many, h.got),
@@ -123,7 +123,7 @@ ends_ok after faulted t turns m before s read d u u' v v' e last h at is f leave
   h.connection_events ++ last,
   record {
     events = h.events;
-    ends = ends_by d.refusal d s read h.events e h.stands at is (f s h.events h.stands);
+    ends = ends_by d.refusal d s read h.events e h.conforms at is (f s h.events h.conforms);
     mid = u;
     front = h.connection_events;
     reports = h.reports;
@@ -142,7 +142,7 @@ ends_err after faulted t turns m before s read d u u' v v' e f last h at is ends
     record {
       events = h.events;
       end = e;
-      ends = ends_by d.refusal d s read h.events e h.stands at is (ends s h.events h.stands);
+      ends = ends_by d.refusal d s read h.events e h.conforms at is (ends s h.events h.conforms);
       mid = u;
       front = h.connection_events;
       reports = h.reports;

@@ -51,7 +51,7 @@ none_read after xs left d u v made is = record {
   has = record {
     events = [];
     connection_events = [];
-    stands = subst (λ (z : CaptureState). After z [] []) (sym made) (record { steps = []; events = refl; reads = (refl, refl) });
+    conforms = subst (λ (z : CaptureState). After z [] []) (sym made) (record { steps = []; events = refl; reads = (refl, refl) });
     reports = (refl, refl);
     got = refl;
   };
@@ -96,7 +96,7 @@ refused_all d r rest some is = refused_by d.refusal d some.0 r rest some.1 is
 module _ {V : Type 0} (after : V → ConnectionEvent → V) (faulted : V → ConnectionEvent → StreamsFault → V → Type 0) (l : CaptureLimits) (t : SplitState) (before : V) (xs : List ℕ) (left left' : Option (List ℕ)) (d : CaptureState) (u : SplitState) (v : V) (f : SoFar after l t before xs left d u v) (turns made : ℕ) (few : made ≤ turns) where
   so_far_heard : HearsAll l f.read f.has.events d.spot d.pending
   so_far_heard = record {
-    hears = subst (λ (z : CaptureLimits). Hears z start f.read f.has.events d.spot d.pending) f.limits (hears_here d f.read f.has.events f.free f.has.stands);
+    hears = subst (λ (z : CaptureLimits). Hears z start f.read f.has.events d.spot d.pending) f.limits (hears_here d f.read f.has.events f.free f.has.conforms);
     wants = subst (λ (z : CaptureLimits). says (step z d.spot) 0 d.pending ≡ More) f.limits f.wants;
   }
 

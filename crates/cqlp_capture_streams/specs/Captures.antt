@@ -160,7 +160,7 @@ module _ {V : Type 0} (after : V → ConnectionEvent → V) where
   pub record Has (t : SplitState) (before : V) (s : List ℕ) (d : CaptureState) (u : SplitState) (v : V) : Type 0 where
     pub events : List (ℕ × Event)
     pub connection_events : List ConnectionEvent
-    pub stands : After d s events
+    pub conforms : After d s events
     pub reports : ReportsEvents t events connection_events u
     pub got : v ≡ after_all after before connection_events
 

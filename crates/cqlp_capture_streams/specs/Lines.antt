@@ -41,7 +41,7 @@ abbrev pub file_line : (deed : List ℕ) → StreamFile → List ℕ
 file_line deed f =
     joined (codes "cqlp: cannot " ∷ deed ∷ codes " " ∷ decimal f.number ∷ codes "." ∷ way_name f.way ∷ codes ".bin\n" ∷ [])
 
--- an end of a connection: an IPv6 address stands in brackets (RFC 5952, section 6)
+-- an end of a connection: an IPv6 address is in brackets (RFC 5952, section 6)
 abbrev pub address_text : Address → List ℕ
 address_text (address.V4 octets) = ipv4_text octets
 address_text (address.V6 octets) = codes "[" ++ ipv6_text (segments_of octets) ++ codes "]"

@@ -51,7 +51,7 @@ within (t ∷ ts) (suc place) time less is =
     let later = within ts place time (omega arith) is in
     omega (arith, e, later, one_most (nat_le time t.time))
 
--- What took less has what took more before it, wherever they stand.
+-- What took less has what took more before it, wherever they are.
 
 abbrev Split : (dear cheap time : ℕ) → Type 0
 Split dear cheap time =

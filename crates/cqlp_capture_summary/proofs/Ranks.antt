@@ -62,7 +62,7 @@ in_order t u tf uf le = elim (cases_lt (bucket_of u) (bucket_of t)) [
   | inr ge ↦ ge
 ]
 
--- ---- how many stand in the first buckets
+-- ---- how many are in the first buckets
 
 abbrev pub front_sum : (count : ℕ) → List ℕ → ℕ
 front_sum zero ns = 0
@@ -192,7 +192,7 @@ front_of_most ts time small tf = λ k d within e.
     let o = in_order t time (small k d within) tf below in
     lt-ltb (bucket_of t) (suc (bucket_of time)) (omega (arith, o))
 
--- in buckets where nothing stood before
+-- in buckets where nothing was before
 pub found_in : (ts ns : List ℕ) (rank time : ℕ) → All (λ t. t < 2 ^ 64) ts → time < 2 ^ 64 → length ts < 2 ^ 64 → length ns ≡ 1920 → ((p : ℕ) → front_sum p ns ≡ 0) → IsAtRank rank ts time → bucket_at rank 0 (buckets_after ts ns) ≡ Some (bucket_of time)
 found_in ts ns rank time small tf few long none at =
     let b = bucket_of time in

@@ -43,7 +43,7 @@ pub shown_none : (text : List ℕ) → length text ≡ 0 → shown_text text ≡
 shown_none [] none = ap (flat_map shown) chars-nil
 shown_none (b ∷ bs) none = absurd (omega arith)
 
--- ---- a text of plain bytes stands for itself
+-- ---- a text of plain bytes is written as it is
 
 plain_below : (b : ℕ) → is_plain b ≡ true → b < 128
 plain_below b h = grind (arith, common_steps, h)

@@ -33,7 +33,7 @@ counts_text f =
     (time_column 6 f.time ∷ number_column 8 f.count ∷ number_column 6 f.errors ∷ number_column 10 f.unanswered ∷ number_column 9 f.rows
     ∷ number_column 11 f.bytes ∷ [])
 
--- where no time is known a dash stands for each
+-- where no time is known a dash represents each
 abbrev pub times_text : Option Times → List ℕ
 times_text None =
     joined (text_column 8 (codes "-") ∷ text_column 8 (codes "-") ∷ text_column 8 (codes "-") ∷ text_column 9 (codes "-") ∷ [])

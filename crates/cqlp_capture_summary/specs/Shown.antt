@@ -16,7 +16,7 @@ is_hidden c =
 abbrev pub escape : (byte : ℕ) → List ℕ
 escape b = codes "\\x" ++ encode_lower (b ∷ [])
 
--- A character as it stands between quotes. Of one that is hidden, each byte is escaped.
+-- A character as it is written between quotes. Of one that is hidden, each byte is escaped.
 abbrev pub shown : (c : ℕ) → List ℕ
 shown c =
     if is_hidden c then flat_map escape (encode_utf8 c)

@@ -54,7 +54,7 @@ place_of n s = place_or (position (is_same n) s.names) (new_place s)
 abbrev pub with_new : Name → Summary → Summary
 with_new n s = summary s.statements (s.names ++ n ∷ []) (s.weights ++ 0 ∷ []) s.tallies s.others
 
--- The counts of the one that stood there go to the others; its weight stays.
+-- The counts of the one that was there go to the others; its weight stays.
 abbrev pub with_in_place_of : (place : ℕ) → Name → Summary → Summary
 with_in_place_of at n s =
     summary s.statements (slice_set s.names at n) s.weights (slice_set s.tallies at none_counted)

@@ -15,7 +15,7 @@ use crate::tally::{Figures, Tally, Times};
 use cqlp_grammar::SinkFault;
 use cqlp_text::{Pen, TextWriter};
 
-/// What stands above the columns.
+/// What is above the columns.
 const HEADER: &str =
     "     %    time_ms    count errors unanswered      rows       bytes   p50_ms   p95_ms   p99_ms    max_ms statement\n";
 
@@ -253,7 +253,7 @@ fn text_front(bytes: &[u8]) -> &str
     }
 }
 
-/// What stands behind a name that is not whole.
+/// What comes behind a name that is not whole.
 fn more(is_whole: bool) -> &'static str
     ensures { result.now ≡ more is_whole }
 {

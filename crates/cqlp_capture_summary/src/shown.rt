@@ -9,7 +9,7 @@ ghost use Rattle.cqlp_capture_summary.specs.Shown.{escape, is_hidden, is_plain, 
 use cqlp_grammar::SinkFault;
 use cqlp_text::{Pen, TextWriter};
 
-/// Takes a text as it stands between quotes: a quote, a backslash and each character that a terminal may obey is escaped.
+/// Takes a text as it is written between quotes: a quote, a backslash and each character that a terminal may obey is escaped.
 pub fn put_shown_text<P: Pen>(writer: &mut TextWriter<P>, text: &str) -> Result<(), SinkFault>
     ensures { Writes writer.old (shown_text text.now) result writer.new }
 {
@@ -22,7 +22,7 @@ pub fn put_shown_text<P: Pen>(writer: &mut TextWriter<P>, text: &str) -> Result<
     Ok(())
 }
 
-/// Whether each byte stands for itself.
+/// Whether each byte is written as it is.
 fn are_plain(bytes: &[u8]) -> bool
     ensures { result ≡ list_all is_plain bytes.now }
 {
@@ -36,7 +36,7 @@ fn is_plain(byte: u8) -> bool
     (0x20..=0x21).contains(&byte) || (0x23..=0x5B).contains(&byte) || (0x5D..=0x7E).contains(&byte)
 }
 
-/// Takes a character as it stands between quotes.
+/// Takes a character as it is written between quotes.
 fn put_shown<P: Pen>(writer: &mut TextWriter<P>, c: char) -> Result<(), SinkFault>
     ensures { Writes writer.old (shown c) result writer.new }
 {

@@ -1,4 +1,4 @@
--- The next cell of a container, which is looked into where a level stands.
+-- The next cell of a container, which is looked into where a level is.
 use Rattle.std.proofs.Common.{◌≡◌, ℕ, ◌+◌, ◌≤◌, List, length, refl, arith}
 use Rattle.cqlp_kind.specs.declared.node.Node.{Node}
 use Rattle.cqlp_cell.specs.declared.level.Level.{Level}

@@ -17,7 +17,7 @@ use Rattle.cqlp_cell.specs.declared.progress.CellDue.{CellDue}
 use Rattle.cqlp_cell.specs.declared.progress.CellDue.TheVariants as due
 use Rattle.cqlp_kind.specs.CellStep.{Leave, place_after}
 use Rattle.cqlp_cell.specs.OpenValues.{but_last}
-use Rattle.cqlp_cell.specs.Progress.{CellState, ended, is_some_next, all_open_symbols, place, is_over, due_of, has_further, AreOpen, last_stop, Stands}
+use Rattle.cqlp_cell.specs.Progress.{CellState, ended, is_some_next, all_open_symbols, place, is_over, due_of, has_further, AreOpen, last_stop, Conforms}
 use Rattle.cqlp_cell.specs.Coming.{room_of}
 use Rattle.cqlp_cell.specs.Reading.{StepAnswer, step_says, sized_of, Hands, Fails, Settles, Moves, Answers, LengthCame, AreBytes, HaveCome}
 use Rattle.cqlp_cell.proofs.Nesting.{but_last_is}
@@ -30,18 +30,18 @@ use Rattle.cqlp_cell.proofs.Lengths.{length_whole, come_behind, settles_as}
 
 -- with fewer values open
 module _ (nodes : List Node) (d : CellState) (front : List OpenValue) (items : d.next ≡ next.Items) where
-  fewer_stand : AreOpen nodes d.rules 0 d.stop front → d.offset ≤ last_stop d.stop front → d.stop < 2 ^ 64 → Stands nodes (record d { open_values = front })
-  fewer_stand a le bounded = record { open_stand = a; within = rw items (omega arith); next_stands = rw items tt; bounded = bounded }
+  fewer_conform : AreOpen nodes d.rules 0 d.stop front → d.offset ≤ last_stop d.stop front → d.stop < 2 ^ 64 → Conforms nodes (record d { open_values = front })
+  fewer_conform a le bounded = record { open_conform = a; within = rw items (omega arith); next_conforms = rw items tt; bounded = bounded }
 
   fewer_place : record { offset = d.offset + 0; symbols = all_open_symbols nodes 0 front } ≡ place nodes (record d { open_values = front })
   fewer_place = let zero : d.offset + 0 ≡ d.offset = omega arith in rw (items, zero) refl
 
-module _ (nodes : List Node) (d : CellState) (o : OpenValue) (p : FieldState) (input : List ℕ) (stands : Stands nodes d) (v : due_of d ≡ due.Close o) (idle : p.under_way ≡ false) where
+module _ (nodes : List Node) (d : CellState) (o : OpenValue) (p : FieldState) (input : List ℕ) (conforms : Conforms nodes d) (v : due_of d ≡ due.Close o) (idle : p.under_way ≡ false) where
   its_items : d.next ≡ next.Items
   its_items = close_items d o v
 
   closing : Inmost nodes d o × (is_over o d.offset ≡ true)
-  closing = close_next nodes d stands its_items o v
+  closing = close_next nodes d conforms its_items o v
 
   pub close_fails : (new : CellState) → has_further d.rules o d.offset ≡ false → d.offset < o.stop → new ≡ ended d → Fails nodes d p (step_says nodes d input) (record { at = d.offset; why = ExtraInValue }) new p
   unfolding step_says
@@ -77,7 +77,7 @@ module _ (nodes : List Node) (d : CellState) (o : OpenValue) (p : FieldState) (i
         onward = omega arith;
         goes_after = rw its_items tt;
         pays = omega (arith, long);
-        stands = fewer_stand nodes d m.front its_items m.innermost.around (omega (arith, m.inside, m.innermost.within)) stands.bounded;
+        conforms = fewer_conform nodes d m.front its_items m.innermost.around (omega (arith, m.inside, m.innermost.within)) conforms.bounded;
         goes_on = ap is_some_next its_items;
         fresh = fresh;
         idle = idle;
@@ -86,13 +86,13 @@ module _ (nodes : List Node) (d : CellState) (o : OpenValue) (p : FieldState) (i
 
 -- ---- what goes on
 
-module _ (nodes : List Node) (old : CellState) (p : FieldState) (input : List ℕ) (n : ℕ) (stands : Stands nodes old) (v : due_of old ≡ due.Value) (room : 4 ≤ room_of nodes old) where
+module _ (nodes : List Node) (old : CellState) (p : FieldState) (input : List ℕ) (n : ℕ) (conforms : Conforms nodes old) (v : due_of old ≡ due.Value) (room : 4 ≤ room_of nodes old) where
   -- after a length that came before
   pub resumed : (b : List ℕ) (a : CellAdvance) (new : CellState) (q : FieldState) → AreBytes (Some n) p.seen b
       → Settles nodes old p input (says (sized_of nodes old n) 4 (p.seen ++ input)) (4 + length p.seen) (LengthCame n (p.seen ++ input)) a new q
       → Settles nodes old p input (step_says nodes old (b ++ input)) (length b) (HaveCome (b ++ input)) a new q
   resumed b a new q h s =
-      let due = value_due nodes old stands v in
+      let due = value_due nodes old conforms v in
       let all : b ++ input ≡ h.0 ++ (p.seen ++ input) = rw h.3 (append_assoc h.0 p.seen input) in
       let front : take 4 (b ++ input) ≡ h.0 = rw all (take_at h.0 (p.seen ++ input) 4 h.1) in
       let behind : drop 4 (b ++ input) ≡ p.seen ++ input = rw all (drop_at h.0 (p.seen ++ input) 4 h.1) in

@@ -15,11 +15,11 @@ use Rattle.cqlp_cell.specs.declared.progress.CellDue.{CellDue}
 use Rattle.cqlp_cell.specs.declared.progress.CellDue.TheVariants as due
 use Rattle.cqlp_cell.specs.declared.progress.DueValue.{DueValue}
 use Rattle.cqlp_kind.specs.CellStep.{CellSymbol, Value_of, Items_of, Close_of, CellPlace, cell_copies, cell_step, cell_step_at, value_step, close_step, part_step, reads_further}
-use Rattle.cqlp_type.specs.Forests.{types_at, node_at, Stand}
-use Rattle.cqlp_cell.specs.Progress.{CellState, value_symbols, left_of, open_symbols, all_open_symbols, symbols_for, place, value_at, due_value, open_after, rest_of, after_item_by, after_item, is_over, over_by, due_of, further_by, has_further, TypesStand, Stands, HasNext}
+use Rattle.cqlp_type.specs.Forests.{types_at, node_at, Conform}
+use Rattle.cqlp_cell.specs.Progress.{CellState, value_symbols, left_of, open_symbols, all_open_symbols, symbols_for, place, value_at, due_value, open_after, rest_of, after_item_by, after_item, is_over, over_by, due_of, further_by, has_further, TypesConform, Conforms, HasNext}
 use Rattle.cqlp_cell.specs.Coming.{ValueDue}
 use Rattle.cqlp_cell.proofs.Nesting.{last_is, with_last_is}
-use Rattle.cqlp_type.proofs.Inside.{first_stands}
+use Rattle.cqlp_type.proofs.Inside.{first_conforms}
 use Rattle.cqlp_cell.proofs.Opened.{last_stop_is, last_stop_le, levels_symbols_is, open_join, Inmost, value_next, has_next}
 
 pub no_types : (nodes : List Node) (i : ℕ) → types_at nodes i 0 ≡ NoMore
@@ -28,24 +28,24 @@ no_types nodes i = refl
 
 -- ---- the first type
 
--- What is known of a value's type: its node, the types in it, and what stands after it.
+-- What is known of a value's type: its node, the types in it, and what comes after it.
 pub record FirstType (nodes : List Node) (i n depth : ℕ) : Type 0 where
   pub types : types_at nodes i (suc n) ≡ Type_and (node_at nodes i).kind (types_at nodes (i + 1) (node_at nodes i).arity) (types_at nodes (i + (node_at nodes i).span) n)
   pub formed : HasInner (node_at nodes i).kind (node_at nodes i).arity
   pub deep : 0 < depth
-  pub inner : Stand nodes (i + 1) (node_at nodes i).arity (depth - 1)
-  pub after : Stand nodes (i + (node_at nodes i).span) n depth
+  pub inner : Conform nodes (i + 1) (node_at nodes i).arity (depth - 1)
+  pub after : Conform nodes (i + (node_at nodes i).span) n depth
   pub within : i + (node_at nodes i).span ≤ length nodes
   pub some : 0 < (node_at nodes i).span
-  pub alone : Stand nodes i 1 depth
+  pub alone : Conform nodes i 1 depth
 
-pub first_type : (nodes : List Node) (i n depth : ℕ) → Stand nodes i (suc n) depth → FirstType nodes i n depth
+pub first_type : (nodes : List Node) (i n depth : ℕ) → Conform nodes i (suc n) depth → FirstType nodes i n depth
 first_type nodes i n depth s =
-    let f = first_stands nodes i n depth s in
+    let f = first_conforms nodes i n depth s in
     let here = f.1.here in
     record { types = rw here f.1.is; formed = rw here f.1.formed; deep = f.1.deep; inner = rw here f.1.inner; after = rw here f.1.after; within = rw here f.1.within; some = rw here f.1.some; alone = f.1.alone }
 
-pub one_value : (nodes : List Node) (node depth level stop : ℕ) → Stand nodes node 1 depth
+pub one_value : (nodes : List Node) (node depth level stop : ℕ) → Conform nodes node 1 depth
     → value_symbols nodes node level stop ≡ Value_of (node_at nodes node).kind (types_at nodes (node + 1) (node_at nodes node).arity) level stop ∷ []
 one_value nodes node depth level stop s =
     let f = first_type nodes node 0 depth s in
@@ -69,7 +69,7 @@ module _ (nodes : List Node) (l : Rules) (level : ℕ) (o : OpenValue) where
   closing = Close_of level o.stop o.items ∷ []
 
   -- all but fields
-  symbols_by : (k : Order) → ((k ≡ order.Fields) → ⊥) → o.order ≡ k → TypesStand nodes l level o k → HasNext nodes o k → left_of nodes level o k ≡ item ∷ left_of nodes level (after_item_by nodes o k) ((after_item_by nodes o k).order)
+  symbols_by : (k : Order) → ((k ≡ order.Fields) → ⊥) → o.order ≡ k → TypesConform nodes l level o k → HasNext nodes o k → left_of nodes level o k ≡ item ∷ left_of nodes level (after_item_by nodes o k) ((after_item_by nodes o k).order)
   symbols_by order.Elements ne e t h =
       let one = one_value nodes o.node _ (level + 1) o.stop t in
       let these = value_symbols nodes o.node (level + 1) o.stop in
@@ -129,7 +129,7 @@ module _ (nodes : List Node) (d : CellState) (items : d.next ≡ next.Items) (o 
   rest_symbols : rest_of nodes d ≡ open_symbols nodes level (after_item nodes o) ++ all_open_symbols nodes 0 m.front
   rest_symbols = let e : 0 + level ≡ level = omega arith in rw (after_is, levels_symbols_is nodes 0 m.front (after_item nodes o), e) refl
 
-  types : TypesStand nodes d.rules level o o.order
+  types : TypesConform nodes d.rules level o o.order
   types = let e : 0 + level ≡ level = omega arith in rw e at m.innermost.types
 
   value_is : due_value nodes d ≡ value_at nodes o.node o.stop
@@ -157,7 +157,7 @@ module _ (nodes : List Node) (d : CellState) (items : d.next ≡ next.Items) (o 
   field_step : o.order ≡ order.Fields → Steps
   field_step e =
       let h : HasNext nodes o order.Fields = rw e at (has_next nodes d.rules level d.offset o types more) in
-      let t : TypesStand nodes d.rules level o order.Fields = rw e at types in
+      let t : TypesConform nodes d.rules level o order.Fields = rw e at types in
       let over : over_by o d.offset order.Fields ≡ false = rw e at more in
       let one : o.left ≡ suc (o.left - 1) = omega (arith, h.1) in
       let f = first_type nodes o.node (o.left - 1) _ (rw one at t.0) in
@@ -183,7 +183,7 @@ module _ (nodes : List Node) (d : CellState) (items : d.next ≡ next.Items) (o 
   first_field : o.order ≡ order.Fields → first_kind (place nodes d).symbols ≡ Some (node_at nodes o.node).kind
   first_field e =
       let h : HasNext nodes o order.Fields = rw e at (has_next nodes d.rules level d.offset o types more) in
-      let t : TypesStand nodes d.rules level o order.Fields = rw e at types in
+      let t : TypesConform nodes d.rules level o order.Fields = rw e at types in
       let one : o.left ≡ suc (o.left - 1) = omega (arith, h.1) in
       let f = first_type nodes o.node (o.left - 1) _ (rw one at t.0) in
       ap first_kind (now_symbols ∙ ap (λ (j : Order). left_of nodes level o j ++ outer) e ∙ ap (λ (x : Types). Items_of x level o.stop o.items ∷ outer) (ap (types_at nodes o.node) one ∙ f.types))
@@ -197,7 +197,7 @@ module _ (nodes : List Node) (d : CellState) (items : d.next ≡ next.Items) (o 
   item_first : first_kind (place nodes d).symbols ≡ Some (due_value nodes d).kind
   item_first = first_by o.order refl ∙ sym (ap (λ (v : DueValue). Some v.kind) value_is)
 
-  -- ---- what stands after it
+  -- ---- what comes after it
 
   passed_stop : (k : Order) → (after_item_by nodes o k).stop ≡ o.stop
   passed_stop order.Elements = refl
@@ -205,7 +205,7 @@ module _ (nodes : List Node) (d : CellState) (items : d.next ≡ next.Items) (o 
   passed_stop order.Values = refl
   passed_stop order.Fields = refl
 
-  passed_types : (k : Order) → o.order ≡ k → TypesStand nodes d.rules level o k → HasNext nodes o k → TypesStand nodes d.rules level (after_item_by nodes o k) (after_item_by nodes o k).order
+  passed_types : (k : Order) → o.order ≡ k → TypesConform nodes d.rules level o k → HasNext nodes o k → TypesConform nodes d.rules level (after_item_by nodes o k) (after_item_by nodes o k).order
   passed_types order.Elements e t h = rw e t
   passed_types order.Keys e t h = (t.1, t.0)
   passed_types order.Values e t h = (t.1, t.0)
@@ -214,7 +214,7 @@ module _ (nodes : List Node) (d : CellState) (items : d.next ≡ next.Items) (o 
       let f = first_type nodes o.node (o.left - 1) _ (rw one at t.0) in
       rw e (f.after, omega (arith, t.1, h.1))
 
-  item_types : (k : Order) → TypesStand nodes d.rules level o k → HasNext nodes o k → (n : ℕ) × FirstType nodes o.node n (d.rules.depth - (level + 1))
+  item_types : (k : Order) → TypesConform nodes d.rules level o k → HasNext nodes o k → (n : ℕ) × FirstType nodes o.node n (d.rules.depth - (level + 1))
   item_types order.Elements t h = (0, first_type nodes o.node 0 _ t)
   item_types order.Keys t h = (0, first_type nodes o.node 0 _ t.0)
   item_types order.Values t h = (0, first_type nodes o.node 0 _ t.0)
@@ -233,7 +233,7 @@ module _ (nodes : List Node) (d : CellState) (items : d.next ≡ next.Items) (o 
       record {
         step = rw (value_is, level_is) (step_by o.order refl);
         inside = rw value_is (omega (arith, m.inside));
-        inner = λ _. record { formed = rw value_is f.formed; stands = rw (value_is, level_is) (rw depth at f.inner); deep = rw level_is (omega (arith, f.deep)) };
+        inner = λ _. record { formed = rw value_is f.formed; conforms = rw (value_is, level_is) (rw depth at f.inner); deep = rw level_is (omega (arith, f.deep)) };
         bounded = rw value_is (omega (arith, m.innermost.within, last_stop_le nodes d.rules 0 d.stop m.front m.innermost.around, bounded));
         after = rw after_is (open_join nodes d.rules 0 d.stop m.front (after_item nodes o) (record { around = m.innermost.around; within = rw stop m.innermost.within; deep = m.innermost.deep; types = rw start after }));
         ends = rw (after_is, value_is) (last_stop_is d.stop m.front (after_item nodes o) ∙ stop);
@@ -241,16 +241,16 @@ module _ (nodes : List Node) (d : CellState) (items : d.next ≡ next.Items) (o 
       }
 
 -- the cell comes next
-module _ (nodes : List Node) (d : CellState) (stands : Stands nodes d) where
+module _ (nodes : List Node) (d : CellState) (conforms : Conforms nodes d) where
   raw_due : d.next ≡ next.Cell None → ValueDue nodes d
   raw_due e =
-      let n = rw e at stands.next_stands in
-      let w = rw (e, n.0) at stands.within in
+      let n = rw e at conforms.next_conforms in
+      let w = rw (e, n.0) at conforms.within in
       record {
         step = rw (e, n.0, no_types nodes 0) refl;
         inside = rw e (omega (arith, w));
         inner = λ t. let no : true ≡ false = rw e at t in absurd cc;
-        bounded = rw e stands.bounded;
+        bounded = rw e conforms.bounded;
         after = rw (e, n.0) tt;
         ends = rw (e, n.0) refl;
         level = rw (e, n.0) refl;
@@ -258,15 +258,15 @@ module _ (nodes : List Node) (d : CellState) (stands : Stands nodes d) where
 
   cell_due : (node : ℕ) → d.next ≡ next.Cell (Some node) → ValueDue nodes d
   cell_due node e =
-      let n = rw e at stands.next_stands in
-      let w = rw (e, n.0) at stands.within in
+      let n = rw e at conforms.next_conforms in
+      let w = rw (e, n.0) at conforms.within in
       let one = one_value nodes node d.rules.depth 0 d.stop n.1 in
       let f = first_type nodes node 0 d.rules.depth n.1 in
       record {
         step = rw (e, n.0, one) refl;
         inside = rw e (omega (arith, w));
-        inner = λ t. record { formed = rw e f.formed; stands = rw (e, n.0) f.inner; deep = rw n.0 f.deep };
-        bounded = rw e stands.bounded;
+        inner = λ t. record { formed = rw e f.formed; conforms = rw (e, n.0) f.inner; deep = rw n.0 f.deep };
+        bounded = rw e conforms.bounded;
         after = rw (e, n.0) tt;
         ends = rw (e, n.0) refl;
         level = rw (e, n.0) refl;
@@ -279,7 +279,7 @@ module _ (nodes : List Node) (d : CellState) (stands : Stands nodes d) where
   due_by : (n : NextInCell) → d.next ≡ n → due_of d ≡ due.Value → ValueDue nodes d
   due_by next.Nothing e v = let no : ◌≡◌ {A = CellDue} due.Nothing due.Value = rw e at v in absurd cc
   due_by (next.Cell node) e v = any_cell_due node e
-  due_by next.Items e v = let r = value_next nodes d stands e v in item_due nodes d e r.0 r.1 r.2 stands.bounded
+  due_by next.Items e v = let r = value_next nodes d conforms e v in item_due nodes d e r.0 r.1 r.2 conforms.bounded
   due_by (next.Part offset total) e v = let no : ◌≡◌ {A = CellDue} (due.Part offset total) due.Value = rw e at v in absurd cc
 
   pub value_due : due_of d ≡ due.Value → ValueDue nodes d
@@ -287,17 +287,17 @@ module _ (nodes : List Node) (d : CellState) (stands : Stands nodes d) where
 
 -- ---- its kind
 
-module _ (nodes : List Node) (d : CellState) (stands : Stands nodes d) where
+module _ (nodes : List Node) (d : CellState) (conforms : Conforms nodes d) where
   cell_first : (node : Option ℕ) → d.next ≡ next.Cell node → first_kind (place nodes d).symbols ≡ Some (due_value nodes d).kind
   cell_first None e = rw e refl
   cell_first (Some node) e =
-      let n = rw e at stands.next_stands in
+      let n = rw e at conforms.next_conforms in
       rw (e, one_value nodes node d.rules.depth 0 d.stop n.1) refl
 
   first_in : (n : NextInCell) → d.next ≡ n → due_of d ≡ due.Value → first_kind (place nodes d).symbols ≡ Some (due_value nodes d).kind
   first_in next.Nothing e v = let no : ◌≡◌ {A = CellDue} due.Nothing due.Value = rw e at v in absurd cc
   first_in (next.Cell node) e v = cell_first node e
-  first_in next.Items e v = let r = value_next nodes d stands e v in item_first nodes d e r.0 r.1 r.2 stands.bounded
+  first_in next.Items e v = let r = value_next nodes d conforms e v in item_first nodes d e r.0 r.1 r.2 conforms.bounded
   first_in (next.Part offset total) e v = let no : ◌≡◌ {A = CellDue} (due.Part offset total) due.Value = rw e at v in absurd cc
 
   pub value_first_is : due_of d ≡ due.Value → first_kind (place nodes d).symbols ≡ Some (due_value nodes d).kind

@@ -13,7 +13,7 @@ use Rattle.cqlp_cell.specs.declared.progress.Arrived.TheVariants as arrived
 use Rattle.cqlp_cell.specs.declared.progress.CellDue.TheVariants as due
 use Rattle.cqlp_kind.specs.CellStep.{CellSymbol, Close_of, Enter, cell_copies, values_of, place_after}
 use Rattle.cqlp_cell.specs.Numbers.{WantsNumber, IsCounted}
-use Rattle.cqlp_cell.specs.Progress.{CellState, ended, place, due_value, open_after, state_after, rest_of, due_of, Stands}
+use Rattle.cqlp_cell.specs.Progress.{CellState, ended, place, due_value, open_after, state_after, rest_of, due_of, Conforms}
 use Rattle.cqlp_cell.specs.Coming.{inner_of}
 use Rattle.cqlp_cell.specs.Reading.{counted_open, entered, sized_of, Decided, Emits, Hands, Waits, Fails, LengthCame, EntersCounted}
 use Rattle.cqlp_cell.proofs.Coming.{value_due}
@@ -37,13 +37,13 @@ module _ (nodes : List Node) (d : CellState) (n : ℕ) (decided : Decided nodes 
   unfolding number_of
   counted_negative le long high = rw (decided.is, le-ltb n 4 le, le-ltb (length x) 4 long, lt-ltb (2 ^ 31 - 1) (count_in x) (omega arith)) refl
 
-  pub counted_got : Stands nodes d → due_of d ≡ due.Value → 4 ≤ n → 4 ≤ length x → count_in x < 2 ^ 31
+  pub counted_got : Conforms nodes d → due_of d ≡ due.Value → 4 ≤ n → 4 ≤ length x → count_in x < 2 ^ 31
       → Emits nodes (says (sized_of nodes d n) 4 x) d.offset 8 (Enter (length d.open_values) (due_value nodes d).kind (count_in x)) (entered (state_after nodes d 8) (counted_open nodes (due_value nodes d) (d.offset + 4 + n) (count_in x)))
   unfolding number_of
   counted_got s v le long low =
       let due = counted_due nodes d n (count_in x) s v decided in
       let inner = counted_inner nodes d n (count_in x) s v decided in
-      let symbols = counted_symbols nodes d.rules (length d.open_values) (due_value nodes d) (d.offset + 4 + n) (count_in x) _ decided.can.1 inner.formed inner.stands in
+      let symbols = counted_symbols nodes d.rules (length d.open_values) (due_value nodes d) (d.offset + 4 + n) (count_in x) _ decided.can.1 inner.formed inner.conforms in
       record {
         x = record { at = d.offset; event = Enter (length d.open_values) (due_value nodes d).kind (count_in x); after = place_after (place nodes d) (rest_of nodes d) (cell_copies (count_in x) (values_of (inner_of nodes (due_value nodes d)) (length d.open_values + 1) (d.offset + 4 + n)) ++ Close_of (length d.open_values) (d.offset + 4 + n) (count_in x) ∷ []) };
         is = rw (decided.is, le-ltb n 4 le, le-ltb (length x) 4 long, le-ltb (2 ^ 31 - 1) (count_in x) (omega arith)) refl;
@@ -82,17 +82,17 @@ module _ (nodes : List Node) (old new : CellState) (n start used count : ℕ) (p
       ] in
       record { is = counted_negative nodes old n decided bytes found.enough found.whole more; ends = goes; idle = found.idle; longest = found.longest }
 
-  pub count_hands : Stands nodes old → due_of old ≡ due.Value → count < 2 ^ 31 → EntersCounted nodes old n count new
+  pub count_hands : Conforms nodes old → due_of old ≡ due.Value → count < 2 ^ 31 → EntersCounted nodes old n count new
       → Hands nodes old p input (says (sized_of nodes old n) 4 bytes) ((4 - start) + length seen) old.offset used (outline.Enter (length old.open_values) (due_value nodes old).kind count) new q
-  count_hands stands v low enters =
+  count_hands conforms v low enters =
       let less : count_in bytes < 2 ^ 31 = elim (cases_lt (count_in bytes) (2 ^ 31)) [
         | inl lt ↦ lt
         | inr le ↦ absurd (omega (arith, found.is.1 le))
       ] in
       let same : count ≡ count_in bytes = found.is.0 less in
-      let got = counted_got nodes old n decided bytes stands v found.enough found.whole less in
+      let got = counted_got nodes old n decided bytes conforms v found.enough found.whole less in
       let total : ((4 - start) + length seen) + used ≡ 8 = omega (arith, found.count, found.after) in
-      let due = value_due nodes old stands v in
+      let due = value_due nodes old conforms v in
       let o = counted_open nodes (due_value nodes old) (old.offset + 4 + n) count in
       record {
         within = found.within;
@@ -103,7 +103,7 @@ module _ (nodes : List Node) (old new : CellState) (n start used count : ℕ) (p
         held = tt;
         rules = rw enters.0 refl;
         stop = rw enters.0 refl;
-        stands = enters.1;
+        conforms = enters.1;
         onward = rw (enters.0, total) refl;
         goes_after = rw enters.0 tt;
         pays = rw enters.0 (omega (arith, due.level, length-append (open_after nodes old) (o ∷ []), found.count, found.after, some));

@@ -53,7 +53,7 @@ module _ (nodes : List Node) (old : CellState) (p : FieldState) (input : List â„
         held = can.3;
         rules = h.rules;
         stop = h.stop;
-        stands = h.stands;
+        conforms = h.conforms;
         onward = h.onward;
         goes_after = h.goes_after;
         pays = h.pays;

@@ -1,4 +1,4 @@
--- What stands inside a value.
+-- What is inside a value.
 use Rattle.std.proofs.Common.{◌≡◌, ℕ, ◌+◌, ◌-◌, ◌^◌, ◌<◌, ◌≤◌, true, false, List, [], ◌∷◌, ◌++◌, length, Some, refl, sym, ◌∙◌, arith}
 use Rattle.std.specs.Prelude.{slice_get, IsSome}
 use Rattle.cqlp_note.specs.Limits.{Rules}
@@ -12,16 +12,16 @@ use Rattle.cqlp_cell.specs.declared.progress.CellDue.TheVariants as due
 use Rattle.cqlp_cell.specs.declared.progress.DueValue.{DueValue}
 use Rattle.cqlp_kind.specs.CellStep.{Close_of, cell_copies, values_of}
 use Rattle.cqlp_cell.specs.Sizes.{is_counted}
-use Rattle.cqlp_type.specs.Forests.{types_at, node_at, Stand}
-use Rattle.cqlp_cell.specs.Progress.{CellState, open_symbols, place, due_value, open_after, state_after, rest_of, due_of, TypesStand, Stands}
+use Rattle.cqlp_type.specs.Forests.{types_at, node_at, Conform}
+use Rattle.cqlp_cell.specs.Progress.{CellState, open_symbols, place, due_value, open_after, state_after, rest_of, due_of, TypesConform, Conforms}
 use Rattle.cqlp_cell.specs.Coming.{InnerDue, ValueDue}
-use Rattle.cqlp_cell.specs.Reading.{order_by, counted_open, fields_open, entered, Decided, InnerStands}
+use Rattle.cqlp_cell.specs.Reading.{order_by, counted_open, fields_open, entered, Decided, InnerConforms}
 use Rattle.cqlp_cell.proofs.Opened.{last_stop_is, levels_symbols_is, open_join, first_there}
 use Rattle.cqlp_cell.proofs.Coming.{first_type, one_value, value_due}
 
 -- ---- the second type of a map
 
-module _ (nodes : List Node) (v : DueValue) (depth : ℕ) (s : Stand nodes v.inner 2 depth) where
+module _ (nodes : List Node) (v : DueValue) (depth : ℕ) (s : Conform nodes v.inner 2 depth) where
   pub key_there : IsSome (slice_get nodes v.inner)
   key_there = let f = first_there nodes v.inner 2 depth (omega arith) s in rw f.1.get refl
 
@@ -39,16 +39,16 @@ not_scalar kind.Set t = refl
 not_scalar kind.Map t = refl
 not_scalar k t = absurd cc
 
--- the types of the items of a list, a set or a map stand in the table
-pub counted_types : (nodes : List Node) (l : Rules) (level : ℕ) (v : DueValue) (stop count : ℕ) (k : Kind) → is_counted k ≡ true → HasInner k v.arity → Stand nodes v.inner v.arity (l.depth - (level + 1))
-    → TypesStand nodes l level (record { order = (order_by k (v.inner + (node_at nodes v.inner).span)).0; node = v.inner; other = (order_by k (v.inner + (node_at nodes v.inner).span)).1; left = count; items = count; stop = stop }) (order_by k (v.inner + (node_at nodes v.inner).span)).0
+-- the types of the items of a list, a set or a map are in the table
+pub counted_types : (nodes : List Node) (l : Rules) (level : ℕ) (v : DueValue) (stop count : ℕ) (k : Kind) → is_counted k ≡ true → HasInner k v.arity → Conform nodes v.inner v.arity (l.depth - (level + 1))
+    → TypesConform nodes l level (record { order = (order_by k (v.inner + (node_at nodes v.inner).span)).0; node = v.inner; other = (order_by k (v.inner + (node_at nodes v.inner).span)).1; left = count; items = count; stop = stop }) (order_by k (v.inner + (node_at nodes v.inner).span)).0
 counted_types nodes l level v stop count kind.List t h s = rw h at s
 counted_types nodes l level v stop count kind.Set t h s = rw h at s
 counted_types nodes l level v stop count kind.Map t h s = let f = first_type nodes v.inner 1 _ (rw h at s) in (f.alone, f.after)
 counted_types nodes l level v stop count k t h s = absurd cc
 
 -- the symbols of its items
-pub counted_symbols : (nodes : List Node) (l : Rules) (level : ℕ) (v : DueValue) (stop count : ℕ) (k : Kind) → is_counted k ≡ true → HasInner k v.arity → Stand nodes v.inner v.arity (l.depth - (level + 1))
+pub counted_symbols : (nodes : List Node) (l : Rules) (level : ℕ) (v : DueValue) (stop count : ℕ) (k : Kind) → is_counted k ≡ true → HasInner k v.arity → Conform nodes v.inner v.arity (l.depth - (level + 1))
     → cell_copies count (values_of (types_at nodes v.inner v.arity) (level + 1) stop) ++ Close_of level stop count ∷ []
     ≡ open_symbols nodes level (record { order = (order_by k (v.inner + (node_at nodes v.inner).span)).0; node = v.inner; other = (order_by k (v.inner + (node_at nodes v.inner).span)).1; left = count; items = count; stop = stop })
 counted_symbols nodes l level v stop count kind.List t h s = rw h refl
@@ -59,15 +59,15 @@ counted_symbols nodes l level v stop count kind.Map t h s =
     rw (h, f.types, key) refl
 counted_symbols nodes l level v stop count k t h s = absurd cc
 
-module _ (nodes : List Node) (d : CellState) (size : ℕ) (o : OpenValue) (s : Stands nodes d) (v : ValueDue nodes d) (deep : length d.open_values < d.rules.depth) (types : TypesStand nodes d.rules (length d.open_values) o o.order)
+module _ (nodes : List Node) (d : CellState) (size : ℕ) (o : OpenValue) (s : Conforms nodes d) (v : ValueDue nodes d) (deep : length d.open_values < d.rules.depth) (types : TypesConform nodes d.rules (length d.open_values) o o.order)
     (front : d.offset + size ≤ o.stop) (within : o.stop ≤ (due_value nodes d).stop) where
-  pub entered_stands : Stands nodes (entered (state_after nodes d size) o)
-  entered_stands =
+  pub entered_conforms : Conforms nodes (entered (state_after nodes d size) o)
+  entered_conforms =
       let e : 0 + length (open_after nodes d) ≡ length d.open_values = omega (arith, v.level) in
       record {
-        open_stand = open_join nodes d.rules 0 d.stop (open_after nodes d) o (record { around = v.after; within = rw v.ends within; deep = rw e deep; types = rw e types });
+        open_conform = open_join nodes d.rules 0 d.stop (open_after nodes d) o (record { around = v.after; within = rw v.ends within; deep = rw e deep; types = rw e types });
         within = rw (last_stop_is d.stop (open_after nodes d) o) (omega arith);
-        next_stands = tt;
+        next_conforms = tt;
         bounded = s.bounded;
       }
 
@@ -77,7 +77,7 @@ entered_symbols nodes d size o v =
     rw (levels_symbols_is nodes 0 (open_after nodes d) o, e) refl
 
 -- a list, a set or a map
-module _ (nodes : List Node) (d : CellState) (len count : ℕ) (s : Stands nodes d) (due : due_of d ≡ due.Value) (decided : Decided nodes d len (size.Counted len)) where
+module _ (nodes : List Node) (d : CellState) (len count : ℕ) (s : Conforms nodes d) (due : due_of d ≡ due.Value) (decided : Decided nodes d len (size.Counted len)) where
   pub counted_due : ValueDue nodes d
   counted_due = value_due nodes d s due
 
@@ -87,20 +87,20 @@ module _ (nodes : List Node) (d : CellState) (len count : ℕ) (s : Stands nodes
   abbrev counted : OpenValue
   counted = counted_open nodes (due_value nodes d) (d.offset + 4 + len) count
 
-  pub counted_stands : 4 ≤ len → Stands nodes (entered (state_after nodes d 8) counted)
-  counted_stands le =
-      entered_stands nodes d 8 counted s counted_due counted_inner.deep (counted_types nodes d.rules (length d.open_values) (due_value nodes d) (d.offset + 4 + len) count _ decided.can.1 counted_inner.formed counted_inner.stands) (omega arith) (omega (arith, decided.fits.0, counted_due.inside))
+  pub counted_conforms : 4 ≤ len → Conforms nodes (entered (state_after nodes d 8) counted)
+  counted_conforms le =
+      entered_conforms nodes d 8 counted s counted_due counted_inner.deep (counted_types nodes d.rules (length d.open_values) (due_value nodes d) (d.offset + 4 + len) count _ decided.can.1 counted_inner.formed counted_inner.conforms) (omega arith) (omega (arith, decided.fits.0, counted_due.inside))
 
   pub counted_deep : length (open_after nodes d) < d.rules.depth
   counted_deep = omega (arith, counted_inner.deep, counted_due.level)
 
-  pub counted_keys : InnerStands nodes (due_value nodes d)
+  pub counted_keys : InnerConforms nodes (due_value nodes d)
   counted_keys e =
       let two : (due_value nodes d).arity ≡ 2 = rw e at counted_inner.formed in
-      (d.rules.depth - (length d.open_values + 1), rw two at counted_inner.stands)
+      (d.rules.depth - (length d.open_values + 1), rw two at counted_inner.conforms)
 
 -- a tuple or a user-defined type
-module _ (nodes : List Node) (d : CellState) (len : ℕ) (s : Stands nodes d) (due : due_of d ≡ due.Value) (decided : Decided nodes d len (size.Fields len)) (low : (due_value nodes d).arity < 2 ^ 16) where
+module _ (nodes : List Node) (d : CellState) (len : ℕ) (s : Conforms nodes d) (due : due_of d ≡ due.Value) (decided : Decided nodes d len (size.Fields len)) (low : (due_value nodes d).arity < 2 ^ 16) where
   pub fields_due : ValueDue nodes d
   fields_due = value_due nodes d s due
 
@@ -110,8 +110,8 @@ module _ (nodes : List Node) (d : CellState) (len : ℕ) (s : Stands nodes d) (d
   abbrev fielded : OpenValue
   fielded = fields_open (due_value nodes d) (d.offset + 4 + len)
 
-  pub fields_stands : Stands nodes (entered (state_after nodes d 4) fielded)
-  fields_stands = entered_stands nodes d 4 fielded s fields_due fields_inner.deep (fields_inner.stands, omega arith) (omega arith) (omega (arith, decided.fits.0, fields_due.inside))
+  pub fields_conforms : Conforms nodes (entered (state_after nodes d 4) fielded)
+  fields_conforms = entered_conforms nodes d 4 fielded s fields_due fields_inner.deep (fields_inner.conforms, omega arith) (omega arith) (omega (arith, decided.fits.0, fields_due.inside))
 
   pub fields_deep : length (open_after nodes d) < d.rules.depth
   fields_deep = omega (arith, fields_inner.deep, fields_due.level)

@@ -22,7 +22,7 @@ use Rattle.cqlp_cell.specs.declared.progress.CellDue.{CellDue}
 use Rattle.cqlp_cell.specs.declared.progress.CellDue.TheVariants as due
 use Rattle.cqlp_note.specs.declared.refusal.Refusal.{Refusal}
 use Rattle.cqlp_cell.specs.OpenValues.{last_open}
-use Rattle.cqlp_cell.specs.Progress.{CellState, left_of, all_open_symbols, place, is_over, over_by, due_of, further_by, has_further, Stands}
+use Rattle.cqlp_cell.specs.Progress.{CellState, left_of, all_open_symbols, place, is_over, over_by, due_of, further_by, has_further, Conforms}
 use Rattle.cqlp_cell.specs.Reading.{step_says, Hands, Waits, Fails, Settles, Joined, UnderBy, HaveCome}
 use Rattle.cqlp_cell.proofs.Nesting.{last_is}
 use Rattle.cqlp_cell.proofs.Opened.{last_stop_is, levels_symbols_is, Inmost, close_next}
@@ -93,12 +93,12 @@ fields_over nodes d items o m fields none =
 open_symbols_are : (nodes : List Node) (d : CellState) → d.next ≡ next.Items → (place nodes d).symbols ≡ all_open_symbols nodes 0 d.open_values
 open_symbols_are nodes d items = rw items refl
 
-module _ (nodes : List Node) (d : CellState) (o : OpenValue) (stands : Stands nodes d) (v : due_of d ≡ due.Close o) where
+module _ (nodes : List Node) (d : CellState) (o : OpenValue) (conforms : Conforms nodes d) (v : due_of d ≡ due.Close o) where
   items : d.next ≡ next.Items
   items = close_items d o v
 
   pub closing : Inmost nodes d o × (is_over o d.offset ≡ true)
-  closing = close_next nodes d stands items o v
+  closing = close_next nodes d conforms items o v
 
   pub close_inside : d.offset ≤ o.stop
   close_inside = omega (arith, closing.0.inside)
@@ -148,14 +148,14 @@ module _ (nodes : List Node) (d : CellState) (o : OpenValue) (stands : Stands no
     unfolding step_says
     said_is x = ap (λ (r : _). says r 0 x) (sym step_is)
 
-    pub part_stands : d.rules.part ≡ d.rules.cell → Stands nodes at_part
-    part_stands same =
+    pub part_conforms : d.rules.part ≡ d.rules.cell → Conforms nodes at_part
+    part_conforms same =
         let m = closing.0 in
         record {
-          open_stand = stands.open_stand;
+          open_conform = conforms.open_conform;
           within = rw (m.is, last_stop_is d.stop front o) (omega (arith, m.inside));
-          next_stands = (some_left.1, rw same at some_left.0);
-          bounded = stands.bounded;
+          next_conforms = (some_left.1, rw same at some_left.0);
+          bounded = conforms.bounded;
         }
 
     -- ---- and what a call makes of it
@@ -171,7 +171,7 @@ module _ (nodes : List Node) (d : CellState) (o : OpenValue) (stands : Stands no
         held = h.held;
         rules = h.rules;
         stop = h.stop;
-        stands = h.stands;
+        conforms = h.conforms;
         onward = h.onward;
         goes_after = h.goes_after;
         pays = h.pays;

@@ -18,14 +18,14 @@ use Rattle.cqlp_kind.specs.CellStep.{CellSymbol, CellEvent, CellPlace, leaf_step
 use Rattle.cqlp_cell.specs.Contents.{IsReadAs}
 use Rattle.cqlp_cell.specs.Items.{content_at, leaf_event}
 use Rattle.cqlp_cell.specs.Gathering.{Wants, Finds}
-use Rattle.cqlp_cell.specs.Progress.{CellState, ended, place, due_value, state_after, rest_of, due_of, Stands}
+use Rattle.cqlp_cell.specs.Progress.{CellState, ended, place, due_value, state_after, rest_of, due_of, Conforms}
 use Rattle.cqlp_cell.specs.Coming.{ValueDue}
 use Rattle.cqlp_cell.specs.Reading.{sized_of, Decided, Emits, Hands, Waits, Fails, LengthCame}
 use Rattle.cqlp_cell.proofs.Coming.{value_due}
 
 -- after the value that comes next, as far as the one around it goes
-pub moved_stands : (nodes : List Node) (d : CellState) (size : ℕ) → Stands nodes d → ValueDue nodes d → d.offset + size ≤ (due_value nodes d).stop → Stands nodes (state_after nodes d size)
-moved_stands nodes d size s v le = record { open_stand = v.after; within = rw v.ends (omega arith); next_stands = tt; bounded = s.bounded }
+pub moved_conforms : (nodes : List Node) (d : CellState) (size : ℕ) → Conforms nodes d → ValueDue nodes d → d.offset + size ≤ (due_value nodes d).stop → Conforms nodes (state_after nodes d size)
+moved_conforms nodes d size s v le = record { open_conform = v.after; within = rw v.ends (omega arith); next_conforms = tt; bounded = s.bounded }
 
 -- ---- scalars
 
@@ -65,7 +65,7 @@ module _ (nodes : List Node) (d : CellState) (n : ℕ) (decided : Decided nodes 
       }
 
 -- a scalar that is whole
-module _ (nodes : List Node) (old new : CellState) (n start : ℕ) (p q : FieldState) (seen input : List ℕ) (f : Found) (stands : Stands nodes old) (v : due_of old ≡ due.Value) (decided : Decided nodes old n (size.Scalar n)) (front : start ≤ 4)
+module _ (nodes : List Node) (old new : CellState) (n start : ℕ) (p q : FieldState) (seen input : List ℕ) (f : Found) (conforms : Conforms nodes old) (v : due_of old ≡ due.Value) (decided : Decided nodes old n (size.Scalar n)) (front : start ≤ 4)
     (some : length seen < start + n) (found : Finds n start seen (seen ++ drop start input) input f p q) (kept : f.used < n → (p.under_way ≡ true) × (q.content ≡ p.seen ++ take f.used input)) where
   abbrev bytes : List ℕ
   bytes = seen ++ drop start input
@@ -83,7 +83,7 @@ module _ (nodes : List Node) (old new : CellState) (n start : ℕ) (p q : FieldS
       let got = scalar_got nodes old n decided bytes found.enough (rw is at known.1) in
       let count : ((4 - start) + length seen) + f.used ≡ 4 + n = omega (arith, found.count, found.after) in
       let size : length (take n bytes) ≡ n = length-take-le n bytes found.enough in
-      let due = value_due nodes old stands v in
+      let due = value_due nodes old conforms v in
       rw (goes, at) (record {
         within = found.within;
         emits = rw (count, is) got;
@@ -93,7 +93,7 @@ module _ (nodes : List Node) (old new : CellState) (n start : ℕ) (p q : FieldS
         held = λ lt. found.kept (rw (content_is, size) at lt) ∙ sym content_is;
         rules = refl;
         stop = refl;
-        stands = moved_stands nodes old (4 + n) stands due (omega (arith, decided.fits.0, due.inside));
+        conforms = moved_conforms nodes old (4 + n) conforms due (omega (arith, decided.fits.0, due.inside));
         onward = rw count refl;
         goes_after = tt;
         pays = omega (arith, due.level, found.count, found.after, some);

@@ -27,7 +27,7 @@ use Rattle.cqlp_kind.specs.CellStep.{CellEvent, Null, Empty, Enter, Leave, CellP
 use Rattle.cqlp_kind.specs.Scalars.{ScalarValue, allows_size, scalar_of}
 use Rattle.cqlp_cell.specs.Items.{CanLend, content_at, content_length, event_at, event_of, leaf_event}
 use Rattle.cqlp_cell.specs.OpenValues.{last_open}
-use Rattle.cqlp_cell.specs.Progress.{CellState, ended, is_some_next, is_under_way, symbols_for, place, close_if, is_over, due_in, due_for, due_of, Stands}
+use Rattle.cqlp_cell.specs.Progress.{CellState, ended, is_some_next, is_under_way, symbols_for, place, close_if, is_over, due_in, due_for, due_of, Conforms}
 use Rattle.cqlp_cell.specs.Reading.{StepAnswer, step_says, Joined, UnderBy, AreBytes, HaveCome, IsLent, IsKept, Moves, Empties, has_content}
 use Rattle.cqlp_cell.specs.Pushing.{is_done, done_by, Continues, Keeps, Pushes}
 use Rattle.cqlp_cell.proofs.ScalarSizes.{scalar_sized}
@@ -127,10 +127,10 @@ module _ (nodes : List Node) (p q : FieldState) (input : List ℕ) (used : ℕ) 
   keeps (outline.Leave level n) can lent kept none = bare_keeps (Leave level n) refl (none refl)
 
 -- as far as the types go, it does not matter how much has come
-pub stands_under : (nodes : List Node) (d : CellState) (u : Arrived) → Stands nodes d → Stands nodes (record d { arrived = u })
-stands_under nodes d u s = record { open_stand = s.open_stand; within = s.within; next_stands = s.next_stands; bounded = s.bounded }
+pub conforms_under : (nodes : List Node) (d : CellState) (u : Arrived) → Conforms nodes d → Conforms nodes (record d { arrived = u })
+conforms_under nodes d u s = record { open_conform = s.open_conform; within = s.within; next_conforms = s.next_conforms; bounded = s.bounded }
 
-module _ (nodes : List Node) (old : CellState) (p : FieldState) (input : List ℕ) (new : CellState) (q : FieldState) (under_way : is_under_way old ≡ true) (stands : Stands nodes old) (joined : Joined nodes old p) where
+module _ (nodes : List Node) (old : CellState) (p : FieldState) (input : List ℕ) (new : CellState) (q : FieldState) (under_way : is_under_way old ≡ true) (conforms : Conforms nodes old) (joined : Joined nodes old p) where
   came : (b : List ℕ) × HaveCome b old.arrived p.seen
   came = some_come nodes old p joined
 
@@ -149,7 +149,7 @@ module _ (nodes : List Node) (old : CellState) (p : FieldState) (input : List �
           serves = (h.0.joined, h.0.under_way, h.0.kept);
           longest = h.0.longest;
         },
-        (ap is_under_way same ∙ under_way, rules, rw same (stands_under nodes old new.arrived stands)),
+        (ap is_under_way same ∙ under_way, rules, rw same (conforms_under nodes old new.arrived conforms)),
       )
 
   pub item_lends : (at used : ℕ) (i : CellOutline) → Moves nodes old p input (advance.Item at used i) new q → CanLend i input q.content
@@ -178,7 +178,7 @@ module _ (nodes : List Node) (old : CellState) (p : FieldState) (input : List �
           );
           longest = h.longest;
         },
-        (h.goes_on, h.rules, h.stands, h.pays),
+        (h.goes_on, h.rules, h.conforms, h.pays),
       )
 
   pub done_pushes : Moves nodes old p input advance.Done new q → Pushes nodes old p input push.Done new q × (new ≡ ended old)

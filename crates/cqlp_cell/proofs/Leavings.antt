@@ -14,7 +14,7 @@ use Rattle.cqlp_cell.specs.declared.progress.Arrived.{Arrived}
 use Rattle.cqlp_cell.specs.declared.progress.Arrived.TheVariants as arrived
 use Rattle.cqlp_kind.specs.CellStep.{CellSymbol, Value_of}
 use Rattle.cqlp_type.specs.Forests.{types_at}
-use Rattle.cqlp_cell.specs.Progress.{CellState, left_of, open_symbols, all_open_symbols, symbols_for, place, Stands}
+use Rattle.cqlp_cell.specs.Progress.{CellState, left_of, open_symbols, all_open_symbols, symbols_for, place, Conforms}
 use Rattle.cqlp_cell.specs.OpenValues.{last_open}
 use Rattle.cqlp_cell.specs.Reading.{IsAfterItem, UnderBy, FurtherUnder, PartUnder, Joined, HaveCome}
 use Rattle.cqlp_cell.specs.Pushing.{is_done, done_by}
@@ -40,10 +40,10 @@ come_long (arrived.Counted n) seen b h = rw h.3 (omega (arith, length-append h.0
 come_long (arrived.First n) seen b h = rw h.3 (omega (arith, length-append h.0 seen, h.1))
 
 -- a cell begins before it ends
-pub stop_is : (nodes : List Node) (d : CellState) → Stands nodes d → d.offset ≤ d.stop
-stop_is nodes d s = omega (arith, s.within, last_stop_le nodes d.rules 0 d.stop d.open_values s.open_stand)
+pub stop_is : (nodes : List Node) (d : CellState) → Conforms nodes d → d.offset ≤ d.stop
+stop_is nodes d s = omega (arith, s.within, last_stop_le nodes d.rules 0 d.stop d.open_values s.open_conform)
 
-module _ (nodes : List Node) (d : CellState) (p : FieldState) (s : Stands nodes d) where
+module _ (nodes : List Node) (d : CellState) (p : FieldState) (s : Conforms nodes d) where
   further_below : (o : Option OpenValue) → FurtherUnder nodes d p o → d.offset + length p.seen < 2 ^ 64
   further_below None h = absurd h
   further_below (Some o) h =
@@ -54,7 +54,7 @@ module _ (nodes : List Node) (d : CellState) (p : FieldState) (s : Stands nodes 
   part_below next.Nothing e h = absurd h
   part_below (next.Cell _) e h = absurd h
   part_below next.Items e h = further_below (last_open d.open_values) h
-  part_below (next.Part offset total) e h = omega (arith, h.3, rw e at s.within, last_stop_le nodes d.rules 0 d.stop d.open_values s.open_stand, s.bounded)
+  part_below (next.Part offset total) e h = omega (arith, h.3, rw e at s.within, last_stop_le nodes d.rules 0 d.stop d.open_values s.open_conform, s.bounded)
 
   come_below : (u : Arrived) → UnderBy nodes d p u → d.offset + how_much u (length p.seen) < 2 ^ 64
   come_below arrived.Nothing h = omega (arith, stop_is nodes d s, s.bounded)
@@ -103,7 +103,7 @@ some_by nodes stop os (next.Cell _) b f e = absurd b
 some_by nodes stop os (next.Part offset total) b f e = absurd cc
 
 -- and something of one that is not whole
-pub left_some : (nodes : List Node) (d : CellState) → Stands nodes d → IsAfterItem d.next → is_done d ≡ false → (place nodes d).symbols ≡ [] → ⊥
+pub left_some : (nodes : List Node) (d : CellState) → Conforms nodes d → IsAfterItem d.next → is_done d ≡ false → (place nodes d).symbols ≡ [] → ⊥
 left_some nodes d s b f e = some_by nodes d.stop d.open_values d.next b f e
 
 -- all of a cell is left where it begins

@@ -16,7 +16,7 @@ use Rattle.cqlp_cell.specs.declared.progress.Arrived.{Arrived}
 use Rattle.cqlp_cell.specs.declared.progress.Arrived.TheVariants as arrived
 use Rattle.cqlp_cell.specs.declared.progress.CellDue.TheVariants as due
 use Rattle.cqlp_cell.specs.Numbers.{IsUnsigned, WantsNumber, IsCounted}
-use Rattle.cqlp_cell.specs.Progress.{CellState, ended, due_of, Stands}
+use Rattle.cqlp_cell.specs.Progress.{CellState, ended, due_of, Conforms}
 use Rattle.cqlp_cell.specs.Coming.{room_of, ValueDue}
 use Rattle.cqlp_cell.specs.Reading.{StepAnswer, step_says, sized_of, IsKept, Waits, Fails, Settles, LengthCame, AreBytes, HaveCome}
 use Rattle.cqlp_cell.proofs.Coming.{value_due}
@@ -64,7 +64,7 @@ come_behind n bytes rest (arrived.First m) seen h b = let e : m ≡ n = cc in rw
 come_behind n bytes rest arrived.Later seen h b = absurd cc
 
 -- what follows a length that is whole
-module _ (nodes : List Node) (old : CellState) (p mid : FieldState) (seen input : List ℕ) (used n : ℕ) (stands : Stands nodes old) (v : due_of old ≡ due.Value) (found : IsCounted (room_of nodes old) 0 seen (seen ++ input) input used n p mid) where
+module _ (nodes : List Node) (old : CellState) (p mid : FieldState) (seen input : List ℕ) (used n : ℕ) (conforms : Conforms nodes old) (v : due_of old ≡ due.Value) (found : IsCounted (room_of nodes old) 0 seen (seen ++ input) input used n p mid) where
   abbrev m : ℕ
   m = first_number (seen ++ input)
 
@@ -85,18 +85,18 @@ module _ (nodes : List Node) (old : CellState) (p mid : FieldState) (seen input 
   pub length_settles : (a : CellAdvance) (new : CellState) (q : FieldState) → Settles nodes old mid input (says (sized_of nodes old n) 4 (drop used input)) ((4 - used) + 0) (LengthCame n (drop used input)) a new q
       → Settles nodes old mid input (step_says nodes old (seen ++ input)) (length seen) (HaveCome (seen ++ input)) a new q
   length_settles a new q h =
-      let due = value_due nodes old stands v in
+      let due = value_due nodes old conforms v in
       let said : says (sized_of nodes old n) 4 (drop used input) ≡ step_says nodes old (seen ++ input) = sym (length_whole nodes old due (seen ++ input) found.enough found.whole ∙ rw (same_number nodes old m n found.is, behind_is) refl) in
       let base : (4 - used) + 0 ≡ length seen = omega (arith, found.count) in
       settles_as nodes old mid input _ _ _ _ _ _ a new q said base (λ u s b. come_behind n (seen ++ input) (drop used input) u s (whole_bytes b.2) b) h
 
 -- a length that goes on
-pub length_waits : (nodes : List Node) (old : CellState) (p q : FieldState) (input bytes : List ℕ) → Stands nodes old → due_of old ≡ due.Value → old.rules.cell ≤ p.room → WantsNumber old.offset (room_of nodes old) bytes p q
+pub length_waits : (nodes : List Node) (old : CellState) (p q : FieldState) (input bytes : List ℕ) → Conforms nodes old → due_of old ≡ due.Value → old.rules.cell ≤ p.room → WantsNumber old.offset (room_of nodes old) bytes p q
     → Waits nodes old p input (step_says nodes old bytes) (length input) (record old { arrived = arrived.Length }) q × HaveCome bytes arrived.Length q.seen
-length_waits nodes old p q input bytes stands v longest wants = (
+length_waits nodes old p q input bytes conforms v longest wants = (
   record {
     all = refl;
-    is = length_short nodes old (value_due nodes old stands v) bytes wants.enough wants.short;
+    is = length_short nodes old (value_due nodes old conforms v) bytes wants.enough wants.short;
     same = refl;
     under_way = wants.under_way;
     kept = wants.empty;
@@ -106,9 +106,9 @@ length_waits nodes old p q input bytes stands v longest wants = (
   sym wants.seen,
 )
 
-pub length_fails : (nodes : List Node) (old new : CellState) (p q : FieldState) (bytes : List ℕ) → Stands nodes old → due_of old ≡ due.Value → room_of nodes old < 4 → new ≡ ended old → q.under_way ≡ false → q.room ≡ p.room
+pub length_fails : (nodes : List Node) (old new : CellState) (p q : FieldState) (bytes : List ℕ) → Conforms nodes old → due_of old ≡ due.Value → room_of nodes old < 4 → new ≡ ended old → q.under_way ≡ false → q.room ≡ p.room
     → Fails nodes old p (step_says nodes old bytes) (record { at = old.offset; why = Overrun }) new q
-length_fails nodes old new p q bytes stands v lt goes idle room = record { is = length_overrun nodes old (value_due nodes old stands v) bytes lt; ends = goes; idle = idle; longest = room }
+length_fails nodes old new p q bytes conforms v lt goes idle room = record { is = length_overrun nodes old (value_due nodes old conforms v) bytes lt; ends = goes; idle = idle; longest = room }
 
 still_kept : (nodes : List Node) (i : CellOutline) (p mid : FieldState) (input buffer : List ℕ) (used : ℕ) → mid.under_way ≡ false → IsKept nodes i mid input buffer used → IsKept nodes i p input buffer used
 still_kept nodes (outline.Leaf level k c) p mid input buffer used idle h = λ lt. let no : true ≡ false = sym (h lt).0 ∙ idle in absurd cc
@@ -131,7 +131,7 @@ settles_from nodes old p mid input said base W (advance.Item at used i) new q e 
   held = h.held;
   rules = h.rules;
   stop = h.stop;
-  stands = h.stands;
+  conforms = h.conforms;
   onward = h.onward;
   goes_after = h.goes_after;
   pays = h.pays;

@@ -15,7 +15,7 @@ use Rattle.cqlp_cell.specs.declared.progress.Arrived.{Arrived}
 use Rattle.cqlp_cell.specs.declared.progress.Arrived.TheVariants as arrived
 use Rattle.cqlp_cell.specs.declared.whole.DueItem.{DueItem}
 use Rattle.cqlp_cell.specs.OpenValues.{last_open, with_last}
-use Rattle.cqlp_cell.specs.Progress.{CellState, Stands, after_item, after_item_by, close_if, due_of, is_over, over_by, state_after}
+use Rattle.cqlp_cell.specs.Progress.{CellState, Conforms, after_item, after_item_by, close_if, due_of, is_over, over_by, state_after}
 use Rattle.cqlp_cell.specs.Whole.{IsDue}
 use Rattle.cqlp_cell.specs.Levels.{IsInLevel, NextFits, due_at, due_element, due_if, element_if, level_by, level_in, level_of, passed, passed_element, with_level}
 use Rattle.cqlp_cell.specs.Reading.{entered}
@@ -85,9 +85,9 @@ module _ (nodes : List Node) (d : CellState) (l : Level) (here : IsInLevel d l) 
   pub due_here : due_of (with_level d l) ≡ close_if (is_over l.value l.offset) l.value
   due_here = rw (here.items, last_is) refl
 
-  pub next_fits : Stands nodes (with_level d l) → is_over l.value l.offset ≡ false → NextFits nodes l
-  next_fits stands more =
-      let v = value_last nodes (with_level d l) stands here.items l.value last_is (rw more at due_here) in
+  pub next_fits : Conforms nodes (with_level d l) → is_over l.value l.offset ≡ false → NextFits nodes l
+  next_fits conforms more =
+      let v = value_last nodes (with_level d l) conforms here.items l.value last_is (rw more at due_here) in
       let next = has_next nodes d.rules _ l.offset l.value v.0.innermost.types v.1 in
       record { next = next; there = node_there nodes d.rules _ l.value v.0.innermost.types next; inside = omega (arith, v.0.inside) }
 

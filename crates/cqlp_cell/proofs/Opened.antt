@@ -12,10 +12,10 @@ use Rattle.cqlp_cell.specs.declared.progress.NextInCell.TheVariants as next
 use Rattle.cqlp_cell.specs.declared.progress.CellDue.{CellDue}
 use Rattle.cqlp_cell.specs.declared.progress.CellDue.TheVariants as due
 use Rattle.cqlp_cell.specs.OpenValues.{last_open}
-use Rattle.cqlp_type.specs.Forests.{node_at, Stand}
-use Rattle.cqlp_cell.specs.Progress.{CellState, open_symbols, all_open_symbols, is_over, over_by, close_if, due_of, TypesStand, AreOpen, last_stop, CellStands, CellThere, Stands, HasNext}
+use Rattle.cqlp_type.specs.Forests.{node_at, Conform}
+use Rattle.cqlp_cell.specs.Progress.{CellState, open_symbols, all_open_symbols, is_over, over_by, close_if, due_of, TypesConform, AreOpen, last_stop, CellConforms, CellThere, Conforms, HasNext}
 use Rattle.cqlp_cell.proofs.Nesting.{last_is, cases_open}
-use Rattle.cqlp_type.proofs.Inside.{First, first_stands}
+use Rattle.cqlp_type.proofs.Inside.{First, first_conforms}
 
 pub last_stop_is : (stop : ℕ) (os : List OpenValue) (o : OpenValue) → last_stop stop (os ++ o ∷ []) ≡ o.stop
 last_stop_is stop [] o = refl
@@ -33,7 +33,7 @@ module _ (nodes : List Node) (l : Rules) where
     pub around : AreOpen nodes l level stop os
     pub within : o.stop ≤ last_stop stop os
     pub deep : level + length os < l.depth
-    pub types : TypesStand nodes l (level + length os) o o.order
+    pub types : TypesConform nodes l (level + length os) o o.order
 
   pub open_split : (level stop : ℕ) (os : List OpenValue) (o : OpenValue) → AreOpen nodes l level stop (os ++ o ∷ []) → Innermost level stop os o
   open_split level stop [] o h = let e : level + 0 ≡ level = omega arith in record { around = tt; within = h.0; deep = omega (arith, h.1); types = rw e h.2 }
@@ -70,13 +70,13 @@ pub record Inmost (nodes : List Node) (d : CellState) (o : OpenValue) : Type 0 w
   pub innermost : Innermost nodes d.rules 0 d.stop front o
   pub inside : d.offset + 0 ≤ o.stop
 
-module _ (nodes : List Node) (d : CellState) (stands : Stands nodes d) (items : d.next ≡ next.Items) where
+module _ (nodes : List Node) (d : CellState) (conforms : Conforms nodes d) (items : d.next ≡ next.Items) where
   inmost : (front : List OpenValue) (o : OpenValue) → d.open_values ≡ front ++ o ∷ [] → Inmost nodes d o
   inmost front o is = record {
     front = front;
     is = is;
-    innermost = open_split nodes d.rules 0 d.stop front o (rw is at stands.open_stand);
-    inside = rw (items, is, last_stop_is d.stop front o) at stands.within;
+    innermost = open_split nodes d.rules 0 d.stop front o (rw is at conforms.open_conform);
+    inside = rw (items, is, last_stop_is d.stop front o) at conforms.within;
   }
 
   due_is : (front : List OpenValue) (o : OpenValue) → d.open_values ≡ front ++ o ∷ [] → due_of d ≡ close_if (is_over o d.offset) o
@@ -116,33 +116,33 @@ more_left : (n : ℕ) → eqb n 0 ≡ false → 0 < n
 more_left n e = omega (arith, eqb-false n 0 e)
 
 module _ (nodes : List Node) (l : Rules) (level offset : ℕ) (o : OpenValue) where
-  next_by : (k : Order) → TypesStand nodes l level o k → over_by o offset k ≡ false → HasNext nodes o k
+  next_by : (k : Order) → TypesConform nodes l level o k → over_by o offset k ≡ false → HasNext nodes o k
   next_by order.Elements t e = more_left o.left e
   next_by order.Keys t e = more_left o.left e
   next_by order.Values t e = tt
   next_by order.Fields t e = (l.depth - (level + 1), more_left o.left (or_left (eqb o.left 0) (leb o.stop offset) e), t.1, t.0)
 
-  pub has_next : TypesStand nodes l level o o.order → is_over o offset ≡ false → HasNext nodes o o.order
+  pub has_next : TypesConform nodes l level o o.order → is_over o offset ≡ false → HasNext nodes o o.order
   has_next t e = next_by o.order t e
 
--- a node that stands first is there
-pub first_there : (nodes : List Node) (i n depth : ℕ) → 0 < n → Stand nodes i n depth → (x : Node) × First nodes i (n - 1) depth x
+-- a node that comes first is there
+pub first_there : (nodes : List Node) (i n depth : ℕ) → 0 < n → Conform nodes i n depth → (x : Node) × First nodes i (n - 1) depth x
 first_there nodes i zero depth lt s = absurd (omega arith)
-first_there nodes i (suc n) depth lt s = let e : suc n - 1 ≡ n = omega arith in rw e (first_stands nodes i n depth s)
+first_there nodes i (suc n) depth lt s = let e : suc n - 1 ≡ n = omega arith in rw e (first_conforms nodes i n depth s)
 
 -- the node of the next item
 module _ (nodes : List Node) (l : Rules) (level : ℕ) (o : OpenValue) where
-  node_by : (k : Order) → TypesStand nodes l level o k → HasNext nodes o k → IsSome (slice_get nodes o.node)
+  node_by : (k : Order) → TypesConform nodes l level o k → HasNext nodes o k → IsSome (slice_get nodes o.node)
   node_by order.Elements t h = let f = first_there nodes o.node 1 _ (omega arith) t in rw f.1.get refl
   node_by order.Keys t h = let f = first_there nodes o.node 1 _ (omega arith) t.0 in rw f.1.get refl
   node_by order.Values t h = let f = first_there nodes o.node 1 _ (omega arith) t.0 in rw f.1.get refl
   node_by order.Fields t h = let f = first_there nodes o.node o.left _ h.1 t.0 in rw f.1.get refl
 
-  pub node_there : TypesStand nodes l level o o.order → HasNext nodes o o.order → IsSome (slice_get nodes o.node)
+  pub node_there : TypesConform nodes l level o o.order → HasNext nodes o o.order → IsSome (slice_get nodes o.node)
   node_there t h = node_by o.order t h
 
 -- the node of the cell
-pub cell_there : (nodes : List Node) (l : Rules) (node : Option ℕ) → CellStands nodes l node → CellThere nodes node
+pub cell_there : (nodes : List Node) (l : Rules) (node : Option ℕ) → CellConforms nodes l node → CellThere nodes node
 cell_there nodes l None s = tt
 cell_there nodes l (Some node) s = let f = first_there nodes node 1 l.depth (omega arith) s in rw f.1.get refl
 

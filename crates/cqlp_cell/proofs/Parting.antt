@@ -14,7 +14,7 @@ use Rattle.cqlp_cell.specs.declared.progress.CellDue.TheVariants as due
 use Rattle.cqlp_kind.specs.CellStep.{Content_from, Part, place_after}
 use Rattle.cqlp_cell.specs.Items.{content_at}
 use Rattle.cqlp_cell.specs.Gathering.{IsGathering, seen_before, Wants, Finds}
-use Rattle.cqlp_cell.specs.Progress.{CellState, is_some_next, all_open_symbols, place, state_after, rest_of, due_of, last_stop, Stands}
+use Rattle.cqlp_cell.specs.Progress.{CellState, is_some_next, all_open_symbols, place, state_after, rest_of, due_of, last_stop, Conforms}
 use Rattle.cqlp_cell.specs.Reading.{step_says, sized_of, Decided, part_size, next_after, IsAfterItem, Emits, Hands, Waits, LengthCame, HaveCome}
 use Rattle.cqlp_cell.proofs.Opened.{last_stop_le}
 use Rattle.cqlp_cell.proofs.Coming.{value_due, part_is}
@@ -29,7 +29,7 @@ module _ (nodes : List Node) (d : CellState) (same : d.rules.part ≡ d.rules.ce
   first_more : leb (total - 0) d.rules.cell ≡ false
   first_more = lt-leb (total - 0) d.rules.cell (omega (arith, decided.can.1))
 
-  pub first_room : Stands nodes d → due_of d ≡ due.Value → d.offset + 4 + total < 2 ^ 64
+  pub first_room : Conforms nodes d → due_of d ≡ due.Value → d.offset + 4 + total < 2 ^ 64
   first_room s v = let due = value_due nodes d s v in omega (arith, decided.fits.0, due.inside, due.bounded)
 
   pub first_short : (x : List ℕ) → length x < d.rules.cell → says (sized_of nodes d total) 4 x ≡ More
@@ -38,7 +38,7 @@ module _ (nodes : List Node) (d : CellState) (same : d.rules.part ≡ d.rules.ce
   abbrev first_read : CellState
   first_read = record (state_after nodes d (4 + d.rules.cell)) { next = next.Part d.rules.cell total }
 
-  first_got : (x : List ℕ) → Stands nodes d → due_of d ≡ due.Value → d.rules.cell ≤ length x → Emits nodes (says (sized_of nodes d total) 4 x) (d.offset + 4) (4 + d.rules.cell) (Part (length d.open_values) 0 (take d.rules.cell x) false) first_read
+  first_got : (x : List ℕ) → Conforms nodes d → due_of d ≡ due.Value → d.rules.cell ≤ length x → Emits nodes (says (sized_of nodes d total) 4 x) (d.offset + 4) (4 + d.rules.cell) (Part (length d.open_values) 0 (take d.rules.cell x) false) first_read
   first_got x s v le =
       let due = value_due nodes d s v in
       let start : 0 + d.rules.cell ≡ d.rules.cell = omega arith in
@@ -50,10 +50,10 @@ module _ (nodes : List Node) (d : CellState) (same : d.rules.part ≡ d.rules.ce
         after = rw due.level refl;
       }
 
-  first_stands : Stands nodes d → due_of d ≡ due.Value → 0 < d.rules.cell → Stands nodes first_read
-  first_stands s v some =
+  first_conforms : Conforms nodes d → due_of d ≡ due.Value → 0 < d.rules.cell → Conforms nodes first_read
+  first_conforms s v some =
       let due = value_due nodes d s v in
-      record { open_stand = due.after; within = rw due.ends (omega (arith, decided.fits.0, due.inside, decided.can.1)); next_stands = (decided.can.1, some); bounded = s.bounded }
+      record { open_conform = due.after; within = rw due.ends (omega (arith, decided.fits.0, due.inside, decided.can.1)); next_conforms = (decided.can.1, some); bounded = s.bounded }
 
   pub first_waits : (p q : FieldState) (input bytes : List ℕ) → due_of d ≡ due.Value → d.rules.cell ≤ p.room → Wants d.rules.cell (d.offset + 4) bytes p q
       → Waits nodes d p input (says (sized_of nodes d total) 4 bytes) (length input) (record d { arrived = arrived.First total }) q × LengthCame total bytes (arrived.First total) q.seen
@@ -70,7 +70,7 @@ module _ (nodes : List Node) (d : CellState) (same : d.rules.part ≡ d.rules.ce
     (refl, wants.seen, decided.fits.1),
   )
 
-  pub first_hands : (start : ℕ) (p q : FieldState) (seen input : List ℕ) (f : Found) (new : CellState) (level : ℕ) → Stands nodes d → due_of d ≡ due.Value → 0 < d.rules.cell → start ≤ 4 → length seen < start + d.rules.cell → Finds d.rules.cell start seen (seen ++ drop start input) input f p q
+  pub first_hands : (start : ℕ) (p q : FieldState) (seen input : List ℕ) (f : Found) (new : CellState) (level : ℕ) → Conforms nodes d → due_of d ≡ due.Value → 0 < d.rules.cell → start ≤ 4 → length seen < start + d.rules.cell → Finds d.rules.cell start seen (seen ++ drop start input) input f p q
       → (f.used < d.rules.cell → (p.under_way ≡ true) × (q.content ≡ p.seen ++ take f.used input)) → new ≡ first_read → level ≡ length d.open_values
       → Hands nodes d p input (says (sized_of nodes d total) 4 (seen ++ drop start input)) ((4 - start) + length seen) (d.offset + 4) f.used (outline.Part level 0 f.content false) new q
   first_hands start p q seen input f new level s v some front more found kept goes at =
@@ -88,7 +88,7 @@ module _ (nodes : List Node) (d : CellState) (same : d.rules.part ≡ d.rules.ce
         held = λ lt. found.kept (rw (there, size) at lt) ∙ sym there;
         rules = refl;
         stop = refl;
-        stands = first_stands s v some;
+        conforms = first_conforms s v some;
         onward = rw count refl;
         goes_after = tt;
         pays = omega (arith, due.level, found.count, found.after, more);
@@ -100,15 +100,15 @@ module _ (nodes : List Node) (d : CellState) (same : d.rules.part ≡ d.rules.ce
 
 -- ---- a later part
 
-module _ (nodes : List Node) (d : CellState) (same : d.rules.part ≡ d.rules.cell) (offset total : ℕ) (here : d.next ≡ next.Part offset total) (stands : Stands nodes d) where
-  part_stands : (offset < total) × (0 < d.rules.cell)
-  part_stands = rw here at stands.next_stands
+module _ (nodes : List Node) (d : CellState) (same : d.rules.part ≡ d.rules.cell) (offset total : ℕ) (here : d.next ≡ next.Part offset total) (conforms : Conforms nodes d) where
+  part_conforms : (offset < total) × (0 < d.rules.cell)
+  part_conforms = rw here at conforms.next_conforms
 
   part_within : d.offset + (total - offset) ≤ last_stop d.stop d.open_values
-  part_within = rw here at stands.within
+  part_within = rw here at conforms.within
 
   pub part_room : d.offset + (total - offset) < 2 ^ 64
-  part_room = omega (arith, part_within, last_stop_le nodes d.rules 0 d.stop d.open_values stands.open_stand, stands.bounded)
+  part_room = omega (arith, part_within, last_stop_le nodes d.rules 0 d.stop d.open_values conforms.open_conform, conforms.bounded)
 
   abbrev its_size : ℕ
   its_size = part_size d offset total
@@ -140,13 +140,13 @@ module _ (nodes : List Node) (d : CellState) (same : d.rules.part ≡ d.rules.ce
         after = place_next is_last;
       }
 
-  next_stand : (last : Bool) → is_last ≡ last → Stands nodes (record d { offset = d.offset + its_size; next = next_after last (offset + its_size) total; arrived = arrived.Nothing })
-  next_stand true e =
+  next_conform : (last : Bool) → is_last ≡ last → Conforms nodes (record d { offset = d.offset + its_size; next = next_after last (offset + its_size) total; arrived = arrived.Nothing })
+  next_conform true e =
       let le : total - offset ≤ d.rules.cell = leb-true _ _ e in
-      record { open_stand = stands.open_stand; within = omega (arith, part_within); next_stands = tt; bounded = stands.bounded }
-  next_stand false e =
+      record { open_conform = conforms.open_conform; within = omega (arith, part_within); next_conforms = tt; bounded = conforms.bounded }
+  next_conform false e =
       let lt : d.rules.cell < total - offset = leb-false _ _ e in
-      record { open_stand = stands.open_stand; within = omega (arith, part_within); next_stands = (omega (arith, part_stands.0), part_stands.1); bounded = stands.bounded }
+      record { open_conform = conforms.open_conform; within = omega (arith, part_within); next_conforms = (omega (arith, part_conforms.0), part_conforms.1); bounded = conforms.bounded }
 
   pub later_waits : (p q : FieldState) (input bytes : List ℕ) → d.rules.cell ≤ p.room → Wants its_size d.offset bytes p q
       → Waits nodes d p input (step_says nodes d bytes) (length input) (record d { arrived = arrived.Later }) q × HaveCome bytes arrived.Later q.seen
@@ -170,7 +170,7 @@ module _ (nodes : List Node) (d : CellState) (same : d.rules.part ≡ d.rules.ce
   -- some bytes of it are still wanted
   pub still_wanted : (begun : Bool) (p : FieldState) → IsGathering begun its_size d.offset 0 p → length (seen_before begun p) < its_size
   still_wanted true p h = h.3
-  still_wanted false p h = omega (arith, part_stands)
+  still_wanted false p h = omega (arith, part_conforms)
 
   goes_on_next : (last : Bool) → is_some_next (next_after last (offset + its_size) total) ≡ true
   goes_on_next true = refl
@@ -193,7 +193,7 @@ module _ (nodes : List Node) (d : CellState) (same : d.rules.part ≡ d.rules.ce
         held = λ lt. found.kept (rw (there, size) at lt) ∙ sym there;
         rules = refl;
         stop = refl;
-        stands = next_stand is_last refl;
+        conforms = next_conform is_last refl;
         onward = rw count refl;
         goes_after = is_next is_last;
         pays = omega (arith, found.count, more);

@@ -12,14 +12,14 @@ use Rattle.cqlp_cell.specs.declared.progress.CellDue.TheVariants as due
 use Rattle.cqlp_cell.specs.declared.progress.DueValue.{DueValue}
 use Rattle.cqlp_kind.specs.CellStep.{CellSymbol, Null, Empty, Enter, Items_of, place_after}
 use Rattle.cqlp_cell.specs.Sizes.{IsSized}
-use Rattle.cqlp_cell.specs.Progress.{CellState, ended, place, due_value, open_after, state_after, rest_of, due_of, Stands}
+use Rattle.cqlp_cell.specs.Progress.{CellState, ended, place, due_value, open_after, state_after, rest_of, due_of, Conforms}
 use Rattle.cqlp_cell.specs.Coming.{inner_of, room_of}
 use Rattle.cqlp_cell.specs.Reading.{fields_open, sized_of, Decided, Emits, Hands, Fails, EntersFields}
 use Rattle.cqlp_cell.proofs.Coming.{value_due}
-use Rattle.cqlp_cell.proofs.Handing.{moved_stands}
+use Rattle.cqlp_cell.proofs.Handing.{moved_conforms}
 use Rattle.cqlp_cell.proofs.Entering.{fields_due, fields_inner, entered_symbols}
 
--- what a value is by its length, it is where the reader stands
+-- what a value is by its length, it is where the reader is
 pub is_decided : (nodes : List Node) (d : CellState) (n : ℕ) (s : Sized) → IsSized d.rules (due_value nodes d).kind (room_of nodes d) n s → Decided nodes d n s
 unfolding sized_of
 is_decided nodes d n s h = record { is = h.is (place nodes d) (rest_of nodes d) (inner_of nodes (due_value nodes d)) (length d.open_values); can = h.can; fits = h.fits }
@@ -51,7 +51,7 @@ module _ (nodes : List Node) (d : CellState) (n : ℕ) (x : List ℕ) where
     after = refl;
   }
 
-module _ (nodes : List Node) (d new : CellState) (n start : ℕ) (p q : FieldState) (input : List ℕ) (s : Stands nodes d) (v : due_of d ≡ due.Value) (room : 4 ≤ room_of nodes d) (within : start ≤ length input) (front : start ≤ 4) (some : 0 < start)
+module _ (nodes : List Node) (d new : CellState) (n start : ℕ) (p q : FieldState) (input : List ℕ) (s : Conforms nodes d) (v : due_of d ≡ due.Value) (room : 4 ≤ room_of nodes d) (within : start ≤ length input) (front : start ≤ 4) (some : 0 < start)
     (idle : q.under_way ≡ false) (longest : q.room ≡ p.room) where
   abbrev said_of : List ℕ
   said_of = [] ++ drop start input
@@ -65,8 +65,8 @@ module _ (nodes : List Node) (d new : CellState) (n start : ℕ) (p q : FieldSta
   pays : length (open_after nodes d) < length d.open_values + 2 * start
   pays = let due = value_due nodes d s v in omega (arith, due.level, some)
 
-  stays : Stands nodes (state_after nodes d 4)
-  stays = let due = value_due nodes d s v in moved_stands nodes d 4 s due (omega (arith, due.inside))
+  stays : Conforms nodes (state_after nodes d 4)
+  stays = let due = value_due nodes d s v in moved_conforms nodes d 4 s due (omega (arith, due.inside))
 
   pub null_hands : (level : ℕ) → Decided nodes d n size.Null → level ≡ length d.open_values → new ≡ state_after nodes d 4 → Hands nodes d p input (says (sized_of nodes d n) 4 said_of) base d.offset start (outline.Null level) new q
   null_hands level h at goes = rw (goes, at) (record {
@@ -78,7 +78,7 @@ module _ (nodes : List Node) (d new : CellState) (n start : ℕ) (p q : FieldSta
     held = tt;
     rules = refl;
     stop = refl;
-    stands = stays;
+    conforms = stays;
     onward = rw count refl;
     goes_after = tt;
     pays = pays;
@@ -98,7 +98,7 @@ module _ (nodes : List Node) (d new : CellState) (n start : ℕ) (p q : FieldSta
     held = tt;
     rules = refl;
     stop = refl;
-    stands = stays;
+    conforms = stays;
     onward = rw count refl;
     goes_after = tt;
     pays = pays;
@@ -117,7 +117,7 @@ module _ (nodes : List Node) (d new : CellState) (n start : ℕ) (p q : FieldSta
         within = within;
         emits = rw count (record {
           x = record { at = d.offset; event = Enter (length d.open_values) (due_value nodes d).kind (due_value nodes d).arity; after = place_after (place nodes d) (rest_of nodes d) (Items_of (inner_of nodes (due_value nodes d)) (length d.open_values) (d.offset + 4 + n) 0 ∷ []) };
-          is = rw (h.is, inner.stands.many) refl;
+          is = rw (h.is, inner.conforms.many) refl;
           offset = refl;
           event = refl;
           after = ap (λ (ss : List CellSymbol). record { offset = d.offset + 4; symbols = ss }) (sym (entered_symbols nodes d 4 o due));
@@ -128,7 +128,7 @@ module _ (nodes : List Node) (d new : CellState) (n start : ℕ) (p q : FieldSta
         held = tt;
         rules = refl;
         stop = refl;
-        stands = rw enters.0 at enters.1;
+        conforms = rw enters.0 at enters.1;
         onward = rw count refl;
         goes_after = tt;
         pays = omega (arith, length-append (open_after nodes d) (o ∷ []), pays);

@@ -24,7 +24,7 @@ use Rattle.cqlp_cell.specs.Fronts.{SaysScalar}
 use Rattle.cqlp_cell.specs.Items.{event_at}
 use Rattle.cqlp_cell.specs.Numbers.{IsCounted}
 use Rattle.cqlp_cell.specs.OpenValues.{but_last, with_last}
-use Rattle.cqlp_cell.specs.Progress.{CellState, place, due_value, open_after, state_after, rest_of, due_of, is_over, Stands}
+use Rattle.cqlp_cell.specs.Progress.{CellState, place, due_value, open_after, state_after, rest_of, due_of, is_over, Conforms}
 use Rattle.cqlp_cell.specs.Coming.{inner_of, room_of}
 use Rattle.cqlp_cell.specs.Reading.{step_says, sized_of, Decided, Hands, EntersCounted, EntersFields}
 use Rattle.cqlp_cell.specs.Pushing.{done_by, is_done}
@@ -35,7 +35,7 @@ use Rattle.cqlp_cell.specs.Levels.{IsInLevel, with_level}
 use Rattle.cqlp_cell.proofs.Levels.{due_here, with_only}
 use Rattle.cqlp_cell.proofs.Opened.{value_next}
 use Rattle.cqlp_cell.proofs.Coming.{value_due}
-use Rattle.cqlp_cell.proofs.Handing.{moved_stands}
+use Rattle.cqlp_cell.proofs.Handing.{moved_conforms}
 use Rattle.cqlp_cell.proofs.Closing.{close_hands, moves_afresh}
 use Rattle.cqlp_cell.proofs.Lengths.{length_settles}
 use Rattle.cqlp_cell.proofs.Settling.{null_hands, empty_hands, fields_hands}
@@ -63,7 +63,7 @@ none_over : (os : List OpenValue) → 0 < length os → done_by next.Items os �
 none_over [] some = absurd (omega (arith, some))
 none_over (o ∷ os) some = refl
 
-module _ (nodes : List Node) (d : CellState) (input : List ℕ) (used : ℕ) (v : ScalarValue) (stands : Stands nodes d) (fresh : d.arrived ≡ arrived.Nothing) (items : d.next ≡ next.Items) (now : due_of d ≡ due.Value) (same : d.rules.part ≡ d.rules.cell)
+module _ (nodes : List Node) (d : CellState) (input : List ℕ) (used : ℕ) (v : ScalarValue) (conforms : Conforms nodes d) (fresh : d.arrived ≡ arrived.Nothing) (items : d.next ≡ next.Items) (now : due_of d ≡ due.Value) (same : d.rules.part ≡ d.rules.cell)
     (front : SaysScalar d.rules (due_value nodes d).kind (room_of nodes d) input used v) (typed : SaysScalar (with_lenient false d.rules) (due_value nodes d).kind (room_of nodes d) input used v) where
   abbrev long : ℕ
   long = front_number input
@@ -81,7 +81,7 @@ module _ (nodes : List Node) (d : CellState) (input : List ℕ) (used : ℕ) (v 
   unfolding scalar_outline step_says
   scalar_hands p idle empty =
       let f = front_is (with_lenient false d.rules) (due_value nodes d).kind (room_of nodes d) used input v same typed in
-      let v' = value_due nodes d stands now in
+      let v' = value_due nodes d conforms now in
       let count : 0 + used ≡ used = omega arith in
       let left : long ≤ length (drop 4 input) = omega (arith, f.0.there, length-drop 4 input) in
       let size : length (take long (drop 4 input)) ≡ long = length-take-le long (drop 4 input) left in
@@ -100,7 +100,7 @@ module _ (nodes : List Node) (d : CellState) (input : List ℕ) (used : ℕ) (v 
         held = λ lt. absurd (omega (arith, size, f.1, rw size at lt));
         rules = refl;
         stop = refl;
-        stands = moved_stands nodes d used stands v' (omega (arith, front.inside, v'.inside));
+        conforms = moved_conforms nodes d used conforms v' (omega (arith, front.inside, v'.inside));
         onward = rw count refl;
         goes_after = tt;
         pays = omega (arith, v'.level, front.some);
@@ -112,34 +112,34 @@ module _ (nodes : List Node) (d : CellState) (input : List ℕ) (used : ℕ) (v 
 
   pub scalar_whole : (new : CellState) → new ≡ state_after nodes d used → IsWhole nodes d input d.offset used scalar_outline new × (is_done new ≡ false)
   scalar_whole new goes =
-      let v' = value_due nodes d stands now in
-      let next = value_next nodes d stands items now in
+      let v' = value_due nodes d conforms now in
+      let next = value_next nodes d conforms items now in
       let some : length d.open_values ≡ length next.1.front + 1 = ap length next.1.is ∙ length-append next.1.front (next.0 ∷ []) in
       rw goes (whole nodes d input d.offset used scalar_outline (state_after nodes d used) fresh scalar_hands, none_over (open_after nodes d) (omega (arith, some, v'.level)))
 
   pub scalar_place : d.offset + used < 2 ^ 64
-  scalar_place = let v' = value_due nodes d stands now in omega (arith, front.inside, v'.inside, v'.bounded)
+  scalar_place = let v' = value_due nodes d conforms now in omega (arith, front.inside, v'.inside, v'.bounded)
 
 -- ---- the end of the innermost value
 
-pub leave_whole : (nodes : List Node) (d : CellState) (o : OpenValue) (input : List ℕ) (new : CellState) (level : ℕ) → Stands nodes d → due_of d ≡ due.Close o → d.arrived ≡ arrived.Nothing → o.stop ≤ d.offset → new ≡ record d { open_values = but_last d.open_values } → level ≡ length (but_last d.open_values)
+pub leave_whole : (nodes : List Node) (d : CellState) (o : OpenValue) (input : List ℕ) (new : CellState) (level : ℕ) → Conforms nodes d → due_of d ≡ due.Close o → d.arrived ≡ arrived.Nothing → o.stop ≤ d.offset → new ≡ record d { open_values = but_last d.open_values } → level ≡ length (but_last d.open_values)
     → IsWhole nodes d input d.offset 0 (outline.Leave level o.items) new
-leave_whole nodes d o input new level stands now fresh le goes at = whole nodes d input d.offset 0 (outline.Leave level o.items) new fresh (λ p idle _. close_hands nodes d o p input stands now idle new level fresh le goes at)
+leave_whole nodes d o input new level conforms now fresh le goes at = whole nodes d input d.offset 0 (outline.Leave level o.items) new fresh (λ p idle _. close_hands nodes d o p input conforms now idle new level fresh le goes at)
 
 -- the same of the cell itself, whose level is in a caller's hands
-pub left_whole : (nodes : List Node) (d : CellState) (l : Level) → IsInLevel d l → length d.open_values ≡ 1 → is_over l.value l.offset ≡ true → l.value.stop ≤ l.offset → Stands nodes (with_level d l)
+pub left_whole : (nodes : List Node) (d : CellState) (l : Level) → IsInLevel d l → length d.open_values ≡ 1 → is_over l.value l.offset ≡ true → l.value.stop ≤ l.offset → Conforms nodes (with_level d l)
     → Leaves nodes (with_level d l) (record { at = l.offset; used = 0; part = bare.Leave 0 l.value.items }) (record d { offset = l.offset; open_values = [] })
-left_whole nodes d l here one over le stands =
+left_whole nodes d l here one over le conforms =
     let only = with_only d.open_values l.value one in
     let now : due_of (with_level d l) ≡ due.Close l.value = rw over at (due_here nodes d l here) in
     let new : CellState = record d { offset = l.offset; open_values = [] } in
     let goes : new ≡ record (with_level d l) { open_values = but_last (with_last l.value d.open_values) } = rw only refl in
     let at : 0 ≡ length (but_last (with_last l.value d.open_values)) = rw only refl in
-    (λ input. leave_whole nodes (with_level d l) l.value input new 0 stands now here.fresh le goes at, rw here.items refl)
+    (λ input. leave_whole nodes (with_level d l) l.value input new 0 conforms now here.fresh le goes at, rw here.items refl)
 
 -- ---- a value without a content, or the beginning of one with items
 
-module _ (nodes : List Node) (d new : CellState) (n : ℕ) (input : List ℕ) (stands : Stands nodes d) (fresh : d.arrived ≡ arrived.Nothing) (now : due_of d ≡ due.Value) (room : 4 ≤ room_of nodes d) (within : 4 ≤ length input) (number : n ≡ front_number input) where
+module _ (nodes : List Node) (d new : CellState) (n : ℕ) (input : List ℕ) (conforms : Conforms nodes d) (fresh : d.arrived ≡ arrived.Nothing) (now : due_of d ≡ due.Value) (room : 4 ≤ room_of nodes d) (within : 4 ≤ length input) (number : n ≡ front_number input) where
   counted : (p : FieldState) → p.under_way ≡ false → IsCounted (room_of nodes d) 0 [] ([] ++ input) input 4 n p p
   counted p idle = record {
     after = omega arith;
@@ -153,16 +153,16 @@ module _ (nodes : List Node) (d new : CellState) (n : ℕ) (input : List ℕ) (s
   }
 
   behind : (used : ℕ) (i : CellOutline) → ((p : FieldState) → p.under_way ≡ false → Hands nodes d p input (says (sized_of nodes d n) 4 (drop 4 input)) 0 d.offset used i new p) → IsWhole nodes d input d.offset used i new
-  behind used i hands = whole nodes d input d.offset used i new fresh (λ p idle _. length_settles nodes d p p [] input 4 n stands now (counted p idle) (advance.Item d.offset used i) new p (hands p idle))
+  behind used i hands = whole nodes d input d.offset used i new fresh (λ p idle _. length_settles nodes d p p [] input 4 n conforms now (counted p idle) (advance.Item d.offset used i) new p (hands p idle))
 
   pub null_whole : (level : ℕ) → Decided nodes d n size.Null → level ≡ length d.open_values → new ≡ state_after nodes d 4 → IsWhole nodes d input d.offset 4 (outline.Null level) new
-  null_whole level h at goes = behind 4 (outline.Null level) (λ p idle. null_hands nodes d new n 4 p p input stands now room within (omega arith) (omega arith) idle refl level h at goes)
+  null_whole level h at goes = behind 4 (outline.Null level) (λ p idle. null_hands nodes d new n 4 p p input conforms now room within (omega arith) (omega arith) idle refl level h at goes)
 
   pub empty_whole : (level : ℕ) → Decided nodes d n size.Empty → level ≡ length d.open_values → new ≡ state_after nodes d 4 → IsWhole nodes d input d.offset 4 (outline.Empty level) new
-  empty_whole level h at goes = behind 4 (outline.Empty level) (λ p idle. empty_hands nodes d new n 4 p p input stands now room within (omega arith) (omega arith) idle refl level h at goes)
+  empty_whole level h at goes = behind 4 (outline.Empty level) (λ p idle. empty_hands nodes d new n 4 p p input conforms now room within (omega arith) (omega arith) idle refl level h at goes)
 
   pub fields_whole : Decided nodes d n (size.Fields n) → (due_value nodes d).arity < 2 ^ 16 → EntersFields nodes d n new → IsWhole nodes d input d.offset 4 (outline.Enter (length d.open_values) (due_value nodes d).kind (due_value nodes d).arity) new
-  fields_whole h low enters = behind 4 (outline.Enter (length d.open_values) (due_value nodes d).kind (due_value nodes d).arity) (λ p idle. fields_hands nodes d new n 4 p p input stands now room within (omega arith) (omega arith) idle refl h low enters)
+  fields_whole h low enters = behind 4 (outline.Enter (length d.open_values) (due_value nodes d).kind (due_value nodes d).arity) (λ p idle. fields_hands nodes d new n 4 p p input conforms now room within (omega arith) (omega arith) idle refl h low enters)
 
   pub counted_whole : (count : ℕ) → Decided nodes d n (size.Counted n) → 4 ≤ n → 8 ≤ length input → count ≡ front_number (drop 4 input) → count < 2 ^ 31 → EntersCounted nodes d n count new
       → IsWhole nodes d input d.offset 8 (outline.Enter (length d.open_values) (due_value nodes d).kind count) new
@@ -178,4 +178,4 @@ module _ (nodes : List Node) (d new : CellState) (n : ℕ) (input : List ℕ) (s
         idle = idle;
         longest = refl;
       } in
-      behind 8 (outline.Enter (length d.open_values) (due_value nodes d).kind count) (λ p idle. count_hands nodes d new n 4 8 count p p [] input h (omega arith) (omega arith) (found p idle) stands now low enters)
+      behind 8 (outline.Enter (length d.open_values) (due_value nodes d).kind count) (λ p idle. count_hands nodes d new n 4 8 count p p [] input h (omega arith) (omega arith) (found p idle) conforms now low enters)

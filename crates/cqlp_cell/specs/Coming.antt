@@ -5,7 +5,7 @@ use Rattle.cqlp_kind.specs.Types.{Types, has_no_items, HasInner}
 use Rattle.cqlp_cell.specs.declared.progress.DueValue.{DueValue}
 use Rattle.cqlp_note.specs.Step.{Step}
 use Rattle.cqlp_kind.specs.CellStep.{CellEvent, CellPlace, cell_step, value_step}
-use Rattle.cqlp_type.specs.Forests.{types_at, Stand}
+use Rattle.cqlp_type.specs.Forests.{types_at, Conform}
 use Rattle.cqlp_cell.specs.Progress.{CellState, place, due_value, open_after, rest_of, AreOpen, last_stop}
 
 -- the types in a value
@@ -23,12 +23,12 @@ due_step nodes d =
     value_step d.rules (place nodes d) (rest_of nodes d) v.kind (inner_of nodes v) (length d.open_values)
     (room_of nodes d)
 
--- The types in the value that comes next stand in the table, and it can be opened.
+-- The types in the value that comes next are in the table, and it can be opened.
 pub record InnerDue (nodes : List Node) (d : CellState) : Type 0 where
   pub formed : HasInner (due_value nodes d).kind (due_value nodes d).arity
-  pub stands :
+  pub conforms :
       let v = due_value nodes d in
-      Stand nodes v.inner v.arity (d.rules.depth - (length d.open_values + 1))
+      Conform nodes v.inner v.arity (d.rules.depth - (length d.open_values + 1))
   pub deep : length d.open_values < d.rules.depth
 
 -- A value comes next.

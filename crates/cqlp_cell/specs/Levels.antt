@@ -26,15 +26,15 @@ abbrev pub level_by : CellState → Arrived → NextInCell → Option Level
 level_by d arrived.Nothing next.Items = level_in d (last_open d.open_values)
 level_by d u n = None
 
--- the innermost value that is open, where what is read next stands in it and nothing of that has come
+-- the innermost value that is open, where what is read next is in it and nothing of that has come
 abbrev pub level_of : CellState → Option Level
 level_of d = level_by d d.arrived d.next
 
--- where a reader stands whose innermost value is this
+-- where a reader is whose innermost value is this
 abbrev pub with_level : CellState → Level → CellState
 with_level d l = record d { offset = l.offset; open_values = with_last l.value d.open_values }
 
--- A reader stands in some open value, of whose next item nothing has come, and as many are open as the level says.
+-- A reader is in some open value, of whose next item nothing has come, and as many are open as the level says.
 pub record IsInLevel (d : CellState) (l : Level) : Type 0 where
   pub fresh : d.arrived ≡ arrived.Nothing
   pub items : d.next ≡ next.Items
@@ -43,7 +43,7 @@ pub record IsInLevel (d : CellState) (l : Level) : Type 0 where
 
 -- ---- the items of a level
 
--- The next item's type stands in the table, and it begins in the value.
+-- The next item's type is in the table, and it begins in the value.
 pub record NextFits (nodes : List Node) (l : Level) : Type 0 where
   pub next : HasNext nodes l.value l.value.order
   pub there : IsSome (slice_get nodes l.value.node)

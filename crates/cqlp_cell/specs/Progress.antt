@@ -20,7 +20,7 @@ use Rattle.cqlp_cell.specs.declared.progress.CellProgress.{CellProgress}
 use Rattle.cqlp_kind.specs.CellStep.{CellSymbol, Value_of, Items_of, Close_of, Content_from, CellPlace, cell_copies, values_of}
 use Rattle.cqlp_kind.specs.CellStep.{reads_further}
 use Rattle.cqlp_cell.specs.OpenValues.{last_open, with_last}
-use Rattle.cqlp_type.specs.Forests.{types_at, node_at, Stand}
+use Rattle.cqlp_type.specs.Forests.{types_at, node_at, Conform}
 
 -- What contracts see of a reader: the caller's rules, the offset of what is read next and the end of the cell's
 -- container, what is read next and how much of it has come, and the open values, the outermost first.
@@ -98,7 +98,7 @@ module _ (nodes : List Node) where
   symbols_for stop os next.Items = all_open_symbols 0 os
   symbols_for stop os (next.Part offset total) = Content_from (length os) offset total ∷ all_open_symbols 0 os
 
-  -- where the reader stands
+  -- where the reader is
   abbrev pub place : CellState → CellPlace
   place d = record { offset = d.offset; symbols = symbols_for d.stop d.open_values d.next }
 
@@ -194,28 +194,28 @@ further_by l left _ = false
 abbrev pub has_further : Rules → OpenValue → (offset : ℕ) → Bool
 has_further l o offset = further_by l (o.stop - offset) o.order
 
--- ---- what stands in the table
+-- ---- what is in the table
 
 module _ (nodes : List Node) (l : Rules) where
-  -- the types of the items that are left stand in the table, and are not nested too deep
-  abbrev pub TypesStand : (level : ℕ) → OpenValue → Order → Type 0
-  TypesStand level o order.Fields = Stand nodes o.node o.left (l.depth - (level + 1)) × (o.items + o.left < 2 ^ 16)
-  TypesStand level o order.Elements = Stand nodes o.node 1 (l.depth - (level + 1))
-  TypesStand level o order.Keys =
-      Stand nodes o.node 1 (l.depth - (level + 1)) × Stand nodes o.other 1 (l.depth - (level + 1))
-  TypesStand level o order.Values =
-      Stand nodes o.node 1 (l.depth - (level + 1)) × Stand nodes o.other 1 (l.depth - (level + 1))
+  -- the types of the items that are left are in the table, and are not nested too deep
+  abbrev pub TypesConform : (level : ℕ) → OpenValue → Order → Type 0
+  TypesConform level o order.Fields = Conform nodes o.node o.left (l.depth - (level + 1)) × (o.items + o.left < 2 ^ 16)
+  TypesConform level o order.Elements = Conform nodes o.node 1 (l.depth - (level + 1))
+  TypesConform level o order.Keys =
+      Conform nodes o.node 1 (l.depth - (level + 1)) × Conform nodes o.other 1 (l.depth - (level + 1))
+  TypesConform level o order.Values =
+      Conform nodes o.node 1 (l.depth - (level + 1)) × Conform nodes o.other 1 (l.depth - (level + 1))
 
   -- values that are open, one in the other, from this level on in a container that ends at stop
   abbrev pub AreOpen : (level stop : ℕ) → List OpenValue → Type 0
   AreOpen level stop [] = Unit {0}
   AreOpen level stop (o ∷ os) =
-      (o.stop ≤ stop) × (level < l.depth) × TypesStand level o o.order × AreOpen (level + 1) o.stop os
+      (o.stop ≤ stop) × (level < l.depth) × TypesConform level o o.order × AreOpen (level + 1) o.stop os
 
-  -- the cell's type stands in the table, and is not nested too deep
-  abbrev pub CellStands : Option ℕ → Type 0
-  CellStands None = Unit {0}
-  CellStands (Some node) = Stand nodes node 1 l.depth
+  -- the cell's type is in the table, and is not nested too deep
+  abbrev pub CellConforms : Option ℕ → Type 0
+  CellConforms None = Unit {0}
+  CellConforms (Some node) = Conform nodes node 1 l.depth
 
 -- where the innermost value ends
 abbrev pub last_stop : (stop : ℕ) → List OpenValue → ℕ
@@ -227,26 +227,26 @@ abbrev pub still_due : NextInCell → ℕ
 still_due (next.Part offset total) = total - offset
 still_due _ = 0
 
-abbrev pub NextStands : List Node → Rules → List OpenValue → NextInCell → Type 0
-NextStands nodes l os next.Nothing = os ≡ []
-NextStands nodes l os (next.Cell node) = (os ≡ []) × CellStands nodes l node
-NextStands nodes l os next.Items = Unit {0}
-NextStands nodes l os (next.Part offset total) = (offset < total) × (0 < l.cell)
+abbrev pub NextConforms : List Node → Rules → List OpenValue → NextInCell → Type 0
+NextConforms nodes l os next.Nothing = os ≡ []
+NextConforms nodes l os (next.Cell node) = (os ≡ []) × CellConforms nodes l node
+NextConforms nodes l os next.Items = Unit {0}
+NextConforms nodes l os (next.Part offset total) = (offset < total) × (0 < l.cell)
 
--- What is read next and the open values stand in the table, one in the other.
-pub record Stands (nodes : List Node) (d : CellState) : Type 0 where
-  pub open_stand : AreOpen nodes d.rules 0 d.stop d.open_values
+-- What is read next and the open values are in the table, one in the other.
+pub record Conforms (nodes : List Node) (d : CellState) : Type 0 where
+  pub open_conform : AreOpen nodes d.rules 0 d.stop d.open_values
   pub within : d.offset + still_due d.next ≤ last_stop d.stop d.open_values
-  pub next_stands : NextStands nodes d.rules d.open_values d.next
+  pub next_conforms : NextConforms nodes d.rules d.open_values d.next
   pub bounded : d.stop < 2 ^ 64
 
--- an open value has a next item, whose type stands in the table
+-- an open value has a next item, whose type is in the table
 abbrev pub HasNext : List Node → OpenValue → Order → Type 0
 HasNext nodes o order.Elements = 0 < o.left
 HasNext nodes o order.Keys = 0 < o.left
 HasNext nodes o order.Values = Unit {0}
 HasNext nodes o order.Fields =
-    (depth : ℕ) × (0 < o.left) × (o.items + o.left < 2 ^ 16) × Stand nodes o.node o.left depth
+    (depth : ℕ) × (0 < o.left) × (o.items + o.left < 2 ^ 16) × Conform nodes o.node o.left depth
 
 -- the node of a cell's type, if it has one, is there
 abbrev pub CellThere : List Node → Option ℕ → Type 0

@@ -13,7 +13,7 @@ use Rattle.cqlp_cell.specs.declared.progress.NextInCell.TheVariants as next
 use Rattle.cqlp_cell.specs.declared.progress.Arrived.TheVariants as arrived
 use Rattle.cqlp_kind.specs.CellStep.{CellEvent, CellPlace, cell_step}
 use Rattle.cqlp_cell.specs.Items.{content_length, event_of}
-use Rattle.cqlp_cell.specs.Progress.{CellState, ended, is_under_way, place, Stands}
+use Rattle.cqlp_cell.specs.Progress.{CellState, ended, is_under_way, place, Conforms}
 use Rattle.cqlp_cell.specs.Reading.{Joined, HaveCome, gathered}
 
 -- a reader that has read nothing
@@ -61,12 +61,12 @@ module _ (nodes : List Node) where
       (rest : List ℕ) × Runs (cell_step old.rules) start (s ++ input) es (place nodes old) rest
       × (says (cell_step old.rules (place nodes old)) 0 rest ≡ Bad (r.at, r.why))
 
-  -- The cell is still under way, as its types stand in the table; or it has ended. An item takes some byte, or it ends
+  -- The cell is still under way, as its types are in the table; or it has ended. An item takes some byte, or it ends
   -- a value that is open.
   abbrev pub Continues : CellState → CellPush → CellState → Type 0
-  Continues old (push.More used) new = (is_under_way new ≡ true) × (new.rules ≡ old.rules) × Stands nodes new
+  Continues old (push.More used) new = (is_under_way new ≡ true) × (new.rules ≡ old.rules) × Conforms nodes new
   Continues old (push.Item at used e) new =
-      (is_under_way new ≡ true) × (new.rules ≡ old.rules) × Stands nodes new
+      (is_under_way new ≡ true) × (new.rules ≡ old.rules) × Conforms nodes new
       × (length new.open_values < length old.open_values + 2 * used)
   Continues old push.Done new = new ≡ ended old
   Continues old (push.Refused r) new = new ≡ ended old

@@ -28,14 +28,14 @@ use Rattle.cqlp_cell.specs.declared.progress.CellDue.TheVariants as due
 use Rattle.cqlp_cell.specs.declared.progress.DueValue.{DueValue}
 use Rattle.cqlp_cell.specs.declared.progress.CellProgress.{CellProgress}
 use Rattle.cqlp_type.specs.Table.{Table}
-use Rattle.cqlp_type.specs.Forests.{node_at, Stand}
+use Rattle.cqlp_type.specs.Forests.{node_at, Conform}
 use Rattle.cqlp_kind.specs.CellStep.{CellEvent, CellPlace, cell_step, sized_step}
 use Rattle.cqlp_cell.specs.Items.{content_at, event_at, CanLend}
 use Rattle.cqlp_cell.specs.Gathering.{IsGathering, seen_before}
 use Rattle.cqlp_cell.specs.Numbers.{IsCounting}
 use Rattle.cqlp_cell.specs.Sizes.{sized_as, CanBe, HasRoom}
 use Rattle.cqlp_cell.specs.Progress.{CellState, state_of, ended, is_under_way, place, due_value, state_after, rest_of, due_of}
-use Rattle.cqlp_cell.specs.Progress.{has_further, Stands}
+use Rattle.cqlp_cell.specs.Progress.{has_further, Conforms}
 use Rattle.cqlp_cell.specs.OpenValues.{last_open}
 use Rattle.cqlp_cell.specs.Coming.{inner_of, room_of}
 
@@ -118,14 +118,14 @@ module _ (nodes : List Node) where
       (due_of d ≡ due.Value) × IsGathering true d.rules.cell (d.offset + 4) 0 p × Decided d n (size.Parts n)
   UnderBy d p arrived.Later = PartUnder d p d.next
 
-  -- A `Partial` is what it is where the reader stands: it reads what the reader wants, or nothing.
+  -- A `Partial` is what it is where the reader is: it reads what the reader wants, or nothing.
   pub record Joined (d : CellState) (p : FieldState) : Type 0 where
     pub longest : d.rules.cell ≤ p.room
     pub under_way : UnderBy d p d.arrived
 
   -- ---- what a call does
 
-  -- A step says this event at this offset, of k bytes, and leads to where the reader stands.
+  -- A step says this event at this offset, of k bytes, and leads to where the reader is.
   pub record Emits (said : StepAnswer) (at k : ℕ) (e : CellEvent) (new : CellState) : Type 0 where
     pub x : Emitted CellEvent CellPlace
     pub is : said ≡ Got x k
@@ -166,7 +166,7 @@ module _ (nodes : List Node) where
     pub held : IsHeld i input q.content used
     pub rules : new.rules ≡ old.rules
     pub stop : new.stop ≡ old.stop
-    pub stands : Stands nodes new
+    pub conforms : Conforms nodes new
     pub onward : new.offset ≡ old.offset + (base + used)
     pub goes_after : IsAfterItem new.next
     pub pays : length new.open_values < length old.open_values + 2 * used
@@ -235,17 +235,17 @@ entered d o = record d { open_values = d.open_values ++ o ∷ [] }
 abbrev pub EntersCounted : List Node → CellState → (len count : ℕ) → CellState → Type 0
 EntersCounted nodes old len count new =
     (new ≡ entered (state_after nodes old 8) (counted_open nodes (due_value nodes old) (old.offset + 4 + len) count))
-    × Stands nodes new
+    × Conforms nodes new
 
 -- A tuple or a user-defined type of this many bytes is open.
 abbrev pub EntersFields : List Node → CellState → (len : ℕ) → CellState → Type 0
 EntersFields nodes old len new =
     (new ≡ entered (state_after nodes old 4) (fields_open (due_value nodes old) (old.offset + 4 + len)))
-    × Stands nodes new
+    × Conforms nodes new
 
--- the first inner type of a map stands in the table
-abbrev pub InnerStands : List Node → DueValue → Type 0
-InnerStands nodes v = (v.kind ≡ kind.Map) → (depth : ℕ) × Stand nodes v.inner 2 depth
+-- the first inner type of a map is in the table
+abbrev pub InnerConforms : List Node → DueValue → Type 0
+InnerConforms nodes v = (v.kind ≡ kind.Map) → (depth : ℕ) × Conform nodes v.inner 2 depth
 
 -- the length that has come of the item under way
 abbrev pub length_under : Arrived → Option ℕ
@@ -275,7 +275,7 @@ HaveCome bytes u seen = AreBytes (length_under u) (seen_under u seen) bytes
 
 -- What the end of the innermost value does, whatever table and `Partial` there are, where nothing behind it is read on.
 abbrev pub Closes : CellState → CellAdvance → CellState → Type 0
-Closes old a new = (nodes : List Node) (p : FieldState) (input : List ℕ) → Stands nodes old → p.under_way ≡ false
+Closes old a new = (nodes : List Node) (p : FieldState) (input : List ℕ) → Conforms nodes old → p.under_way ≡ false
     → Settles nodes old p input (step_says nodes old input) 0 (HaveCome input) a new p
 
 -- A call ends a cell that is whole, or it does what the step says of the bytes that have come and the input.

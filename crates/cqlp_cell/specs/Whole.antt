@@ -50,7 +50,7 @@ abbrev pub TakesBare : List Node → CellState → List ℕ → Option BareItem 
 TakesBare nodes old input None new = new ≡ old
 TakesBare nodes old input (Some t) new = IsWhole nodes old input t.at t.used (outline_of t.part) new
 
--- What is next is the beginning of a list, a set or a map, and the reading stands in it from now on; or nothing is done.
+-- What is next is the beginning of a list, a set or a map, and the reading is in it from now on; or nothing is done.
 abbrev pub Enters : List Node → CellState → List ℕ → Option Entered → CellState → Type 0
 Enters nodes old input None new = new ≡ old
 Enters nodes old input (Some t) new =
@@ -61,16 +61,16 @@ abbrev pub Leaves : List Node → CellState → BareItem → CellState → Type 
 Leaves nodes old t new =
     ((input : List ℕ) → IsWhole nodes old input t.at t.used (outline_of t.part) new) × (is_done new ≡ true)
 
--- What is next of a reader that stands in a level is the end of the cell, which takes no byte; or nothing is said.
+-- What is next of a reader that is in a level is the end of the cell, which takes no byte; or nothing is said.
 abbrev pub Ends : List Node → CellState → Level → Option BareItem → Type 0
 Ends nodes d l None = ⊤
 Ends nodes d l (Some t) = Leaves nodes (with_level d l) t (record d { offset = l.offset; open_values = [] })
 
--- where a reader would be that begins the next cell of its container, of the type at this node, where a level stands
+-- where a reader would be that begins the next cell of its container, of the type at this node, where a level is
 abbrev pub next_begun : CellState → Level → (node : ℕ) → CellState
 next_begun d l node = begun d (Some node) l.offset d.stop
 
--- What is next there is the beginning of a list, a set or a map, and a reader that goes on where its level stands has read
+-- What is next there is the beginning of a list, a set or a map, and a reader that goes on where its level is has read
 -- just that; or nothing is said.
 abbrev pub EntersNext : List Node → CellState → Level → (node : ℕ) → List ℕ → Option Entered → Type 0
 EntersNext nodes d l node input None = ⊤

@@ -3,7 +3,7 @@
 ghost use Rattle.std.specs.Prelude.{◌≡◌, ◌+◌, ◌^◌, ◌<◌, ◌≤◌, ◌↔◌, IfSome, IsSome, IsTrue, List, false};
 ghost use Rattle.cqlp_kind.specs.declared.node.Node.{Node};
 ghost use Rattle.cqlp_cell.specs.declared.open_values.Order.TheVariants as order;
-ghost use Rattle.cqlp_cell.specs.Progress.{CellState, HasNext, Stands, is_over};
+ghost use Rattle.cqlp_cell.specs.Progress.{CellState, HasNext, Conforms, is_over};
 ghost use Rattle.cqlp_cell.specs.Whole.{Ends};
 ghost use Rattle.cqlp_cell.specs.Levels.{ArePair, IsInLevel, NextFits, due_at, due_element, element_if, passed, passed_element, with_level};
 
@@ -13,8 +13,8 @@ use cqlp_kind::Kind;
 use cqlp_type::TypeTable;
 use std::alloc::Allocator;
 
-/// A copy of the innermost value that is open, and of where the reading stands in it. A loop over its items changes this in
-/// place of the reader, which `CellReader::set_level` then brings to where the loop stands.
+/// A copy of the innermost value that is open, and of where the reading is in it. A loop over its items changes this in
+/// place of the reader, which `CellReader::set_level` then brings to where the loop is.
 #[derive(Clone, Copy)]
 pub struct Level {
     pub(crate) value: OpenValue,
@@ -55,7 +55,7 @@ impl Level {
     /// The end of the value that this is, where that is a cell and at its end.
     #[inline(always)]
     pub fn ending(&self) -> Option<BareItem>
-        ensures is { (nodes : List Node) (d : CellState) → IsInLevel d self.now → Stands nodes (with_level d self.now)
+        ensures is { (nodes : List Node) (d : CellState) → IsInLevel d self.now → Conforms nodes (with_level d self.now)
             → Ends nodes d self.now result }
         ensures alone { IsSome result → self.now.level ≤ 1 }
         ensures bare { IfSome result (λ t. t.used ≡ 0) }

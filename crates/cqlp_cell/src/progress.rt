@@ -65,7 +65,7 @@ pub(crate) struct DueValue {
     pub stop: u64,
 }
 
-/// Where the reading of a cell stands.
+/// Where the reading of a cell is.
 #[derive(Drop)]
 pub(crate) struct CellProgress<A: Allocator> {
     pub limits: Asked,
@@ -79,7 +79,7 @@ pub(crate) struct CellProgress<A: Allocator> {
 }
 
 impl<A: Allocator> CellProgress<A> {
-    ghost use Rattle.cqlp_cell.specs.Progress.{state_of, due_of, due_value, state_after, ended, Stands};
+    ghost use Rattle.cqlp_cell.specs.Progress.{state_of, due_of, due_value, state_after, ended, Conforms};
 
     /// What comes next, where nothing of it has come.
     #[inline]
@@ -106,7 +106,7 @@ impl<A: Allocator> CellProgress<A> {
     /// The value that is read next.
     #[inline]
     pub(crate) fn value(&self, table: &TypeTable<A>) -> DueValue
-        requires stands { Stands table.now.nodes (state_of self.now) }
+        requires conforms { Conforms table.now.nodes (state_of self.now) }
         requires due { due_of (state_of self.now) ≡ due.Value }
         ensures { result ≡ due_value table.now.nodes (state_of self.now) }
     {
@@ -124,7 +124,7 @@ impl<A: Allocator> CellProgress<A> {
     /// Goes on after this many bytes of the value that was read, or of what is known of it.
     #[inline(always)]
     pub(crate) fn pass(&mut self, size: u64, table: &TypeTable<A>)
-        requires stands { Stands table.now.nodes (state_of self.old) }
+        requires conforms { Conforms table.now.nodes (state_of self.old) }
         requires due { due_of (state_of self.old) ≡ due.Value }
         requires place { self.old.offset + size < 2 ^ 64 }
         ensures state { state_of self.new ≡ state_after table.now.nodes (state_of self.old) size }

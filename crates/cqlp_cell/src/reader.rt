@@ -15,7 +15,7 @@ use cqlp_type::TypeTable;
 use std::alloc::{Allocator, Global};
 use std::marker::Model;
 
-/// Reads cells, one at a time, as events. Their contents are read in the caller's `Partial`, and their types stand in
+/// Reads cells, one at a time, as events. Their contents are read in the caller's `Partial`, and their types are in
 /// the caller's table. Section 6 of `native_protocol_v4.spec`.
 #[derive(Drop)]
 pub struct CellReader<A: Allocator = Global> {
@@ -34,7 +34,7 @@ impl<A: Allocator> Model for CellReader<A> {
 
 impl<A: Allocator> CellReader<A> {
     ghost use Rattle.cqlp_note.specs.Lending.{LeavesField};
-    ghost use Rattle.cqlp_cell.specs.Progress.{Stands, ended, is_under_way};
+    ghost use Rattle.cqlp_cell.specs.Progress.{Conforms, ended, is_under_way};
     ghost use Rattle.cqlp_kind.specs.declared.node.Node.{Node};
     ghost use Rattle.cqlp_cell.specs.Reading.{Answers, Empties, HaveCome, Joined, Moves};
     ghost use Rattle.cqlp_cell.specs.Pushing.{Continues, Pushes, Uses, begun, is_done, new_reader};
@@ -121,7 +121,7 @@ impl<A: Allocator> CellReader<A> {
 
     /// How many bytes of the stream were used: those before what is read next, and those of it that have come.
     pub fn bytes_used(&self, partial: &Partial<A>) -> u64
-        requires { (nodes : List Node) × Stands nodes self.now × Joined nodes self.now partial.now }
+        requires { (nodes : List Node) × Conforms nodes self.now × Joined nodes self.now partial.now }
         ensures { (b : List ℕ) → HaveCome b self.now.arrived partial.now.seen → result ≡ self.now.offset + length b }
     {
         match self.progress.arrived {
@@ -141,7 +141,7 @@ impl<A: Allocator> CellReader<A> {
         input: &[u8],
     ) -> CellAdvance
         requires under_way { is_under_way self.old ≡ true }
-        requires stands { Stands table.now.nodes self.old }
+        requires conforms { Conforms table.now.nodes self.old }
         requires joined { Joined table.now.nodes self.old partial.old }
         ensures moves { Moves table.now.nodes self.old partial.old input.now result self.new partial.new }
         ensures answers { Answers self.old input.now result }
@@ -150,7 +150,7 @@ impl<A: Allocator> CellReader<A> {
         self.progress.advance(partial, table, input)
     }
 
-    /// A copy of the innermost value that is open, where what is read next stands in it and nothing of that has come.
+    /// A copy of the innermost value that is open, where what is read next is in it and nothing of that has come.
     #[inline(always)]
     pub fn level(&self) -> Option<Level>
         ensures { result ≡ level_of self.now }
@@ -158,7 +158,7 @@ impl<A: Allocator> CellReader<A> {
         self.progress.level()
     }
 
-    /// Goes on where a level stands: it is the innermost value from now on, if one is open.
+    /// Goes on where a level is: it is the innermost value from now on, if one is open.
     #[inline(always)]
     pub fn set_level(&mut self, level: Level)
         ensures { self.new ≡ with_level self.old level }
@@ -170,7 +170,7 @@ impl<A: Allocator> CellReader<A> {
     /// input alone, and all its bytes lie in it; else it does nothing.
     #[inline(always)]
     pub fn take_bare(&mut self, table: &TypeTable<A>, input: &[u8]) -> Option<BareItem>
-        requires { Stands table.now.nodes self.old }
+        requires { Conforms table.now.nodes self.old }
         ensures { TakesBare table.now.nodes self.old input.now result self.new }
     {
         self.progress.take_bare(table, input)
@@ -180,13 +180,13 @@ impl<A: Allocator> CellReader<A> {
     /// the input alone, and its length and its count lie in it; else it does nothing.
     #[inline(always)]
     pub fn enter(&mut self, table: &TypeTable<A>, input: &[u8]) -> Option<Entered>
-        requires { Stands table.now.nodes self.old }
+        requires { Conforms table.now.nodes self.old }
         ensures { Enters table.now.nodes self.old input.now result self.new }
     {
         self.progress.enter_value(table, input)
     }
 
-    /// Looks into the cell after the one that is under way, of the type at this node, where a level stands at the end of this
+    /// Looks into the cell after the one that is under way, of the type at this node, where a level is at the end of this
     /// one: the beginning of a list, a set or a map, if its length and its count are lawful and lie in the input. A reader
     /// that is set to the level that is answered has ended the one cell and entered the other.
     #[inline(always)]
@@ -199,7 +199,7 @@ impl<A: Allocator> CellReader<A> {
     ) -> Option<Entered>
         requires inside { IsInLevel self.now level }
         requires alone { level.level ≤ 1 }
-        requires stands { Stands table.now.nodes (next_begun self.now level node) }
+        requires conforms { Conforms table.now.nodes (next_begun self.now level node) }
         ensures { EntersNext table.now.nodes self.now level node input.now result }
     {
         self.progress.enter_next(level, node, table, input)
@@ -216,7 +216,7 @@ impl<A: Allocator> CellReader<A> {
         input: &'a [u8],
     ) -> CellPush<'a>
         requires under_way { is_under_way reader.old ≡ true }
-        requires stands { Stands table.now.nodes reader.old }
+        requires conforms { Conforms table.now.nodes reader.old }
         requires joined { Joined table.now.nodes reader.old partial.old }
         ensures uses { Uses reader.old input.now result }
         ensures reader { Continues table.now.nodes reader.old result reader.new }

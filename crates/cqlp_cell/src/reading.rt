@@ -8,10 +8,10 @@ ghost use Rattle.cqlp_cell.specs.declared.progress.Arrived.TheVariants as arrive
 ghost use Rattle.cqlp_cell.specs.Gathering.{IsGathering, seen_before};
 ghost use Rattle.cqlp_cell.specs.Numbers.{IsCounting};
 ghost use Rattle.cqlp_cell.specs.Sizes.{is_counted};
-ghost use Rattle.cqlp_cell.specs.Progress.{Stands, due_of, due_value, ended, has_further, state_after, state_of};
+ghost use Rattle.cqlp_cell.specs.Progress.{Conforms, due_of, due_value, ended, has_further, state_after, state_of};
 ghost use Rattle.cqlp_cell.specs.Coming.{room_of};
 ghost use Rattle.cqlp_cell.specs.Levels.{level_of};
-ghost use Rattle.cqlp_cell.specs.Reading.{Answers, Closes, Decided, Empties, EntersCounted, EntersFields, InnerStands};
+ghost use Rattle.cqlp_cell.specs.Reading.{Answers, Closes, Decided, Empties, EntersCounted, EntersFields, InnerConforms};
 ghost use Rattle.cqlp_cell.specs.Reading.{IsFurtherUnder, IsLengthUnder, IsPartUnder, Joined, Reads, Sizes, Steps};
 ghost use Rattle.cqlp_cell.specs.Reading.{inner_order as order_inside, next_after};
 
@@ -38,7 +38,7 @@ impl<A: Allocator> CellProgress<A> {
         table: &TypeTable<A>,
         input: &[u8],
     ) -> CellAdvance
-        requires stands { Stands table.now.nodes (state_of self.old) }
+        requires conforms { Conforms table.now.nodes (state_of self.old) }
         requires joined { Joined table.now.nodes (state_of self.old) partial.old }
         requires levels { self.old.open_values.room ≡ self.old.limits.depth }
         requires parts { self.old.limits.parts ≡ true → 0 < self.old.limits.cell }
@@ -57,7 +57,7 @@ impl<A: Allocator> CellProgress<A> {
 
     /// Takes the next bytes of the cell.
     fn step(&mut self, partial: &mut Partial<A>, table: &TypeTable<A>, input: &[u8]) -> CellAdvance
-        requires stands { Stands table.now.nodes (state_of self.old) }
+        requires conforms { Conforms table.now.nodes (state_of self.old) }
         requires joined { Joined table.now.nodes (state_of self.old) partial.old }
         requires levels { self.old.open_values.room ≡ self.old.limits.depth }
         requires parts { self.old.limits.parts ≡ true → 0 < self.old.limits.cell }
@@ -113,7 +113,7 @@ impl<A: Allocator> CellProgress<A> {
         table: &TypeTable<A>,
         input: &[u8],
     ) -> CellAdvance
-        requires stands { Stands table.now.nodes (state_of self.old) }
+        requires conforms { Conforms table.now.nodes (state_of self.old) }
         requires due { due_of (state_of self.old) ≡ due.Value }
         requires value { value ≡ due_value table.now.nodes (state_of self.old) }
         requires decided { Decided table.now.nodes (state_of self.old) len (size.Scalar len) }
@@ -159,7 +159,7 @@ impl<A: Allocator> CellProgress<A> {
         table: &TypeTable<A>,
         input: &[u8],
     ) -> CellAdvance
-        requires stands { Stands table.now.nodes (state_of self.old) }
+        requires conforms { Conforms table.now.nodes (state_of self.old) }
         requires due { due_of (state_of self.old) ≡ due.Value }
         requires value { value ≡ due_value table.now.nodes (state_of self.old) }
         requires decided { Decided table.now.nodes (state_of self.old) len (size.Counted len) }
@@ -199,7 +199,7 @@ impl<A: Allocator> CellProgress<A> {
         count: u32,
         table: &TypeTable<A>,
     ) -> CellOutline
-        requires stands { Stands table.now.nodes (state_of self.old) }
+        requires conforms { Conforms table.now.nodes (state_of self.old) }
         requires due { due_of (state_of self.old) ≡ due.Value }
         requires value { value ≡ due_value table.now.nodes (state_of self.old) }
         requires decided { Decided table.now.nodes (state_of self.old) len (size.Counted len) }
@@ -219,7 +219,7 @@ impl<A: Allocator> CellProgress<A> {
         }
     }
 
-    /// The same, and says where it stands in it.
+    /// The same, and says where it is in it.
     #[inline(always)]
     pub(crate) fn open_counted(
         &mut self,
@@ -228,7 +228,7 @@ impl<A: Allocator> CellProgress<A> {
         count: u32,
         table: &TypeTable<A>,
     ) -> Level
-        requires stands { Stands table.now.nodes (state_of self.old) }
+        requires conforms { Conforms table.now.nodes (state_of self.old) }
         requires due { due_of (state_of self.old) ≡ due.Value }
         requires value { value ≡ due_value table.now.nodes (state_of self.old) }
         requires decided { Decided table.now.nodes (state_of self.old) len (size.Counted len) }
@@ -267,7 +267,7 @@ impl<A: Allocator> CellProgress<A> {
         len: u32,
         table: &TypeTable<A>,
     ) -> CellOutline
-        requires stands { Stands table.now.nodes (state_of self.old) }
+        requires conforms { Conforms table.now.nodes (state_of self.old) }
         requires due { due_of (state_of self.old) ≡ due.Value }
         requires value { value ≡ due_value table.now.nodes (state_of self.old) }
         requires decided { Decided table.now.nodes (state_of self.old) len (size.Fields len) }
@@ -306,7 +306,7 @@ impl<A: Allocator> CellProgress<A> {
         table: &TypeTable<A>,
         input: &[u8],
     ) -> CellAdvance
-        requires stands { Stands table.now.nodes (state_of self.old) }
+        requires conforms { Conforms table.now.nodes (state_of self.old) }
         requires due { due_of (state_of self.old) ≡ due.Value }
         requires decided { Decided table.now.nodes (state_of self.old) total (size.Parts total) }
         requires under_way { IsGathering begun self.old.limits.cell (self.old.offset + 4) start partial.old }
@@ -353,7 +353,7 @@ impl<A: Allocator> CellProgress<A> {
         table: &TypeTable<A>,
         input: &[u8],
     ) -> CellAdvance
-        requires stands { Stands table.now.nodes (state_of self.old) }
+        requires conforms { Conforms table.now.nodes (state_of self.old) }
         requires next { self.old.next ≡ next.Part offset total }
         requires under_way { IsPartUnder begun offset total (state_of self.old) partial.old }
         requires longest { self.old.limits.cell ≤ partial.old.room }
@@ -394,7 +394,7 @@ impl<A: Allocator> CellProgress<A> {
         table: &TypeTable<A>,
         input: &[u8],
     ) -> CellAdvance
-        requires stands { Stands table.now.nodes (state_of self.old) }
+        requires conforms { Conforms table.now.nodes (state_of self.old) }
         requires due { due_of (state_of self.old) ≡ due.Value }
         requires value { value ≡ due_value table.now.nodes (state_of self.old) }
         requires room { 4 ≤ room_of table.now.nodes (state_of self.old) }
@@ -436,7 +436,7 @@ impl<A: Allocator> CellProgress<A> {
     /// Goes on after a value that has a length alone.
     #[inline]
     fn pass_length(&mut self, item: CellOutline, used: usize, table: &TypeTable<A>) -> CellAdvance
-        requires stands { Stands table.now.nodes (state_of self.old) }
+        requires conforms { Conforms table.now.nodes (state_of self.old) }
         requires due { due_of (state_of self.old) ≡ due.Value }
         requires place { self.old.offset + 4 < 2 ^ 64 }
         ensures answer { result ≡ CellAdvance.Item self.old.offset used item }
@@ -457,7 +457,7 @@ impl<A: Allocator> CellProgress<A> {
         table: &TypeTable<A>,
         input: &[u8],
     ) -> CellAdvance
-        requires stands { Stands table.now.nodes (state_of self.old) }
+        requires conforms { Conforms table.now.nodes (state_of self.old) }
         requires due { due_of (state_of self.old) ≡ due.Value }
         requires under_way { IsLengthUnder table.now.nodes begun (state_of self.old) partial.old }
         requires longest { self.old.limits.cell ≤ partial.old.room }
@@ -488,7 +488,7 @@ impl<A: Allocator> CellProgress<A> {
         table: &TypeTable<A>,
         input: &[u8],
     ) -> CellAdvance
-        requires stands { Stands table.now.nodes (state_of self.old) }
+        requires conforms { Conforms table.now.nodes (state_of self.old) }
         requires due { due_of (state_of self.old) ≡ due.Close value }
         requires fresh { self.old.arrived ≡ arrived.Nothing }
         requires idle { partial.old.under_way ≡ false }
@@ -513,7 +513,7 @@ impl<A: Allocator> CellProgress<A> {
         table: &TypeTable<A>,
         input: &[u8],
     ) -> CellAdvance
-        requires stands { Stands table.now.nodes (state_of self.old) }
+        requires conforms { Conforms table.now.nodes (state_of self.old) }
         requires due { due_of (state_of self.old) ≡ due.Close value }
         requires further { has_further (state_of self.old).rules value self.old.offset ≡ true }
         requires under_way { IsFurtherUnder begun value (state_of self.old) partial.old }
@@ -581,7 +581,7 @@ fn next_part(last: bool, offset: u32, total: u32) -> NextInCell
 /// How the items of a list, a set or a map follow one another, and the node of a map's second type.
 #[inline(always)]
 pub(crate) fn inner_order<A: Allocator>(value: DueValue, table: &TypeTable<A>) -> (Order, u32)
-    requires { InnerStands table.now.nodes value }
+    requires { InnerConforms table.now.nodes value }
     ensures { result ≡ order_inside table.now.nodes value }
 {
     match value.kind {

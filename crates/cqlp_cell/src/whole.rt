@@ -8,7 +8,7 @@ ghost use Rattle.cqlp_cell.specs.declared.progress.CellDue.TheVariants as due;
 ghost use Rattle.cqlp_cell.specs.declared.progress.Arrived.TheVariants as arrived;
 ghost use Rattle.cqlp_cell.specs.Coming.{room_of};
 ghost use Rattle.cqlp_cell.specs.Reading.{Decided};
-ghost use Rattle.cqlp_cell.specs.Progress.{Stands, due_of, due_value, state_of};
+ghost use Rattle.cqlp_cell.specs.Progress.{Conforms, due_of, due_value, state_of};
 ghost use Rattle.cqlp_cell.specs.Levels.{IsInLevel, level_of, with_level};
 ghost use Rattle.cqlp_cell.specs.Whole.{Enters, EntersNext, TakesBare, next_begun};
 
@@ -54,7 +54,7 @@ pub enum BarePart {
     Leave { level: u32, items: u32 },
 }
 
-/// The beginning of a list, a set or a map, and where the reading stands in it.
+/// The beginning of a list, a set or a map, and where the reading is in it.
 #[derive(Clone, Copy)]
 pub struct Entered {
     pub item: BareItem,
@@ -62,7 +62,7 @@ pub struct Entered {
 }
 
 impl<A: Allocator> CellProgress<A> {
-    /// The innermost value that is open, where what is read next stands in it and nothing of that has come.
+    /// The innermost value that is open, where what is read next is in it and nothing of that has come.
     #[inline(always)]
     pub(crate) fn level(&self) -> Option<Level>
         ensures { result ≡ level_of (state_of self.now) }
@@ -83,7 +83,7 @@ impl<A: Allocator> CellProgress<A> {
         })
     }
 
-    /// Goes on where a level stands, which is the innermost value from now on.
+    /// Goes on where a level is, which is the innermost value from now on.
     #[inline(always)]
     pub(crate) fn set_level(&mut self, level: Level)
         ensures state { state_of self.new ≡ with_level (state_of self.old) level }
@@ -97,7 +97,7 @@ impl<A: Allocator> CellProgress<A> {
     /// Takes what is next, where it has no content and all its bytes lie in the input.
     #[inline(always)]
     pub(crate) fn take_bare(&mut self, table: &TypeTable<A>, input: &[u8]) -> Option<BareItem>
-        requires stands { Stands table.now.nodes (state_of self.old) }
+        requires conforms { Conforms table.now.nodes (state_of self.old) }
         requires levels { self.old.open_values.room ≡ self.old.limits.depth }
         ensures takes { TakesBare table.now.nodes (state_of self.old) input.now result (state_of self.new) }
         ensures room { self.new.open_values.room ≡ self.old.open_values.room }
@@ -130,7 +130,7 @@ impl<A: Allocator> CellProgress<A> {
     /// Takes the value that is next, where it has no content, or goes on inside it.
     #[inline(always)]
     fn take_front(&mut self, table: &TypeTable<A>, input: &[u8]) -> Option<BareItem>
-        requires stands { Stands table.now.nodes (state_of self.old) }
+        requires conforms { Conforms table.now.nodes (state_of self.old) }
         requires fresh { self.old.arrived ≡ arrived.Nothing }
         requires due { due_of (state_of self.old) ≡ due.Value }
         requires levels { self.old.open_values.room ≡ self.old.limits.depth }
@@ -188,7 +188,7 @@ impl<A: Allocator> CellProgress<A> {
         table: &TypeTable<A>,
         input: &[u8],
     ) -> Option<BareItem>
-        requires stands { Stands table.now.nodes (state_of self.old) }
+        requires conforms { Conforms table.now.nodes (state_of self.old) }
         requires fresh { self.old.arrived ≡ arrived.Nothing }
         requires due { due_of (state_of self.old) ≡ due.Value }
         requires value { value ≡ due_value table.now.nodes (state_of self.old) }
@@ -226,7 +226,7 @@ impl<A: Allocator> CellProgress<A> {
     /// input.
     #[inline(always)]
     pub(crate) fn enter_value(&mut self, table: &TypeTable<A>, input: &[u8]) -> Option<Entered>
-        requires stands { Stands table.now.nodes (state_of self.old) }
+        requires conforms { Conforms table.now.nodes (state_of self.old) }
         requires levels { self.old.open_values.room ≡ self.old.limits.depth }
         ensures enters { Enters table.now.nodes (state_of self.old) input.now result (state_of self.new) }
         ensures room { self.new.open_values.room ≡ self.old.open_values.room }
@@ -259,7 +259,7 @@ impl<A: Allocator> CellProgress<A> {
         table: &TypeTable<A>,
         input: &[u8],
     ) -> Option<Entered>
-        requires stands { Stands table.now.nodes (state_of self.old) }
+        requires conforms { Conforms table.now.nodes (state_of self.old) }
         requires fresh { self.old.arrived ≡ arrived.Nothing }
         requires due { due_of (state_of self.old) ≡ due.Value }
         requires value { value ≡ due_value table.now.nodes (state_of self.old) }
@@ -291,7 +291,7 @@ impl<A: Allocator> CellProgress<A> {
     }
 
     /// The beginning of the list, the set or the map that the next cell of the container is, of the type at this node, where a
-    /// level stands at the end of the cell before.
+    /// level is at the end of the cell before.
     #[inline(always)]
     pub(crate) fn enter_next(
         &self,
@@ -302,7 +302,7 @@ impl<A: Allocator> CellProgress<A> {
     ) -> Option<Entered>
         requires inside { IsInLevel (state_of self.now) level }
         requires alone { level.level ≤ 1 }
-        requires stands { Stands table.now.nodes (next_begun (state_of self.now) level node) }
+        requires conforms { Conforms table.now.nodes (next_begun (state_of self.now) level node) }
         ensures { EntersNext table.now.nodes (state_of self.now) level node input.now result }
     {
         let value = value_at(table, node, self.stop);
@@ -330,7 +330,7 @@ impl<A: Allocator> CellProgress<A> {
     ) -> Option<Entered>
         requires inside { IsInLevel (state_of self.now) level }
         requires alone { level.level ≤ 1 }
-        requires stands { Stands table.now.nodes (next_begun (state_of self.now) level node) }
+        requires conforms { Conforms table.now.nodes (next_begun (state_of self.now) level node) }
         requires value { value ≡ due_value table.now.nodes (next_begun (state_of self.now) level node) }
         requires decided { Decided table.now.nodes (next_begun (state_of self.now) level node) len (size.Counted len) }
         requires room { 4 ≤ room_of table.now.nodes (next_begun (state_of self.now) level node) }

@@ -378,24 +378,24 @@ module _ (gifts : Gifts) (l : Rules) (s input : List ℕ) (es : List (ℕ × Eve
       through_all : (emitted : List (ℕ × Event)) → Reached used emitted → Through emitted
       through_all emitted r = (r.place, r.rest, r.run)
 
-      -- the decoder stands after the bytes used and these events
-      abbrev StandsAfter : (emitted : List (ℕ × Event)) → Type 0
-      StandsAfter emitted = AfterGifts gifts new (s ++ take used input) (es ++ emitted)
+      -- the decoder is after the bytes used and these events
+      abbrev LiesAfter : (emitted : List (ℕ × Event)) → Type 0
+      LiesAfter emitted = AfterGifts gifts new (s ++ take used input) (es ++ emitted)
 
       abbrev Made : Why → Type 0
-      Made w = (o : Outcome c used w) × IsEmitted m w before after o.other × StandsAfter (o.cells ++ o.other)
+      Made w = (o : Outcome c used w) × IsEmitted m w before after o.other × LiesAfter (o.cells ++ o.other)
 
       -- no other event
-      alone : StandsAfter cells → StandsAfter (cells ++ [])
-      alone a = subst StandsAfter (sym (append-nil cells)) a
+      alone : LiesAfter cells → LiesAfter (cells ++ [])
+      alone a = subst LiesAfter (sym (append-nil cells)) a
 
       at_other : (x : ℕ × Event) → AfterGifts gifts new (s ++ take used input) ((es ++ cells) ++ x ∷ []) → IsRead gifts new.rules (s ++ take used input)
-          ((es ++ cells) ++ x ∷ []) → StandsAfter (cells ++ x ∷ []) × Stops used (cells ++ x ∷ []) × Through (cells ++ x ∷ [])
+          ((es ++ cells) ++ x ∷ []) → LiesAfter (cells ++ x ∷ []) × Stops used (cells ++ x ∷ []) × Through (cells ++ x ∷ [])
       at_other x a e =
           let there = append_assoc es cells (x ∷ []) in
-          let stands = subst (λ (z : List (ℕ × Event)). AfterGifts gifts new (s ++ take used input) z) there a in
-          let r = reached_by new.refusal new used (cells ++ x ∷ []) rules stands in (
-            stands,
+          let conforms = subst (λ (z : List (ℕ × Event)). AfterGifts gifts new (s ++ take used input) z) there a in
+          let r = reached_by new.refusal new used (cells ++ x ∷ []) rules conforms in (
+            conforms,
             stops_there used (cells ++ x ∷ []) within r (inr (subst (λ (z : List (ℕ × Event)). IsRead gifts l (s ++ take used input) z) there
                 (rw rules at e))),
             through_all (cells ++ x ∷ []) r,
@@ -498,8 +498,8 @@ module _ {S : Type 0} (m : sink.Ghosts S) (gifts : Gifts) (s : List ℕ) (es : L
   again_used r true = refl
   again_used r false = refl
 
-  stands_again : (n : StreamState) (g : Filled) → n ≡ old → g.used ≡ 0 → AfterGifts gifts n (s ++ take g.used input) (es ++ [])
-  stands_again n g same none = rw (same, none, append-nil s, append-nil es) a
+  conforms_again : (n : StreamState) (g : Filled) → n ≡ old → g.used ≡ 0 → AfterGifts gifts n (s ++ take g.used input) (es ++ [])
+  conforms_again n g same none = rw (same, none, append-nil s, append-nil es) a
 
   refused_before : (r : Refusal) → old.refusal ≡ Some r → One
   refused_before r is =
@@ -517,8 +517,8 @@ module _ {S : Type 0} (m : sink.Ghosts S) (gifts : Gifts) (s : List ℕ) (es : L
         other = [];
         emitted = again_emitted r full f after p.0 p.3;
         emitted' = again_emitted r full f' after' q.0 q.3;
-        stands = stands_again new f p.1 none;
-        stands' = stands_again new' f q.1 none;
+        conforms = conforms_again new f p.1 none;
+        conforms' = conforms_again new' f q.1 none;
         refusal = ap (λ (n : StreamState). n.refusal) (q.1 ∙ sym p.1);
         rules = y.rules ∙ sym x.rules;
         given = y.given ∙ sym x.given;
@@ -542,8 +542,8 @@ module _ {S : Type 0} (m : sink.Ghosts S) (gifts : Gifts) (s : List ℕ) (es : L
         other = p.0.other;
         emitted = p.1;
         emitted' = subst (λ (z : List (ℕ × Event)). IsEmitted m f'.stop before after' z) same.3 q.1;
-        stands = p.2;
-        stands' = subst (λ (n : ℕ). AfterGifts gifts new' (s ++ take n input) (es ++ (p.0.cells ++ p.0.other))) same.1 (subst (λ (z : List (ℕ
+        conforms = p.2;
+        conforms' = subst (λ (n : ℕ). AfterGifts gifts new' (s ++ take n input) (es ++ (p.0.cells ++ p.0.other))) same.1 (subst (λ (z : List (ℕ
             × Event)). AfterGifts gifts new' (s ++ take f'.used input) (es ++ z)) (λ i. same.4 i ++ same.3 i) q.2);
         refusal = y.refusal ∙ ap (λ (o : Option Refusal). refusal_after o f'.stop) none ∙ refusal_alike f.stop f'.stop same.2 ∙ sym (x.refusal
             ∙ ap (λ (o : Option Refusal). refusal_after o f.stop) none);

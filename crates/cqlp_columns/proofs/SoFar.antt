@@ -8,11 +8,11 @@ use Rattle.cqlp_grammar.specs.declared.sink.Sink as sink
 use Rattle.cqlp_decode.specs.declared.step.Step.TheVariants as steps
 use Rattle.cqlp_decode.specs.Reading.{Event, Gifts, Reads, Says, Waits, start_with}
 use Rattle.cqlp_decode.specs.Progress.{StreamState, Pending, Kept, Skipped, Valued, IsHeld, IsPending}
-use Rattle.cqlp_decode.specs.Streams.{AfterBy, AfterGifts, LeadsAfter, Refuses, Stands}
+use Rattle.cqlp_decode.specs.Streams.{AfterBy, AfterGifts, LeadsAfter, Refuses, Conforms}
 use Rattle.cqlp_decode.specs.Sinks.{Gets, Fails}
 use Rattle.cqlp_decode.specs.Cells.{Item, TakesItems, GetsAll, HandsOut, FailsAfter, bytes_of, emitted_of}
 use Rattle.cqlp_decode.proofs.Gets.{take_two}
-use Rattle.cqlp_decode.proofs.Taken.{takes_stands, takes_within, emitted_append}
+use Rattle.cqlp_decode.proofs.Taken.{takes_conforms, takes_within, emitted_append}
 use Rattle.cqlp_columns.specs.Batches.{Batch, is_full}
 use Rattle.cqlp_columns.specs.Findings.{found_in}
 use Rattle.cqlp_columns.specs.Sorting.{TakesCell, SortsTo, IsOver, takes}
@@ -42,7 +42,7 @@ nothing_pending (Valued u seen) b none is = no_bytes (length_under u) (seen_unde
 
 pub ends_there : (gifts : Gifts) (d : StreamState) (s : List ℕ) (es : List (ℕ × Event)) → d.refusal ≡ None → IsPending d.pending [] → AfterGifts gifts d s es → IsRead gifts d.rules s es
 ends_there gifts d s es none begun a =
-    let st : Stands gifts d s es = subst (λ (o : Option Refusal). AfterBy o gifts d s es) none a in
+    let st : Conforms gifts d s es = subst (λ (o : Option Refusal). AfterBy o gifts d s es) none a in
     (st.place, subst (λ (b : List ℕ). Reads d.rules (start_with gifts) s es st.place b) (nothing_pending d.pending st.bytes begun st.pending) st.read)
 
 -- ---- items
@@ -70,12 +70,12 @@ onward gifts d s input used taken es a = rw (take_two used taken input, ← (app
 pub read_one : (gifts : Gifts) (old new : StreamState) (s input : List ℕ) (es : List (ℕ × Event)) (a b c : Batch) (used taken at : ℕ) (e : Event) → (r : IsSoFar gifts old s input es a b used) → TakesCell b e c → new.refusal ≡ None → IsPending new.pending []
     → AfterGifts gifts new ((s ++ take used input) ++ take taken (drop used input)) ((es ++ r.cells) ++ (at, e) ∷ []) → IsSoFar gifts new s input es a c (used + taken)
 read_one gifts old new s input es a b c used taken at e r t none begun after =
-    let stands : AfterGifts gifts new (s ++ take (used + taken) input) (es ++ (r.cells ++ (at, e) ∷ [])) =
+    let conforms : AfterGifts gifts new (s ++ take (used + taken) input) (es ++ (r.cells ++ (at, e) ∷ [])) =
     rw (← (append_assoc es r.cells ((at, e) ∷ []))) (onward gifts new s input used taken ((es ++ r.cells) ++ (at, e) ∷ []) after) in record {
       cells = r.cells ++ (at, e) ∷ [];
       taken = cells_snoc a b c r.cells (at, e) r.taken t;
-      after = stands;
-      ends = inr (ends_there gifts new (s ++ take (used + taken) input) (es ++ (r.cells ++ (at, e) ∷ [])) none begun stands);
+      after = conforms;
+      ends = inr (ends_there gifts new (s ++ take (used + taken) input) (es ++ (r.cells ++ (at, e) ∷ [])) none begun conforms);
     }
 
 -- ---- items that were handed out
@@ -123,9 +123,9 @@ module _ {P S : Type 0} (Got : P → ℕ → Event → P → Type 0) (columns : 
           all.1,
           all.2,
           λ gifts s es a r.
-              let stands = takes_stands gifts old new (s ++ take used input) (drop used input) (es ++ r.cells) h.items h.takes r.after in
+              let conforms = takes_conforms gifts old new (s ++ take used input) (drop used input) (es ++ r.cells) h.items h.takes r.after in
               let after : AfterGifts gifts new (s ++ take (used + bytes_of h.items) input) (es ++ (r.cells ++ emitted_of h.items)) =
-              rw (← (append_assoc es r.cells (emitted_of h.items))) (onward gifts new s input used (bytes_of h.items) ((es ++ r.cells) ++ emitted_of h.items) stands) in record {
+              rw (← (append_assoc es r.cells (emitted_of h.items))) (onward gifts new s input used (bytes_of h.items) ((es ++ r.cells) ++ emitted_of h.items) conforms) in record {
                 cells = r.cells ++ emitted_of h.items;
                 taken = cells_append a (columns p) (columns q) r.cells (emitted_of h.items) r.taken all.0;
                 after = rw h.all after;
@@ -166,10 +166,10 @@ module _ {S : Type 0} (m : sink.Ghosts S) where
       → new.refusal ≡ None → IsPending new.pending [] → AfterGifts gifts new (s ++ take end input) ((es ++ cells) ++ (at, e) ∷ []) → IsHeld e (length (take end input)) new.held → Fills (Gets m) (Fails m) gifts old new s input es a c x z (stopped_at w end)
   ends gifts old new s input es cells a b c x y z taken free same end at e went.Cell over sorts none begun after held = absurd over
   ends gifts old new s input es cells a b c x y z taken free same end at e went.Last over sorts none begun after held =
-      let stands : AfterGifts gifts new (s ++ take end input) (es ++ (cells ++ (at, e) ∷ [])) = rw (← (append_assoc es cells ((at, e) ∷ []))) after in record {
+      let conforms : AfterGifts gifts new (s ++ take end input) (es ++ (cells ++ (at, e) ∷ [])) = rw (← (append_assoc es cells ((at, e) ∷ []))) after in record {
         cells = cells ++ (at, e) ∷ [];
         taken = cells_snoc a b c cells (at, e) taken sorts.0;
-        stops = (sorts.1, sorts.2 ∙ same, stands, inr (ends_there gifts new _ _ none begun stands));
+        stops = (sorts.1, sorts.2 ∙ same, conforms, inr (ends_there gifts new _ _ none begun conforms));
       }
   ends gifts old new s input es cells a b c x y z taken free same end at e went.Other over sorts none begun after held = record {
     cells = cells;
@@ -199,7 +199,7 @@ module _ {P S : Type 0} (m : sink.Ghosts S) (Got Failed : P → ℕ → Event �
       let over = last h.mid q h.last.at h.last.event h.fault in
       let x : ℕ × Event = (h.last.at, h.last.event) in
       let cells = r.cells ++ emitted_of h.items in
-      let stands = takes_stands gifts old new (s ++ take used input) (drop used input) (es ++ r.cells) (h.items ++ h.last ∷ []) h.takes r.after in
+      let conforms = takes_conforms gifts old new (s ++ take used input) (drop used input) (es ++ r.cells) (h.items ++ h.last ∷ []) h.takes r.after in
       let emitted : (es ++ r.cells) ++ emitted_of (h.items ++ h.last ∷ []) ≡ (es ++ cells) ++ x ∷ [] =
       ap (λ (z : List (ℕ × Event)). (es ++ r.cells) ++ z) (emitted_append h.items (h.last ∷ [])) ∙ sym (append_assoc (es ++ r.cells) (emitted_of h.items) (x ∷ [])) ∙ ap (λ (z : List (ℕ × Event)). z ++ x ∷ []) (append_assoc es r.cells (emitted_of h.items)) in
       let bytes = takes_within old new (drop used input) (h.items ++ h.last ∷ []) h.takes in
@@ -208,7 +208,7 @@ module _ {P S : Type 0} (m : sink.Ghosts S) (Got Failed : P → ℕ → Event �
       let long = length-take-le (used + taken) input (omega (arith, bytes, h.all, within, length-drop used input)) in
       ends m gifts free new s input es cells a (columns h.mid) (columns q) o (other h.mid) (other q) (cells_append a (columns p) (columns h.mid) r.cells (emitted_of h.items) r.taken all.0) all.1 (all.2 ∙ same) (used + taken) h.last.at h.last.event (gone q) over.0 over.1
       begun.1 begun.0
-      (rw h.all (onward gifts new s input used (bytes_of (h.items ++ h.last ∷ [])) ((es ++ cells) ++ x ∷ []) (rw emitted at stands)))
+      (rw h.all (onward gifts new s input used (bytes_of (h.items ++ h.last ∷ [])) ((es ++ cells) ++ x ∷ []) (rw emitted at conforms)))
       (held_longer h.last.event new.held h.last.used _ (omega (arith, few, h.all, long)) (last_held old new (drop used input) h.items h.last h.takes))
 
 all_of : (s input : List ℕ) (used : ℕ) → (s ++ take used input) ++ drop used input ≡ s ++ input

@@ -94,7 +94,7 @@ fits c a = nat_lt (length a.valid) a.rows && nat_le (length (cell_bytes a.layout
 abbrev pub room_in : (rows bytes : ℕ) → Column → Bool
 room_in rows bytes a = nat_lt (length a.valid) rows && nat_le (length a.values) bytes
 
--- More bytes than so many stand for a cell.
+-- More bytes than so many represent a cell.
 abbrev pub is_long : (content : ℕ) → Cell → Column → Bool
 is_long content c a = nat_lt content (length (cell_bytes a.layout c))
 

@@ -1,4 +1,4 @@
--- Cells of columns, and what stands for them in memory.
+-- Cells of columns, and what represents them in memory.
 use Rattle.std.specs.Prelude.{ℕ, Bool, true, false, List, [], ◌∷◌, reverse, replicate}
 use Rattle.std.specs.Int.{w8, w16, w32, w64, cast_unsigned, to_le_bytes}
 use Rattle.cqlp_kind.specs.declared.kind.Kind.{Kind}
@@ -22,7 +22,7 @@ cell_of handed.Null = Null
 cell_of handed.Empty = Empty
 cell_of (handed.Holds s) = Holds (value_of s)
 
--- The bytes that stand for a scalar: of numbers the lowest first, of which a boolean has none, since a bit stands for it; all else as
+-- The bytes that represent a scalar: of numbers the lowest first, of which a boolean has none, since a bit represents it; all else as
 -- section 6 of native_protocol_v4.spec spells it.
 abbrev pub stored : ScalarValue → List ℕ
 stored (scalar.Boolean b) = []
@@ -65,7 +65,7 @@ cell_bits Bits c = truth c ∷ []
 cell_bits (Fixed n) c = []
 cell_bits Variable c = []
 
--- A cell has a value: a value of no bytes is one where as many bytes stand for a value as it has, and in no other layout.
+-- A cell has a value: a value of no bytes is one where as many bytes represent a value as it has, and in no other layout.
 abbrev pub is_valid : Layout → Cell → Bool
 is_valid l Null = false
 is_valid Bits Empty = false

@@ -38,7 +38,7 @@ module _ {S : Type 0} (m : sink.Ghosts S) where
   IsEmitted w before after es = (es ≡ []) × (after ≡ before)
 
   -- Two calls used the same bytes, and stop alike. The columns took the same cells, and the other sinks were handed the same event, if any; and both
-  -- decoders stand after the same bytes and the same events, have refused the same, and have the same types that were given.
+  -- decoders are after the same bytes and the same events, have refused the same, and have the same types that were given.
   pub record AreOneRead (gifts : Gifts) (s input : List ℕ) (es : List (ℕ × Event)) (new new' : StreamState) (columns columns' columns'' : Batch)
       (before after after' : S) (w w' : Went) (f f' : Filled) : Type 0 where
     pub used : f'.used ≡ f.used
@@ -50,8 +50,8 @@ module _ {S : Type 0} (m : sink.Ghosts S) where
     pub other : List (ℕ × Event)
     pub emitted : IsEmitted f.stop before after other
     pub emitted' : IsEmitted f'.stop before after' other
-    pub stands : AfterGifts gifts new (s ++ take f.used input) (es ++ (cells ++ other))
-    pub stands' : AfterGifts gifts new' (s ++ take f.used input) (es ++ (cells ++ other))
+    pub conforms : AfterGifts gifts new (s ++ take f.used input) (es ++ (cells ++ other))
+    pub conforms' : AfterGifts gifts new' (s ++ take f.used input) (es ++ (cells ++ other))
     pub refusal : new'.refusal ≡ new.refusal
     pub rules : new'.rules ≡ new.rules
     pub given : new'.given ≡ new.given

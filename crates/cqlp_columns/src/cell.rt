@@ -22,7 +22,7 @@ pub enum Cell<'a> {
     Holds(Scalar<'a>),
 }
 
-/// Whether a cell has a value in this layout: a value of no bytes is one only where as many bytes stand for a value as it has.
+/// Whether a cell has a value in this layout: a value of no bytes is one only where as many bytes represent a value as it has.
 #[inline(always)]
 pub(crate) fn is_valid(layout: Layout, cell: &Cell<'_>) -> bool
     ensures { result ≡ is_valid layout (cell_of cell.now) }
@@ -80,7 +80,7 @@ pub(crate) fn kind_of(scalar: &Scalar<'_>) -> Kind
     }
 }
 
-/// How many bytes stand for a scalar.
+/// How many bytes represent a scalar.
 #[inline(always)]
 pub(crate) fn stored_len(scalar: &Scalar<'_>) -> usize
     ensures { result ≡ length (stored (value_of scalar.now)) }
@@ -120,7 +120,7 @@ fn decimal_len(unscaled: &[u8]) -> usize
     4 + unscaled.len()
 }
 
-/// Adds the bytes that stand for a scalar, for which there is room.
+/// Adds the bytes that represent a scalar, for which there is room.
 #[inline(always)]
 pub(crate) fn put_scalar<A: Allocator>(values: &mut Bytes<A>, scalar: &Scalar<'_>)
     requires { length values.old.items + length (stored (value_of scalar.now)) ≤ values.old.room }

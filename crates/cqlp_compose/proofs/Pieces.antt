@@ -10,7 +10,7 @@ use Rattle.cqlp_compose.specs.declared.place.PagePlace.{PagePlace}
 use Rattle.cqlp_build_cells.specs.Building.{ends_cell}
 use Rattle.cqlp_compose.specs.Cells.{CellsState, begun, next_column, next_row, within}
 use Rattle.cqlp_compose.specs.PageLaws.{ArePieces, IsPiece, TakesAll, all_bytes, all_events}
-use Rattle.cqlp_compose.proofs.Steps.{IsWithin, Stands, goes_between, takes_within}
+use Rattle.cqlp_compose.proofs.Steps.{IsWithin, Conforms, goes_between, takes_within}
 
 module _ (f : OwnedFrame) (n : ℕ) (begins : page_unfit_of (frame_of f) n ≡ None) where
   all_within : (es before : List Event) (bytes : List ℕ) (old new : CellsState) → IsWithin f n before bytes old → TakesAll old es new → IsWithin f n (before ++ es) bytes new
@@ -23,34 +23,34 @@ module _ (f : OwnedFrame) (n : ℕ) (begins : page_unfit_of (frame_of f) n ≡ N
   all_between [] old new b t = rw t b
   all_between (e ∷ es) old new b t = all_between es t.0 new (goes_between (ends_cell e) (within old t.1.1) t.0 t.1.3) t.2
 
-  at_begin : (es : List Event) (bytes : List ℕ) (p : PagePlace) (limits : CellLimits) → Stands (frame_of f) n es bytes p → IsWithin f n es bytes (begun f p limits)
+  at_begin : (es : List Event) (bytes : List ℕ) (p : PagePlace) (limits : CellLimits) → Conforms (frame_of f) n es bytes p → IsWithin f n es bytes (begun f p limits)
   at_begin es bytes p limits s = record {
     frame = refl;
     before = es;
     events = sym (append-nil es);
     whole = refl;
-    stands = subst (λ (b : List ℕ). Stands (frame_of f) n es b p) (sym (append-nil bytes)) s;
+    conforms = subst (λ (b : List ℕ). Conforms (frame_of f) n es b p) (sym (append-nil bytes)) s;
   }
 
-  at_end : (es : List Event) (bytes : List ℕ) (s : CellsState) → IsWithin f n es bytes s → s.under.events ≡ [] → Stands (frame_of f) n es (bytes ++ s.bytes) s.place
+  at_end : (es : List Event) (bytes : List ℕ) (s : CellsState) → IsWithin f n es bytes s → s.under.events ≡ [] → Conforms (frame_of f) n es (bytes ++ s.bytes) s.place
   at_end es bytes s w none =
       let same : es ≡ w.before = w.events ∙ ap (λ (cs : List CellEvent). w.before ++ map (cell_event (next_row s) (next_column s)) cs) none ∙ append-nil w.before in
-      subst (λ (x : List Event). Stands (frame_of f) n x (bytes ++ s.bytes) s.place) (sym same) w.stands
+      subst (λ (x : List Event). Conforms (frame_of f) n x (bytes ++ s.bytes) s.place) (sym same) w.conforms
 
-  piece_stands : (es bytes_es : List Event) (bytes : List ℕ) (old : PagePlace) (more : List ℕ) (new : PagePlace) → Stands (frame_of f) n es bytes old → IsPiece f old bytes_es more new → Stands (frame_of f) n (es ++ bytes_es) (bytes ++ more) new
-  piece_stands es came bytes old more new s p =
+  piece_conforms : (es bytes_es : List Event) (bytes : List ℕ) (old : PagePlace) (more : List ℕ) (new : PagePlace) → Conforms (frame_of f) n es bytes old → IsPiece f old bytes_es more new → Conforms (frame_of f) n (es ++ bytes_es) (bytes ++ more) new
+  piece_conforms es came bytes old more new s p =
       let w = all_within came es bytes (begun f old p.limits) p.end (at_begin es bytes old p.limits s) p.taken in
       let none = all_between came (begun f old p.limits) p.end (λ e. refl) p.taken p.given.0 in
       let e = at_end (es ++ came) bytes p.end w none in
-      subst (λ (x : PagePlace). Stands (frame_of f) n (es ++ came) (bytes ++ more) x) (sym (p.place ∙ p.given.1))
-      (subst (λ (b : List ℕ). Stands (frame_of f) n (es ++ came) (bytes ++ b) p.end.place) (sym (p.bytes_are ∙ p.given.2)) e)
+      subst (λ (x : PagePlace). Conforms (frame_of f) n (es ++ came) (bytes ++ more) x) (sym (p.place ∙ p.given.1))
+      (subst (λ (b : List ℕ). Conforms (frame_of f) n (es ++ came) (bytes ++ b) p.end.place) (sym (p.bytes_are ∙ p.given.2)) e)
 
-  pub pieces_stand : (ps : List (List Event × List ℕ)) (es : List Event) (bytes : List ℕ) (old new : PagePlace) → Stands (frame_of f) n es bytes old → ArePieces f old ps new → Stands (frame_of f) n (es ++ all_events ps) (bytes ++ all_bytes ps) new
-  pieces_stand [] es bytes old new s a =
-      subst (λ (x : List Event). Stands (frame_of f) n x (bytes ++ []) new) (sym (append-nil es))
-      (subst (λ (b : List ℕ). Stands (frame_of f) n es b new) (sym (append-nil bytes)) (rw a s))
-  pieces_stand (p ∷ ps) es bytes old new s a =
-      let one = piece_stands es p.0 bytes old p.1 a.0 s a.1 in
-      let more = pieces_stand ps (es ++ p.0) (bytes ++ p.1) a.0 new one a.2 in
-      subst (λ (x : List Event). Stands (frame_of f) n x (bytes ++ all_bytes (p ∷ ps)) new) (append_assoc es p.0 (all_events ps))
-      (subst (λ (b : List ℕ). Stands (frame_of f) n ((es ++ p.0) ++ all_events ps) b new) (append_assoc bytes p.1 (all_bytes ps)) more)
+  pub pieces_conform : (ps : List (List Event × List ℕ)) (es : List Event) (bytes : List ℕ) (old new : PagePlace) → Conforms (frame_of f) n es bytes old → ArePieces f old ps new → Conforms (frame_of f) n (es ++ all_events ps) (bytes ++ all_bytes ps) new
+  pieces_conform [] es bytes old new s a =
+      subst (λ (x : List Event). Conforms (frame_of f) n x (bytes ++ []) new) (sym (append-nil es))
+      (subst (λ (b : List ℕ). Conforms (frame_of f) n es b new) (sym (append-nil bytes)) (rw a s))
+  pieces_conform (p ∷ ps) es bytes old new s a =
+      let one = piece_conforms es p.0 bytes old p.1 a.0 s a.1 in
+      let more = pieces_conform ps (es ++ p.0) (bytes ++ p.1) a.0 new one a.2 in
+      subst (λ (x : List Event). Conforms (frame_of f) n x (bytes ++ all_bytes (p ∷ ps)) new) (append_assoc es p.0 (all_events ps))
+      (subst (λ (b : List ℕ). Conforms (frame_of f) n ((es ++ p.0) ++ all_events ps) b new) (append_assoc bytes p.1 (all_bytes ps)) more)

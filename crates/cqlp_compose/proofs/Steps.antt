@@ -91,8 +91,8 @@ whole_is (Cell_at r s d) c off is =
 
 -- ---- after whole cells
 
--- These events are of whole cells, these are their bytes, and the page stands behind them.
-pub record Stands (f : FrameValue) (n : ℕ) (es : List Event) (bytes : List ℕ) (p : PagePlace) : Type 0 where
+-- These events are of whole cells, these are their bytes, and the page is behind them.
+pub record Conforms (f : FrameValue) (n : ℕ) (es : List Event) (bytes : List ℕ) (p : PagePlace) : Type 0 where
   pub cells : List Values
   pub count : p.cells ≡ length cells
   pub few : length cells ≤ cells_wanted f.message
@@ -126,7 +126,7 @@ metadata_in : (f : FrameValue) → frame_agrees f ≡ true → message_agrees f.
 metadata_in f e =
     (both (not (has f.flags 0x01) && there_if (is_response f.message && has f.flags 0x02) f.tracing && there_if (is_response f.message && has f.flags 0x08) f.warnings && there_if (has f.flags 0x04) f.payload) (message_agrees f.message) e).1
 
-module _ (f : OwnedFrame) (n : ℕ) (begins : page_unfit_of (frame_of f) n ≡ None) (es : List Event) (bytes : List ℕ) (p : PagePlace) (w : Values) (cs : List CellEvent) (s : Stands (frame_of f) n es bytes p)
+module _ (f : OwnedFrame) (n : ℕ) (begins : page_unfit_of (frame_of f) n ≡ None) (es : List Event) (bytes : List ℕ) (p : PagePlace) (w : Values) (cs : List CellEvent) (s : Conforms (frame_of f) n es bytes p)
     (some : p.cells < cells_wanted (frame_of f).message) (short : values_size w ≤ p.free) (none : have_none cs ≡ true)
     (are : AreEventsOf cs (cell_type (described_type f (p.cells % page_columns (frame_of f).message))) w) (fits : values_fit (cell_type (described_type f (p.cells % page_columns (frame_of f).message))) w ≡ true) (range : AreInRange w) where
   abbrev g : FrameValue
@@ -190,7 +190,7 @@ module _ (f : OwnedFrame) (n : ℕ) (begins : page_unfit_of (frame_of f) n ≡ N
         ∙ join (cells_fit g s.cells) (fits_column ts (length s.cells % page_columns g.message) w) s.fit fits_there
 
   -- one cell more, whose events came
-  pub one_more : (all : List Event) (long : List ℕ) → es ++ map (cell_event row column) cs ≡ all → bytes ++ values_bytes w ≡ long → Stands g n all long (record { cells = p.cells + 1; free = p.free - values_size w })
+  pub one_more : (all : List Event) (long : List ℕ) → es ++ map (cell_event row column) cs ≡ all → bytes ++ values_bytes w ≡ long → Conforms g n all long (record { cells = p.cells + 1; free = p.free - values_size w })
   one_more all long e d =
       let has = column_is ts column within_types in
       record {
@@ -212,7 +212,7 @@ pub record IsWithin (f : OwnedFrame) (n : ℕ) (es : List Event) (bytes : List �
   pub before : List Event
   pub events : es ≡ before ++ map (cell_event (next_row s) (next_column s)) s.under.events
   pub whole : have_none s.under.events ≡ true
-  pub stands : Stands (frame_of f) n before (bytes ++ s.bytes) s.place
+  pub conforms : Conforms (frame_of f) n before (bytes ++ s.bytes) s.place
 
 none_more : (es : List CellEvent) (e : CellEvent) → have_none es ≡ true → is_no_part e ≡ true → have_none (es ++ e ∷ []) ≡ true
 none_more [] e p q = join (is_no_part e) true q refl
@@ -234,20 +234,20 @@ module _ (f : OwnedFrame) (n : ℕ) (begins : page_unfit_of (frame_of f) n ≡ N
       ap (λ (x : OwnedFrame). w.before ++ map (cell_event (s.place.cells / page_columns (frame_of x).message) (s.place.cells % page_columns (frame_of x).message)) s.under.events) (sym w.frame)
       ∙ sym w.events
 
-  stands_on : Stands (frame_of f) n es (bytes ++ (s.bytes ++ values_bytes (value_of v))) (record { cells = s.place.cells + 1; free = s.place.free - values_size (value_of v) })
-  stands_on =
+  conforms_on : Conforms (frame_of f) n es (bytes ++ (s.bytes ++ values_bytes (value_of v))) (record { cells = s.place.cells + 1; free = s.place.free - values_size (value_of v) })
+  conforms_on =
       let some_in : s.place.cells < cells_wanted (frame_of f).message = subst (λ (x : OwnedFrame). s.place.cells < cells_wanted (frame_of x).message) w.frame some in
-      one_more f n begins w.before (bytes ++ s.bytes) s.place (value_of v) s.under.events w.stands some_in (omega (arith, short)) w.whole built.are built.fits range
+      one_more f n begins w.before (bytes ++ s.bytes) s.place (value_of v) s.under.events w.conforms some_in (omega (arith, short)) w.whole built.are built.fits range
       es (bytes ++ (s.bytes ++ values_bytes (value_of v))) here (append_assoc bytes s.bytes (values_bytes (value_of v)))
 
   with_one : IsWithin f n es bytes (with_cell s (value_of v))
-  with_one = record { frame = w.frame; before = es; events = sym (append-nil es); whole = refl; stands = stands_on }
+  with_one = record { frame = w.frame; before = es; events = sym (append-nil es); whole = refl; conforms = conforms_on }
 
 -- where a cell ends or goes on
 gone_on : (f : OwnedFrame) (n : ℕ) (begins : page_unfit_of (frame_of f) n ≡ None) (ends : Bool) (es : List Event) (bytes : List ℕ) (s new : CellsState) → s.place.cells < cells_wanted (page s).message → IsWithin f n es bytes s
     → GoesOn ends s (Ok tt) new → IsWithin f n es bytes new
 gone_on f n begins false es bytes s new some w g =
-    let on : IsWithin f n es bytes (record s { cut = true }) = record { frame = w.frame; before = w.before; events = w.events; whole = w.whole; stands = w.stands } in
+    let on : IsWithin f n es bytes (record s { cut = true }) = record { frame = w.frame; before = w.before; events = w.events; whole = w.whole; conforms = w.conforms } in
     subst (λ (x : CellsState). IsWithin f n es bytes x) (sym g) on
 gone_on f n begins true es bytes s new some w g =
     subst (λ (x : CellsState). IsWithin f n es bytes x) (sym g.3) (with_one f n begins es bytes s some w g.0 g.1 g.2 g.4)
@@ -270,7 +270,7 @@ module _ (f : OwnedFrame) (n : ℕ) (begins : page_unfit_of (frame_of f) n ≡ N
             ∙ ap (λ (r : List Event). w.before ++ r) (sym (map-append (cell_event (next_row old) (next_column old)) old.under.events (c ∷ [])))
             ∙ ap (λ (r : List CellEvent). w.before ++ map (cell_event (next_row old) (next_column old)) r) (sym events);
         whole = ap have_none events ∙ none_more old.under.events c w.whole (whole_is e c t.2.1 taken.3);
-        stands = w.stands;
+        conforms = w.conforms;
       } in
       gone_on f n begins (ends_cell e) (es ++ e ∷ []) bytes (within old t.1) new (less old.place.cells (cells_wanted (page old).message) next.0) goes t.3
 

@@ -23,9 +23,9 @@ use Rattle.cqlp_compose.specs.declared.place.PagePlace.{PagePlace}
 use Rattle.cqlp_compose.specs.Places.{first_place, is_done}
 use Rattle.cqlp_compose.specs.PageLaws.{IsPageOf, PageHasItsEvents, all_bytes, all_events, own_header}
 use Rattle.cqlp_compose.specs.Measures.{events_size}
-use Rattle.cqlp_compose.proofs.Pieces.{pieces_stand}
+use Rattle.cqlp_compose.proofs.Pieces.{pieces_conform}
 use Rattle.cqlp_compose.proofs.Sizes.{both, rows_sizes}
-use Rattle.cqlp_compose.proofs.Steps.{Stands}
+use Rattle.cqlp_compose.proofs.Steps.{Conforms}
 
 -- limits without parts
 abbrev whole_limits : Rules
@@ -35,7 +35,7 @@ module _ (f : FrameValue) (n : ℕ) (begins : page_unfit_of f n ≡ None) where
   no_cells : cell_parts f.message [] ≡ []
   no_cells = rows_cut 0 (types_of_page f.message) (page_rows f.message)
 
-  pub first : Stands f n [] [] (first_place n)
+  pub first : Conforms f n [] [] (first_place n)
   first = record {
     cells = [];
     count = refl;
@@ -47,7 +47,7 @@ module _ (f : FrameValue) (n : ℕ) (begins : page_unfit_of f n ≡ None) where
     range = All-nil AreInRange;
   }
 
-  module _ (es : List Event) (bytes : List ℕ) (p : PagePlace) (s : Stands f n es bytes p) (done : is_done f p ≡ true) where
+  module _ (es : List Event) (bytes : List ℕ) (p : PagePlace) (s : Conforms f n es bytes p) (done : is_done f p ≡ true) where
     ends : (p.cells ≡ cells_wanted f.message) × (p.free ≡ 0)
     ends =
         let b = both (p.cells == cells_wanted f.message) (p.free == 0) done in
@@ -100,4 +100,4 @@ module _ (f : FrameValue) (n : ℕ) (begins : page_unfit_of f n ≡ None) where
 pub has_its_events : PageHasItsEvents
 has_its_events f n pieces end begins are done =
     whole (frame_of f) n begins (all_events pieces) (all_bytes pieces) end
-    (pieces_stand f n begins pieces [] [] (first_place n) end (first (frame_of f) n begins) are) done
+    (pieces_conform f n begins pieces [] [] (first_place n) end (first (frame_of f) n begins) are) done

@@ -173,22 +173,22 @@ are_whole (e ∷ es) s end bytes p =
 
 module _ (f : OwnedFrame) (limits : CellLimits) where
   -- after the whole cells these events of the next came
-  record Stands (s : PutterState) (under : List Event) : Type 0 where
+  record Conforms (s : PutterState) (under : List Event) : Type 0 where
     frame : s.frame ≡ f
     limits_are : s.limits ≡ limits
     taken : TakesAll (begun f s.place limits) under s.cells
     cut : (under ≡ []) ⊎ (s.cells.cut ≡ true)
 
   abbrev Next : PutterState → List Event → Option ℕ → (bytes : List ℕ) → PutterState → Type 0
-  Next s came None bytes new = (bytes ≡ []) × (new.place ≡ s.place) × Stands new came
-  Next s came (Some len) bytes new = IsPiece f s.place came bytes new.place × Stands new []
+  Next s came None bytes new = (bytes ≡ []) × (new.place ≡ s.place) × Conforms new came
+  Next s came (Some len) bytes new = IsPiece f s.place came bytes new.place × Conforms new []
 
-  module _ (s : PutterState) (under : List Event) (e : Event) (w : Stands s under) (mid : CellsState) (t : Takes s.cells e (Ok tt) mid) where
+  module _ (s : PutterState) (under : List Event) (e : Event) (w : Conforms s under) (mid : CellsState) (t : Takes s.cells e (Ok tt) mid) where
     more : TakesAll (begun f s.place limits) (under ++ e ∷ []) mid
     more = takes_more (begun f s.place limits) s.cells mid under e w.taken t
 
-    fresh_stands : (p : PagePlace) → Stands (fresh s p) []
-    fresh_stands p = record {
+    fresh_conforms : (p : PagePlace) → Conforms (fresh s p) []
+    fresh_conforms p = record {
       frame = w.frame;
       limits_are = w.limits_are;
       taken = λ i. begun (w.frame i) p (w.limits_are i);
@@ -197,13 +197,13 @@ module _ (f : OwnedFrame) (limits : CellLimits) where
 
     next_by : (ends : Bool) (n : ℕ) (len : Option ℕ) (bytes : List ℕ) (new : PutterState) → ends_cell e ≡ ends → GoesOn ends (within s mid) n (Ok len) bytes new → Next s (under ++ e ∷ []) len bytes new
     next_by false n None bytes new is g =
-        let on : Stands (within s mid) (under ++ e ∷ []) = record {
+        let on : Conforms (within s mid) (under ++ e ∷ []) = record {
           frame = w.frame;
           limits_are = w.limits_are;
           taken = more;
           cut = inr (cut_by (ends_cell e) (cell_within s.cells t.1) mid is t.3);
         } in
-        (g.0, ap (λ (x : PutterState). x.place) g.1, subst (λ (x : PutterState). Stands x (under ++ e ∷ [])) (sym g.1) on)
+        (g.0, ap (λ (x : PutterState). x.place) g.1, subst (λ (x : PutterState). Conforms x (under ++ e ∷ [])) (sym g.1) on)
     next_by false n (Some len) bytes new is g = absurd g
     next_by true n None bytes new is g = absurd g
     next_by true n (Some len) bytes new is g =
@@ -217,10 +217,10 @@ module _ (f : OwnedFrame) (limits : CellLimits) where
             place = place ∙ sym g.4.1.1;
             bytes_are = g.0 ∙ sym g.4.1.2;
           },
-          subst (λ (x : PutterState). Stands x []) (sym g.3) (fresh_stands mid.place),
+          subst (λ (x : PutterState). Conforms x []) (sym g.3) (fresh_conforms mid.place),
         )
 
-  next : (s : PutterState) (under : List Event) (e : Event) (n : ℕ) (len : Option ℕ) (bytes : List ℕ) (new : PutterState) → Stands s under → Puts s e n (Ok len) bytes new → Next s (under ++ e ∷ []) len bytes new
+  next : (s : PutterState) (under : List Event) (e : Event) (n : ℕ) (len : Option ℕ) (bytes : List ℕ) (new : PutterState) → Conforms s under → Puts s e n (Ok len) bytes new → Next s (under ++ e ∷ []) len bytes new
   next s under e n len bytes new w p = next_by s under e w p.0 p.1 (ends_cell e) n len bytes new refl p.2
 
   -- The pieces of the events that came, the first with those of the cell under way.
@@ -235,7 +235,7 @@ module _ (f : OwnedFrame) (limits : CellLimits) where
   never_cut s under new is (inr e) = let d : true ≡ false = sym e ∙ ap (λ (x : PutterState). x.cells.cut) is in absurd cc
 
   pieces_on : (len : Option ℕ) (s mid : PutterState) (new : PagePlace) (came es : List Event) (bytes others : List ℕ) → Next s came len bytes mid
-      → ((under : List Event) → Stands mid under → Cut mid.place new (under ++ es) others) → Cut s.place new (came ++ es) (bytes ++ others)
+      → ((under : List Event) → Conforms mid under → Cut mid.place new (under ++ es) others) → Cut s.place new (came ++ es) (bytes ++ others)
   pieces_on None s mid new came es bytes others x rest =
       let c = rest came x.2 in
       record {
@@ -253,7 +253,7 @@ module _ (f : OwnedFrame) (limits : CellLimits) where
         all = ap (λ (b : List ℕ). bytes ++ b) c.all;
       }
 
-  cut_all : (es : List Event) (s : PutterState) (under : List Event) (bytes : List ℕ) (new : PagePlace) → Stands s under → PutsAll s es bytes (fresh_putter f new limits)
+  cut_all : (es : List Event) (s : PutterState) (under : List Event) (bytes : List ℕ) (new : PagePlace) → Conforms s under → PutsAll s es bytes (fresh_putter f new limits)
       → Cut s.place new (under ++ es) bytes
   cut_all [] s under bytes new w p =
       let is : s ≡ fresh_putter f new limits = sym p.1 in
@@ -265,11 +265,11 @@ module _ (f : OwnedFrame) (limits : CellLimits) where
         all = sym p.0;
       }
   cut_all (e ∷ es) s under bytes new w p =
-      let c = pieces_on p.1 s p.4 new (under ++ e ∷ []) es p.2 p.3 (next s under e p.0 p.1 p.2 p.4 w p.5) (λ on stands. cut_all es p.4 on p.3 new stands p.6) in
+      let c = pieces_on p.1 s p.4 new (under ++ e ∷ []) es p.2 p.3 (next s under e p.0 p.1 p.2 p.4 w p.5) (λ on conforms. cut_all es p.4 on p.3 new conforms p.6) in
       subst (λ (xs : List Event). Cut s.place new xs bytes) (append_assoc under (e ∷ []) es)
       (subst (λ (b : List ℕ). Cut s.place new ((under ++ e ∷ []) ++ es) b) (sym p.7) c)
 
-at_first : (f : OwnedFrame) (limits : CellLimits) (p : PagePlace) → Stands f limits (fresh_putter f p limits) []
+at_first : (f : OwnedFrame) (limits : CellLimits) (p : PagePlace) → Conforms f limits (fresh_putter f p limits) []
 at_first f limits p = record { frame = refl; limits_are = refl; taken = refl; cut = inl refl }
 
 pieces_append : (f : OwnedFrame) (ps qs : List (List Event × List ℕ)) (a b c : PagePlace) → ArePieces f a ps b → ArePieces f b qs c → ArePieces f a (ps ++ qs) c

@@ -22,7 +22,7 @@ use Rattle.cqlp_compose.specs.declared.error.PageCellError.TheVariants as error
 use Rattle.cqlp_compose.specs.declared.place.PagePlace.{PagePlace}
 use Rattle.cqlp_compose.specs.Places.{described_type}
 
--- The page without its cells, and where it stands behind those that were written; the cell under way, and whether it has begun; and
+-- The page without its cells, and where it is behind those that were written; the cell under way, and whether it has begun; and
 -- the bytes of those that were written here.
 pub record CellsState : Type 0 where
   pub frame : Frame

@@ -45,7 +45,7 @@ abbrev pub TakesAll : CellsState → List Event → CellsState → Type 0
 TakesAll s [] new = new ≡ s
 TakesAll s (e ∷ es) new = (mid : CellsState) × Takes s e (Ok tt) mid × TakesAll mid es new
 
--- Behind this place of a page these events were taken, and these bytes given, behind which the page stands there.
+-- Behind this place of a page these events were taken, and these bytes given, behind which the page is there.
 pub record IsPiece (f : OwnedFrame) (old : PagePlace) (es : List Event) (bytes : List ℕ) (new : PagePlace) : Type 0 where
   pub limits : CellLimits
   pub end : CellsState

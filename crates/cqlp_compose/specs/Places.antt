@@ -1,4 +1,4 @@
--- Where a page stands whose cells come some at a time (section 4.2.5.2 of native_protocol_v4.spec).
+-- Where a page is whose cells come some at a time (section 4.2.5.2 of native_protocol_v4.spec).
 use Rattle.std.specs.Prelude.{◌≡◌, ◌==◌, ◌&&◌, ℕ, zero, suc, Bool, List, [], ◌∷◌, Option, Some, None, Result, Ok, Err, Vec}
 use Rattle.std.specs.declared.alloc.Global.{Global}
 use Rattle.cqlp_type.specs.declared.tree.TypeTree.{TypeTree}

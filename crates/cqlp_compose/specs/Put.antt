@@ -11,7 +11,7 @@ use Rattle.cqlp_compose.specs.declared.put.PutCells.{PutCells}
 use Rattle.cqlp_compose.specs.declared.error.PutError.{PutError}
 use Rattle.cqlp_compose.specs.declared.error.PutError.TheVariants as error
 
--- The page without its cells, what may be held of one cell, where the page stands after the cells that were put, and the cell under way.
+-- The page without its cells, what may be held of one cell, where the page is after the cells that were put, and the cell under way.
 pub record PutterState : Type 0 where
   pub frame : Frame
   pub limits : CellLimits

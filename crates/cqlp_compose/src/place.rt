@@ -1,4 +1,4 @@
-//! Where a page stands whose cells come some at a time.
+//! Where a page is whose cells come some at a time.
 
 ghost use Rattle.std.specs.Prelude.{◌≡◌, None};
 ghost use Rattle.cqlp_message.specs.Frames.{FrameIsInRange};

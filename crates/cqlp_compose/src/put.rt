@@ -46,7 +46,7 @@ impl<'a> PutCells<'a> {
         }
     }
 
-    /// Where the page stands after the cells that were put.
+    /// Where the page is after the cells that were put.
     #[must_use]
     pub fn place(&self) -> PagePlace
         ensures { result ≡ self.now.place }

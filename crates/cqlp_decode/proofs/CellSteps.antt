@@ -26,7 +26,7 @@ use Rattle.cqlp_cell.specs.Reading.{HaveCome, IsAfterItem}
 use Rattle.cqlp_cell.specs.Reading as taking
 use Rattle.cqlp_cell.specs.Pushing.{is_done, begun as begun_at}
 use Rattle.cqlp_cell.specs.Fronts.{SaysScalar}
-use Rattle.cqlp_cell.proofs.Leading.{some_come, stands_under, answer_is as cell_answer_is}
+use Rattle.cqlp_cell.proofs.Leading.{some_come, conforms_under, answer_is as cell_answer_is}
 use Rattle.cqlp_cell.proofs.ScalarSizes.{scalar_sized}
 use Rattle.cqlp_cell.proofs.Leavings.{left_none, left_some, stop_is}
 use Rattle.cqlp_grammar.specs.Productions.{Symbol, Cell_due, In_cell}
@@ -129,21 +129,21 @@ module _ (s : StreamProgress) (q : PartsState) (p : CellCursor) (here : s.stage 
   abbrev column : FirstColumn typed s.limits.depth p.columns p.column p.index
   column = first_column typed s.limits.depth p.columns p.column p.index c.page.0
 
-  abbrev stands : Place
-  stands = place_at q.cells.offset s.stop (cell_symbol q.cells.next p.row p.column column.first column.inner (place typed q.cells).symbols ∷ rest) q.table.nodes held
+  abbrev conforms : Place
+  conforms = place_at q.cells.offset s.stop (cell_symbol q.cells.next p.row p.column column.first column.inner (place typed q.cells).symbols ∷ rest) q.table.nodes held
 
   due_now : (i : Option ℕ) → q.cells.next ≡ next.Cell i → (place typed q.cells).symbols ≡ Value_of column.first column.inner 0 s.stop ∷ []
   due_now i is = rw (is, c.is i is, c.stop) (column.symbols s.stop)
 
-  place_is : (state_of s q).place ≡ stands
+  place_is : (state_of s q).place ≡ conforms
   place_is = rw (here, column.is) refl
 
-  answer_is : (bytes : List ℕ) → said (state_of s q) bytes ≡ map_said (cell_event p.row p.column) (place_of_cells p.row p.column stands rest) (taking.step_says typed q.cells bytes)
+  answer_is : (bytes : List ℕ) → said (state_of s q) bytes ≡ map_said (cell_event p.row p.column) (place_of_cells p.row p.column conforms rest) (taking.step_says typed q.cells bytes)
   answer_is bytes =
       ap (λ (z : Place). says (step (rules_asked s.limits) z) 0 bytes) place_is
       ∙ ap (λ z. says z 0 bytes) (alike (rules_asked s.limits) typed q.cells q.cells.next p.row p.column s.stop column.first column.inner rest q.table.nodes held due_now)
-      ∙ says_map (cell_event p.row p.column) (place_of_cells p.row p.column stands rest) (cell_step (rules_asked s.limits) (place typed q.cells)) 0 bytes
-      ∙ ap (λ z. map_said (cell_event p.row p.column) (place_of_cells p.row p.column stands rest) z) (rw (← rules) (sym (cell_answer_is typed q.cells bytes)))
+      ∙ says_map (cell_event p.row p.column) (place_of_cells p.row p.column conforms rest) (cell_step (rules_asked s.limits) (place typed q.cells)) 0 bytes
+      ∙ ap (λ z. map_said (cell_event p.row p.column) (place_of_cells p.row p.column conforms rest) z) (rw (← rules) (sym (cell_answer_is typed q.cells bytes)))
 
   come_is : (b : List ℕ) → IsPending (state_of s q).pending b → HaveCome b q.cells.arrived q.partial.seen
   come_is b is = rw here at is
@@ -160,12 +160,12 @@ module _ (s : StreamProgress) (q : PartsState) (p : CellCursor) (here : s.stage 
         frame = refl;
         waits = λ b is.
             let w = m b (come_is b is) in
-            (answer_is (b ++ input) ∙ ap (λ z. map_said (cell_event p.row p.column) (place_of_cells p.row p.column stands rest) z) w.0.is, rw here w.1);
+            (answer_is (b ++ input) ∙ ap (λ z. map_said (cell_event p.row p.column) (place_of_cells p.row p.column conforms rest) z) w.0.is, rw here w.1);
       }
 
   pub cell_fails : (input : List ℕ) (r : Refusal) (d : CellState) (p' : FieldState) → taking.Moves typed q.cells q.partial input (cell_advance.Refused r) d p'
       → (b : List ℕ) → IsPending (state_of s q).pending b → said (state_of s q) (b ++ input) ≡ Bad (r.at, r.why)
-  cell_fails input r d p' m b is = answer_is (b ++ input) ∙ ap (λ z. map_said (cell_event p.row p.column) (place_of_cells p.row p.column stands rest) z) (m b (come_is b is)).is
+  cell_fails input r d p' m b is = answer_is (b ++ input) ∙ ap (λ z. map_said (cell_event p.row p.column) (place_of_cells p.row p.column conforms rest) z) (m b (come_is b is)).is
 
   module _ (input : List ℕ) (at used : ℕ) (i : CellOutline) (d : CellState) (p' : FieldState) (m : taking.Moves typed q.cells q.partial input (cell_advance.Item at used i) d p') where
     abbrev event : (held : List ℕ) → reading.Event
@@ -174,7 +174,7 @@ module _ (s : StreamProgress) (q : PartsState) (p : CellCursor) (here : s.stage 
     abbrev one : (b : List ℕ) → HaveCome b q.cells.arrived q.partial.seen → taking.Hands typed q.cells q.partial input (taking.step_says typed q.cells (b ++ input)) (length b) at used i d p'
     one b come = m b come
 
-    -- the place that the decoder stands at then
+    -- the place that the decoder is at then
     module _ (e : StreamProgress) (q' : PartsState) (content : q'.partial.content ≡ p'.content) (nodes : q'.table.nodes ≡ q.table.nodes) (given : given_of e.given_use q'.given ≡ held) (offset : offset_at e.stage e.offset q' ≡ d.offset) (stop : e.stop ≡ s.stop) (frame : e.frame ≡ s.frame)
         (symbols : symbols_at e.stage q' e.upcoming ≡ cells_left p.row p.column (place typed d).symbols ++ rest) (fresh : IsPending (state_of e q').pending []) (due : ends_due (symbols_at e.stage q' e.upcoming) ≡ 1)
         (open_values : length q'.cells.open_values ≤ length d.open_values) where
@@ -191,11 +191,11 @@ module _ (s : StreamProgress) (q : PartsState) (p : CellCursor) (here : s.stage 
               gives = λ b is.
                   let g = one b (come_is b is) in
                   let x = g.emits.x in (
-                    record { at = x.at; event = cell_event p.row p.column x.event; after = λ u. place_of_cells p.row p.column stands rest (x.after u) },
-                    answer_is (b ++ input) ∙ ap (λ z. map_said (cell_event p.row p.column) (place_of_cells p.row p.column stands rest) z) g.emits.is,
+                    record { at = x.at; event = cell_event p.row p.column x.event; after = λ u. place_of_cells p.row p.column conforms rest (x.after u) },
+                    answer_is (b ++ input) ∙ ap (λ z. map_said (cell_event p.row p.column) (place_of_cells p.row p.column conforms rest) z) g.emits.is,
                     g.emits.offset,
                     ap (cell_event p.row p.column) g.emits.event ∙ ap event (sym content),
-                    ap (λ (z : CellPlace). place_of_cells p.row p.column stands rest z) g.emits.after ∙ (λ j. place_at (sym offset j) (sym stop j) (sym symbols j) (sym nodes j) (sym given j)),
+                    ap (λ (z : CellPlace). place_of_cells p.row p.column conforms rest z) g.emits.after ∙ (λ j. place_at (sym offset j) (sym stop j) (sym symbols j) (sym nodes j) (sym given j)),
                   );
               offset = λ b is. rw (offset, here) (one b (come_is b is)).onward;
               gifts = refl;
@@ -211,7 +211,7 @@ module _ (s : StreamProgress) (q : PartsState) (p : CellCursor) (here : s.stage 
       pub going_hands : Moves (state_of s q) input (advance.Event at used (what.Cell p.row p.column i)) (state_of s (parts p' q.types d q.table q.given))
       going_hands =
           let h = one came.0 came.1 in
-          let left : page_symbols typed d p ++ rest_of s.upcoming ≡ cells_left p.row p.column (place typed d).symbols ++ rest = under_way_still typed s.limits.depth d p column h.goes_after (left_some typed d h.stands h.goes_after more) (rest_of s.upcoming) in
+          let left : page_symbols typed d p ++ rest_of s.upcoming ≡ cells_left p.row p.column (place typed d).symbols ++ rest = under_way_still typed s.limits.depth d p column h.goes_after (left_some typed d h.conforms h.goes_after more) (rest_of s.upcoming) in
           cell_hands s (parts p' q.types d q.table q.given) refl refl refl (rw here refl) refl refl (rw here left) (rw (here, h.fresh) refl) (rw here (page_due typed s.limits.depth d p (rest_of s.upcoming) c.page.0)) (omega arith)
 
     -- the cell is whole, and this is next
@@ -225,8 +225,8 @@ module _ (s : StreamProgress) (q : PartsState) (p : CellCursor) (here : s.stage 
 
   -- ---- what holds of the decoder then
 
-  cell_goes : (d : CellState) (p' : FieldState) → taking.Joined typed d p' → value.Stands typed d → is_under_way d ≡ true → is_done d ≡ false → ((n : Option ℕ) → d.next ≡ next.Cell n → n ≡ node_by p.columns p.index) → d.stop ≡ s.stop → s.offset ≤ d.offset → IsCell s (parts p' q.types d q.table q.given) p
-  cell_goes d p' joined stands under_way some is stop after = record { under_way = under_way; stands = stands; joined = joined; some = some; is = is; page = c.page; stop = stop; after = after; came = c.came }
+  cell_goes : (d : CellState) (p' : FieldState) → taking.Joined typed d p' → value.Conforms typed d → is_under_way d ≡ true → is_done d ≡ false → ((n : Option ℕ) → d.next ≡ next.Cell n → n ≡ node_by p.columns p.index) → d.stop ≡ s.stop → s.offset ≤ d.offset → IsCell s (parts p' q.types d q.table q.given) p
+  cell_goes d p' joined conforms under_way some is stop after = record { under_way = under_way; conforms = conforms; joined = joined; some = some; is = is; page = c.page; stop = stop; after = after; came = c.came }
 
   stage_there : (z : PartsState) → StageHolds s z (stage.InCell p) → StageHolds s z s.stage
   stage_there z h = subst (λ (t : StreamStage). StageHolds s z t) (sym here) h
@@ -237,7 +237,7 @@ module _ (s : StreamProgress) (q : PartsState) (p : CellCursor) (here : s.stage 
       record {
         bounded = law.bounded;
         parts = record { room = h.longest ∙ law.parts.room; rules = law.parts.rules; cells = ap (λ (z : CellState). z.rules) h.same ∙ law.parts.cells; table = law.parts.table; few = law.parts.few };
-        stage = let stage = rw here at law.stage in stage_there (parts p' q.types d q.table q.given) (cell_goes d p' h.joined (rw h.same (stands_under typed q.cells d.arrived c.stands)) (ap (λ (z : CellState). is_under_way z) h.same ∙ c.under_way) (ap (λ (z : CellState). is_done z) h.same ∙ c.some) (λ n is. c.is n (sym (ap (λ (z : CellState). z.next) h.same) ∙ is)) (ap (λ (z : CellState). z.stop) h.same ∙ c.stop) (omega (arith, c.after, ap (λ (z : CellState). z.offset) h.same)), stage.1);
+        stage = let stage = rw here at law.stage in stage_there (parts p' q.types d q.table q.given) (cell_goes d p' h.joined (rw h.same (conforms_under typed q.cells d.arrived c.conforms)) (ap (λ (z : CellState). is_under_way z) h.same ∙ c.under_way) (ap (λ (z : CellState). is_done z) h.same ∙ c.some) (λ n is. c.is n (sym (ap (λ (z : CellState). z.next) h.same) ∙ is)) (ap (λ (z : CellState). z.stop) h.same ∙ c.stop) (omega (arith, c.after, ap (λ (z : CellState). z.offset) h.same)), stage.1);
         quiet = record { types = law.quiet.types; cells = λ idle. let busy = ap (λ (z : CellState). is_under_way z) h.same ∙ c.under_way in cc };
         table = λ none. rw here (rw here at (law.table none));
         given = law.given;
@@ -266,13 +266,13 @@ module _ (s : StreamProgress) (q : PartsState) (p : CellCursor) (here : s.stage 
     not_due n is = absurd (rw is at this.goes_after)
 
     pub cell_inside : d.offset ≤ s.stop
-    cell_inside = omega (arith, stop_is typed d this.stands, this.stop, c.stop)
+    cell_inside = omega (arith, stop_is typed d this.conforms, this.stop, c.stop)
 
     pub cell_going_lawful : is_done d ≡ false → IsConsistent s (parts p' q.types d q.table q.given)
     cell_going_lawful more = record {
       bounded = law.bounded;
       parts = record { room = this.longest ∙ law.parts.room; rules = law.parts.rules; cells = this.rules ∙ law.parts.cells; table = law.parts.table; few = law.parts.few };
-      stage = let stage = rw here at law.stage in stage_there (parts p' q.types d q.table q.given) (cell_goes d p' (record { longest = rw (this.rules, this.longest) c.joined.longest; under_way = rw this.fresh this.idle }) this.stands this.goes_on more not_due (this.stop ∙ c.stop) (omega (arith, c.after, this.onward)), stage.1);
+      stage = let stage = rw here at law.stage in stage_there (parts p' q.types d q.table q.given) (cell_goes d p' (record { longest = rw (this.rules, this.longest) c.joined.longest; under_way = rw this.fresh this.idle }) this.conforms this.goes_on more not_due (this.stop ∙ c.stop) (omega (arith, c.after, this.onward)), stage.1);
       quiet = record { types = law.quiet.types; cells = λ idle. let busy = this.goes_on in cc };
       table = λ none. rw here (rw here at (law.table none));
       given = law.given;
@@ -335,10 +335,10 @@ module _ (s : StreamProgress) (q : PartsState) (p : CellCursor) (here : s.stage 
         stage = (
           record {
             under_way = refl;
-            stands = record {
-              open_stand = tt;
+            conforms = record {
+              open_conform = tt;
               within = omega (arith, law.bounded.inside);
-              next_stands = (refl, f.stands q.cells.rules (ap (λ (z : Rules). z.depth) law.parts.cells));
+              next_conforms = (refl, f.conforms q.cells.rules (ap (λ (z : Rules). z.depth) law.parts.cells));
               bounded = omega (arith, law.bounded.bound);
             };
             joined = record { longest = rw (law.parts.cells, law.parts.room) (omega arith); under_way = stage.1.field };
@@ -357,7 +357,7 @@ module _ (s : StreamProgress) (q : PartsState) (p : CellCursor) (here : s.stage 
         uses = rw here at law.uses;
       }
 
-  -- a cell that has just begun stands where one that is due does
+  -- a cell that has just begun is where one that is due does
   pub begun_same : IsConsistent s q → q.cells.open_values ≡ [] → state_of begins beside ≡ state_of s q
   begun_same law none =
       let stage = rw here at law.stage in

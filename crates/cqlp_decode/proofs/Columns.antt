@@ -16,7 +16,7 @@ use Rattle.cqlp_kind.specs.CellStep.{CellSymbol, Value_of, values_of}
 use Rattle.cqlp_type.specs.Forests.{Forest}
 use Rattle.cqlp_type.specs.Table.{Table, beginnings}
 use Rattle.cqlp_type.proofs.WholeTables.{whole_roots, forest_whole}
-use Rattle.cqlp_cell.specs.Progress.{CellState, place, cell_symbols, CellStands}
+use Rattle.cqlp_cell.specs.Progress.{CellState, place, cell_symbols, CellConforms}
 use Rattle.cqlp_type.proofs.Columns.{Column, forest_first, forest_end}
 use Rattle.cqlp_grammar.specs.declared.grammar.Role.{Role}
 use Rattle.cqlp_grammar.specs.declared.grammar.Role.TheVariants as role
@@ -31,13 +31,13 @@ use Rattle.cqlp_decode.specs.Pages.{column_types, types_from, node_by, cell_symb
 use Rattle.cqlp_decode.specs.Reading.{Nothing, Waiting, InUse, Used, serves, serves_after, given_after, given_types}
 use Rattle.cqlp_decode.specs.Progress.{ends_due, HoldsGiven}
 
--- The column of a cell: its type is the first of those left, and stands in the table.
+-- The column of a cell: its type is the first of those left, and is in the table.
 pub record FirstColumn (nodes : List Node) (depth : ℕ) (c : Columns) (column index : ℕ) : Type 0 where
   pub first : Kind
   pub inner : Types
   pub others : Types
   pub is : types_from nodes c column index ≡ Type_and first inner others
-  pub stands : (l : Rules) → l.depth ≡ depth → CellStands nodes l (node_by c index)
+  pub conforms : (l : Rules) → l.depth ≡ depth → CellConforms nodes l (node_by c index)
   pub symbols : (stop : ℕ) → cell_symbols nodes (node_by c index) stop ≡ Value_of first inner 0 stop ∷ []
 
 pub raw_left : (n column : ℕ) → column < n → raw_types (n - column) ≡ Type_and kind.Raw NoMore (raw_types (n - (column + 1)))
@@ -53,7 +53,7 @@ first_column nodes depth columns.Typed column index h =
       inner = f.inner;
       others = f.others;
       is = f.is;
-      stands = λ l same. rw same f.stands;
+      conforms = λ l same. rw same f.conforms;
       symbols = λ stop. ap (λ (ts : Types). values_of ts 0 stop) f.one;
     }
 first_column nodes depth columns.Given column index h =
@@ -63,7 +63,7 @@ first_column nodes depth columns.Given column index h =
       inner = f.inner;
       others = f.others;
       is = f.is;
-      stands = λ l same. rw same f.stands;
+      conforms = λ l same. rw same f.conforms;
       symbols = λ stop. ap (λ (ts : Types). values_of ts 0 stop) f.one;
     }
 first_column nodes depth (columns.Raw n) column index h = record {
@@ -71,7 +71,7 @@ first_column nodes depth (columns.Raw n) column index h = record {
   inner = NoMore;
   others = raw_types (n - (column + 1));
   is = raw_left n column h;
-  stands = λ l same. tt;
+  conforms = λ l same. tt;
   symbols = λ stop. refl;
 }
 

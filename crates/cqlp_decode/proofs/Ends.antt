@@ -10,7 +10,7 @@ use Rattle.cqlp_decode.specs.declared.progress.StreamProgress.{StreamProgress}
 use Rattle.cqlp_decode.specs.Reading.{Event, Gifts}
 use Rattle.cqlp_decode.specs.Progress.{PartsState, nodes_of, state_of, rest_of, ends_due, IsBounded, IsPlaced, IsPending}
 use Rattle.cqlp_decode.proofs.Columns.{cells_due, page_due}
-use Rattle.cqlp_decode.specs.Streams.{AfterBy, Stands, FinishesBy, is_open, frame_of}
+use Rattle.cqlp_decode.specs.Streams.{AfterBy, Conforms, FinishesBy, is_open, frame_of}
 
 closed : (b : Bool) → ◌≡◌ {A = ℕ} 0 (if b then 1 else 0) → b ≡ false
 closed true e = absurd (omega arith)
@@ -20,7 +20,7 @@ opened : (b : Bool) → ◌≡◌ {A = ℕ} 1 (if b then 1 else 0) → b ≡ fal
 opened true e shut = cc
 opened false e shut = omega arith
 
-module _ (s : StreamProgress) (q : PartsState) (gifts : Gifts) (bytes : List ℕ) (es : List (ℕ × Event)) (st : Stands gifts (state_of s q) bytes es) where
+module _ (s : StreamProgress) (q : PartsState) (gifts : Gifts) (bytes : List ℕ) (es : List (ℕ × Event)) (st : Conforms gifts (state_of s q) bytes es) where
   -- between two frames
   pub whole_is : s.stage ≡ stage.Header → s.came ≡ 0 → s.frame ≡ s.offset → (s.offset ≡ length bytes) × (is_open es ≡ false) × (length bytes ≡ frame_of es)
   whole_is here none start =

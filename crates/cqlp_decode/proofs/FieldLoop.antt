@@ -45,7 +45,7 @@ module _ (s : StreamProgress) (q : PartsState) (input : List ℕ) (here : s.stag
       let moves = header_hands s q input here early long (omega arith) (omega arith) new h (ap heading nine ∙ is) at stop symbols room frame came same_use idle in
       subst (λ (k : ℕ). Hands (state_of s q) input s.offset (9 - k) (reading.Frame h) (state_of new q)) none moves.1
 
--- nothing follows from a field that stands alone
+-- nothing follows from a field that is alone
 place_alone : (r : Role) → r ≡ role.Alone → (offset stop : ℕ) (types : Bool) (nodes : List Node) (held : Given) (v : FieldValue) (rest : List Symbol) → place_at offset stop (following (types_for types r nodes held) r v ++ rest) (nodes_after r nodes) (given_after r held) ≡ place_at offset stop rest nodes held
 place_alone r alone offset stop types nodes held v rest = rw alone refl
 

@@ -15,12 +15,12 @@ use Rattle.cqlp_cell.specs.declared.progress.Arrived.{Arrived}
 use Rattle.cqlp_cell.specs.declared.progress.Arrived.TheVariants as arrived
 use Rattle.cqlp_cell.specs.Coming.{room_of}
 use Rattle.cqlp_cell.specs.Numbers.{int_wanted}
-use Rattle.cqlp_cell.specs.Progress.{CellState, Stands}
+use Rattle.cqlp_cell.specs.Progress.{CellState, Conforms}
 use Rattle.cqlp_cell.specs.declared.open_values.OpenValue.{OpenValue}
 use Rattle.cqlp_cell.specs.OpenValues.{last_open}
 use Rattle.cqlp_cell.specs.Reading.{FurtherUnder, HaveCome, Joined, Moves, PartUnder, Settles, UnderBy, part_size, step_says}
 use Rattle.cqlp_cell.proofs.Closing.{resumed}
-use Rattle.cqlp_cell.proofs.Further.{further_settles, part_stands}
+use Rattle.cqlp_cell.proofs.Further.{further_settles, part_conforms}
 use Rattle.cqlp_cell.proofs.Gathered.{more_wanted}
 use Rattle.cqlp_cell.proofs.Handing.{scalar_waits}
 use Rattle.cqlp_cell.proofs.Numbered.{int_waits}
@@ -41,7 +41,7 @@ use Rattle.cqlp_decode.proofs.Leads.{more_leads, unrefused}
 
 -- ---- a content of a cell
 
-module _ (nodes : List Node) (d : CellState) (same : d.rules.part ≡ d.rules.cell) (stands : Stands nodes d) (p q : FieldState) (piece : List ℕ) (joined : Joined nodes d p) (more : GathersMore 4096 p) (waits : field.Waits p piece (length piece) q) where
+module _ (nodes : List Node) (d : CellState) (same : d.rules.part ≡ d.rules.cell) (conforms : Conforms nodes d) (p q : FieldState) (piece : List ℕ) (joined : Joined nodes d p) (more : GathersMore 4096 p) (waits : field.Waits p piece (length piece) q) where
   abbrev Goes : CellState → Type 0
   Goes e = Moves nodes d p piece (cell_advance.More (length piece)) e q
 
@@ -62,8 +62,8 @@ module _ (nodes : List Node) (d : CellState) (same : d.rules.part ≡ d.rules.ce
       let left = o.stop - d.offset in
       let e = record d { next = next.Part 0 left } in
       let wants = more_wanted (part_size d 0 left) d.offset p q piece (length piece) under.2.1 waits in
-      let s = later_waits nodes e same 0 left refl (part_stands nodes d o stands under.0 under.1 same) p q piece (p.seen ++ piece) joined.longest wants in
-      let back = further_settles nodes d o stands under.0 under.1 p q piece (p.seen ++ piece) (length p.seen) (cell_advance.More (length piece)) (record e { arrived = arrived.Later }) s in
+      let s = later_waits nodes e same 0 left refl (part_conforms nodes d o conforms under.0 under.1 same) p q piece (p.seen ++ piece) joined.longest wants in
+      let back = further_settles nodes d o conforms under.0 under.1 p q piece (p.seen ++ piece) (length p.seen) (cell_advance.More (length piece)) (record e { arrived = arrived.Later }) s in
       let as_it_was : record d { next = next.Items; arrived = arrived.Later } ≡ record d { arrived = arrived.Later } = ap (λ (n : NextInCell). record d { next = n; arrived = arrived.Later }) (sym here) in
       let all_of_it = subst (λ (z : CellState). Settles nodes d p piece (step_says nodes d (p.seen ++ piece)) (length p.seen) (HaveCome (p.seen ++ piece)) (cell_advance.More (length piece)) z q) as_it_was back in
       same_goes arrived.Later is (λ b come. let all : b ≡ p.seen = rw is at come in rw all all_of_it)
@@ -74,7 +74,7 @@ module _ (nodes : List Node) (d : CellState) (same : d.rules.part ≡ d.rules.ce
   part_goes next.Items here is under = further_goes (last_open d.open_values) here is under
   part_goes (next.Part offset total) here is under =
       let wants = more_wanted (part_size d offset total) d.offset p q piece (length piece) under.1 waits in
-      let s = later_waits nodes d same offset total here stands p q piece (p.seen ++ piece) joined.longest wants in
+      let s = later_waits nodes d same offset total here conforms p q piece (p.seen ++ piece) joined.longest wants in
       same_goes arrived.Later is (λ b come. let all : b ≡ p.seen = rw is at come in rw all s)
 
   goes_by : (u : Arrived) → d.arrived ≡ u → UnderBy nodes d p u → Goes d
@@ -84,11 +84,11 @@ module _ (nodes : List Node) (d : CellState) (same : d.rules.part ≡ d.rules.ce
   goes_by (arrived.Scalar n) is under =
       let wants = more_wanted n (d.offset + 4) p q piece (length piece) under.1.1 waits in
       let s = scalar_waits nodes d n p q piece (p.seen ++ piece) under.0 under.2 joined.longest wants in
-      same_goes (arrived.Scalar n) is (λ b come. resumed nodes d p piece n stands under.0 (omega (arith, under.2.fits.0)) b (cell_advance.More (length piece)) (record d { arrived = arrived.Scalar n }) q (rw is at come) s)
+      same_goes (arrived.Scalar n) is (λ b come. resumed nodes d p piece n conforms under.0 (omega (arith, under.2.fits.0)) b (cell_advance.More (length piece)) (record d { arrived = arrived.Scalar n }) q (rw is at come) s)
   goes_by (arrived.First n) is under =
       let wants = more_wanted d.rules.cell (d.offset + 4) p q piece (length piece) under.1.1 waits in
       let s = first_waits nodes d same n under.2 p q piece (p.seen ++ piece) under.0 joined.longest wants in
-      same_goes (arrived.First n) is (λ b come. resumed nodes d p piece n stands under.0 (omega (arith, under.2.fits.0)) b (cell_advance.More (length piece)) (record d { arrived = arrived.First n }) q (rw is at come) s)
+      same_goes (arrived.First n) is (λ b come. resumed nodes d p piece n conforms under.0 (omega (arith, under.2.fits.0)) b (cell_advance.More (length piece)) (record d { arrived = arrived.First n }) q (rw is at come) s)
   goes_by arrived.Later is under = part_goes d.next refl is under
 
   pub content_goes : Goes d
@@ -108,7 +108,7 @@ module _ (s : StreamProgress) (q : PartsState) (law : IsConsistent s q) (more : 
     in_cell : (c : CellCursor) → s.stage ≡ stage.InCell c → GoesOn piece
     in_cell c here =
         let held = (subst (λ (t : StreamStage). StageHolds s q t) here law.stage).0 in
-        let moves = content_goes (nodes_of q c.columns) q.cells (rw law.parts.cells refl) held.stands q.partial p piece held.joined more waits in
+        let moves = content_goes (nodes_of q c.columns) q.cells (rw law.parts.cells refl) held.conforms q.partial p piece held.joined more waits in
         (cell_more_lawful s q c here held law.parts.cells piece (length piece) q.cells p moves law, cell_waits s q c here held law.parts.cells piece (length piece) q.cells p moves)
 
     in_field : (w : Want) → s.stage ≡ stage.Field w → GoesOn piece

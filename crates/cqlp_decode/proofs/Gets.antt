@@ -37,29 +37,29 @@ module _ {V : Type 0} (f : V → ℕ → reading.Event → V) where
   fold_append v (x ∷ es) fs = fold_append (f v x.0 x.1) es fs
 
   pub drains_none : (gifts : Gifts) (d : StreamState) (s : List ℕ) (es : List (ℕ × reading.Event)) (v : V) → AfterGifts gifts d s es → Drains f gifts d s es [] v v
-  drains_none gifts d s es v a = record { more = []; stands = rw (append-nil s, append-nil es) a; got = refl }
+  drains_none gifts d s es v a = record { more = []; conforms = rw (append-nil s, append-nil es) a; got = refl }
 
   module _ (gifts : Gifts) (old new : StreamState) (s input : List ℕ) (used : ℕ) (es : List (ℕ × reading.Event)) (v w : V) (d : Drains f gifts old s es (take used input) v w) where
     -- after one more event
     abbrev Onward : (at taken : ℕ) → reading.Event → Type 0
     Onward at taken e = AfterGifts gifts new ((s ++ take used input) ++ take taken (drop used input)) ((es ++ d.more) ++ (at, e) ∷ [])
 
-    stands_more : (at taken : ℕ) (e : reading.Event) → Onward at taken e → AfterGifts gifts new (s ++ take (used + taken) input) (es ++ (d.more ++ (at, e) ∷ []))
-    stands_more at taken e stands = rw (take_two used taken input, ← (append_assoc s (take used input) (take taken (drop used input))), ← (append_assoc es d.more ((at, e) ∷ []))) stands
+    conforms_more : (at taken : ℕ) (e : reading.Event) → Onward at taken e → AfterGifts gifts new (s ++ take (used + taken) input) (es ++ (d.more ++ (at, e) ∷ []))
+    conforms_more at taken e conforms = rw (take_two used taken input, ← (append_assoc s (take used input) (take taken (drop used input))), ← (append_assoc es d.more ((at, e) ∷ []))) conforms
 
     pub drains_one : (at taken : ℕ) (e : reading.Event) (w' : V) → Onward at taken e → w' ≡ f w at e → Drains f gifts new s es (take (used + taken) input) v w'
-    drains_one at taken e w' stands is = record {
+    drains_one at taken e w' conforms is = record {
       more = d.more ++ (at, e) ∷ [];
-      stands = stands_more at taken e stands;
+      conforms = conforms_more at taken e conforms;
       got = is ∙ ap (λ (z : V). f z at e) d.got ∙ sym (fold_more v d.more at e);
     }
 
     pub fails_one : (faulted : V → ℕ → reading.Event → V → Type 0) (at taken : ℕ) (e : reading.Event) (w' : V) → Onward at taken e → faulted w at e w' → Fails f faulted gifts new s es (take (used + taken) input) v w'
-    fails_one faulted at taken e w' stands fault = record {
+    fails_one faulted at taken e w' conforms fault = record {
       more = d.more;
       at = at;
       event = e;
-      stands = rw (append_assoc es d.more ((at, e) ∷ [])) (stands_more at taken e stands);
+      conforms = rw (append_assoc es d.more ((at, e) ∷ [])) (conforms_more at taken e conforms);
       fault = rw (← d.got) fault;
     }
 
@@ -75,11 +75,11 @@ module _ {V : Type 0} (f : V → ℕ → reading.Event → V) where
 
     pub drains_all : (free : StreamState) → (free.refusal ≡ None → old.refusal ≡ None) → (taken : ℕ) → Goes old (steps.More taken) new → LeadsAfter gifts old (s ++ take used input) (es ++ d.more) (drop used input) (steps.More taken) new → DrainsAll f gifts free new s es input input v w
     drains_all free clear taken goes leads =
-        let h = rw all at leads in record { drains = record { more = d.more; stands = h.2; got = d.got }; says = λ none. rw goes.1 h.3 }
+        let h = rw all at leads in record { drains = record { more = d.more; conforms = h.2; got = d.got }; says = λ none. rw goes.1 h.3 }
 
     pub drains_refused : (free : StreamState) → (free.refusal ≡ None → old.refusal ≡ None) → (r : Refusal) → Goes old (steps.Refused r) new → LeadsAfter gifts old (s ++ take used input) (es ++ d.more) (drop used input) (steps.Refused r) new → DrainsAll f gifts free new s es input (take used input) v w
     drains_refused free clear r goes leads = record {
-      drains = record { more = d.more; stands = leads.1; got = d.got };
+      drains = record { more = d.more; conforms = leads.1; got = d.got };
       says = λ none. rw (goes.0, goes.1) (rw all at (refuses_new old.refusal gifts old (s ++ take used input) (es ++ d.more) (drop used input) r (clear none) leads.2));
     }
 
@@ -87,7 +87,7 @@ module _ {V : Type 0} (f : V → ℕ → reading.Event → V) where
   abbrev pub drains_then : (gifts : Gifts) (mid new : StreamState) (s a b : List ℕ) (es : List (ℕ × reading.Event)) (v w x : V) (d : Drains f gifts mid s es a v w) → Drains f gifts new (s ++ a) (es ++ d.more) b w x → Drains f gifts new s es (a ++ b) v x
   drains_then gifts mid new s a b es v w x d e = record {
     more = d.more ++ e.more;
-    stands = rw (← (append_assoc s a b), ← (append_assoc es d.more e.more)) e.stands;
+    conforms = rw (← (append_assoc s a b), ← (append_assoc es d.more e.more)) e.conforms;
     got = e.got ∙ ap (λ (z : V). fold_events f z e.more) d.got ∙ sym (fold_append v d.more e.more);
   }
 
@@ -96,7 +96,7 @@ module _ {V : Type 0} (f : V → ℕ → reading.Event → V) where
     more = d.more ++ e.more;
     at = e.at;
     event = e.event;
-    stands = rw (← (append_assoc s a b), ← (append_assoc es d.more e.more)) e.stands;
+    conforms = rw (← (append_assoc s a b), ← (append_assoc es d.more e.more)) e.conforms;
     fault = rw (fold_append v d.more e.more, ← d.got) e.fault;
   }
 
@@ -112,7 +112,7 @@ module _ {V : Type 0} (f : V → ℕ → reading.Event → V) where
   -- a piece of which more is wanted has no event
   pub drains_waits : (gifts : Gifts) (old new : StreamState) (s piece : List ℕ) (es : List (ℕ × reading.Event)) (v : V) (used : ℕ) → LeadsAfter gifts old s es piece (steps.More used) new → DrainsAll f gifts old new s es piece piece v v
   drains_waits gifts old new s piece es v used leads = record {
-    drains = record { more = []; stands = rw (append-nil es) leads.2; got = refl };
+    drains = record { more = []; conforms = rw (append-nil es) leads.2; got = refl };
     says = λ none. rw (leads.1, append-nil es) leads.3;
   }
 
@@ -128,7 +128,7 @@ module _ {V : Type 0} (f : V → ℕ → reading.Event → V) where
       bytes = d.bytes ++ part;
       rest = end ++ left;
       parts = parts_then;
-      drained = λ gifts s es a. let e = d.drained gifts s es a in drains_then gifts mid new s d.bytes part es v w x e (next gifts (s ++ d.bytes) (es ++ e.more) e.stands);
+      drained = λ gifts s es a. let e = d.drained gifts s es a in drains_then gifts mid new s d.bytes part es v w x e (next gifts (s ++ d.bytes) (es ++ e.more) e.conforms);
     }
 
     pub end_fits : length piece ≤ 4096 → length end ≤ 4096
@@ -146,7 +146,7 @@ module _ {V : Type 0} (f : V → ℕ → reading.Event → V) where
       few = end_fits small;
       says = λ free gifts s es a.
           let e = d.drained gifts s es a in
-          let n = next gifts (s ++ d.bytes) (es ++ e.more) e.stands in
+          let n = next gifts (s ++ d.bytes) (es ++ e.more) e.conforms in
           let bytes : s ++ (d.bytes ++ part) ++ end ≡ s ++ d.bytes ++ piece = ap (λ (z : List ℕ). z ++ end) (sym (append_assoc s d.bytes part)) ∙ append_assoc (s ++ d.bytes) part end ∙ ap (λ (z : List ℕ). s ++ d.bytes ++ z) (sym split) in
           rw (bytes, ← (append_assoc es e.more n.drains.more)) (n.says (clear free));
     }
@@ -161,7 +161,7 @@ module _ {V : Type 0} (f : V → ℕ → reading.Event → V) where
       split = refl;
       few = end_fits small;
       others = is';
-      failed = λ gifts s es a. let e = d.drained gifts s es a in fails_then faulted gifts mid new s d.bytes part es v w x e (next gifts (s ++ d.bytes) (es ++ e.more) e.stands);
+      failed = λ gifts s es a. let e = d.drained gifts s es a in fails_then faulted gifts mid new s d.bytes part es v w x e (next gifts (s ++ d.bytes) (es ++ e.more) e.conforms);
     }
 
 -- the reader's bytes stay

@@ -64,19 +64,19 @@ module _ (s : StreamProgress) (q : PartsState) (p : CellCursor) (here : s.stage 
     strict = rw law.parts.cells (rw (t_is.kind, t_is.room) at says.strictly)
 
     pub leaf_place : q.cells.offset + used < 2 ^ 64
-    leaf_place = scalar_place typed q.cells input used says.value cell_is.stands t_is.fresh t_is.items t_is.due same front strict
+    leaf_place = scalar_place typed q.cells input used says.value cell_is.conforms t_is.fresh t_is.items t_is.due same front strict
 
     module _ (goes : d ≡ state_after typed q.cells used) where
-      whole : IsWhole typed q.cells input q.cells.offset used (scalar_outline typed q.cells input used says.value cell_is.stands t_is.fresh t_is.items t_is.due same front strict) d × (is_done d ≡ false)
-      whole = scalar_whole typed q.cells input used says.value cell_is.stands t_is.fresh t_is.items t_is.due same front strict d goes
+      whole : IsWhole typed q.cells input q.cells.offset used (scalar_outline typed q.cells input used says.value cell_is.conforms t_is.fresh t_is.items t_is.due same front strict) d × (is_done d ≡ false)
+      whole = scalar_whole typed q.cells input used says.value cell_is.conforms t_is.fresh t_is.items t_is.due same front strict d goes
 
       pub leaf_lawful : IsConsistent s beside
-      leaf_lawful = cell_going_lawful s q p here cell_is law.parts.cells input q.cells.offset used (scalar_outline typed q.cells input used says.value cell_is.stands t_is.fresh t_is.items t_is.due same front strict) d q.partial (whole.0.moves q.partial cell_is.joined empty) law whole.1
+      leaf_lawful = cell_going_lawful s q p here cell_is law.parts.cells input q.cells.offset used (scalar_outline typed q.cells input used says.value cell_is.conforms t_is.fresh t_is.items t_is.due same front strict) d q.partial (whole.0.moves q.partial cell_is.joined empty) law whole.1
 
       pub leaf_takes : TakesItem (state_of s q) input t.at used (cell_event p.row p.column (Leaf t.level says.value)) (state_of s beside)
       leaf_takes =
-          let going = going_hands s q p here cell_is law.parts.cells input q.cells.offset used (scalar_outline typed q.cells input used says.value cell_is.stands t_is.fresh t_is.items t_is.due same front strict) d q.partial (whole.0.moves q.partial cell_is.joined empty) whole.1 in
-          let is = scalar_is typed q.cells input used says.value cell_is.stands t_is.fresh t_is.items t_is.due same front strict q.partial.content in
+          let going = going_hands s q p here cell_is law.parts.cells input q.cells.offset used (scalar_outline typed q.cells input used says.value cell_is.conforms t_is.fresh t_is.items t_is.due same front strict) d q.partial (whole.0.moves q.partial cell_is.joined empty) whole.1 in
+          let is = scalar_is typed q.cells input used says.value cell_is.conforms t_is.fresh t_is.items t_is.due same front strict q.partial.content in
           rw (t_is.at, t_is.level) (refl, refl, refl, subst (λ (e : CellEvent). Hands (state_of s q) input q.cells.offset used (cell_event p.row p.column e) (state_of s beside)) is going.1)
 
   -- ---- a part without a content
@@ -119,7 +119,7 @@ module _ (s : StreamProgress) (q : PartsState) (p : CellCursor) (here : s.stage 
 
 module _ (s : StreamProgress) (q : PartsState) (p : CellCursor) (here : s.stage ≡ stage.InCell p) (l : Level) (inside : IsInLevel q.cells l) (law : IsConsistent s (at_level q l)) where
   pub level_fits : is_over l.value l.offset ≡ false → NextFits (nodes_of q p.columns) l
-  level_fits = next_fits (nodes_of q p.columns) q.cells l inside (subst (λ (t : StreamStage). StageHolds s (at_level q l) t) here law.stage).0.stands
+  level_fits = next_fits (nodes_of q p.columns) q.cells l inside (subst (λ (t : StreamStage). StageHolds s (at_level q l) t) here law.stage).0.conforms
 
   module _ (empty : q.partial.content ≡ []) (input : List ℕ) (t : DueItem) (found : due_at (nodes_of q p.columns) l ≡ Some t) where
     abbrev item_due : IsDue (nodes_of q p.columns) (with_level q.cells l) t × (is_over l.value l.offset ≡ false)

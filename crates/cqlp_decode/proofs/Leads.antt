@@ -82,8 +82,8 @@ module _ (old new : StreamState) (input s : List ℕ) (es : List (ℕ × reading
           (after.place, after.bytes ++ input, run, rw waits tt),
         )
 
-    pub hands_stands : (at used : ℕ) (e : reading.Event) → Hands old input at used e new → new.refusal ≡ None → new.rules ≡ old.rules → AfterBy None gifts old s es → AfterGifts gifts new (s ++ take used input) (es ++ (at, e) ∷ [])
-    hands_stands at used e h none rules after =
+    pub hands_conforms : (at used : ℕ) (e : reading.Event) → Hands old input at used e new → new.refusal ≡ None → new.rules ≡ old.rules → AfterBy None gifts old s es → AfterGifts gifts new (s ++ take used input) (es ++ (at, e) ∷ [])
+    hands_conforms at used e h none rules after =
         let t = take used input in
         let g = h.gives after.bytes after.pending in
         let long : length t ≡ used = length-take-le used input h.within in
@@ -103,7 +103,7 @@ module _ (old new : StreamState) (input s : List ℕ) (es : List (ℕ × reading
         })
 
     pub hands_leads : (at used : ℕ) (e : Event) → Hands old input at used (event_of e) new → new.refusal ≡ None → new.rules ≡ old.rules → AfterBy None gifts old s es → LeadsAfter gifts old s es input (steps.Event at used e) new
-    hands_leads at used e h none rules after = (h.within, none, h.begun, hands_stands at used (event_of e) h none rules after)
+    hands_leads at used e h none rules after = (h.within, none, h.begun, hands_conforms at used (event_of e) h none rules after)
 
     pub event_leads : (o : Option Refusal) (at used : ℕ) (w : EventOutline) (e : Event) → event_of e ≡ event_at new.held input w → AdvancesFrom o old input (advance.Event at used w) new → AfterBy o gifts old s es → LeadsAfter gifts old s es input (steps.Event at used e) new
     event_leads (Some r) at used w e is a after = absurd (let e = a.0 in cc)

@@ -6,7 +6,7 @@ use Rattle.cqlp_note.specs.declared.refusal.Refusal.{Refusal}
 use Rattle.cqlp_cell.specs.declared.level.Level.{Level}
 use Rattle.cqlp_cell.specs.declared.open_values.OpenValue.{OpenValue}
 use Rattle.cqlp_cell.specs.declared.progress.NextInCell.TheVariants as next
-use Rattle.cqlp_cell.specs.Progress.{CellState, Stands}
+use Rattle.cqlp_cell.specs.Progress.{CellState, Conforms}
 use Rattle.cqlp_cell.specs.Levels.{level_of, with_level}
 use Rattle.cqlp_cell.specs.Pushing.{done_by, is_done}
 use Rattle.cqlp_cell.proofs.Levels.{level_own}
@@ -28,15 +28,15 @@ none_over (o ∷ os) some = refl
 pub level_goes : (d : CellState) (l : Level) → level_of d ≡ Some l → is_done d ≡ false
 level_goes d l e = let own = (level_own d l e).0 in rw own.items (none_over d.open_values own.some)
 
--- the level in a loop's hands is that of a cell whose values stand in the table
-pub level_stands : (s : StreamProgress) (q : PartsState) (p : CellCursor) → s.stage ≡ stage.InCell p → (l : Level) → IsConsistent s (at_level q l) → Stands (nodes_of q p.columns) (with_level q.cells l)
-level_stands s q p here l law = (subst (λ (t : StreamStage). StageHolds s (at_level q l) t) here law.stage).0.stands
+-- the level in a loop's hands is that of a cell whose values are in the table
+pub level_conforms : (s : StreamProgress) (q : PartsState) (p : CellCursor) → s.stage ≡ stage.InCell p → (l : Level) → IsConsistent s (at_level q l) → Conforms (nodes_of q p.columns) (with_level q.cells l)
+level_conforms s q p here l law = (subst (λ (t : StreamStage). StageHolds s (at_level q l) t) here law.stage).0.conforms
 
 -- ---- one cell after the other
 
 module _ {S : Type 0} (Gets : S → ℕ → Event → S → Type 0) (old : StreamState) (input : List ℕ) (before : S) where
-  -- So many bytes are read, what the caller asked for and gave stands, and the sink has got its events.
-  pub record Stood (new : StreamState) (used : ℕ) (after : S) : Type 0 where
+  -- So many bytes are read, what the caller asked for and gave stays, and the sink has got its events.
+  pub record Conformed (new : StreamState) (used : ℕ) (after : S) : Type 0 where
     pub within : used ≤ length input
     pub unrefused : new.refusal ≡ None
     pub refusal : new.refusal ≡ old.refusal
@@ -45,20 +45,20 @@ module _ {S : Type 0} (Gets : S → ℕ → Event → S → Type 0) (old : Strea
     pub pays : ends_due new.place.symbols + new.open_values ≤ ends_due old.place.symbols + old.open_values + 2 * used
     pub drained : HandsOut Gets old new input used before after
 
-  pub stood_first : old.refusal ≡ None → Stood old 0 before
-  stood_first none = record { within = omega arith; unrefused = none; refusal = refl; rules = refl; given = refl; pays = omega arith; drained = hands_none Gets old input before }
+  pub conformed_first : old.refusal ≡ None → Conformed old 0 before
+  conformed_first none = record { within = omega arith; unrefused = none; refusal = refl; rules = refl; given = refl; pays = omega arith; drained = hands_none Gets old input before }
 
-  pub stood_stays : (new : StreamState) (used : ℕ) (s : S) → Stood new used s → StaysWithin old input (Ok used) new
-  stood_stays new used s i = ((i.within, i.pays), i.refusal, i.rules, i.given)
+  pub conformed_stays : (new : StreamState) (used : ℕ) (s : S) → Conformed new used s → StaysWithin old input (Ok used) new
+  conformed_stays new used s i = ((i.within, i.pays), i.refusal, i.rules, i.given)
 
-  module _ (mid : StreamState) (used : ℕ) (s : S) (i : Stood mid used s) (new : StreamState) (n : ℕ) where
+  module _ (mid : StreamState) (used : ℕ) (s : S) (i : Conformed mid used s) (new : StreamState) (n : ℕ) where
     -- ---- one item more
     module _ (at : ℕ) (emitted : Event) (h : TakesItem mid (drop used input) at n emitted new) where
       within_item : used + n ≤ length input
       within_item = omega (arith, i.within, h.3.within, length-drop used input)
 
-      pub stood_item : (t : S) → Gets s at emitted t → Stood new (used + n) t
-      stood_item t got = record {
+      pub conformed_item : (t : S) → Gets s at emitted t → Conformed new (used + n) t
+      conformed_item t got = record {
         within = within_item;
         unrefused = h.0 ∙ i.unrefused;
         refusal = h.0 ∙ i.refusal;
@@ -79,8 +79,8 @@ module _ {S : Type 0} (Gets : S → ℕ → Event → S → Type 0) (old : Strea
       within_items : used + n ≤ length input
       within_items = omega (arith, i.within, w.0, length-drop used input)
 
-      pub stood_items : (t : S) → HandsOut Gets mid new (drop used input) n s t → Stood new (used + n) t
-      stood_items t got = record {
+      pub conformed_items : (t : S) → HandsOut Gets mid new (drop used input) n s t → Conformed new (used + n) t
+      conformed_items t got = record {
         within = within_items;
         unrefused = refusal ∙ i.unrefused;
         refusal = refusal ∙ i.refusal;
@@ -106,11 +106,11 @@ zero_on : (n : ℕ) → 0 + n ≡ n
 zero_on n = omega arith
 
 module _ {S : Type 0} (Gets : S → ℕ → Event → S → Type 0) (start : StreamState) (input : List ℕ) (before : S) (none : start.refusal ≡ None) (new : StreamState) (at used : ℕ) (emitted : Event) (h : TakesItem start input at used emitted new) where
-  pub stood_entered : (t : S) → Gets before at emitted t → Stood Gets start input before new used t
-  stood_entered t got = subst (λ (n : ℕ). Stood Gets start input before new n t) (zero_on used) (stood_item Gets start input before start 0 before (stood_first Gets start input before none) new used at emitted h t got)
+  pub conformed_entered : (t : S) → Gets before at emitted t → Conformed Gets start input before new used t
+  conformed_entered t got = subst (λ (n : ℕ). Conformed Gets start input before new n t) (zero_on used) (conformed_item Gets start input before start 0 before (conformed_first Gets start input before none) new used at emitted h t got)
 
   pub entry_faults : (Fails : S → ℕ → Event → S → Type 0) (t : S) → Fails before at emitted t → FailsAfter Gets Fails start new input used before t
-  entry_faults Fails t fault = subst (λ (n : ℕ). FailsAfter Gets Fails start new input n before t) (zero_on used) (item_faults Gets start input before start 0 before (stood_first Gets start input before none) new used at emitted h Fails t fault)
+  entry_faults Fails t fault = subst (λ (n : ℕ). FailsAfter Gets Fails start new input n before t) (zero_on used) (item_faults Gets start input before start 0 before (conformed_first Gets start input before none) new used at emitted h Fails t fault)
 
 -- ---- the level that was handed out
 

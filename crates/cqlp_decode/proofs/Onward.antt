@@ -6,7 +6,7 @@ use Rattle.cqlp_cell.specs.declared.open_values.OpenValue.{OpenValue}
 use Rattle.cqlp_cell.specs.declared.whole.BareItem.{BareItem}
 use Rattle.cqlp_cell.specs.declared.whole.Entered.{Entered}
 use Rattle.cqlp_cell.specs.OpenValues.{with_last}
-use Rattle.cqlp_cell.specs.Progress.{CellState, Stands, ended}
+use Rattle.cqlp_cell.specs.Progress.{CellState, Conforms, ended}
 use Rattle.cqlp_cell.specs.Levels.{IsInLevel, with_level}
 use Rattle.cqlp_cell.specs.Pushing.{begun, is_done}
 use Rattle.cqlp_cell.specs.Whole.{Ends, Enters, next_begun}
@@ -29,7 +29,7 @@ length_with [] o = refl
 length_with (x ∷ []) o = refl
 length_with (x ∷ y ∷ os) o = ap suc (length_with (y ∷ os) o)
 
--- the level of a reader that stands in another of its levels
+-- the level of a reader that is in another of its levels
 pub inside_with : (d : CellState) (l m : Level) → IsInLevel d l → IsInLevel (with_level d m) m → IsInLevel d m
 inside_with d l m here there = record { fresh = here.fresh; items = here.items; some = here.some; level = there.level ∙ length_with d.open_values m.value }
 
@@ -40,7 +40,7 @@ lagging s q p n law b le =
     record {
       bounded = record { long = b.long; inside = b.inside; size = b.size; bound = b.bound };
       parts = record { room = law.parts.room; rules = law.parts.rules; cells = law.parts.cells; table = law.parts.table; few = law.parts.few };
-      stage = (record { under_way = c.under_way; stands = c.stands; joined = c.joined; some = c.some; is = c.is; page = c.page; stop = c.stop; after = le; came = c.came }, law.stage.1);
+      stage = (record { under_way = c.under_way; conforms = c.conforms; joined = c.joined; some = c.some; is = c.is; page = c.page; stop = c.stop; after = le; came = c.came }, law.stage.1);
       quiet = record { types = law.quiet.types; cells = law.quiet.cells };
       table = law.table;
       given = law.given;
@@ -93,8 +93,8 @@ module _ (s : StreamProgress) (q : PartsState) (p : CellCursor) (here : s.stage 
     next_state : state_of within next_parts ≡ state_of after idle
     next_state = subst (λ (z : CellState). state_of within (parts q.partial q.types z q.table q.given) ≡ state_of after idle) begun_is (begun_same after idle p' refl after_lawful refl)
 
-    pub next_stands : Stands (nodes_of q p'.columns) (next_begun q.cells l node)
-    next_stands = next_law.stage.0.stands
+    pub next_conforms : Conforms (nodes_of q p'.columns) (next_begun q.cells l node)
+    next_conforms = next_law.stage.0.conforms
 
     module _ (input : List ℕ) (t : Entered) (enters : Enters (nodes_of q p'.columns) (next_begun q.cells l node) input (Some t) (with_level q.cells t.level)) where
       not_done : is_done (with_level q.cells t.level) ≡ false

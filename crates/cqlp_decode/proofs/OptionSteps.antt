@@ -115,10 +115,10 @@ module _ (s : StreamProgress) (q : PartsState) (here : s.stage ≡ stage.InType)
   abbrev rest : List Symbol
   rest = rest_of s.upcoming
 
-  abbrev stands : Place
-  stands = place_at q.types.offset s.stop (In_type q.types.symbols ∷ rest) q.table.nodes (given_of s.given_use q.given)
+  abbrev conforms : Place
+  conforms = place_at q.types.offset s.stop (In_type q.types.symbols ∷ rest) q.table.nodes (given_of s.given_use q.given)
 
-  answer_is : (bytes : List ℕ) → said (state_of s q) bytes ≡ map_said type_event (place_of_types stands rest) (type.step_says q.types q.table.nodes bytes)
+  answer_is : (bytes : List ℕ) → said (state_of s q) bytes ≡ map_said type_event (place_of_types conforms rest) (type.step_says q.types q.table.nodes bytes)
   answer_is bytes = rw (here, ← rules, ← o.stop) (says_map type_event (place_of_types (place_at q.types.offset q.types.stop (In_type q.types.symbols ∷ rest) q.table.nodes (given_of s.given_use q.given)) rest) (type_step q.types.rules (place_of q.types q.table.nodes)) 0 bytes)
 
   pending_is : (b : List ℕ) → IsPending (state_of s q).pending b → b ≡ pending q.types q.partial
@@ -132,11 +132,11 @@ module _ (s : StreamProgress) (q : PartsState) (here : s.stage ≡ stage.InType)
         all = m.all;
         place = rw (here, m.table) (λ j. place_at (offset j) s.stop (In_type (symbols j) ∷ rest) q.table.nodes (given_of s.given_use q.given));
         frame = refl;
-        waits = λ b is. (rw (pending_is b is) (answer_is (pending q.types q.partial ++ input) ∙ ap (λ z. map_said type_event (place_of_types stands rest) z) m.is), rw (here, pending_is b is) (sym m.pending));
+        waits = λ b is. (rw (pending_is b is) (answer_is (pending q.types q.partial ++ input) ∙ ap (λ z. map_said type_event (place_of_types conforms rest) z) m.is), rw (here, pending_is b is) (sym m.pending));
       }
 
   pub option_fails : (input : List ℕ) (at : ℕ) (why : Reason) → type.step_says q.types q.table.nodes (pending q.types q.partial ++ input) ≡ Bad (at, why) → (b : List ℕ) → IsPending (state_of s q).pending b → said (state_of s q) (b ++ input) ≡ Bad (at, why)
-  option_fails input at why m b is = rw (pending_is b is) (answer_is (pending q.types q.partial ++ input) ∙ ap (λ z. map_said type_event (place_of_types stands rest) z) m)
+  option_fails input at why m b is = rw (pending_is b is) (answer_is (pending q.types q.partial ++ input) ∙ ap (λ z. map_said type_event (place_of_types conforms rest) z) m)
 
   module _ (input : List ℕ) (at used : ℕ) (x : TypeOutline) (r' : type.TypeState) (p' : FieldState) (t' : Table) (m : type.Ends q.types q.partial q.table input at used x r' p' t') (waits : OptionWaits q) where
     abbrev bytes : List ℕ
@@ -156,16 +156,16 @@ module _ (s : StreamProgress) (q : PartsState) (here : s.stage ≡ stage.InType)
     pub option_on : r'.offset ≡ q.types.offset + taken
     option_on = sym (ap (λ (z : TypePlace). z.offset) m.after) ∙ goes_forward q.types.rules (place_of q.types q.table.nodes) bytes m.step taken m.is
 
-    option_gives : Gives (state_of s q) bytes at (type_event (part.event_at x input p'.content)) taken (place_of_types stands rest (place_of r' t'.nodes))
+    option_gives : Gives (state_of s q) bytes at (type_event (part.event_at x input p'.content)) taken (place_of_types conforms rest (place_of r' t'.nodes))
     option_gives = (
-      record { at = m.step.at; event = type_event m.step.event; after = λ u. place_of_types stands rest (m.step.after u) },
-      answer_is bytes ∙ ap (λ z. map_said type_event (place_of_types stands rest) z) m.is,
+      record { at = m.step.at; event = type_event m.step.event; after = λ u. place_of_types conforms rest (m.step.after u) },
+      answer_is bytes ∙ ap (λ z. map_said type_event (place_of_types conforms rest) z) m.is,
       m.place,
       ap type_event m.event,
-      ap (λ (z : TypePlace). place_of_types stands rest z) m.after,
+      ap (λ (z : TypePlace). place_of_types conforms rest z) m.after,
     )
 
-    -- the place that the decoder stands at then
+    -- the place that the decoder is at then
     module _ (e : StreamProgress) (q' : PartsState) (content : q'.partial.content ≡ p'.content) (nodes : q'.table.nodes ≡ t'.nodes) (offset : offset_at e.stage e.offset q' ≡ r'.offset) (stop : e.stop ≡ s.stop) (frame : e.frame ≡ s.frame)
         (symbols : symbols_at e.stage q' e.upcoming ≡ types_left r'.symbols ++ rest) (fresh : IsPending (state_of e q').pending []) (one : ends_due (symbols_at e.stage q' e.upcoming) ≡ 1) (cells : q'.cells ≡ q.cells) (given : given_of e.given_use q'.given ≡ given_of s.given_use q.given) where
       pub option_hands : Moves (state_of s q) input (advance.Event at used (what.Option x)) (state_of e q')

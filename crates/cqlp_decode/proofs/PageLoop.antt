@@ -57,7 +57,7 @@ hands_leaf l k room input row column HasGot Failed (handed.Fault n) emitted = re
 
 -- ---- from cell to cell
 
--- the reading stands at a cell of a page
+-- the reading is at a cell of a page
 abbrev pub at_cell : StreamProgress → CellCursor → (offset : ℕ) → StreamProgress
 at_cell s p offset = record s { stage = stage.BeforeCell p; offset = offset }
 

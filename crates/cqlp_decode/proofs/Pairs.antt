@@ -57,22 +57,22 @@ key_more l has = ap (over_by l.value l.offset) has.0 ∙ some_left l.value.left 
 pub value_more : (l : Level) → l.value.order ≡ order.Values → is_over l.value l.offset ≡ false
 value_more l e = ap (over_by l.value l.offset) e
 
--- ---- where the loop stands
+-- ---- where the loop is
 
 module _ {S : Type 0} (Gets : S → ℕ → Event → S → Type 0) (s : StreamProgress) (q : PartsState) (first : Level) (input : List ℕ) (before : S) where
-  abbrev pub standing : Level → StreamState
-  standing l = state_of s (at_level q l)
+  abbrev pub conforming : Level → StreamState
+  conforming l = state_of s (at_level q l)
 
-  -- So many bytes are read, the level is where the reading stands, and the sink has got its events.
-  pub record StandsAt (l : Level) (used : ℕ) (after : S) : Type 0 where
+  -- So many bytes are read, the level is where the reading is, and the sink has got its events.
+  pub record ConformsAt (l : Level) (used : ℕ) (after : S) : Type 0 where
     pub within : used ≤ length input
     pub inside : IsInLevel q.cells l
     pub lawful : IsConsistent s (at_level q l)
-    pub pays : ends_due (standing l).place.symbols + (standing l).open_values ≤ ends_due (standing first).place.symbols + (standing first).open_values + 2 * used
-    pub drained : HandsOut Gets (standing first) (standing l) input used before after
+    pub pays : ends_due (conforming l).place.symbols + (conforming l).open_values ≤ ends_due (conforming first).place.symbols + (conforming first).open_values + 2 * used
+    pub drained : HandsOut Gets (conforming first) (conforming l) input used before after
 
-  pub stands_first : IsInLevel q.cells first → IsConsistent s (at_level q first) → StandsAt first 0 before
-  stands_first inside lawful = record { within = omega arith; inside = inside; lawful = lawful; pays = omega arith; drained = hands_none Gets (standing first) input before }
+  pub conforms_first : IsInLevel q.cells first → IsConsistent s (at_level q first) → ConformsAt first 0 before
+  conforms_first inside lawful = record { within = omega arith; inside = inside; lawful = lawful; pays = omega arith; drained = hands_none Gets (conforming first) input before }
 
   module _ (p : CellCursor) (here : s.stage ≡ stage.InCell p) (unrefused : s.refusal ≡ None) (empty : q.partial.content ≡ []) where
     abbrev typed : List Node
@@ -80,7 +80,7 @@ module _ {S : Type 0} (Gets : S → ℕ → Event → S → Type 0) (s : StreamP
 
     -- ---- one item more
 
-    module _ (l : Level) (used : ℕ) (mid : S) (i : StandsAt l used mid) (k : Kind) (of_kind : k ≡ (node_at typed l.value.node).kind) (more : is_over l.value l.offset ≡ false) where
+    module _ (l : Level) (used : ℕ) (mid : S) (i : ConformsAt l used mid) (k : Kind) (of_kind : k ≡ (node_at typed l.value.node).kind) (more : is_over l.value l.offset ≡ false) where
       pub item_fits : l.offset ≤ l.value.stop
       item_fits = (level_fits s q p here l i.inside i.lawful more).inside
 
@@ -96,8 +96,8 @@ module _ {S : Type 0} (Gets : S → ℕ → Event → S → Type 0) (s : StreamP
 
         -- the level after the item
         module _ (m : Level) (goes : m ≡ passed typed l n) where
-          takes : TakesItem (standing l) (drop used input) t.at n emitted (standing m)
-          takes = subst (λ (z : Level). TakesItem (standing l) (drop used input) t.at n emitted (standing z)) (sym goes) (item_takes s q p here l i.inside i.lawful empty (drop used input) t found n Holds one)
+          takes : TakesItem (conforming l) (drop used input) t.at n emitted (conforming m)
+          takes = subst (λ (z : Level). TakesItem (conforming l) (drop used input) t.at n emitted (conforming z)) (sym goes) (item_takes s q p here l i.inside i.lawful empty (drop used input) t found n Holds one)
 
           pub further_inside : IsInLevel q.cells m
           further_inside = subst (λ (z : Level). IsInLevel q.cells z) (sym goes) (record { fresh = i.inside.fresh; items = i.inside.items; some = i.inside.some; level = i.inside.level })
@@ -105,17 +105,17 @@ module _ {S : Type 0} (Gets : S → ℕ → Event → S → Type 0) (s : StreamP
           pub further_lawful : IsConsistent s (at_level q m)
           further_lawful = subst (λ (z : Level). IsConsistent s (at_level q z)) (sym goes) (item_lawful s q p here l i.inside i.lawful empty (drop used input) t found n Holds one)
 
-          pub further_within : UsesWithin (standing first) input (Ok (used + n)) (standing m)
+          pub further_within : UsesWithin (conforming first) input (Ok (used + n)) (conforming m)
           further_within = (omega (arith, i.within, takes.3.within, length-drop used input), omega (arith, takes.3.pays, i.pays))
 
-          pub further_stands : (after : S) → Gets mid t.at emitted after → StandsAt m (used + n) after
-          further_stands after got = record {
+          pub further_conforms : (after : S) → Gets mid t.at emitted after → ConformsAt m (used + n) after
+          further_conforms after got = record {
             within = further_within.0;
             inside = further_inside;
             lawful = further_lawful;
             pays = further_within.1;
-            drained = item_drains Gets (standing first) (standing l) (standing m) input used before mid i.drained unrefused t.at n emitted takes after got;
+            drained = item_drains Gets (conforming first) (conforming l) (conforming m) input used before mid i.drained unrefused t.at n emitted takes after got;
           }
 
-          pub further_fails : (Fails : S → ℕ → Event → S → Type 0) (after : S) → Fails mid t.at emitted after → FailsAfter Gets Fails (standing first) (standing m) input (used + n) before after
-          further_fails Fails after fault = item_fails Gets (standing first) (standing l) (standing m) input used before mid i.drained unrefused t.at n emitted takes Fails after fault
+          pub further_fails : (Fails : S → ℕ → Event → S → Type 0) (after : S) → Fails mid t.at emitted after → FailsAfter Gets Fails (conforming first) (conforming m) input (used + n) before after
+          further_fails Fails after fault = item_fails Gets (conforming first) (conforming l) (conforming m) input used before mid i.drained unrefused t.at n emitted takes Fails after fault

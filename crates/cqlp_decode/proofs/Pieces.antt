@@ -11,7 +11,7 @@ use Rattle.cqlp_decode.specs.declared.feeding.Fed.TheVariants as fed
 use Rattle.cqlp_decode.specs.declared.step.Step.TheVariants as steps
 use Rattle.cqlp_decode.specs.Reading.{Event, Gifts, Place, Reads, start_with}
 use Rattle.cqlp_decode.specs.Progress.{StreamState, Pending, Kept, Skipped, Valued, IsPending}
-use Rattle.cqlp_decode.specs.Streams.{AfterBy, AfterGifts, Stands, LeadsAfter, Goes}
+use Rattle.cqlp_decode.specs.Streams.{AfterBy, AfterGifts, Conforms, LeadsAfter, Goes}
 use Rattle.cqlp_decode.specs.Sinks.{Gets}
 use Rattle.cqlp_decode.specs.Cells.{Item, TakesItems, GetsAll, HandsOut, FailsAfter, bytes_of}
 use Rattle.cqlp_decode.specs.Draining.{Drains, DrainsAll, DrainsPiece, DrainsTo, EndsAtEvent, FailsWithin, HasRefused}
@@ -31,7 +31,7 @@ nothing_pending (Valued u seen) b none is = no_bytes (length_under u) (seen_unde
 
 pub ends_there : (gifts : Gifts) (d : StreamState) (s : List ℕ) (es : List (ℕ × Event)) → d.refusal ≡ None → IsPending d.pending [] → AfterGifts gifts d s es → (q : Place) × Reads d.rules (start_with gifts) s es q []
 ends_there gifts d s es none begun a =
-    let st : Stands gifts d s es = subst (λ (o : Option Refusal). AfterBy o gifts d s es) none a in
+    let st : Conforms gifts d s es = subst (λ (o : Option Refusal). AfterBy o gifts d s es) none a in
     (st.place, subst (λ (b : List ℕ). Reads d.rules (start_with gifts) s es st.place b) (nothing_pending d.pending st.bytes begun st.pending) st.read)
 
 pub is_none : (o : Option Refusal) → ((r : Refusal) → o ≡ Some r → ⊥) → o ≡ None
@@ -71,9 +71,9 @@ module _ {S : Type 0} (m : sink.Ghosts S) (gifts : Gifts) (s input : List ℕ) (
     by_items [] takes all got h is d = still_there takes all got d
     by_items (x ∷ xs) takes all got h is d =
         let last = begun_last old mid (drop used input) x xs takes in
-        let more = drained m old mid (drop used input) taken t u h is gifts (s ++ take used input) (es ++ d.0.more) d.0.stands in
+        let more = drained m old mid (drop used input) taken t u h is gifts (s ++ take used input) (es ++ d.0.more) d.0.conforms in
         let r = drains_rest m.after gifts old mid s input used taken es v (m.view t) (m.view u) d.0 more in
-        (r, inr (ends_there gifts mid (s ++ take (used + taken) input) (es ++ r.more) last.1 last.0 r.stands))
+        (r, inr (ends_there gifts mid (s ++ take (used + taken) input) (es ++ r.more) last.1 last.0 r.conforms))
 
     pub hands_on : HandsOut (Gets m) old mid (drop used input) taken t u → m.reports t → Drained old used t → Drained mid (used + taken) u
     hands_on h is d = by_items h.items h.takes h.all h.got h is d
@@ -88,7 +88,7 @@ module _ {V : Type 0} (f : V → ℕ → Event → V) (gifts : Gifts) (free old 
       → (x : DrainsAll f gifts free new s es input (take used input) v w) × EndsAtEvent new.rules gifts (s ++ take used input) es x.drains.more used
   ends_refused clear r goes leads ends = (
     record {
-      drains = record { more = d.more; stands = leads.1; got = d.got };
+      drains = record { more = d.more; conforms = leads.1; got = d.got };
       says = λ none. rw (goes.0, goes.1) (rw all at (refuses_new old.refusal gifts old (s ++ take used input) (es ++ d.more) (drop used input) r (clear none) leads.2));
     },
     subst (λ (l : Rules). EndsAtEvent l gifts (s ++ take used input) es d.more used) (sym goes.0) ends,

@@ -26,10 +26,10 @@ use Rattle.cqlp_decode.specs.Progress.{PartsState, IsConsistent, nodes_of}
 use Rattle.cqlp_decode.specs.Reading.{Event, cell_event}
 use Rattle.cqlp_cell.proofs.Coming.{value_due}
 use Rattle.cqlp_cell.proofs.Levels.{level_due}
-use Rattle.cqlp_decode.proofs.Lists.{level_stands}
+use Rattle.cqlp_decode.proofs.Lists.{level_conforms}
 use Rattle.cqlp_decode.proofs.Rooms.{says_on, value_on}
-use Rattle.cqlp_decode.proofs.Pairs.{StandsAt, standing, stands_first, further_place, further_inside, further_lawful}
-use Rattle.cqlp_decode.proofs.Pairs.{further_within, further_stands, further_fails}
+use Rattle.cqlp_decode.proofs.Pairs.{ConformsAt, conforming, conforms_first, further_place, further_inside, further_lawful}
+use Rattle.cqlp_decode.proofs.Pairs.{further_within, further_conforms, further_fails}
 
 -- ---- what bytes say of a scalar in a smaller room, they say in a larger one, whatever follows them
 
@@ -92,29 +92,29 @@ module _ (l : Level) (k : Kind) (t : DueItem) where
       let is = element_by (l.value.left == 0) refl e in
       (is.0, ap (over_by l.value l.offset) list ∙ is.1)
 
--- ---- where the loop stands
+-- ---- where the loop is
 
 none_used : (n : ℕ) → 0 ≡ n - n
 none_used n = omega arith
 
 module _ {S : Type 0} (Gets : S → ℕ → Event → S → Type 0) (s : StreamProgress) (q : PartsState) (first : Level)
     (input : List ℕ) (before : S) where
-  -- Of the bytes within the value these are left, the level is where the reading stands, and the sink has got its events.
-  pub record StandsBefore (rest within : List ℕ) (l : Level) (after : S) : Type 0 where
+  -- Of the bytes within the value these are left, the level is where the reading is, and the sink has got its events.
+  pub record LiesBefore (rest within : List ℕ) (l : Level) (after : S) : Type 0 where
     pub shorter : length rest ≤ length within
-    pub stands : StandsAt Gets s q first input before l (length within - length rest) after
+    pub conforms : ConformsAt Gets s q first input before l (length within - length rest) after
     pub fits : l.offset + length rest ≤ l.value.stop
     pub beyond : List ℕ
     pub split : rest ++ beyond ≡ drop (length within - length rest) input
 
   pub before_first : (within : List ℕ) → within ≡ take (first.value.stop - first.offset) input
       → length within ≤ first.value.stop - first.offset → first.offset ≤ first.value.stop → IsInLevel q.cells first
-      → IsConsistent s (at_level q first) → StandsBefore within within first before
+      → IsConsistent s (at_level q first) → LiesBefore within within first before
   before_first within is few room inside lawful = record {
     shorter = omega arith;
-    stands =
-        subst (λ (n : ℕ). StandsAt Gets s q first input before first n before) (none_used (length within))
-        (stands_first Gets s q first input before inside lawful);
+    conforms =
+        subst (λ (n : ℕ). ConformsAt Gets s q first input before first n before) (none_used (length within))
+        (conforms_first Gets s q first input before inside lawful);
     fits = omega (arith, room, few);
     beyond = drop (first.value.stop - first.offset) input;
     split =
@@ -134,7 +134,7 @@ module _ (s : StreamProgress) (q : PartsState) (p : CellCursor) (here : s.stage 
       let item = due_of_kind l (own_kind typed l) in
       let found : due_at typed l ≡ Some item = rw more refl in
       let is = (level_due typed q.cells l inside item found).0 in
-      let due = value_due typed (with_level q.cells l) (level_stands s q p here l law) is.due in
+      let due = value_due typed (with_level q.cells l) (level_conforms s q p here l law) is.due in
       omega (arith, due.inside, due.bounded, is.room)
 
   pub rest_place : (rest : List ℕ) → l.offset + length rest ≤ l.value.stop → l.offset + length rest < 2 ^ 64
@@ -144,7 +144,7 @@ module _ (s : StreamProgress) (q : PartsState) (p : CellCursor) (here : s.stage 
 
 module _ {S : Type 0} {Gets : S → ℕ → Event → S → Type 0} {s : StreamProgress} {q : PartsState} {first : Level} {input : List ℕ} {before : S}
     {p : CellCursor} (here : s.stage ≡ stage.InCell p) (unrefused : s.refusal ≡ None) (empty : q.partial.content ≡ [])
-    {rest within : List ℕ} {l : Level} {mid : S} (i : StandsBefore Gets s q first input before rest within l mid)
+    {rest within : List ℕ} {l : Level} {mid : S} (i : LiesBefore Gets s q first input before rest within l mid)
     {k : Kind} (of_kind : k ≡ (node_at (nodes_of q p.columns) l.value.node).kind) (more : is_over l.value l.offset ≡ false)
     {n : ℕ} {Holds : Event → Type 0}
     (one : SaysLeaf (rules_asked s.limits) k (length rest) l.level rest p.row p.column n Holds) where
@@ -164,49 +164,49 @@ module _ {S : Type 0} {Gets : S → ℕ → Event → S → Type 0} {s : StreamP
 
   pub next_place : l.offset + n < 2 ^ 64
   next_place =
-      further_place Gets s q first input before p here unrefused empty l gone mid i.stands k of_kind more (due_of_kind l k) refl n Holds whole
+      further_place Gets s q first input before p here unrefused empty l gone mid i.conforms k of_kind more (due_of_kind l k) refl n Holds whole
 
   -- the level after the item, and what is left after it
   module _ {m : Level} (goes : m ≡ passed (nodes_of q p.columns) l n) where
     pub next_lawful : IsConsistent s (at_level q m)
     next_lawful =
-        further_lawful Gets s q first input before p here unrefused empty l gone mid i.stands k of_kind more
+        further_lawful Gets s q first input before p here unrefused empty l gone mid i.conforms k of_kind more
         (due_of_kind l k) refl n Holds whole m goes
 
     pub next_inside : IsInLevel q.cells m
     next_inside =
-        further_inside Gets s q first input before p here unrefused empty l gone mid i.stands k of_kind more
+        further_inside Gets s q first input before p here unrefused empty l gone mid i.conforms k of_kind more
         (due_of_kind l k) refl n Holds whole m goes
 
     module _ {left : List ℕ} (is : left ≡ drop n rest) where
       used : gone + n ≡ length within - length left
       used = omega (arith, i.shorter, one.says.within, ap (λ (z : List ℕ). length z) is, length-drop n rest)
 
-      pub next_within : UsesWithin (standing Gets s q first input before first) input (Ok (length within - length left))
-          (standing Gets s q first input before m)
+      pub next_within : UsesWithin (conforming Gets s q first input before first) input (Ok (length within - length left))
+          (conforming Gets s q first input before m)
       next_within =
           rw (← used)
-          (further_within Gets s q first input before p here unrefused empty l gone mid i.stands k of_kind more
+          (further_within Gets s q first input before p here unrefused empty l gone mid i.conforms k of_kind more
           (due_of_kind l k) refl n Holds whole m goes)
 
       pub next_fails : (Fails : S → ℕ → Event → S → Type 0) {after : S} → Fails mid l.offset emitted after
-          → FailsAfter Gets Fails (standing Gets s q first input before first) (standing Gets s q first input before m) input
+          → FailsAfter Gets Fails (conforming Gets s q first input before first) (conforming Gets s q first input before m) input
           (length within - length left) before after
       next_fails Fails {after} fault =
           rw (← used)
-          (further_fails Gets s q first input before p here unrefused empty l gone mid i.stands k of_kind more
+          (further_fails Gets s q first input before p here unrefused empty l gone mid i.conforms k of_kind more
           (due_of_kind l k) refl n Holds whole m goes Fails after fault)
 
-      pub next_stands : {after : S} → Gets mid l.offset emitted after → StandsBefore Gets s q first input before left within m after
-      next_stands {after} got =
+      pub next_conforms : {after : S} → Gets mid l.offset emitted after → LiesBefore Gets s q first input before left within m after
+      next_conforms {after} got =
           let shorter = ap (λ (z : List ℕ). length z) is ∙ length-drop n rest in
           let stop = ap (λ (z : Level). z.value.stop) goes ∙ stop_after (nodes_of q p.columns) l n in
           let offset = ap (λ (z : Level). z.offset) goes in
           record {
             shorter = omega (arith, i.shorter, shorter);
-            stands =
-                subst (λ (z : ℕ). StandsAt Gets s q first input before m z after) used
-                (further_stands Gets s q first input before p here unrefused empty l gone mid i.stands k of_kind more
+            conforms =
+                subst (λ (z : ℕ). ConformsAt Gets s q first input before m z after) used
+                (further_conforms Gets s q first input before p here unrefused empty l gone mid i.conforms k of_kind more
                 (due_of_kind l k) refl n Holds whole m goes after got);
             fits = omega (arith, i.fits, one.says.within, shorter, stop, offset);
             beyond = i.beyond;

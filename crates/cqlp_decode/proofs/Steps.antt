@@ -236,7 +236,7 @@ stage_refused s q r u (stage.Field w) h = (record { room = h.0.room; read = h.0.
 stage_refused s q r u stage.BeforeType h = h
 stage_refused s q r u stage.InType h = (record { under_way = h.0.under_way; some = h.0.some; shared = h.0.shared; stop = h.0.stop; after = h.0.after; inside = h.0.inside; came = h.0.came }, h.1, h.2)
 stage_refused s q r u (stage.BeforeCell p) h = h
-stage_refused s q r u (stage.InCell p) h = (record { under_way = h.0.under_way; stands = h.0.stands; joined = h.0.joined; some = h.0.some; is = h.0.is; page = h.0.page; stop = h.0.stop; after = h.0.after; came = h.0.came }, h.1)
+stage_refused s q r u (stage.InCell p) h = (record { under_way = h.0.under_way; conforms = h.0.conforms; joined = h.0.joined; some = h.0.some; is = h.0.is; page = h.0.page; stop = h.0.stop; after = h.0.after; came = h.0.came }, h.1)
 stage_refused s q r u stage.Extra h = h
 
 pub refused_lawful : (s : StreamProgress) (q : PartsState) (r : Refusal) (u : GivenUse) → IsNoPage s.stage → IsConsistent s q → IsConsistent (record s { refusal = Some r; given_use = u }) q

@@ -111,7 +111,7 @@ module _ (s : StreamProgress) (q : PartsState) (u : GivenUse) (g : Option Table)
   stage_there (stage.BeforeCell p) a h = (rw (apart_nodes p.columns q.table.nodes g q.given a) h.0, record { field = h.1.field; types = h.1.types; cells = h.1.cells }, h.2)
   stage_there (stage.InCell p) a h =
       let same : nodes_of beside p.columns ≡ nodes_of q p.columns = apart_nodes p.columns q.table.nodes g q.given a in (
-        record { under_way = h.0.under_way; stands = rw same h.0.stands; joined = rw same h.0.joined; some = h.0.some; is = h.0.is; page = rw same h.0.page; stop = h.0.stop; after = h.0.after; came = h.0.came },
+        record { under_way = h.0.under_way; conforms = rw same h.0.conforms; joined = rw same h.0.joined; some = h.0.some; is = h.0.is; page = rw same h.0.page; stop = h.0.stop; after = h.0.after; came = h.0.came },
         h.1,
       )
   stage_there stage.Extra a h = (h.0, record { field = h.1.field; types = h.1.types; cells = h.1.cells })

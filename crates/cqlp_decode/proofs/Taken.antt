@@ -11,7 +11,7 @@ use Rattle.cqlp_decode.specs.Items.{TakesItem}
 use Rattle.cqlp_grammar.specs.declared.sink.Sink as sink
 use Rattle.cqlp_decode.specs.Sinks.{Gets, Fails}
 use Rattle.cqlp_decode.specs.Cells.{Item, TakesItems, GetsAll, HandsOut, FailsAfter, bytes_of, emitted_of}
-use Rattle.cqlp_decode.proofs.Leads.{hands_stands}
+use Rattle.cqlp_decode.proofs.Leads.{hands_conforms}
 use Rattle.cqlp_decode.proofs.Gets.{take_two}
 
 -- ---- lists of items
@@ -49,12 +49,12 @@ takes_pays old new input (x ∷ xs) t =
     let more = takes_pays t.0 new (drop x.used input) xs t.3 in
     let first = t.2.3.pays in omega (arith, more, first)
 
-pub takes_stands : (gifts : Gifts) (old new : StreamState) (s input : List ℕ) (es : List (ℕ × Event)) (xs : List Item) → TakesItems old input xs new → AfterGifts gifts old s es → AfterGifts gifts new (s ++ take (bytes_of xs) input) (es ++ emitted_of xs)
-takes_stands gifts old new s input es [] t a = rw (t, append-nil s, append-nil es) a
-takes_stands gifts old new s input es (x ∷ xs) t a =
+pub takes_conforms : (gifts : Gifts) (old new : StreamState) (s input : List ℕ) (es : List (ℕ × Event)) (xs : List Item) → TakesItems old input xs new → AfterGifts gifts old s es → AfterGifts gifts new (s ++ take (bytes_of xs) input) (es ++ emitted_of xs)
+takes_conforms gifts old new s input es [] t a = rw (t, append-nil s, append-nil es) a
+takes_conforms gifts old new s input es (x ∷ xs) t a =
     let after = subst (λ (o : Option Refusal). AfterBy o gifts old s es) t.1 a in
-    let first = hands_stands old t.0 input s es gifts x.at x.used x.event t.2.3 (t.2.0 ∙ t.1) t.2.1 after in
-    let more = takes_stands gifts t.0 new (s ++ take x.used input) (drop x.used input) (es ++ (x.at, x.event) ∷ []) xs t.3 first in
+    let first = hands_conforms old t.0 input s es gifts x.at x.used x.event t.2.3 (t.2.0 ∙ t.1) t.2.1 after in
+    let more = takes_conforms gifts t.0 new (s ++ take x.used input) (drop x.used input) (es ++ (x.at, x.event) ∷ []) xs t.3 first in
     rw (take_two x.used (bytes_of xs) input, ← (append_assoc s (take x.used input) (take (bytes_of xs) (drop x.used input))), ← (append_assoc es ((x.at, x.event) ∷ []) (emitted_of xs))) more
 
 -- ---- what a sink has got
@@ -118,7 +118,7 @@ module _ {S : Type 0} (m : sink.Ghosts S) where
     still_reports h is = (gets_emitted s t h.items h.got is).0
 
     pub drained : HandsOut (Gets m) old new input used s t → m.reports s → (gifts : Gifts) (bytes : List ℕ) (es : List (ℕ × Event)) → AfterGifts gifts old bytes es → Drains m.after gifts new bytes es (take used input) (m.view s) (m.view t)
-    drained h is gifts bytes es a = record { more = emitted_of h.items; stands = rw h.all (takes_stands gifts old new bytes input es h.items h.takes a); got = (gets_emitted s t h.items h.got is).1 }
+    drained h is gifts bytes es a = record { more = emitted_of h.items; conforms = rw h.all (takes_conforms gifts old new bytes input es h.items h.takes a); got = (gets_emitted s t h.items h.got is).1 }
 
     pub failed : FailsAfter (Gets m) (Fails m) old new input used s t → m.reports s → FailsWithin m.after m.faulted old new (take used input) (m.view s) (m.view t)
     failed h is =
@@ -127,7 +127,7 @@ module _ {S : Type 0} (m : sink.Ghosts S) where
           more = emitted_of h.items;
           at = h.last.at;
           event = h.last.event;
-          stands = rw (h.all, append_assoc es (emitted_of h.items) ((h.last.at, h.last.event) ∷ []), ← (emitted_append h.items (h.last ∷ []))) (takes_stands gifts old new bytes input es (h.items ++ h.last ∷ []) h.takes a);
+          conforms = rw (h.all, append_assoc es (emitted_of h.items) ((h.last.at, h.last.event) ∷ []), ← (emitted_append h.items (h.last ∷ []))) (takes_conforms gifts old new bytes input es (h.items ++ h.last ∷ []) h.takes a);
           fault = rw (← got.1) (h.fault.0 got.0);
         }
 

@@ -62,7 +62,7 @@ UsesWithin old input (Ok used) new =
     × (ends_due new.place.symbols + new.open_values ≤ ends_due old.place.symbols + old.open_values + 2 * used)
 UsesWithin old input (Err fault) new = fault.used ≤ length input
 
--- the same, where what the caller asked for and gave stands, and nothing is refused
+-- the same, where what the caller asked for and gave stays, and nothing is refused
 abbrev pub StaysWithin : StreamState → List ℕ → Result ℕ FaultAfter → StreamState → Type 0
 StaysWithin old input result new =
     UsesWithin old input result new × (new.refusal ≡ old.refusal) × (new.rules ≡ old.rules) × (new.given ≡ old.given)

@@ -72,7 +72,7 @@ module _ {V : Type 0} (f : V → ℕ → Event → V) where
   pub record Drains (gifts : Gifts) (new : StreamState) (s : List ℕ) (es : List (ℕ × Event)) (bytes : List ℕ)
       (before after : V) : Type 0 where
     pub more : List (ℕ × Event)
-    pub stands : AfterGifts gifts new (s ++ bytes) (es ++ more)
+    pub conforms : AfterGifts gifts new (s ++ bytes) (es ++ more)
     pub got : after ≡ fold_events f before more
 
   -- Of a piece the decoder used these bytes, and the sink has got just their events. They are all events that the piece
@@ -126,7 +126,7 @@ module _ {V : Type 0} (f : V → ℕ → Event → V) where
       pub more : List (ℕ × Event)
       pub at : ℕ
       pub event : Event
-      pub stands : AfterGifts gifts new (s ++ bytes) (es ++ more ++ (at, event) ∷ [])
+      pub conforms : AfterGifts gifts new (s ++ bytes) (es ++ more ++ (at, event) ∷ [])
       pub fault : faulted (fold_events f before more) at event after
 
     -- the same of any gifts and any stream that led here

@@ -36,7 +36,7 @@ bare_event (bare.Leave level n) = cell.Leave level n
 abbrev pub part_emitted : (row column : ℕ) → BarePart → Event
 part_emitted row column part = cell_event row column (bare_event part)
 
--- The first bytes of the input end an item, which is this event; what the caller asked for and gave stands.
+-- The first bytes of the input end an item, which is this event; what the caller asked for and gave stays.
 abbrev pub TakesItem : StreamState → List ℕ → (at used : ℕ) → Event → StreamState → Type 0
 TakesItem old input at used e new =
     (new.refusal ≡ old.refusal) × (new.rules ≡ old.rules) × (new.given ≡ old.given) × Hands old input at used e new
@@ -112,18 +112,18 @@ TakesEntry old input row column None new = new ≡ old
 TakesEntry old input row column (Some t) new =
     TakesItem old input t.item.at t.item.used (part_emitted row column t.item.part) new
 
--- the reading of the cell stands in this level, if there is one
-abbrev pub StandsIn : Option Entered → CellState → Type 0
-StandsIn None d = ⊤
-StandsIn (Some t) d = level_of d ≡ Some t.level
+-- the reading of the cell is in this level, if there is one
+abbrev pub ConformsIn : Option Entered → CellState → Type 0
+ConformsIn None d = ⊤
+ConformsIn (Some t) d = level_of d ≡ Some t.level
 
 -- What is next is the end of the cell, which takes no byte.
 abbrev pub LeavesCell : StreamState → (row column : ℕ) → BareItem → StreamState → Type 0
 LeavesCell old row column t new =
     (input : List ℕ) → TakesItem old input t.at t.used (part_emitted row column t.part) new
 
--- From the end of a cell, at which a level stands, the reading went on into the next, which is a list, a set or a map: the
--- end, which takes no byte, and the beginning. The parts stand, but for the level. Or nothing is done.
+-- From the end of a cell, at which a level is, the reading went on into the next, which is a list, a set or a map: the
+-- end, which takes no byte, and the beginning. The parts stay, but for the level. Or nothing is done.
 abbrev pub GoesToNext : StreamProgress → PartsState → Level → CellCursor → BareItem → List ℕ → Option NextList → StreamProgress → Type 0
 GoesToNext old q l page end input None new = new ≡ old
 GoesToNext old q l page end input (Some n) new =

@@ -67,9 +67,9 @@ abbrev pub page_symbols : List Node → cell.CellState → CellCursor → List S
 page_symbols nodes d p =
     first_cell d.next p.row p.column (types_left nodes p) (place nodes d).symbols ++ cells_after nodes p
 
--- ---- where a cell stands
+-- ---- where a cell is
 
--- a column's type stands in the table as one of the types side by side
+-- a column's type is in the table as one of the types side by side
 abbrev pub IsColumn : List Node → (depth : ℕ) → Columns → (column index : ℕ) → Type 0
 IsColumn nodes depth columns.Typed column index =
     (index < length nodes) × (column ≤ index) × Forest nodes index depth × Forest nodes 0 depth
@@ -84,7 +84,7 @@ IsPage nodes depth p = IsColumn nodes depth p.columns p.column p.index × (p.row
 abbrev pub IsKind : List Node → CellCursor → Kind → Type 0
 IsKind nodes p k = (inner others : Types) × (types_left nodes p ≡ Type_and k inner others)
 
--- how many nodes a column's type takes, where it stands in the table
+-- how many nodes a column's type takes, where it is in the table
 abbrev pub IsSpan : List Node → Columns → (index span : ℕ) → Type 0
 IsSpan nodes (columns.Raw n) index span = ⊤
 IsSpan nodes c index span = (x : Node) → slice_get nodes index ≡ Some x → span ≡ x.span
@@ -94,7 +94,7 @@ IsSomePage nodes p = (depth : ℕ) × IsPage nodes depth p
 
 -- ---- from cell to cell
 
--- where the type of the next column stands, if there is one
+-- where the type of the next column is, if there is one
 abbrev pub NextColumn : List Node → (depth : ℕ) → CellCursor → Option ℕ → Type 0
 NextColumn nodes depth p None = other_types 1 (types_left nodes p) ≡ NoMore
 NextColumn nodes depth p (Some i) =

@@ -360,10 +360,10 @@ pub record OptionRuns (l : Rules) (q : PartsState) : Type 0 where
   pub items : List (ℕ × TypeEvent)
   pub runs : option.After begun q.types q.partial q.table bytes items
 
--- The cell under way is in this frame, and its type stands in the table.
+-- The cell under way is in this frame, and its type is in the table.
 pub record IsCell (s : StreamProgress) (q : PartsState) (p : CellCursor) : Type 0 where
   pub under_way : is_under_way q.cells ≡ true
-  pub stands : value.Stands (nodes_of q p.columns) q.cells
+  pub conforms : value.Conforms (nodes_of q p.columns) q.cells
   pub joined : taking.Joined (nodes_of q p.columns) q.cells q.partial
   pub some : is_done q.cells ≡ false
   pub is : (n : Option ℕ) → q.cells.next ≡ next.Cell n → n ≡ node_by p.columns p.index
@@ -381,7 +381,7 @@ StageHolds s q (stage.BeforeCell p) = IsPage (nodes_of q p.columns) s.limits.dep
 StageHolds s q (stage.InCell p) = IsCell s q p × (q.types.under_way ≡ false)
 StageHolds s q stage.Extra = (s.came ≤ s.stop - s.offset) × IsIdle q
 
--- what stands in the table: whole types, and one that is under way
+-- what is in the table: whole types, and one that is under way
 abbrev pub TableHolds : Rules → PartsState → StreamStage → Type 0
 TableHolds l q stage.InType = OptionRuns l q
 TableHolds l q t = Forest q.table.nodes 0 l.depth
@@ -485,7 +485,7 @@ HasRoom (stage.BeforeCell p) upcoming = ⊥
 HasRoom (stage.InCell p) upcoming = ⊥
 HasRoom stage.Extra upcoming = ⊤
 
--- the reading stands at this offset, and nothing else changed but what is read next
+-- the reading is at this offset, and nothing else changed but what is read next
 abbrev pub IsAt : StreamProgress → (offset : ℕ) → StreamProgress → Type 0
 IsAt new offset old = new ≡ record old { offset = offset; stage = new.stage; upcoming = new.upcoming }
 

@@ -63,7 +63,7 @@ with_gift (suc n) x (now ∷ later) = now ∷ with_gift n x later
 
 -- ---- places
 
--- Where the reading of a stream stands: at this offset, in a frame that ends at `stop`, with these symbols still to
+-- Where the reading of a stream is: at this offset, in a frame that ends at `stop`, with these symbols still to
 -- be read. The nodes are those of the metadata read last. These types are held that the caller gave, and this is what it
 -- gives from here on.
 pub record Place : Type 0 where

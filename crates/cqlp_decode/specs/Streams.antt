@@ -21,7 +21,7 @@ use Rattle.cqlp_decode.specs.Reading.{step as step_of}
 use Rattle.cqlp_grammar.specs.Events.{event_of}
 use Rattle.cqlp_decode.specs.Progress.{StreamState, PartsState, IsPending, IsLent, IsHeld, state_of, levels_of, frame_after, ends_due}
 
--- What contracts see of a decoder: where it stands, and its parts that own memory.
+-- What contracts see of a decoder: where it is, and its parts that own memory.
 pub record Decoding : Type 0 where
   pub progress : StreamProgress
   pub parts : PartsState
@@ -55,8 +55,8 @@ is_open es = open_from false es
 -- ---- after some calls
 
 -- The decoder used these bytes and handed out these events, while the caller gave this: the reading of the bytes says
--- the events, and stands where the decoder does, before the bytes that are under way.
-pub record Stands (gifts : Gifts) (d : StreamState) (s : List ℕ) (es : List (ℕ × Event)) : Type 0 where
+-- the events, and is where the decoder does, before the bytes that are under way.
+pub record Conforms (gifts : Gifts) (d : StreamState) (s : List ℕ) (es : List (ℕ × Event)) : Type 0 where
   pub place : Place
   pub bytes : List ℕ
   pub pending : IsPending d.pending bytes
@@ -68,7 +68,7 @@ pub record Stands (gifts : Gifts) (d : StreamState) (s : List ℕ) (es : List (�
   pub due : ends_due d.place.symbols ≡ (if is_open es then 1 else 0)
 
 -- A decoder that has refused used these bytes and handed out these events: the reading of the bytes says the events,
--- and where it stands it refuses so, with bytes that were looked at but not used. The types of the metadata are those
+-- and where it is it refuses so, with bytes that were looked at but not used. The types of the metadata are those
 -- there, and so are the given ones, of which none are in use any more.
 pub record HasRefusedAt (r : Refusal) (gifts : Gifts) (d : StreamState) (s : List ℕ) (es : List (ℕ × Event))
     : Type 0 where
@@ -82,7 +82,7 @@ pub record HasRefusedAt (r : Refusal) (gifts : Gifts) (d : StreamState) (s : Lis
   pub given : d.place.given ≡ held_after_all (gifts_now place.gifts) (retired place.given)
 
 abbrev pub AfterBy : Option Refusal → Gifts → StreamState → List ℕ → List (ℕ × Event) → Type 0
-AfterBy None gifts d s es = Stands gifts d s es
+AfterBy None gifts d s es = Conforms gifts d s es
 AfterBy (Some r) gifts d s es = HasRefusedAt r gifts d s es
 
 -- a decoder that was made, and then was given this, used the bytes s and handed out the events es

@@ -2,8 +2,8 @@
 //!
 //! The loop takes what has no content, and scalars, while each lies whole in the input. It leaves all else to
 //! `Decoder::next`, which alone decides it: a cut, a part, and each refusal. It may, since it is proved to hand out
-//! what the reading of the bytes says, and to stand where that does; and it reads by the functions by which `next`
-//! does, so that no rule stands here alone.
+//! what the reading of the bytes says, and to be where that does; and it reads by the functions by which `next`
+//! does, so that no rule is here alone.
 
 ghost use Rattle.std.specs.Prelude.{◌≡◌, ◌-◌, ◌≤◌, length, Ok, OnErr, OnOk, None, Some, []};
 ghost use Rattle.cqlp_note.specs.declared.refusal.Refusal.{Refusal};
@@ -43,7 +43,7 @@ pub struct ItemsHanded {
     pub failed: bool,
 }
 
-/// Puts a level where a loop stands in its value, before these of the bytes within that, and says what was handed out of
+/// Puts a level where a loop is in its value, before these of the bytes within that, and says what was handed out of
 /// them, and whether the sink failed there.
 #[inline(always)]
 pub(crate) fn stop_at(

@@ -1,7 +1,7 @@
 //! The cells of a page that are lists, sets or maps, handed straight to a sink.
 //!
 //! A cell is taken in one step while all its bytes lie in the input and its items are scalars: the value that is open stays
-//! in the loop's hands. What stands elsewhere is left, with the reading where it would stand: its items to the loop over
+//! in the loop's hands. What is elsewhere is left, with the reading where it would be: its items to the loop over
 //! the items of cells, and all else to `Decoder::next`.
 
 ghost use Rattle.std.specs.Prelude.{◌≡◌, ◌+◌, ◌^◌, ◌<◌, ◌≤◌, List, length, Ok, None, Some, []};
@@ -11,7 +11,7 @@ ghost use Rattle.cqlp_kind.specs.declared.node.Node.{Node};
 ghost use Rattle.cqlp_cell.specs.declared.open_values.Order.TheVariants as order;
 ghost use Rattle.cqlp_decode.specs.declared.progress.StreamStage.TheVariants as stage;
 ghost use Rattle.cqlp_decode.specs.Cells.{DrainsCells, DrainsItems, StaysWithin, UsesWithin};
-ghost use Rattle.cqlp_decode.specs.Items.{GoesToNext, HandsLeaf, IsIn, LeavesCell, PassesItem, StandsIn, TakesEntry, at_level};
+ghost use Rattle.cqlp_decode.specs.Items.{GoesToNext, HandsLeaf, IsIn, LeavesCell, PassesItem, ConformsIn, TakesEntry, at_level};
 ghost use Rattle.cqlp_cell.specs.Sizes.{is_counted as has_count};
 ghost use Rattle.cqlp_cell.specs.Levels.{IsInLevel, IsPair};
 ghost use Rattle.cqlp_cell.specs.Whole.{Ends};
@@ -192,7 +192,7 @@ impl StreamProgress {
         ensures empty { parts.new.partial.content ≡ [] }
         ensures takes { TakesEntry (state_with self.now parts.old) input.now page.row page.column result
             (state_with self.now parts.new) }
-        ensures inside { StandsIn result parts.new.cells }
+        ensures inside { ConformsIn result parts.new.cells }
     {
         let table = page_table(page.columns, &parts.table, &parts.given);
         let Some(entered) = parts.cells.enter(table, input) else {
@@ -289,7 +289,7 @@ impl StreamProgress {
         stop_at(level, here, rest, within, false)
     }
 
-    /// Hands the items of a list, a set or a map in whose level the reading stands to the sink, its end, and the cells after
+    /// Hands the items of a list, a set or a map in whose level the reading is to the sink, its end, and the cells after
     /// it that are like it. Between two of them the reader and what is read now stay as they are, but for the cursor.
     #[inline(always)]
     fn hand_lists<S: Sink, A: Allocator>(
@@ -350,7 +350,7 @@ impl StreamProgress {
         }
     }
 
-    /// Leaves the cell, at whose end a level stands.
+    /// Leaves the cell, at whose end a level is.
     #[cold]
     #[inline(never)]
     fn end_list<A: Allocator>(
@@ -375,7 +375,7 @@ impl StreamProgress {
         self.end_cell(page, &mut parts.cells, table);
     }
 
-    /// Goes on from a cell, at whose end a level stands, to the next, if that is a list, a set or a map whose length and count
+    /// Goes on from a cell, at whose end a level is, to the next, if that is a list, a set or a map whose length and count
     /// are lawful and lie in the input.
     #[inline(always)]
     fn next_list<A: Allocator>(

@@ -35,7 +35,7 @@ pub struct CellCursor {
     pub columns: Columns,
     pub row: u32,
     pub column: u32,
-    /// Where the type of the column stands in the table, if that is known.
+    /// Where the type of the column is in the table, if that is known.
     pub index: u32,
     pub left: u32,
 }
@@ -151,7 +151,7 @@ impl CellCursor {
         true
     }
 
-    /// Where the type of the next column stands, if this row has one; that of this one takes so many nodes.
+    /// Where the type of the next column is, if this row has one; that of this one takes so many nodes.
     fn next_column<A: Allocator>(&self, span: u32, table: &TypeTable<A>) -> Option<u32>
         requires page { IsSomePage table.now.nodes self.now }
         requires span { IsSpan table.now.nodes self.now.columns self.now.index span }
@@ -183,7 +183,7 @@ pub fn page_table<'a, A: Allocator>(
 }
 
 /// Whether a given table types the page that begins after a field of this role: it waits, the metadata has no types,
-/// and as many types stand in it as the page has columns.
+/// and as many types are in it as the page has columns.
 pub fn serves<A: Allocator>(role: Role, given: &Option<TypeTable<A>>, given_use: GivenUse) -> bool
     ensures { (depth : ℕ) → HoldsForest depth given.now → result ≡ serves_after role (given_of given_use given.now) }
 {
@@ -195,7 +195,7 @@ pub fn serves<A: Allocator>(role: Role, given: &Option<TypeTable<A>>, given_use:
     }
 }
 
-/// Whether this many types stand side by side in a table.
+/// Whether this many types are side by side in a table.
 fn has_types<A: Allocator>(table: &TypeTable<A>, count: u32) -> bool
     ensures { IsTrue result ↔ (length (beginnings 0 0 table.now.nodes) ≡ count) }
 {

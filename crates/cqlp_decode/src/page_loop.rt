@@ -2,8 +2,8 @@
 //!
 //! The loop takes nulls, empty values and scalars, while each lies whole in the input. It leaves all else to
 //! `Decoder::next`, which alone decides it: a value with items, a cut, a part, and each refusal. It may, since it is
-//! proved to hand out what the reading of the bytes says, and to stand where that does; and it reads a scalar by the
-//! very function by which `next` does, so that no rule stands here alone.
+//! proved to hand out what the reading of the bytes says, and to be where that does; and it reads a scalar by the
+//! very function by which `next` does, so that no rule is here alone.
 
 ghost use Rattle.std.specs.Prelude.{◌≡◌, ◌≤◌, ◌*◌, [], length, take, Ok, None, Some};
 ghost use Rattle.cqlp_note.specs.Limits.{Rules, rules_asked};

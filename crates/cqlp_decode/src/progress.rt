@@ -1,4 +1,4 @@
-//! Where the reading of a stream stands, and one step of it.
+//! Where the reading of a stream is, and one step of it.
 
 ghost use Rattle.std.specs.Prelude.{◌≡◌, ◌↔◌, ◌+◌, ◌-◌, ◌<◌, ◌≤◌, ◌^◌, ◌++◌};
 ghost use Rattle.std.specs.Prelude.{[], IsFalse, IsTrue, None, Some, false, length, take, true};
@@ -38,7 +38,7 @@ pub enum StreamStage {
     Extra,
 }
 
-/// Where the reading of a stream stands, but for the field, type option or cell that is under way.
+/// Where the reading of a stream is, but for the field, type option or cell that is under way.
 #[derive(Drop)]
 pub struct StreamProgress {
     pub limits: Asked,

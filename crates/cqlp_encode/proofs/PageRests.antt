@@ -12,7 +12,7 @@ use Rattle.cqlp_message.specs.Pages.{cells_fit}
 use Rattle.cqlp_encode.specs.declared.page_writer.PageError.{PageError}
 use Rattle.cqlp_encode.specs.declared.page_writer.PageError.TheVariants as error
 use Rattle.cqlp_encode.specs.Encoding.{Continued}
-use Rattle.cqlp_encode.specs.PagePlaces.{IsPlace, StandsFor, Checks}
+use Rattle.cqlp_encode.specs.PagePlaces.{IsPlace, Represents, Checks}
 use Rattle.cqlp_encode.specs.PageWriting.{PageState, page, After, AddsRest, CellCut, GoesOn, cells_after, cell_error, rest_error, before_cut, one_more, failed_after}
 use Rattle.cqlp_encode.specs.Laws.{CellIsWhole}
 use Rattle.cqlp_encode.proofs.Continuing.{came, came_then}
@@ -72,10 +72,10 @@ module _ (p : PageState) (cells : List Values) (v : Values) where
 
 -- ---- go on
 
-module _ (p : PageState) (cells : List Values) (fits : Bool) (w v : Values) (s : StandsFor p cells fits w v) where
-  -- it stands for the same cell at the writer before
-  pub stands_before : StandsFor (before_cut p) cells fits w v
-  stands_before = record { fit = s.fit; size = s.size; bytes = s.bytes }
+module _ (p : PageState) (cells : List Values) (fits : Bool) (w v : Values) (s : Represents p cells fits w v) where
+  -- it represents the same cell at the writer before
+  pub conforms_before : Represents (before_cut p) cells fits w v
+  conforms_before = record { fit = s.fit; size = s.size; bytes = s.bytes }
 
   pub rest_refused : (e : PageError) (old : Output) → p.failed ≡ true → Checks (before_cut p) cells v (Err e) → AddsRest p cells v old (Err e) old p
   rest_refused (error.Unfit why) old failed is = (cell_refuses p cells v _ failed is, refl, refl)

@@ -29,7 +29,7 @@ use Rattle.cqlp_encode.specs.declared.page_writer.PageError.TheVariants as error
 use Rattle.cqlp_encode.specs.PageWriting.{PageState, page, After, Begins, BeginsFrom, Finishes, Adds, cells_after, cell_error, one_more, failed_after}
 use Rattle.cqlp_encode.specs.Encoding.{Continued, header_and_parts}
 use Rattle.cqlp_encode.proofs.Continuing.{anew}
-use Rattle.cqlp_encode.specs.PagePlaces.{HasColumns, HasSize, IsPlace, IsSized, IsTaken, StandsFor}
+use Rattle.cqlp_encode.specs.PagePlaces.{HasColumns, HasSize, IsPlace, IsSized, IsTaken, Represents}
 
 -- ---- before the first cell
 
@@ -127,20 +127,20 @@ module _ (p : PageState) (cells : List Values) (v : Values) (sound : p.failed �
   pub accepts : cells_fit (page p) (cells ++ v ∷ []) ≡ true → values_size v ≤ p.free → cell_error p cells v ≡ None
   accepts fits short = rw (sound, some_left p.left some, fits, le-ltb p.free (values_size v) short) refl
 
--- a value stands for itself, where it is said whether it fits its column
-pub stands : (p : PageState) (at : ℕ) (v : Values) (fits : Bool) → IsPlace p at → fits ≡ fits_column (types_of_page (page p).message) at v → (n : ℕ) (cells : List Values) → After p n cells → StandsFor p cells fits v v
-stands p at v fits place is n cells a = record {
+-- a value is written as it is, where it is said whether it fits its column
+pub conforms : (p : PageState) (at : ℕ) (v : Values) (fits : Bool) → IsPlace p at → fits ≡ fits_column (types_of_page (page p).message) at v → (n : ℕ) (cells : List Values) → After p n cells → Represents p cells fits v v
+conforms p at v fits place is n cells a = record {
   fit = λ some. fits_next p at v place some n cells a ∙ sym is;
   size = λ e. refl;
   bytes = λ e. refl;
 }
 
 -- the same where its column's type is described
-pub stands_as : (p : PageState) (at : ℕ) (specs : List Spec) (columns : ℕ) (s : Spec) (v : Values) → IsPlace p at → HasColumns p.frame specs columns → s ≡ get_or specs at s → at < length specs → (n : ℕ) (cells : List Values) → After p n cells
-    → StandsFor p cells (values_fit (types_in (tree_of s.tree)) v) v v
-stands_as p at specs columns s v place has e lt n cells a =
+pub conforms_as : (p : PageState) (at : ℕ) (specs : List Spec) (columns : ℕ) (s : Spec) (v : Values) → IsPlace p at → HasColumns p.frame specs columns → s ≡ get_or specs at s → at < length specs → (n : ℕ) (cells : List Values) → After p n cells
+    → Represents p cells (values_fit (types_in (tree_of s.tree)) v) v v
+conforms_as p at specs columns s v place has e lt n cells a =
     let is = fits_spec p.frame.message at s v (subst (λ (x : List Spec). s ≡ get_or x at s) has.described e) (subst (λ (x : List Spec). at < length x) has.described lt) in
-    stands p at v _ place (sym is) n cells a
+    conforms p at v _ place (sym is) n cells a
 
 -- ---- the size of a value that fits
 
@@ -174,7 +174,7 @@ pub refused_as : (p : PageState) (cells : List Values) (v : Values) (old : Outpu
 refused_as p cells v old (Ok u) e is some = absurd is.1
 refused_as p cells v old (Err f) e is some = rw is.1 (refused p cells v old e some)
 
-module _ (p : PageState) (cells : List Values) (fits : Bool) (w v : Values) (old new : Output) (size taken : ℕ) (s : StandsFor p cells fits w v) (fit : fits ≡ true) (same : size ≡ values_size w) (gave : Offered old (values_bytes w) taken new) where
+module _ (p : PageState) (cells : List Values) (fits : Bool) (w v : Values) (old new : Output) (size taken : ℕ) (s : Represents p cells fits w v) (fit : fits ≡ true) (same : size ≡ values_size w) (gave : Offered old (values_bytes w) taken new) where
   is : size ≡ values_size v
   is = same ∙ sym (s.size fit)
 
@@ -218,7 +218,7 @@ after_cut p n cells taken k q sound count after a =
     let sum = a.written sound in
     rw after (record { begun = a.begun; fit = a.fit; left = a.left; free = a.free; written = λ e. absurd cc; cut = omega (arith, count, sum); uncut = λ e. absurd cc })
 
--- where the value was the next cell, the writer stands after it
+-- where the value was the next cell, the writer is after it
 pub after_one_more : (p : PageState) (n : ℕ) (cells : List Values) (v : Values) (size : ℕ) (q : PageState) → size ≡ values_size v → q ≡ one_more p size → cell_error p cells v ≡ None → After p n cells → After q n (cells ++ v ∷ [])
 after_one_more p n cells v size q is after none a =
     let w = none_left p.failed (error.Write p.written) _ none in

@@ -18,7 +18,7 @@ use Rattle.cqlp_message.specs.Pages.{page_columns, types_of_page, fits_column}
 use Rattle.cqlp_message.proofs.PageColumns.{fits_raw}
 use Rattle.cqlp_encode.specs.Binding.{raw_written}
 use Rattle.cqlp_encode.specs.PageWriting.{PageState, page, After}
-use Rattle.cqlp_encode.specs.PagePlaces.{IsPlace, StandsFor}
+use Rattle.cqlp_encode.specs.PagePlaces.{IsPlace, Represents}
 use Rattle.cqlp_encode.specs.UndescribedPages.{cell_of, fits_undescribed, no_cell}
 use Rattle.cqlp_encode.proofs.Bindings.{raw_bytes, raw_fits, raw_size}
 use Rattle.cqlp_encode.proofs.PageSteps.{fits_next}
@@ -50,9 +50,9 @@ cell_fit f v t e = rw e refl
 cell_unfit : (f : FrameValue) (v : Value) (t : TypeTree) → fits_undescribed f.message v t ≡ false → cell_of f v t ≡ no_cell
 cell_unfit f v t e = rw e refl
 
--- the value stands for the cell that its content is
+-- the value represents the cell that its content is
 pub fits_undescribed_place : (p : PageState) (at : ℕ) (v : Value) (t : TypeTree) (fits : Bool) → IsPlace p at → fits ≡ fits_undescribed (page p).message v t → (n : ℕ) (cells : List Values) → After p n cells
-    → StandsFor p cells fits (value_of v) (cell_of (page p) v t)
+    → Represents p cells fits (value_of v) (cell_of (page p) v t)
 fits_undescribed_place p at v t true place is n cells a = rw (cell_fit (page p) v t (sym is)) (record {
   fit = λ some. fits_next p at _ place some n cells a ∙ raw_column (page p).message v t at (sym is) (place.column some);
   size = λ e. raw_size v;

@@ -1,4 +1,4 @@
--- What becomes of a frame that is to stand behind bytes in memory.
+-- What becomes of a frame that is to be behind bytes in memory.
 use Rattle.std.specs.Prelude.{◌≡◌, ◌≢◌, ◌+◌, ◌<◌, ◌≤◌, ◌&&◌, ◌++◌, ℕ, Bool, true, nat_le, List, length, replicate, Option, Some, None, IfSome, Result, Ok, Err}
 use Rattle.std.specs.List.{list_all}
 use Rattle.std.specs.Io.KnownBytes.{Appends}
@@ -14,7 +14,7 @@ use Rattle.cqlp_encode.specs.declared.appending.AppendError.TheVariants as error
 use Rattle.cqlp_encode.specs.Encoding.{CanBeWritten}
 use Rattle.cqlp_encode.specs.Progress.{Before, Progress, HasTakenParts}
 
--- All bytes of the frame stand behind those that were there, and the answer is how many they are; or no bytes spell it, or
+-- All bytes of the frame are behind those that were there, and the answer is how many they are; or no bytes spell it, or
 -- there is room for fewer bytes than that and memory was refused, and the bytes are as they were.
 abbrev pub AppendsFrame : FrameValue → (room : ℕ) → (old : List ℕ) → Result ℕ AppendError → (new : List ℕ) → Type 0
 AppendsFrame f room old (Ok n) new = CanBeWritten f × (n ≡ frame_size f 0) × (new ≡ old ++ frame_bytes f)
@@ -67,7 +67,7 @@ pub record WritesChecked (f : FrameValue) (old : Output) (r : Option ℕ) (new :
   pub whole : IfSome r (λ n. bytes ≡ room_and_parts f)
   pub failed : r ≡ None → unfit_of f ≡ None → (new.failures ≢ 0) × (length bytes < frame_size f 0)
 
--- Some bytes stand behind those that were there: nine and the parts of a frame that nothing keeps from being spelled, if
+-- Some bytes are behind those that were there: nine and the parts of a frame that nothing keeps from being spelled, if
 -- there is an answer. If there is none for such a frame, there was no room for all of them.
 pub record Extends (f : FrameValue) (room : ℕ) (old : List ℕ) (r : Option ℕ) (new : List ℕ) : Type 0 where
   pub bytes : List ℕ

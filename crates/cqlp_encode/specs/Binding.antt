@@ -1,4 +1,4 @@
--- Values as they are bound to statements, and as they stand in pages whose columns are not described.
+-- Values as they are bound to statements, and as they are in pages whose columns are not described.
 use Rattle.std.specs.Prelude.{◌≡◌, ◌++◌, ◌<◌, ℕ, true, false, List, [], length, Option, None, Result, Ok, Err}
 use Rattle.cqlp_note.specs.declared.header.TheConstants.Header.{LONGEST_BODY}
 use Rattle.cqlp_note.specs.declared.field.Notation.TheVariants as notation

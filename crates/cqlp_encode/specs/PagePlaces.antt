@@ -1,4 +1,4 @@
--- Where a writer of a page stands among its columns, the bounds of its numbers, and what a check of a cell answers.
+-- Where a writer of a page is among its columns, the bounds of its numbers, and what a check of a cell answers.
 use Rattle.std.specs.Prelude.{◌≡◌, ℕ, ◌+◌, ◌-◌, ◌*◌, ◌^◌, ◌<◌, ◌≤◌, ◌++◌, min, Bool, true, false, List, [], ◌∷◌, length, Some, None, Result, Ok, Err, ⊤}
 use Rattle.std.specs.Int.{w32, to_be_bytes}
 use Rattle.cqlp_note.specs.declared.header.TheConstants.Header.{LONGEST_BODY}
@@ -42,7 +42,7 @@ Checks p cells v (Ok size) = cell_error p cells v ≡ None
 Checks p cells v (Err e) = cell_error p cells v ≡ Some e
 
 -- This cell is of the next column's type just if the value fits, and has then the value's bytes.
-pub record StandsFor (p : PageState) (cells : List Values) (fits : Bool) (v cell : Values) : Type 0 where
+pub record Represents (p : PageState) (cells : List Values) (fits : Bool) (v cell : Values) : Type 0 where
   pub fit : 0 < p.left → cells_fit (page p) (cells ++ cell ∷ []) ≡ fits
   pub size : fits ≡ true → values_size cell ≡ values_size v
   pub bytes : fits ≡ true → values_bytes cell ≡ values_bytes v

@@ -14,7 +14,7 @@ use Rattle.cqlp_encode.specs.Encoding.{Continued}
 use Rattle.cqlp_encode.specs.declared.page_writer.PageError.{PageError}
 use Rattle.cqlp_encode.specs.declared.page_writer.PageError.TheVariants as error
 
--- Where a writer stands: the frame without its cells, how many cells and how many bytes of cells are still to come, how
+-- Where a writer is: the frame without its cells, how many cells and how many bytes of cells are still to come, how
 -- many bytes targets took of the frame, and whether one failed, and then how many of those bytes are of the cell in which
 -- it did.
 pub record PageState : Type 0 where
@@ -29,7 +29,7 @@ pub record PageState : Type 0 where
 abbrev pub page : PageState → FrameValue
 page p = frame_of p.frame
 
--- A writer of a page with cells of n bytes stands after these cells, each of its column's type. All bytes up to there were
+-- A writer of a page with cells of n bytes is after these cells, each of its column's type. All bytes up to there were
 -- taken; and where a target failed, also some of the next cell.
 pub record After (p : PageState) (n : ℕ) (cells : List Values) : Type 0 where
   pub begun : page_unfit_of (page p) n ≡ None

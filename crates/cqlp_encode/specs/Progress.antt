@@ -13,7 +13,7 @@ pub record FewCalls (bytes old new : ℕ) : Type 0 where
   pub some : new ≤ old + bytes
   pub few : 256 * new ≤ 256 * old + bytes + 512
 
--- Where a target stood, how many of the bytes to come it has from before, and how many calls had taken all of their bytes.
+-- Where a target was, how many of the bytes to come it has from before, and how many calls had taken all of their bytes.
 pub record Start : Type 0 where
   pub output : Output
   pub skip : ℕ
@@ -34,7 +34,7 @@ pub record Progress : Type 0 where
 abbrev pub begun : Start → (lender : ℕ) → Progress
 begun s lender = record { output = s.output; calls = s.calls; waiting = []; taken = 0; skip = s.skip; failed = false; lender = lender }
 
--- From where a target stood so, it took some of these bytes, in order, but for those that it had from before, and the
+-- From where a target was so, it took some of these bytes, in order, but for those that it had from before, and the
 -- others wait; or it failed once, and the others are lost. With so many bytes to spare, all calls but one had 256 bytes each.
 pub record HasTakenWith (spare : ℕ) (start : Start) (all : List ℕ) (p : Progress) : Type 0 where
   pub sent : List ℕ
@@ -86,7 +86,7 @@ abbrev pub with_length : (start : ℕ) → List ℕ → List ℕ
 with_length start waiting =
     take start waiting ++ (to_be_bytes w32 (length (drop (start + 4) waiting)) ++ drop (start + 4) waiting)
 
--- What was there before the parts of a frame: where the target stood, what was taken first, and the name of the borrow.
+-- What was there before the parts of a frame: where the target was, what was taken first, and the name of the borrow.
 pub record Before : Type 0 where
   pub start : Start
   pub front : List ℕ

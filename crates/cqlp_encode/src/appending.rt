@@ -57,7 +57,7 @@ pub fn append(frame: &Frame, bytes: &mut Vec<u8>) -> Result<u32, AppendError>
 }
 
 /// Puts nine bytes and the parts of a frame behind the bytes, and answers how many these are, if the frame fits and there was memory
-/// for all; if not, some bytes stand there.
+/// for all; if not, some bytes are there.
 fn extend(frame: &Frame, bytes: &mut Vec<u8>) -> Option<u32>
     ensures extends { Extends (frame_of frame.now) (vec_capacity bytes.old) bytes.old.items result bytes.new.items }
     ensures capacity { vec_capacity bytes.old ≤ vec_capacity bytes.new }

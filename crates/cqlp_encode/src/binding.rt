@@ -1,4 +1,4 @@
-//! Values as they are bound to statements, and as they stand in pages whose columns are not described.
+//! Values as they are bound to statements, and as they are in pages whose columns are not described.
 
 ghost use Rattle.std.specs.Prelude.{◌≡◌, [], IfOk, IsOk, Some, option_map};
 ghost use Rattle.cqlp_value.specs.Owned.{value_of};

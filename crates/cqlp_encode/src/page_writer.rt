@@ -105,7 +105,7 @@ impl<'a> Model for PageWriter<'a> {
 }
 
 impl<'a> PageWriter<'a> {
-    ghost use Rattle.cqlp_encode.specs.PagePlaces.{Checks, IsSized, IsTaken, StandsFor};
+    ghost use Rattle.cqlp_encode.specs.PagePlaces.{Checks, IsSized, IsTaken, Represents};
     ghost use Rattle.cqlp_encode.specs.PageWriting.{Adds, AddsRest, After, Begins, BeginsFrom, Finishes, before_cut, cells_after, failed_after};
     ghost use Rattle.cqlp_encode.specs.PageWriting.{one_more, page};
     ghost use Rattle.cqlp_encode.specs.UndescribedPages.{cell_of};
@@ -285,7 +285,7 @@ impl<'a> PageWriter<'a> {
         of: &TypeTree,
         target: &mut W,
     ) -> Result<(), PageError>
-        ensures adds { (cells : List Values) (cell : Values) → StandsFor self.old cells (fits_tree value.now of.now) (value_of value.now) cell →
+        ensures adds { (cells : List Values) (cell : Values) → Represents self.old cells (fits_tree value.now of.now) (value_of value.now) cell →
             Adds self.old cells cell (written W.Target target.old) result (written W.Target target.new) self.new }
         ensures calls { FewCalls (self.new.written - self.old.written) (W.writes target.old) (W.writes target.new) }
     {
@@ -308,7 +308,7 @@ impl<'a> PageWriter<'a> {
         of: &TypeTree,
         target: &mut W,
     ) -> Result<(), PageError>
-        ensures adds { (cells : List Values) (cell : Values) → StandsFor self.old cells (fits_tree value.now of.now) (value_of value.now) cell →
+        ensures adds { (cells : List Values) (cell : Values) → Represents self.old cells (fits_tree value.now of.now) (value_of value.now) cell →
             Adds self.old cells cell (written W.Target target.old) result (written W.Target target.new) self.new }
         ensures calls { FewCalls (self.new.written - self.old.written) (W.writes target.old) (W.writes target.new) }
     {
@@ -325,7 +325,7 @@ impl<'a> PageWriter<'a> {
         target: &mut W,
     ) -> Result<(), PageError>
         requires is { content_in content ≡ content_of (atom_of atom.now) }
-        ensures adds { (cells : List Values) (cell : Values) → StandsFor self.old cells true (Scalar_and (atom_of atom.now) NoValue) cell →
+        ensures adds { (cells : List Values) (cell : Values) → Represents self.old cells true (Scalar_and (atom_of atom.now) NoValue) cell →
             Adds self.old cells cell (written W.Target target.old) result (written W.Target target.new) self.new }
         ensures calls { FewCalls (self.new.written - self.old.written) (W.writes target.old) (W.writes target.new) }
     {
@@ -343,7 +343,7 @@ impl<'a> PageWriter<'a> {
     #[inline(always)]
     fn put_number<W: Target>(&mut self, content: &[u8], target: &mut W) -> Result<(), PageError>
         requires { length content.now ≤ 8 }
-        ensures adds { (v : Values) → IsSized v content.now → (cells : List Values) (cell : Values) → StandsFor self.old cells true v cell →
+        ensures adds { (v : Values) → IsSized v content.now → (cells : List Values) (cell : Values) → Represents self.old cells true v cell →
             Adds self.old cells cell (written W.Target target.old) result (written W.Target target.new) self.new }
         ensures calls { FewCalls (self.new.written - self.old.written) (W.writes target.old) (W.writes target.new) }
     {
@@ -355,7 +355,7 @@ impl<'a> PageWriter<'a> {
     /// The same of a content that is lent.
     #[inline(always)]
     fn put_lent<W: Target>(&mut self, content: &[u8], target: &mut W) -> Result<(), PageError>
-        ensures adds { (v : Values) → IsSized v content.now → (cells : List Values) (cell : Values) → StandsFor self.old cells true v cell →
+        ensures adds { (v : Values) → IsSized v content.now → (cells : List Values) (cell : Values) → Represents self.old cells true v cell →
             Adds self.old cells cell (written W.Target target.old) result (written W.Target target.new) self.new }
         ensures calls { FewCalls (self.new.written - self.old.written) (W.writes target.old) (W.writes target.new) }
     {
@@ -373,7 +373,7 @@ impl<'a> PageWriter<'a> {
     ) -> Result<(), PageError>
         requires long { length (content_of (atom_of atom.now)) ≡ 4 + unscaled }
         requires bounded { unscaled < 2 ^ 63 }
-        ensures adds { (cells : List Values) (cell : Values) → StandsFor self.old cells true (Scalar_and (atom_of atom.now) NoValue) cell →
+        ensures adds { (cells : List Values) (cell : Values) → Represents self.old cells true (Scalar_and (atom_of atom.now) NoValue) cell →
             Adds self.old cells cell (written W.Target target.old) result (written W.Target target.new) self.new }
         ensures calls { FewCalls (self.new.written - self.old.written) (W.writes target.old) (W.writes target.new) }
     {
@@ -408,7 +408,7 @@ impl<'a> PageWriter<'a> {
         target: &mut W,
     ) -> Result<(), PageError>
         requires { IfSome size (HasSize (value_of value.now)) }
-        ensures adds { (cells : List Values) (cell : Values) → StandsFor self.old cells (is_some size) (value_of value.now) cell →
+        ensures adds { (cells : List Values) (cell : Values) → Represents self.old cells (is_some size) (value_of value.now) cell →
             Adds self.old cells cell (written W.Target target.old) result (written W.Target target.new) self.new }
         ensures calls { FewCalls (self.new.written - self.old.written) (W.writes target.old) (W.writes target.new) }
     {
@@ -425,7 +425,7 @@ impl<'a> PageWriter<'a> {
         target: &mut W,
     ) -> Result<(), PageError>
         requires { IfSome size (HasSize (value_of value.now)) }
-        ensures adds { (cells : List Values) (cell : Values) → StandsFor self.old cells (is_some size) (value_of value.now) cell →
+        ensures adds { (cells : List Values) (cell : Values) → Represents self.old cells (is_some size) (value_of value.now) cell →
             AddsRest self.old cells cell (written W.Target target.old) result (written W.Target target.new) self.new }
         ensures calls { FewCalls (self.new.written - self.old.written) (W.writes target.old) (W.writes target.new) }
     {
@@ -471,7 +471,7 @@ impl<'a> PageWriter<'a> {
     #[inline(always)]
     fn check(&self, size: Option<u64>) -> Result<u32, PageError>
         ensures checks { (v : Values) → IfSome size (HasSize v) → (cells : List Values) (cell : Values) →
-            StandsFor self.now cells (is_some size) v cell → Checks self.now cells cell result }
+            Represents self.now cells (is_some size) v cell → Checks self.now cells cell result }
         ensures size { IfOk result (λ len. size ≡ Some len) }
         ensures sound { IfOk result (λ _. self.now.failed ≡ false) }
         ensures left { IfOk result (λ _. 0 < self.now.left) }

@@ -1,4 +1,4 @@
-//! Examples for the author of a driver, each in a file of its own: what each prints stands in the file `stdout`. Nothing here
+//! Examples for the author of a driver, each in a file of its own: what each prints is in the file `stdout`. Nothing here
 //! opens a socket; bytes come from standard input or from the examples themselves.
 #![tactic(auto)]
 

@@ -49,7 +49,7 @@ abbrev pub copies : ℕ → List Symbol → List Symbol
 copies zero symbols = []
 copies (suc n) symbols = symbols ++ copies n symbols
 
--- symbols that stand only where a flag is set
+-- symbols that come only where a flag is set
 abbrev pub where_set : (flags bit : ℕ) → List Symbol → List Symbol
 where_set flags bit symbols = if has flags bit then symbols else []
 

@@ -94,7 +94,7 @@ room_for (w ∷ ws) = max (room_for ws) (length ws + max 1 (room_after_due w))
 abbrev pub FirstFits : List Expected → (most : ℕ) → Type 0
 FirstFits ws most = (d : Expected) → (length ws - 1) + room_after_due (slice_index_or ws 0 d) ≤ most
 
--- no slot stands for nothing
+-- no slot represents nothing
 abbrev pub IsSlot : Slot → Type 0
 IsSlot (One w) = IsRead w
 IsSlot (Many g n) = 0 < n
@@ -110,7 +110,7 @@ abbrev pub Popped : List Slot → Option Slot → List Slot → Type 0
 Popped old None new = (old ≡ []) × (new ≡ [])
 Popped old (Some s) new = (old ≡ new ++ s ∷ []) × (length new + need s ≤ 16) × IsSlot s
 
--- what follows a field of this role and number stands before all else
+-- what follows a field of this role and number comes before all else
 abbrev pub PutsFollowing : Role → (number : ℕ) → List Slot → List Slot → Type 0
 PutsFollowing r number old new =
     (types : Types) (v : FieldValue) → number_in v ≡ number → symbols_in new ≡ following types r v ++ symbols_in old

@@ -145,14 +145,14 @@ impl Upcoming {
         self.push_slot(Slot::One(due));
     }
 
-    /// Puts a field before all else, where it stands.
-    pub(crate) fn push_if(&mut self, stands: bool, due: Expected)
+    /// Puts a field before all else, where it is.
+    pub(crate) fn push_if(&mut self, conforms: bool, due: Expected)
         requires read { IsRead due }
         requires room { length self.old + max 1 (room_after_due due) ≤ 16 }
-        ensures symbols { symbols_in self.new ≡ (if stands then wanted due ∷ [] else []) ++ symbols_in self.old }
+        ensures symbols { symbols_in self.new ≡ (if conforms then wanted due ∷ [] else []) ++ symbols_in self.old }
         ensures height { length self.new ≤ length self.old + 1 }
     {
-        if stands {
+        if conforms {
             self.push(due);
         }
     }

@@ -52,7 +52,7 @@ plain_prefix : (xs : List ℕ) → escape xs ≡ take (plain_count xs) xs ++ esc
 plain_prefix [] = refl
 plain_prefix (b ∷ xs) = plain_step b xs (plain_count xs) (is_plain b) refl (plain_prefix xs)
 
--- the bytes before the first that may need an escape stand as themselves
+-- the bytes before the first that may need an escape are written as they are
 pub plain_front : (xs : List ℕ) (n : ℕ) → n ≡ prefix_len is_plain xs → escape xs ≡ take n xs ++ escape (take (length xs - n) (drop n xs))
 plain_front xs n is_n =
     let count : n ≡ plain_count xs = is_n ∙ prefix_is_count xs in

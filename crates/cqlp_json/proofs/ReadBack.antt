@@ -37,16 +37,16 @@ known_read : (b k : ℕ) (more : List ℕ) → (b == k) ≡ true → IsRead k mo
 known_read b k more same known = let e : b ≡ k = eqb-true b k same in rw e known
 
 plain_read : (b : ℕ) (more : List ℕ) → (is_plain b || (b == 194)) ≡ true → IsRead b more
-plain_read b more stands =
+plain_read b more conforms =
     let quote : (b == 34) ≡ false = grind (arith, nat_tests) in
     let backslash : (b == 92) ≡ false = grind (arith, nat_tests) in
     let low : nat_lt b 32 ≡ false = grind (arith, nat_tests) in
-    rw (stands, quote, backslash, low) refl
+    rw (conforms, quote, backslash, low) refl
 
 other_read : (b : ℕ) (more : List ℕ) → (is_plain b || (b == 194)) ≡ false → (b == 34) ≡ false → (b == 92) ≡ false → (b == 8) ≡ false → (b == 9) ≡ false → (b == 10) ≡ false → (b == 12) ≡ false → (b == 13) ≡ false → IsRead b more
-other_read b more stands quote backslash e8 e9 e10 e12 e13 =
+other_read b more conforms quote backslash e8 e9 e10 e12 e13 =
     let low : b < 128 = grind (arith, nat_tests) in
-    rw (stands, quote, backslash, e8, e9, e10, e12, e13) (unicode_read b more (omega arith) ∙ ap (λ t. after t (read Text more)) (utf8_of_low b low))
+    rw (conforms, quote, backslash, e8, e9, e10, e12, e13) (unicode_read b more (omega arith) ∙ ap (λ t. after t (read Text more)) (utf8_of_low b low))
 
 module _ (b : ℕ) (more : List ℕ) where
   return_read : (d : Bool) → (b == 13) ≡ d → (is_plain b || (b == 194)) ≡ false → (b == 34) ≡ false → (b == 92) ≡ false → (b == 8) ≡ false → (b == 9) ≡ false → (b == 10) ≡ false → (b == 12) ≡ false → IsRead b more

@@ -69,20 +69,20 @@ abbrev ByteShows : (before b : ℕ) → List ℕ → Type 0
 ByteShows before b more = shows before (escaped b ++ more) ≡ true
 
 plain_prints : (b : ℕ) → (is_plain b || (b == 194)) ≡ true → prints b ≡ true
-plain_prints b stands = grind (arith, nat_tests)
+plain_prints b conforms = grind (arith, nat_tests)
 
 plain_shows : (before b : ℕ) (more : List ℕ) → (is_plain b || (b == 194)) ≡ true → is_control before b ≡ false → shows b more ≡ true → ByteShows before b more
-plain_shows before b more stands other later =
-    let itself : escaped b ≡ b ∷ [] = rw stands refl in
-    ap (λ t. shows before (t ++ more)) itself ∙ rw (plain_prints b stands, other) later
+plain_shows before b more conforms other later =
+    let itself : escaped b ≡ b ∷ [] = rw conforms refl in
+    ap (λ t. shows before (t ++ more)) itself ∙ rw (plain_prints b conforms, other) later
 
 known_shows : (before b k : ℕ) (more : List ℕ) → (b == k) ≡ true → ByteShows before k more → ByteShows before b more
 known_shows before b k more same known = let e : b ≡ k = eqb-true b k same in rw e known
 
 other_shows : (before b : ℕ) (more : List ℕ) → (is_plain b || (b == 194)) ≡ false → (b == 34) ≡ false → (b == 92) ≡ false → (b == 8) ≡ false → (b == 9) ≡ false → (b == 10) ≡ false → (b == 12) ≡ false → (b == 13) ≡ false → AllShow more → ByteShows before b more
-other_shows before b more stands e34 e92 e8 e9 e10 e12 e13 later =
+other_shows before b more conforms e34 e92 e8 e9 e10 e12 e13 later =
     let low : b < 256 = grind (arith, nat_tests) in
-    let itself : escaped b ≡ unicode b = rw (stands, e34, e92, e8, e9, e10, e12, e13) refl in
+    let itself : escaped b ≡ unicode b = rw (conforms, e34, e92, e8, e9, e10, e12, e13) refl in
     ap (λ t. shows before (t ++ more)) itself ∙ unicode_shows before b more low later
 
 module _ (before b : ℕ) (more : List ℕ) (later : AllShow more) where

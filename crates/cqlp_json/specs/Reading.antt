@@ -46,7 +46,7 @@ read (Digits (suc others) number) (b ∷ rest) =
 abbrev pub read_string : List ℕ → Option (List ℕ × List ℕ)
 read_string = read Text
 
--- no control characters stand in these bytes, before which one stands: none below 32, not 127, and no 194 with one from 128
+-- no control characters are in these bytes, before which one is: none below 32, not 127, and no 194 with one from 128
 -- to 159 after it
 abbrev pub shows : (before : ℕ) → List ℕ → Bool
 shows before [] = true

@@ -2,7 +2,7 @@
 use Rattle.std.specs.Prelude.{ℕ, Bool, ◌&&◌, ◌||◌, ◌==◌, nat_le, nat_lt, not, if◌then◌else◌, List, [], ◌∷◌, ◌++◌, codes}
 use Rattle.hex.specs.Hex.{encode_lower}
 
--- a byte that stands as itself, whatever comes after it; 194 begins the characters from U+0080 to U+00BF
+-- a byte that is written as it is, whatever comes after it; 194 begins the characters from U+0080 to U+00BF
 abbrev pub is_plain : ℕ → Bool
 is_plain b = nat_le 32 b && not (b == 34) && not (b == 92) && not (b == 127) && not (b == 194)
 
@@ -10,7 +10,7 @@ is_plain b = nat_le 32 b && not (b == 34) && not (b == 92) && not (b == 127) && 
 abbrev pub unicode : ℕ → List ℕ
 unicode n = codes "\\u00" ++ encode_lower (n ∷ [])
 
--- a byte as it stands between quotes
+-- a byte as it is written between quotes
 abbrev pub escaped : ℕ → List ℕ
 escaped b =
     if is_plain b || (b == 194) then b ∷ []
@@ -27,7 +27,7 @@ escaped b =
 abbrev pub is_control : ℕ → ℕ → Bool
 is_control b c = (b == 194) && (nat_le 128 c && nat_lt c 160)
 
--- a text as it stands between quotes
+-- a text as it is written between quotes
 abbrev pub escape : List ℕ → List ℕ
 escape [] = []
 escape (b ∷ []) = escaped b

@@ -22,7 +22,7 @@ pub fn put_string<P: Pen>(text: &str, writer: &mut TextWriter<P>) -> Result<(), 
     writer.put(b"\"")
 }
 
-/// Takes a text as it stands between quotes; what needs no escape is taken as it is, many bytes at once.
+/// Takes a text as it is written between quotes; what needs no escape is taken as it is, many bytes at once.
 fn put_escaped<P: Pen>(bytes: &[u8], writer: &mut TextWriter<P>) -> Result<(), SinkFault>
     ensures { Writes writer.old (escape bytes.now) result writer.new }
 {
@@ -60,7 +60,7 @@ fn put_front<P: Pen>(bytes: &[u8], writer: &mut TextWriter<P>) -> Result<(), Sin
     }
 }
 
-/// Takes a byte as it stands between quotes.
+/// Takes a byte as it is written between quotes.
 fn put_byte<P: Pen>(byte: u8, writer: &mut TextWriter<P>) -> Result<(), SinkFault>
     ensures { Writes writer.old (escaped byte) result writer.new }
 {
@@ -142,7 +142,7 @@ fn lacks(block: u8x16, byte: u8) -> bool
     block.simd_eq(u8x16::splat(byte)).to_bitmask() == 0
 }
 
-/// Whether a byte stands as itself, whatever comes after it.
+/// Whether a byte is written as it is, whatever comes after it.
 #[inline(always)]
 fn is_plain(byte: u8) -> bool
     ensures { result ≡ is_plain_byte byte }

@@ -32,7 +32,7 @@ pub data TypeEvent : Type 0 where
   IsNode : Kind → TypeEvent
   IsField : Field → FieldValue → TypeEvent
 
--- Where the reading of an option stands: at this offset, in a frame that ends at `stop`, with these symbols still to
+-- Where the reading of an option is: at this offset, in a frame that ends at `stop`, with these symbols still to
 -- be read, and these nodes read since the metadata began.
 pub record TypePlace : Type 0 where
   pub offset : ℕ
@@ -83,7 +83,7 @@ with_span i [] = []
 with_span zero (x ∷ xs) = record x { span = length (x ∷ xs) } ∷ xs
 with_span (suc i) (x ∷ xs) = x ∷ with_span i xs
 
--- no symbol stands for nothing
+-- no symbol represents nothing
 abbrev pub settled : List TypeSymbol → List Node → List TypeSymbol × List Node
 settled [] nodes = ([], nodes)
 settled (Whole i ∷ rest) nodes = settled rest (with_span i nodes)

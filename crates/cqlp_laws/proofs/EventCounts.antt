@@ -428,7 +428,7 @@ pub no_more_events : (l : Rules) (gifts : Gifts) (bytes : List ℕ) (es : List (
 no_more_events l gifts bytes es v some says = omega (arith, events_paid l some es (start_with gifts) says.0 bytes says.1 says.2)
 
 handed_out_by : (o : Option Refusal) (gifts : Gifts) (d : StreamState) (s : List ℕ) (es : List (ℕ × Event)) → 1 ≤ d.rules.part → AfterBy o gifts d s es → length es ≤ length s
-handed_out_by None gifts d s es some stands = omega (arith, events_paid d.rules some es (start_with gifts) stands.place s stands.bytes stands.read)
+handed_out_by None gifts d s es some conforms = omega (arith, events_paid d.rules some es (start_with gifts) conforms.place s conforms.bytes conforms.read)
 handed_out_by (Some r) gifts d s es some after = omega (arith, events_paid d.rules some es (start_with gifts) after.place s after.bytes after.read)
 
 pub no_more_handed_out : (gifts : Gifts) (d : StreamState) (s : List ℕ) (es : List (ℕ × Event)) → 1 ≤ d.rules.part → AfterGifts gifts d s es → length es ≤ length s

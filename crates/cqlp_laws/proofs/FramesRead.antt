@@ -107,7 +107,7 @@ frames_read l (f ∷ fs) at stop described b s w early =
     rw long (frames_joined l at stop described one.0 s.front s.back b (frame_size f.0 f.1) (Flat l at f.0 f.1) (λ k. FlatAll l k fs) (verdict_between (here + length s.back)) s.whole size one.1 more)
 
 module _ (l : Rules) (gifts : Gifts) (s : List ℕ) (before : List (ℕ × Event)) (w : AreWholeFrames l gifts s before) where
-  -- after whole frames the reading stands at their end
+  -- after whole frames the reading is at their end
   pub whole_offset : w.0.offset ≡ length s
   whole_offset = omega (arith, offset_is l gifts before w.0 s [] w.1)
 

@@ -15,7 +15,7 @@ use Rattle.cqlp_grammar.specs.declared.event.Finish.TheVariants as finish
 use Rattle.cqlp_decode.specs.Reading.{Event, Place, Verdict, Waits, Refused, Gifts, gifts_now, held_after_all, retired, settled, Reads, Says, start_with, step}
 use Rattle.cqlp_grammar.specs.Events.{event_of}
 use Rattle.cqlp_decode.specs.Progress.{StreamState, Pending, Kept, Skipped, Valued, IsPending}
-use Rattle.cqlp_decode.specs.Streams.{Decoding, state, AfterGifts, AfterBy, Stands, LeadsAfter, Goes, Answers, FinishesBy}
+use Rattle.cqlp_decode.specs.Streams.{Decoding, state, AfterGifts, AfterBy, Conforms, LeadsAfter, Goes, Answers, FinishesBy}
 use Rattle.cqlp_laws.specs.OneAnswer as one
 use Rattle.cqlp_laws.specs.OneAnswer.{answer_of, AreAlike, IsAtStart, StartAlike, IsHeld, IsOneAnswerOfNew, IsOneAnswerOfRestart, IsOneAnswerOfNext, IsOneAnswerOfFinish, IsOneAnswerOfHeld}
 use Rattle.cqlp_laws.proofs.Whole.{no_step, says_once}
@@ -102,7 +102,7 @@ module _ (gifts : Gifts) where
   -- what was read, where nothing has come of what is next
   reads_to : (l : Rules) (d : StreamState) (s : List ℕ) (es : List (ℕ × Event)) → d.rules ≡ l → d.refusal ≡ None → IsPending d.pending [] → AfterGifts gifts d s es → (p : Place) × Reads l (start_with gifts) s es p [] × (d.place ≡ settled p)
   reads_to l d s es rules none begun a =
-      let st : Stands gifts d s es = subst (λ (o : Option Refusal). AfterBy o gifts d s es) none a in
+      let st : Conforms gifts d s es = subst (λ (o : Option Refusal). AfterBy o gifts d s es) none a in
       (st.place, subst (λ (z : Rules). Reads z (start_with gifts) s es st.place []) rules (subst (λ (b : List ℕ). Reads d.rules (start_with gifts) s es st.place b) (pending_none d.pending st.bytes begun st.pending) st.read), st.here)
 
   same_nodes : (l : Rules) (d d' : StreamState) (s : List ℕ) (es : List (ℕ × Event)) → d.rules ≡ l → d'.rules ≡ l → (o o' : Option Refusal) → AfterBy o gifts d s es → AfterBy o' gifts d' s es → d'.place.nodes ≡ d.place.nodes
@@ -195,8 +195,8 @@ one_next gifts old new new' s input es x y a ax ay = by_refusal old.refusal refl
 
 pub one_start : (l : Rules) (d d' : Decoding) → IsAtStart l d → IsAtStart l d' → StartAlike d d'
 one_start l d d' n n' =
-    let st : Stands [] (state d) [] [] = subst (λ (o : Option Refusal). AfterBy o [] (state d) [] []) n.unrefused n.fresh in
-    let st' : Stands [] (state d') [] [] = subst (λ (o : Option Refusal). AfterBy o [] (state d') [] []) n'.unrefused n'.fresh in (
+    let st : Conforms [] (state d) [] [] = subst (λ (o : Option Refusal). AfterBy o [] (state d) [] []) n.unrefused n.fresh in
+    let st' : Conforms [] (state d') [] [] = subst (λ (o : Option Refusal). AfterBy o [] (state d') [] []) n'.unrefused n'.fresh in (
       record { rules = n'.rules ∙ sym n.rules; refusal = n'.unrefused ∙ sym n.unrefused; nodes = n'.nothing_held.1 ∙ sym n.nothing_held.1; given = n'.nothing_given ∙ sym n.nothing_given; held = ap (λ (p : Place). p.given) (st'.here ∙ ap settled st'.read.0) ∙ sym (ap (λ (p : Place). p.given) (st.here ∙ ap settled st.read.0)) },
       st.here ∙ ap settled st.read.0,
       st'.here ∙ ap settled st'.read.0,

@@ -11,7 +11,7 @@ use Rattle.cqlp_decode.specs.Progress.{StreamState}
 use Rattle.cqlp_decode.specs.Streams.{AfterGifts}
 use Rattle.cqlp_decode.specs.Draining.{Drains, DrainsAll, EndsAtEvent, fold_events, verdict_of}
 use Rattle.cqlp_laws.specs.OneAnswer.{AreAlike, IsFed, IsOneAnswerOfFeed, TakesAll}
-use Rattle.cqlp_laws.proofs.PieceEnds.{EndsUp, has_read, stand_once, used_once}
+use Rattle.cqlp_laws.proofs.PieceEnds.{EndsUp, has_read, conform_once, used_once}
 use Rattle.cqlp_laws.proofs.Whole.{says_once}
 
 refused_same : (r r' : Refusal) → ◌≡◌ {A = Verdict} (Refused r'.at r'.why) (Refused r.at r.why) → r' ≡ r
@@ -51,8 +51,8 @@ module _ {V : Type 0} (f : V → ℕ → Event → V) (faulted : V → ℕ → E
       let here : AfterGifts gifts new' (s ++ take n input) (es ++ m) =
       subst (λ (z : List (ℕ × Event)). AfterGifts gifts new' (s ++ take n input) (es ++ z)) same
       (subst (λ (z : ℕ). AfterGifts gifts new' (s ++ take z input) (es ++ m')) bytes there') in
-      let stand = stand_once old.rules gifts new new' (s ++ take n input) (es ++ m) k.rules k'.rules new.refusal new'.refusal refused there here in
-      record { rules = k'.rules ∙ sym k.rules; refusal = refused; nodes = stand.0; given = k'.given ∙ sym k.given; held = stand.1 }
+      let conform = conform_once old.rules gifts new new' (s ++ take n input) (es ++ m) k.rules k'.rules new.refusal new'.refusal refused there here in
+      record { rules = k'.rules ∙ sym k.rules; refusal = refused; nodes = conform.0; given = k'.given ∙ sym k.given; held = conform.1 }
 
   module _ (none : old.refusal ≡ None) where
     one_new : (x x' : Fed) → IsFed f faulted x old new input before after → IsFed f faulted x' old new' input before after' → TakesAll x → TakesAll x' → (x' ≡ x) × (after' ≡ after) × AreAlike new new'
@@ -60,11 +60,11 @@ module _ {V : Type 0} (f : V → ℕ → Event → V) (faulted : V → ℕ → E
         let h = k.drains gifts s es a in
         let h' = k'.drains gifts s es a in
         let one = same_more h.drains.more h'.drains.more Waits Waits (says_here new h.drains.more None k.rules k.refusal (h.says none)) (says_here new' h'.drains.more None k'.rules k'.refusal (h'.says none)) in
-        let there : AfterGifts gifts new' (s ++ input) (es ++ h.drains.more) = subst (λ (z : List (ℕ × Event)). AfterGifts gifts new' (s ++ input) (es ++ z)) one.0 h'.drains.stands in
-        let stand = stand_once old.rules gifts new new' (s ++ input) (es ++ h.drains.more) k.rules k'.rules new.refusal new'.refusal (k'.refusal ∙ sym k.refusal) h.drains.stands there in (
+        let there : AfterGifts gifts new' (s ++ input) (es ++ h.drains.more) = subst (λ (z : List (ℕ × Event)). AfterGifts gifts new' (s ++ input) (es ++ z)) one.0 h'.drains.conforms in
+        let conform = conform_once old.rules gifts new new' (s ++ input) (es ++ h.drains.more) k.rules k'.rules new.refusal new'.refusal (k'.refusal ∙ sym k.refusal) h.drains.conforms there in (
           refl,
           same_view h.drains.more h'.drains.more one.0 h.drains.got h'.drains.got,
-          record { rules = k'.rules ∙ sym k.rules; refusal = k'.refusal ∙ sym k.refusal; nodes = stand.0; given = k'.given ∙ sym k.given; held = stand.1 },
+          record { rules = k'.rules ∙ sym k.rules; refusal = k'.refusal ∙ sym k.refusal; nodes = conform.0; given = k'.given ∙ sym k.given; held = conform.1 },
         )
     one_new fed.More (fed.Refused used' r') k k' sound sound' =
         let h = k.drains gifts s es a in
@@ -90,7 +90,7 @@ module _ {V : Type 0} (f : V → ℕ → Event → V) (faulted : V → ℕ → E
         let bytes : used' ≡ used = used_once old.rules gifts 0 s input 0 first es was.0 was.1 was.2 used used' more (omega arith) (omega arith) k.within k'.within ends ends' in (
           (λ i. fed.Refused (bytes i) (same i)),
           same_view more more' one.0 e.0.drains.got e'.0.drains.got,
-          alike used used' more more' (fed.Refused used r) (fed.Refused used' r') k k' bytes one.0 (k'.refusal ∙ ap Some same ∙ sym k.refusal) e.0.drains.stands e'.0.drains.stands,
+          alike used used' more more' (fed.Refused used r) (fed.Refused used' r') k k' bytes one.0 (k'.refusal ∙ ap Some same ∙ sym k.refusal) e.0.drains.conforms e'.0.drains.conforms,
         )
     one_new (fed.Fault used) x' k k' sound sound' = absurd sound
     one_new fed.More (fed.Fault used') k k' sound sound' = absurd sound'

@@ -62,7 +62,7 @@ module _ {V : Type 0} (f : V → ℕ → Event → V) (faulted : V → ℕ → E
     given_fed : (old new : StreamState) (xs : List ℕ) (before after : V) (s : List ℕ) (es : List (ℕ × Event)) (a : AfterGifts gifts old s es) → new.rules ≡ old.rules → (d : Feeds f old new xs before after) → Given old new xs s es (d.drained gifts s es a).more
     given_fed old new xs before after s es a rules d =
         let e = d.drained gifts s es a in
-        let r = after_reads gifts new (s ++ d.bytes) (es ++ e.more) e.stands in
+        let r = after_reads gifts new (s ++ d.bytes) (es ++ e.more) e.conforms in
         record { bytes = d.bytes; rest = d.rest; parts = d.parts; place = r.0; left = r.1; read = subst (λ (l : Rules). Reads l (start_with gifts) (s ++ d.bytes) (es ++ e.more) r.0 r.1) rules r.2 }
 
     given_by : (turns : ℕ) (o : Outcome) (old new : StreamState) (xs : List ℕ) (left : Option (List ℕ)) (before after : V) (s : List ℕ) (es : List (ℕ × Event)) (a : AfterGifts gifts old s es) (rules : new.rules ≡ old.rules) (ran : RunsTo f faulted turns o old new xs left before after) → Given old new xs s es (handed f faulted turns o old new xs left before after ran gifts s es a)
@@ -72,7 +72,7 @@ module _ {V : Type 0} (f : V → ℕ → Event → V) (faulted : V → ℕ → E
     given_by turns outcome.SinkFault old new xs left before after s es a rules ran =
         let d = ran.failed gifts s es a in
         let all = es ++ (d.more ++ (d.at, d.event) ∷ []) in
-        let r = after_reads gifts new (s ++ ran.bytes) all (subst (λ (z : List (ℕ × Event)). AfterGifts gifts new (s ++ ran.bytes) z) (append_assoc es d.more ((d.at, d.event) ∷ [])) d.stands) in
+        let r = after_reads gifts new (s ++ ran.bytes) all (subst (λ (z : List (ℕ × Event)). AfterGifts gifts new (s ++ ran.bytes) z) (append_assoc es d.more ((d.at, d.event) ∷ [])) d.conforms) in
         record { bytes = ran.bytes; rest = ran.rest; parts = ran.parts; place = r.0; left = r.1; read = subst (λ (l : Rules). Reads l (start_with gifts) (s ++ ran.bytes) all r.0 r.1) rules r.2 }
 
     -- a run whose sink did not fail has handed out all events of what was read
@@ -141,7 +141,7 @@ module _ {V : Type 0} (f : V → ℕ → Event → V) (faulted : V → ℕ → E
         let bytes : ran.0.bytes ≡ xs = sym (append-nil ran.0.bytes) ∙ sym (ran.0.parts ∙ ap (λ (z : List ℕ). ran.0.bytes ++ z) rest) in
         let looked : ran.0.bytes ++ ran.3.looked ≡ xs = ap (λ (z : List ℕ). ran.0.bytes ++ z) (ran.3.none is) ∙ append-nil ran.0.bytes ∙ bytes in
         let said = said_of old new xs left before after s es a none rules (record { fed = ran.0; has = ran.3 }) in
-        let finishes = ran.2 gifts (s ++ ran.0.bytes) (es ++ e.more) e.stands in record {
+        let finishes = ran.2 gifts (s ++ ran.0.bytes) (es ++ e.more) e.conforms in record {
           more = e.more;
           all = subst (λ (z : List ℕ). Says old.rules (start_with gifts) (s ++ z) (es ++ e.more) Waits) looked (subst (λ (z : Option Refusal). Says old.rules (start_with gifts) (s ++ (ran.0.bytes ++ ran.3.looked)) (es ++ e.more) (verdict_of z)) is said);
           ends = subst (λ (z : List ℕ). FinishesBy None (s ++ z) (es ++ e.more) end) bytes (subst (λ (z : Option Refusal). FinishesBy z (s ++ ran.0.bytes) (es ++ e.more) end) is finishes);
@@ -152,7 +152,7 @@ module _ {V : Type 0} (f : V → ℕ → Event → V) (faulted : V → ℕ → E
         let d : AllOf old new xs left before after = record { fed = ran.0; has = ran.3 } in
         let said = subst (λ (z : Option Refusal). Says old.rules (start_with gifts) (s ++ (ran.0.bytes ++ ran.3.looked)) (es ++ e.more) (verdict_of z)) is (said_of old new xs left before after s es a none rules d) in
         let all : s ++ (ran.0.bytes ++ ran.3.looked) ++ ran.3.unread ≡ s ++ xs = append_assoc s (ran.0.bytes ++ ran.3.looked) ran.3.unread ∙ ap (λ (z : List ℕ). s ++ z) (sym (read_of old new xs left before after ran.3.unread d ran.3.others)) in
-        let finishes = ran.2 gifts (s ++ ran.0.bytes) (es ++ e.more) e.stands in record {
+        let finishes = ran.2 gifts (s ++ ran.0.bytes) (es ++ e.more) e.conforms in record {
           more = e.more;
           all = subst (λ (z : List ℕ). Says old.rules (start_with gifts) z (es ++ e.more) (Refused r.at r.why)) all (refused_on old.rules (s ++ (ran.0.bytes ++ ran.3.looked)) ran.3.unread (es ++ e.more) r.at r.why said);
           ends = subst (λ (z : Option Refusal). FinishesBy z (s ++ ran.0.bytes) (es ++ e.more) end) is finishes;
@@ -185,7 +185,7 @@ module _ {V : Type 0} (f : V → ℕ → Event → V) (faulted : V → ℕ → E
     spent turns end o o' old new new' xs left left' before after after' s es a ran ran' is is' giving refusal =
         let fin = finished_with o end is turns old new xs left before after ran.runs in
         let d = fin.0.drained gifts s es a in
-        let finishes : FinishesBy new.refusal (s ++ fin.0.bytes) (es ++ d.more) end = fin.2 gifts (s ++ fin.0.bytes) (es ++ d.more) d.stands in
+        let finishes : FinishesBy new.refusal (s ++ fin.0.bytes) (es ++ d.more) end = fin.2 gifts (s ++ fin.0.bytes) (es ++ d.more) d.conforms in
         let every : ran'.reads.giving ≡ turns = ran'.reads.all is' in
         let within : ran.reads.giving + idle_reads (outcome.Finished end) ≤ turns = subst (λ (z : Outcome). ran.reads.giving + idle_reads z ≤ turns) is ran.reads.within in
         let waits : new'.refusal ≡ None = subst (λ (z : Outcome). WaitsAt z new') is' ran'.waits in

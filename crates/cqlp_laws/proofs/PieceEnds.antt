@@ -1,4 +1,4 @@
--- How many bytes of a piece are used at a refusal, and how a decoder stands that was handed one.
+-- How many bytes of a piece are used at a refusal, and the state of a decoder that was handed one.
 use Rattle.std.proofs.Common.{◌≡◌, ℕ, ◌+◌, ◌-◌, ◌≤◌, List, [], ◌++◌, length, take, drop, sym, ap, ◌∙◌, subst, append_assoc, inl, inr, arith}
 use Rattle.std.specs.Prelude.{min, ◌⊎◌, Option, Some, None}
 use Rattle.std.proofs.lemmas.Bool.{cases_lt}
@@ -84,7 +84,7 @@ module _ (l : Rules) (gifts : Gifts) (base : ℕ) (s input : List ℕ) where
       used_once n m more passes passes' few few' (inr x) (inl y) = y.0 ∙ sym (none_new n more passes few y.1 (inr x))
       used_once n m more passes passes' few few' (inr x) (inr y) = both_read n m (es ++ more) passes passes' few few' x y
 
--- ---- how a decoder stands
+-- ---- the state of a decoder
 
 -- what was read so far, refused or not
 pub has_read : (o : Option Refusal) (gifts : Gifts) (d : StreamState) (s : List ℕ) (es : List (ℕ × Event)) → AfterBy o gifts d s es → (p : Place) × (b : List ℕ) × Reads d.rules (start_with gifts) s es p b
@@ -92,14 +92,14 @@ has_read None gifts d s es a = (a.place, a.bytes, a.read)
 has_read (Some r) gifts d s es a = (a.place, a.bytes, a.read)
 
 -- the types of metadata and those that were given, after one history
-pub stand_once : (l : Rules) (gifts : Gifts) (d d' : StreamState) (s : List ℕ) (es : List (ℕ × Event)) → d.rules ≡ l → d'.rules ≡ l → (o o' : Option Refusal) → o' ≡ o → AfterBy o gifts d s es → AfterBy o' gifts d' s es
+pub conform_once : (l : Rules) (gifts : Gifts) (d d' : StreamState) (s : List ℕ) (es : List (ℕ × Event)) → d.rules ≡ l → d'.rules ≡ l → (o o' : Option Refusal) → o' ≡ o → AfterBy o gifts d s es → AfterBy o' gifts d' s es
     → (d'.place.nodes ≡ d.place.nodes) × (d'.place.given ≡ d.place.given)
-stand_once l gifts d d' s es is is' None None same a a' =
+conform_once l gifts d d' s es is is' None None same a a' =
     let e = (place_once gifts l s es a.place a'.place a.bytes a'.bytes (rw is at a.read) (rw is' at a'.read)).0 in
     let here : d'.place ≡ d.place = a'.here ∙ ap settled e ∙ sym a.here in
     (ap (λ (p : Place). p.nodes) here, ap (λ (p : Place). p.given) here)
-stand_once l gifts d d' s es is is' None (Some r) same a a' = absurd cc
-stand_once l gifts d d' s es is is' (Some r) None same a a' = absurd cc
-stand_once l gifts d d' s es is is' (Some r) (Some r') same a a' =
+conform_once l gifts d d' s es is is' None (Some r) same a a' = absurd cc
+conform_once l gifts d d' s es is is' (Some r) None same a a' = absurd cc
+conform_once l gifts d d' s es is is' (Some r) (Some r') same a a' =
     let e = (place_once gifts l s es a.place a'.place a.bytes a'.bytes (rw is at a.read) (rw is' at a'.read)).0 in
     (a'.nodes ∙ ap (λ (p : Place). p.nodes) e ∙ sym a.nodes, a'.given ∙ ap (λ (p : Place). held_after_all (gifts_now p.gifts) (retired p.given)) e ∙ sym a.given)

@@ -62,9 +62,9 @@ HasNoMoreEventsThanDue =
     (l : Rules) (gifts : Gifts) (s : List ℕ) (es : List (ℕ × Event)) (due : ℕ)
     → 1 ≤ l.part → IsDue l gifts s es due → length es ≤ due
 
--- Some bytes decide each event: those up to where the reading stands behind it.
-abbrev pub IsDueWhereItStands : Type 0
-IsDueWhereItStands =
+-- Some bytes decide each event: those up to where the reading is behind it.
+abbrev pub IsDueThere : Type 0
+IsDueThere =
     (l : Rules) (gifts : Gifts) (s : List ℕ) (es : List (ℕ × Event)) (p : Place) (rest : List ℕ)
     → Reads l (start_with gifts) s es p rest → IsDue l gifts s es p.offset
 

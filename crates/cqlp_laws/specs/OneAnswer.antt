@@ -58,7 +58,7 @@ IsNew limits d = IsAtStart (rules_of limits) d
 abbrev pub HoldTheSame : (d d' : Decoding) → Type 0
 HoldTheSame d d' = ((state d').held ≡ (state d).held) × (levels_of d'.parts ≡ levels_of d.parts)
 
--- They stand at the start of a stream, within the same rules, and hold the same.
+-- They are at the start of a stream, within the same rules, and hold the same.
 abbrev pub StartAlike : (d d' : Decoding) → Type 0
 StartAlike d d' =
     AreAlike (state d) (state d') × ((state d).place ≡ start) × ((state d').place ≡ start) × HoldTheSame d d'

@@ -14,7 +14,7 @@ use Rattle.cqlp_decode.specs.Streams.{is_open}
 abbrev pub AreWholeFrames : Rules → Gifts → List ℕ → List (ℕ × Event) → Type 0
 AreWholeFrames l gifts s es = (p : Place) × Reads l (start_with gifts) s es p [] × (is_open es ≡ false)
 
--- No given types are in use where these bytes say the events es after those before: wherever the reading stands after a
+-- No given types are in use where these bytes say the events es after those before: wherever the reading is after a
 -- front of es, none are. (They are in use from the count of a page's rows to the end of its frame.)
 abbrev pub NoneInUse : Rules → Gifts → List ℕ → (before es : List (ℕ × Event)) → Type 0
 NoneInUse l gifts bytes before es =

@@ -6,13 +6,13 @@ ghost use Rattle.cqlp_laws.specs.OneAnswer.{IsOneAnswerOfNext, IsOneAnswerOfRest
 
 use cqlp_grammar::Sink;
 
-/// Two decoders that were made with the same limits stand alike, at the start of a stream. Whether one is made at all,
+/// Two decoders that were made with the same limits are alike, at the start of a stream. Whether one is made at all,
 /// where the limits allow it, is up to the memory that is there.
 pub fn one_answer_of_new()
     ensures { IsOneAnswerOfNew }
 {}
 
-/// A decoder that begins anew stands like one that was made with the same limits, whatever it has read before.
+/// A decoder that begins anew is like one that was made with the same limits, whatever it has read before.
 pub fn one_answer_of_restart()
     ensures { IsOneAnswerOfRestart }
 {}

@@ -1,7 +1,7 @@
 //! Laws of what bytes say: one list of events with one verdict, which goes on where more bytes come.
 
 ghost use Rattle.cqlp_laws.specs.Contents.{EndsWhatIsRead};
-ghost use Rattle.cqlp_laws.specs.Due.{DueIsTheEndOfItsBytes, HasNoMoreEventsThanDue, IsDueWhereItStands, UsesWhatIsDue};
+ghost use Rattle.cqlp_laws.specs.Due.{DueIsTheEndOfItsBytes, HasNoMoreEventsThanDue, IsDueThere, UsesWhatIsDue};
 ghost use Rattle.cqlp_laws.specs.Reading.{GoesOn, IsSaid, IsSaidOnce, LiesInItsStep};
 ghost use Rattle.cqlp_laws.specs.Reading.{HandsOutNoMoreEventsThanBytes, HasNoMoreEventsThanBytes};
 
@@ -25,11 +25,11 @@ pub fn no_more_events_than_bytes()
 {}
 
 /// The events of a stream are never more than the bytes that decide the last of them: the first of the stream that say it, where
-/// fewer do not. They are those up to where the reading stands behind it, and end with the event's own, which begin at its offset.
+/// fewer do not. They are those up to where the reading is behind it, and end with the event's own, which begin at its offset.
 /// A decoder has used just those where it hands out the event.
 pub fn no_more_events_than_due()
     ensures due { HasNoMoreEventsThanDue }
-    ensures stands { IsDueWhereItStands }
+    ensures conforms { IsDueThere }
     ensures ends { DueIsTheEndOfItsBytes }
     ensures decoder { UsesWhatIsDue }
 {}

@@ -75,12 +75,12 @@ needed_then old mid used a b x y split emits short first (inr n) = inr (record {
   last = n.last;
   split = ap (λ (z : List ℕ). a ++ z) n.split ∙ sym (append_assoc a n.earlier n.last);
   most = n.most;
-  stands = n.stands;
-  short = short_then x y n.stands short n.short;
+  conforms = n.conforms;
+  short = short_then x y n.conforms short n.short;
   says =
       let is : used ++ (mid.waiting ++ n.earlier) ≡ old.waiting ++ (a ++ n.earlier)
       = sym (append_assoc used mid.waiting n.earlier) ∙ ap (λ (z : List ℕ). z ++ n.earlier) (sym split) ∙ append_assoc old.waiting a n.earlier in
-      rw is at (says_then (state old.decoder) (state mid.decoder) used (mid.waiting ++ n.earlier) _ x y n.stands emits n.says);
+      rw is at (says_then (state old.decoder) (state mid.decoder) used (mid.waiting ++ n.earlier) _ x y n.conforms emits n.says);
 })
 
 -- ---- what is heard
@@ -153,7 +153,7 @@ fill_hears old mid new from left x reads waiting says emits f = record {
     last = new.waiting;
     split = refl;
     most = f.2;
-    stands = x;
+    conforms = x;
     short = inl refl;
     says = rw (append-nil old.waiting) says;
   });

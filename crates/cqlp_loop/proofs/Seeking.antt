@@ -10,7 +10,7 @@ use Rattle.cqlp_grammar.specs.Events.{Event, Frame, End, event_of}
 use Rattle.cqlp_decode.specs.declared.step.Step.TheVariants as steps
 use Rattle.cqlp_decode.specs.Reading.{Verdict, Waits, Refused}
 use Rattle.cqlp_decode.specs.Progress.{StreamState}
-use Rattle.cqlp_decode.specs.Streams.{AfterBy, Goes, LeadsOn, Stands, open_after, open_from}
+use Rattle.cqlp_decode.specs.Streams.{AfterBy, Goes, LeadsOn, Conforms, open_after, open_from}
 use Rattle.cqlp_decode.proofs.Gets.{take_two}
 use Rattle.cqlp_loop.specs.declared.inbox.Edge.{Edge}
 use Rattle.cqlp_loop.specs.declared.inbox.Edge.TheVariants.{Begin, Finish}
@@ -154,8 +154,8 @@ module _ (old mid new : StreamState) (piece : List ℕ) (used : ℕ) (edge : Edg
       let next = leads [] (s ++ take used piece) (es ++ so_far.more) there.1 in
       let events = es ++ so_far.more ++ (at, event_of e) ∷ [] in
       let bytes = s ++ take used piece ++ take taken (drop used piece) in
-      let stands : Stands [] new bytes events = subst (λ (o : Option Refusal). AfterBy o [] new bytes events) next.1 next.3 in
-      (next.2, stands.due ∙ ap (λ (b : Bool). if b then 1 else 0) (open_last false (es ++ so_far.more) (at, event_of e)) ∙ due_is edge (event_of e) m is)
+      let conforms : Conforms [] new bytes events = subst (λ (o : Option Refusal). AfterBy o [] new bytes events) next.1 next.3 in
+      (next.2, conforms.due ∙ ap (λ (b : Bool). if b then 1 else 0) (open_last false (es ++ so_far.more) (at, event_of e)) ∙ due_is edge (event_of e) m is)
 
   whole : take used piece ++ drop used piece ≡ piece
   whole = take-append-drop used piece

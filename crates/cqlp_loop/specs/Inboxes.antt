@@ -174,10 +174,10 @@ pub record Reads (before : ℕ) (from : Supply) (bytes : List ℕ) (after : ℕ)
   pub most : length bytes + 4096 * after ≤ 4096 * before
 
 -- The next message is not whole: what was heard before, and perhaps its header.
-abbrev pub IsShort : (before stands : Hearing) → Type 0
-IsShort before stands =
-    (stands ≡ before)
-    ⊎ ((before.under_way ≡ false) × (h : Header) × (stands ≡ amid (before.headers ++ h ∷ [])))
+abbrev pub IsShort : (before conforms : Hearing) → Type 0
+IsShort before conforms =
+    (conforms ≡ before)
+    ⊎ ((before.under_way ≡ false) × (h : Header) × (conforms ≡ amid (before.headers ++ h ∷ [])))
 
 -- The last read was made only once what waited, and all bytes of the reads before it, were seen not to hold the rest of
 -- the message.
@@ -186,9 +186,9 @@ pub record IsNeeded (old : InboxState) (bytes : List ℕ) (before : Hearing) : T
   pub last : List ℕ
   pub split : bytes ≡ earlier ++ last
   pub most : length last ≤ 4096
-  pub stands : Hearing
-  pub short : IsShort before stands
-  pub says : SaysAll (state old.decoder) (old.waiting ++ earlier) Waits before stands
+  pub conforms : Hearing
+  pub short : IsShort before conforms
+  pub says : SaysAll (state old.decoder) (old.waiting ++ earlier) Waits before conforms
 
 abbrev pub AreNeeded : InboxState → List ℕ → Hearing → Type 0
 AreNeeded old bytes before = (bytes ≡ []) ⊎ IsNeeded old bytes before

@@ -33,7 +33,7 @@ pub struct Socket<S, T> {
 ///
 /// # Errors
 ///
-/// [`LoopFault`] names what ends it early. What was printed until then stands: whole lines, but where the output failed.
+/// [`LoopFault`] names what ends it early. What was printed until then is: whole lines, but where the output failed.
 pub fn talk<CS: Source, CT: Target, SS: Source, ST: Target, O: Target>(
     alloc: Global,
     count: u16,

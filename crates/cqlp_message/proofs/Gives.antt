@@ -1,4 +1,4 @@
--- What the first symbols give: an item whose parts stand first, and what is left of the parts and of the symbols.
+-- What the first symbols give: an item whose parts come first, and what is left of the parts and of the symbols.
 use Rattle.std.proofs.Common.{◌≡◌, ◌⊎◌, ℕ, ℤ, zero, suc, Bool, true, false, ◌&&◌, ◌||◌, List, [], ◌∷◌, ◌++◌, length, Option, Some, None, refl, sym, ap, ◌∙◌, subst, append_assoc, arith, inl, inr}
 use Rattle.std.specs.Prelude.{◌==◌, IfSome, if◌then◌else◌}
 use Rattle.std.specs.List.{flat_map, list_all}

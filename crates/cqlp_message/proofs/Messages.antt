@@ -349,7 +349,7 @@ module _ (l : Rules) where
   no_parts h None is = refl
   no_parts h (Some a) is = absurd cc
 
-  -- what stands before the message of a request, or of a response, but for the payload
+  -- what comes before the message of a request, or of a response, but for the payload
   before_derives : (response : Bool) (flags : ℕ) (t : Option Octets) (ws : Option (List Octets)) (ps : List Part) (rest : List Symbol) → IsThereIf (response && has flags 0x02) t → IsThereIf (response && has flags 0x08) ws → D l ps rest
       → D l (tracing_parts t ++ (warnings_parts ws ++ ps)) (cond response (where_set flags 0x02 (plain field.TraceId notation.Uuid ∷ []) ++ where_set flags 0x08 (counted field.Warnings group_of.Warnings ∷ [])) [] ++ rest)
   before_derives false flags t ws ps rest tracing warnings d = rw (no_parts _ t tracing, no_parts _ ws warnings) d

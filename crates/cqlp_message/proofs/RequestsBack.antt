@@ -57,7 +57,7 @@ params_back = other_back _ _ params (λ p q. refl) (λ p q. all_agree _ _ _ _ _ 
 bounds_back : {l : Rules} → Back l (List BoundValue) (bodies.counted field.Values (λ v. bodies.bound v ∷ [])) (λ vs. list_all any vs ≡ true) (counted field.Values group_of.BatchValues ∷ [])
 bounds_back = counted_back any field.Values group_of.BatchValues bound_back
 
--- what stands after an entry's kind
+-- what comes after an entry's kind
 abbrev behind_kind : BatchEntry → List Part
 behind_kind (Text t vs) = bodies.query t ∷ bodies.counted field.Values (λ v. bodies.bound v ∷ []) vs
 behind_kind (Id i vs) = bodies.statement i ∷ bodies.counted field.Values (λ v. bodies.bound v ∷ []) vs

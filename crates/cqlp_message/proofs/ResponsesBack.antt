@@ -16,7 +16,7 @@ use Rattle.cqlp_message.proofs.Gives.{Back, IsOf, any, by_number, by_name, int_v
 
 -- ---- errors
 
--- what an error's code announces is what stands beside it
+-- what an error's code announces is what comes beside it
 beside_code : {l : Rules} (code : ℕ) (o : Option (List Symbol)) → beside_number code errors ≡ o → Back l ErrorExtra extra_parts (λ x. extra_agrees code x ≡ true) (or_nothing o) → Back l ErrorExtra extra_parts (λ x. extra_agrees code x ≡ true) (or_nothing (beside_number code errors))
 beside_code {l} code o is b = subst (λ o. Back l ErrorExtra extra_parts (λ x. extra_agrees code x ≡ true) (or_nothing o)) (sym is) b
 

@@ -7,7 +7,7 @@ use Rattle.cqlp_note.specs.Heading.{header_bytes}
 use Rattle.cqlp_message.specs.FrameValues.{FrameValue}
 use Rattle.cqlp_message.specs.Frames.{FrameSpells, header_of}
 
--- the 16 bits of an id that stand in a header, as an id
+-- the 16 bits of an id that are in a header, as an id
 abbrev pub id_of_bits : ℤ → ℤ
 id_of_bits z = cast_signed w16 (cast_unsigned w16 z % 2 ^ 16)
 

@@ -45,7 +45,7 @@ batch_agrees flags serial timestamp =
 
 -- ---- responses
 
--- Section 9: what stands after an error's message is what its code announces. The code is the number that its bytes are.
+-- Section 9: what comes after an error's message is what its code announces. The code is the number that its bytes are.
 abbrev pub extra_agrees : (code : ℕ) → ErrorExtra → Bool
 extra_agrees code Plain = not (is_some (beside_number code errors))
 extra_agrees code (Unavailable c r a) = code == error.unavailable

@@ -106,7 +106,7 @@ entry_parts (Id id vs) = byte field.EntryKind 1 ∷ statement id ∷ counted fie
 
 -- ---- parts of responses
 
--- Section 9: what stands after the message of an error.
+-- Section 9: what comes after the message of an error.
 abbrev pub extra_parts : ErrorExtra → List Part
 extra_parts Plain = []
 extra_parts (Unavailable consistency required alive) =

@@ -28,7 +28,7 @@ pub data BatchEntry : Type 0 where
 
 -- ---- responses
 
--- Section 9: what stands after the message of an error.
+-- Section 9: what comes after the message of an error.
 pub data ErrorExtra : Type 0 where
   Plain : ErrorExtra
   Unavailable : (consistency : ℕ) → (required alive : ℤ) → ErrorExtra

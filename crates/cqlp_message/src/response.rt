@@ -4,7 +4,7 @@ use cqlp_note::Address;
 use cqlp_type::TypeTree;
 use cqlp_value::Value;
 
-/// What stands after the message of an error, by the error's code. Section 9 of `native_protocol_v4.spec`.
+/// What comes after the message of an error, by the error's code. Section 9 of `native_protocol_v4.spec`.
 #[derive(Debug, PartialEq, Eq, Drop)]
 pub enum ErrorExtra {
     /// Nothing: an error of a code without further fields, or of an unknown code.

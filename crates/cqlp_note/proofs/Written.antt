@@ -16,23 +16,23 @@ use Rattle.cqlp_note.proofs.Headings.{by_opcode, good_header}
 stream_fits : (z : ℤ) → SFits w16 z → of_z w16 z < 2 ^ 16
 stream_fits z fits = omega (arith, Fits-of_z {w = w16} fits)
 
-code_stands : (o : Opcode) → beside_number (code_of o) opcodes ≡ Some o
-code_stands opcode.Error = refl
-code_stands opcode.Startup = refl
-code_stands opcode.Ready = refl
-code_stands opcode.Authenticate = refl
-code_stands opcode.Options = refl
-code_stands opcode.Supported = refl
-code_stands opcode.Query = refl
-code_stands opcode.Result = refl
-code_stands opcode.Prepare = refl
-code_stands opcode.Execute = refl
-code_stands opcode.Register = refl
-code_stands opcode.Event = refl
-code_stands opcode.Batch = refl
-code_stands opcode.AuthChallenge = refl
-code_stands opcode.AuthResponse = refl
-code_stands opcode.AuthSuccess = refl
+code_conforms : (o : Opcode) → beside_number (code_of o) opcodes ≡ Some o
+code_conforms opcode.Error = refl
+code_conforms opcode.Startup = refl
+code_conforms opcode.Ready = refl
+code_conforms opcode.Authenticate = refl
+code_conforms opcode.Options = refl
+code_conforms opcode.Supported = refl
+code_conforms opcode.Query = refl
+code_conforms opcode.Result = refl
+code_conforms opcode.Prepare = refl
+code_conforms opcode.Execute = refl
+code_conforms opcode.Register = refl
+code_conforms opcode.Event = refl
+code_conforms opcode.Batch = refl
+code_conforms opcode.AuthChallenge = refl
+code_conforms opcode.AuthResponse = refl
+code_conforms opcode.AuthSuccess = refl
 
 same_self : (b : Bool) → same b b ≡ true
 same_self true = refl
@@ -42,12 +42,12 @@ by_direction : (response : Bool) (flags n : ℕ) (z : ℤ) (o : Opcode) → has 
     → heading (header_bytes (record { response = response; flags = flags; stream = z; opcode = o; length = n })) ≡ Ok (record { response = response; flags = flags; stream = z; opcode = o; length = n })
 by_direction true flags n z o plain direction bounded fits =
     let b : List ℕ = header_bytes (record { response = true; flags = flags; stream = z; opcode = o; length = n }) in
-    by_opcode b refl plain ∙ ap (λ (x : Option Opcode). heading_of true b x) (code_stands o)
+    by_opcode b refl plain ∙ ap (λ (x : Option Opcode). heading_of true b x) (code_conforms o)
     ∙ good_header true b o (rw direction refl) n (of_z w16 z) (from_be_bytes-to_be_bytes_4 n (omega arith)) (from_be_bytes-to_be_bytes_2 (of_z w16 z) (stream_fits z fits)) bounded
     ∙ ap (λ (k : ℤ). Ok (record { response = true; flags = flags; stream = k; opcode = o; length = n })) (to_z-of_z {w = w16} fits)
 by_direction false flags n z o plain direction bounded fits =
     let b : List ℕ = header_bytes (record { response = false; flags = flags; stream = z; opcode = o; length = n }) in
-    by_opcode b refl plain ∙ ap (λ (x : Option Opcode). heading_of false b x) (code_stands o)
+    by_opcode b refl plain ∙ ap (λ (x : Option Opcode). heading_of false b x) (code_conforms o)
     ∙ good_header false b o (rw direction refl) n (of_z w16 z) (from_be_bytes-to_be_bytes_4 n (omega arith)) (from_be_bytes-to_be_bytes_2 (of_z w16 z) (stream_fits z fits)) bounded
     ∙ ap (λ (k : ℤ). Ok (record { response = false; flags = flags; stream = k; opcode = o; length = n })) (to_z-of_z {w = w16} fits)
 
@@ -57,22 +57,22 @@ written_is_read h lawful fits = by_direction h.response h.flags h.length h.strea
 
 -- ---- back
 
-Stand : List (ℕ × Opcode) → Type 0
-Stand [] = Unit {0}
-Stand (entry ∷ table) = (code_of entry.1 ≡ entry.0) × Stand table
+Conform : List (ℕ × Opcode) → Type 0
+Conform [] = Unit {0}
+Conform (entry ∷ table) = (code_of entry.1 ≡ entry.0) × Conform table
 
-stands : (t : Bool) (n : ℕ) (e : ℕ × Opcode) (rest : Option Opcode) (o : Opcode) → eqb n e.0 ≡ t → code_of e.1 ≡ e.0 → (rest ≡ Some o → code_of o ≡ n) → cond t (Some e.1) rest ≡ Some o → code_of o ≡ n
-stands true n e rest o is code later found = let same : e.1 ≡ o = cc in rw (← same) (code ∙ sym (eqb-true _ _ is))
-stands false n e rest o is code later found = later found
+conforms : (t : Bool) (n : ℕ) (e : ℕ × Opcode) (rest : Option Opcode) (o : Opcode) → eqb n e.0 ≡ t → code_of e.1 ≡ e.0 → (rest ≡ Some o → code_of o ≡ n) → cond t (Some e.1) rest ≡ Some o → code_of o ≡ n
+conforms true n e rest o is code later found = let same : e.1 ≡ o = cc in rw (← same) (code ∙ sym (eqb-true _ _ is))
+conforms false n e rest o is code later found = later found
 
-code_found : (n : ℕ) (table : List (ℕ × Opcode)) (o : Opcode) → Stand table → beside_number n table ≡ Some o → code_of o ≡ n
-unfolding Stand
+code_found : (n : ℕ) (table : List (ℕ × Opcode)) (o : Opcode) → Conform table → beside_number n table ≡ Some o → code_of o ≡ n
+unfolding Conform
 code_found n [] o all found = absurd cc
-code_found n (entry ∷ table) o all found = stands (eqb n entry.0) n entry (beside_number n table) o refl all.0 (code_found n table o all.1) found
+code_found n (entry ∷ table) o all found = conforms (eqb n entry.0) n entry (beside_number n table) o refl all.0 (code_found n table o all.1) found
 
-opcodes_stand : Stand opcodes
-unfolding Stand
-opcodes_stand = (refl, (refl, (refl, (refl, (refl, (refl, (refl, (refl, (refl, (refl, (refl, (refl, (refl, (refl, (refl, (refl, tt))))))))))))))))
+opcodes_conform : Conform opcodes
+unfolding Conform
+opcodes_conform = (refl, (refl, (refl, (refl, (refl, (refl, (refl, (refl, (refl, (refl, (refl, (refl, (refl, (refl, (refl, (refl, tt))))))))))))))))
 
 same_true : (a b : Bool) → same a b ≡ true → a ≡ b
 same_true true b s = sym s
@@ -170,5 +170,5 @@ read_is_written (b0 ∷ b1 ∷ b2 ∷ b3 ∷ b4 ∷ b5 ∷ b6 ∷ b7 ∷ b8 ∷ 
     let bits : of_z w16 h.stream ≡ b2 * 256 + b3 = ap (λ (z : ℤ). of_z w16 z) k.stream ∙ of_z-to_z {w = w16} id in
     let stream : to_be_bytes w16 (of_z w16 h.stream) ≡ b2 ∷ b3 ∷ [] = be_bytes_2 (b2 ∷ b3 ∷ []) _ refl (bytes_2 b2 b3 high low) bits in
     let long : to_be_bytes w32 h.length ≡ b5 ∷ b6 ∷ b7 ∷ b8 ∷ [] = be_bytes_4 (b5 ∷ b6 ∷ b7 ∷ b8 ∷ []) _ refl (bytes_4 b5 b6 b7 b8 (bytes 5 (lit< tt)) (bytes 6 (lit< tt)) (bytes 7 (lit< tt)) (bytes 8 (lit< tt))) k.long in
-    let code : code_of h.opcode ≡ b4 = code_found b4 opcodes h.opcode opcodes_stand k.opcode in
+    let code : code_of h.opcode ≡ b4 = code_found b4 opcodes h.opcode opcodes_conform k.opcode in
     nine version k.flags stream code long

@@ -34,7 +34,7 @@ value_of (prim.Bound bound.Unset) = Bound Unset
 value_of (prim.Bound (bound.Bytes c)) = Bound (Known c.now)
 value_of (prim.Inet a z) = Inet a z
 
--- no content stands in it
+-- no content is in it
 abbrev pub HasNoContent : Primitive → Type 0
 HasNoContent (prim.Text s) = ⊥
 HasNoContent (prim.Bytes (Some c)) = ⊥

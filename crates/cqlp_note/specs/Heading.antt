@@ -14,7 +14,7 @@ use Rattle.cqlp_note.specs.declared.refusal.Refusal.{Refusal}
 abbrev pub has : (flags bits : ℕ) → Bool
 has flags bits = nat_lt 0 (bit_and flags bits)
 
--- what stands beside a number in a table
+-- what comes beside a number in a table
 abbrev pub beside_number : {A : Type 0} → ℕ → List (ℕ × A) → Option A
 beside_number n [] = None
 beside_number n (entry ∷ table) = if n == entry.0 then Some entry.1 else beside_number n table

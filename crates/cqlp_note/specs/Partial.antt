@@ -99,7 +99,7 @@ IsUnderWay (stage.Content len f) w front content room =
 abbrev pub IsFresh : FieldState → Type 0
 IsFresh p = (p.seen ≡ []) × (p.content ≡ [])
 
--- The first bytes are a whole field that fits its container: this value, in which no content stands.
+-- The first bytes are a whole field that fits its container: this value, in which no content is.
 abbrev pub IsPlain : Wanted → (bytes : List ℕ) → (used : ℕ) → Primitive → Type 0
 IsPlain w bytes used v =
     (used ≡ fixed_of w.notation) × (used ≤ w.room) × (used ≤ length bytes) × HasNoContent v
@@ -156,7 +156,7 @@ abbrev pub IsContentHead : Notation → (bytes : List ℕ) → Option (ℕ × �
 IsContentHead n bytes None = fixed_of n ≤ length bytes → HasNoLength n (take (fixed_of n) bytes)
 IsContentHead n bytes (Some h) = LeadsToContent n bytes h.0 h.1 h.2
 
--- Such a content is within the limit, fits its container, lies whole in the bytes, and may stand there.
+-- Such a content is within the limit, fits its container, lies whole in the bytes, and may be there.
 abbrev pub HasContent : Wanted → (bytes : List ℕ) → (start len : ℕ) → ContentForm → Type 0
 HasContent w bytes start len f =
     (len ≤ w.limit) × (start + len ≤ w.room) × (start + len ≤ length bytes)

@@ -222,7 +222,7 @@ impl<A: Allocator> Partial<A> {
     }
 
     /// Where the content of the field begins, how long it is, and what is made of it, if it lies whole in the input and
-    /// may stand there.
+    /// may be there.
     #[inline(always)]
     fn find_content(&self, input: &[u8]) -> Option<(usize, u32, ContentForm)>
         ensures { IfSome result (λ head. LeadsToContent self.now.field.notation input.now head.0 head.1 head.2
@@ -237,7 +237,7 @@ impl<A: Allocator> Partial<A> {
     }
 
     /// Whether a content of this length, after this many bytes, is within the limit, fits its container, lies whole in
-    /// the input, and may stand there.
+    /// the input, and may be there.
     #[inline(always)]
     fn has_content(&self, start: usize, len: u32, form: ContentForm, input: &[u8]) -> bool
         requires { start ≤ 4 }
@@ -472,7 +472,7 @@ impl ContentForm {
         }
     }
 
-    /// Whether these bytes may stand in such a content.
+    /// Whether these bytes may be in such a content.
     #[inline]
     pub(crate) fn accepts(self, bytes: &[u8]) -> bool
         ensures { result ≡ accepts self bytes.now }

@@ -46,7 +46,7 @@ Right responses came b x = Knows (came ++ used_of x.step b) x.after × EndsWhole
 right_hears : (came : Came) (b : List ℕ) (s : Heads) (used : ℕ) (what : Heard) (g : Stage) → s.position ≡ length came → used ≤ length b → length came + length b < 2 ^ 64 → KnowsIn g s.responses (came ++ map Some (take used b)) → EndsWhole s.responses came what → Right s.responses came b (hears used what g s)
 right_hears came b s used what g at le fits knows ends =
     let long : length (came ++ map Some (take used b)) ≡ length came + used = length-append came (map Some (take used b)) ∙ ap (λ (n : ℕ). length came + n) (used_long used b le) in
-    (record { position = omega (arith, at, long); stands = knows }, ends)
+    (record { position = omega (arith, at, long); conforms = knows }, ends)
 
 -- ---- a header
 
@@ -138,7 +138,7 @@ right_in came time begins b responses position (stage.Body f left) at k fits =
     right_passed came f left time b s k at fits
 
 right_some : (came : Came) (time : Option ℕ) (begins : Bool) (b : List ℕ) (responses : Bool) (position : ℕ) (g : Stage) → position ≡ length came → KnowsIn g responses came → length came + length b < 2 ^ 64 → (let s : Heads = record { responses = responses; position = position; stage = g } in Right responses came b (heard_some time begins b s))
-right_some came time begins [] responses position g at k fits = (stays_known came _ (record { position = at; stands = k }), tt)
+right_some came time begins [] responses position g at k fits = (stays_known came _ (record { position = at; conforms = k }), tt)
 right_some came time begins (x ∷ b) responses position g at k fits = rw (eqb-suc-zero (length b)) (right_in came time begins (x ∷ b) responses position g at k fits)
 
 right_heard : (came : Came) (time : Option ℕ) (begins : Bool) (b : List ℕ) (responses : Bool) (position : ℕ) (g : Stage) → position ≡ length came → KnowsIn g responses came → length came + length b < 2 ^ 64 → (let s : Heads = record { responses = responses; position = position; stage = g } in Right responses came b (heard time begins b s))
@@ -146,7 +146,7 @@ right_heard came time begins b responses position stage.Lost at k fits = right_s
 right_heard came time begins b responses position stage.Between at k fits = right_some came time begins b responses position stage.Between at k fits
 right_heard came time begins b responses position (stage.Header front from first) at k fits = right_some came time begins b responses position (stage.Header front from first) at k fits
 right_heard came time begins b responses position (stage.Body f zero) at k fits =
-    (stays_known came _ (record { position = at; stands = tt }), λ whole. let c = k whole in record { bytes = c.bytes; frame = c.frame; there = c.there })
+    (stays_known came _ (record { position = at; conforms = tt }), λ whole. let c = k whole in record { bytes = c.bytes; frame = c.frame; there = c.there })
 right_heard came time begins b responses position (stage.Body f (suc left)) at k fits = rw (eqb-suc-zero left) (right_some came time begins b responses position (stage.Body f (suc left)) at k fits)
 
 -- ---- a gap, and the end
@@ -173,7 +173,7 @@ gap_known : (came : Came) (n : ℕ) (s : Heads) (g : Stage) → s.position ≡ l
 gap_known came n s g at fits k =
     let long = length-append came (replicate n None) in
     let size = length-replicate {A = Option ℕ} n None in
-    record { position = omega (arith, at, long, size); stands = k }
+    record { position = omega (arith, at, long, size); conforms = k }
 
 gap_lost : (came : Came) (n : ℕ) (s : Heads) (g : Stage) → s.position ≡ length came → length came + n < 2 ^ 64 → KnowsIn g s.responses came → (n ≡ 0 → KnowsIn g s.responses (came ++ replicate n None)) → Knows (came ++ replicate n None) (cond (nat_lt 0 n) (record { responses = s.responses; position = min (s.position + n) (2 ^ 64 - 1); stage = stage.Lost }) (record { responses = s.responses; position = min (s.position + n) (2 ^ 64 - 1); stage = g }))
 gap_lost came n s g at fits k same = elim (cases_Bool (nat_lt 0 n)) [
@@ -208,13 +208,13 @@ right_end came responses (stage.Body f left) k = short_whole responses came f le
 -- ---- all calls
 
 new_known : (responses from_start : Bool) → Knows [] (anew responses from_start)
-new_known responses true = record { position = refl; stands = tt }
-new_known responses false = record { position = refl; stands = tt }
+new_known responses true = record { position = refl; conforms = tt }
+new_known responses false = record { position = refl; conforms = tt }
 
 pub reports_whole : ReportsWholeFrames
 reports_whole = (
   new_known,
-  λ came time begins b old new step e k fits. subst (λ (x : Steps). Right old.responses came b x) (sym e) (right_heard came time begins b old.responses old.position old.stage k.position k.stands fits),
-  λ came n time old new reported e k fits. subst (λ (x : Closes). AfterGap old.responses came n x) (sym e) (right_gap came n time old.responses old.position old.stage k.position k.stands fits),
-  λ came old new reported e k. subst (λ (x : Closes). Ends old.responses came x.frame) (sym e) (right_end came old.responses old.stage k.stands),
+  λ came time begins b old new step e k fits. subst (λ (x : Steps). Right old.responses came b x) (sym e) (right_heard came time begins b old.responses old.position old.stage k.position k.conforms fits),
+  λ came n time old new reported e k fits. subst (λ (x : Closes). AfterGap old.responses came n x) (sym e) (right_gap came n time old.responses old.position old.stage k.position k.conforms fits),
+  λ came old new reported e k. subst (λ (x : Closes). Ends old.responses came x.frame) (sym e) (right_end came old.responses old.stage k.conforms),
 )

@@ -42,7 +42,7 @@ goes_headed {responses} b more s front used at first last (x ∷ sent) same nine
     subst P (sym head) (record {
       after = x ∷ sent;
       reported = refl;
-      stands = record { first = x; others = sent; is = refl; header = refl; whole = refl; body = x.body; ahead = cut.1; long = x.long };
+      conforms = record { first = x; others = sent; is = refl; header = refl; whole = refl; body = x.body; ahead = cut.1; long = x.long };
     })
 
 goes_filled : {responses : Bool} (front : List ℕ) (at : ℕ) (first last : Option ℕ) (b more : List ℕ) (s : Heads) (sent : List (Sent responses)) → s.responses ≡ responses → length front < 9 → front ++ (b ++ more) ≡ bytes_of sent → Goes b more sent (filled front at first last b s)
@@ -61,7 +61,7 @@ goes_filled front at first last b more s sent same few e =
     ∙ sym (append_assoc front (take k b) (drop used b ++ more)) in
     let ahead : full ++ (drop used b ++ more) ≡ bytes_of sent = sym whole ∙ e in
     elim (cases_Bool (nat_lt (length full) 9)) [
-      | inl short ↦ rw short (record { after = sent; reported = refl; stands = (ltb-true (length full) 9 short, ahead) })
+      | inl short ↦ rw short (record { after = sent; reported = refl; conforms = (ltb-true (length full) 9 short, ahead) })
       | inr long ↦
           let nine : length full ≡ 9 = let least = ltb-false (length full) 9 long in omega (arith, size, cut) in
           let P : Bool → Type 0 = λ c. Goes b more sent (cond c (hears used heard_as.More (stage.Header full at first) s) (begun_if (head_within s.responses full) used at first last s)) in
@@ -78,7 +78,7 @@ goes_passed f left time b more s sent p =
     record {
       after = sent;
       reported = refl;
-      stands = record {
+      conforms = record {
         first = p.first;
         others = p.others;
         is = p.is;
@@ -101,7 +101,7 @@ goes_in {responses} time begins b more position (stage.Body f left) sent p =
     goes_passed f left time b more s sent p
 
 goes_some : {responses : Bool} (time : Option ℕ) (begins : Bool) (b more : List ℕ) (position : ℕ) (g : Stage) (sent : List (Sent responses)) → IsAt g (b ++ more) sent → (let s : Heads = record { responses = responses; position = position; stage = g } in Goes b more sent (heard_some time begins b s))
-goes_some time begins [] more position g sent p = record { after = sent; reported = refl; stands = p }
+goes_some time begins [] more position g sent p = record { after = sent; reported = refl; conforms = p }
 goes_some time begins (x ∷ b) more position g sent p = rw (eqb-suc-zero (length b)) (goes_in time begins (x ∷ b) more position g sent p)
 
 no_bytes : (b rest : List ℕ) → length b ≡ 0 → b ++ rest ≡ rest
@@ -115,7 +115,7 @@ goes_heard time begins b more position (stage.Header front at first) sent p = go
 goes_heard time begins b more position (stage.Body f zero) sent p = record {
   after = p.others;
   reported = (p.first, p.is, p.header, p.whole);
-  stands = p.ahead ∙ no_bytes p.body (bytes_of p.others) p.long;
+  conforms = p.ahead ∙ no_bytes p.body (bytes_of p.others) p.long;
 }
 goes_heard time begins b more position (stage.Body f (suc left)) sent p = rw (eqb-suc-zero left) (goes_some time begins b more position (stage.Body f (suc left)) sent p)
 

@@ -3,7 +3,7 @@ pub mod Places
 pub mod Takes
 pub mod Taken
 pub mod Exchanged
-pub mod Stood
+pub mod Conformed
 pub mod Lost
 pub mod Once
 pub mod Counted

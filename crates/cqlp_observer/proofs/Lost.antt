@@ -14,7 +14,7 @@ use Rattle.cqlp_observer.specs.Laws.{CountsTheMissing, exchanges_in, is_of, mess
 use Rattle.cqlp_observer.proofs.Entries.{own_key, same_key}
 use Rattle.cqlp_observer.proofs.Exchanged.{Pairs, exchanges_event, exchanges_more, waits_event, waits_more}
 use Rattle.cqlp_observer.proofs.Taken.{IsInOrder, is_id, is_own, stays, taken_reported, taken_under}
-use Rattle.cqlp_observer.proofs.Stood.{AreLast, Stands, now, stands_new, stands_one, reported_then}
+use Rattle.cqlp_observer.proofs.Conformed.{AreLast, Conforms, now, conforms_new, conforms_one, reported_then}
 
 -- ---- what waits by the whole list is the last that was said
 
@@ -179,7 +179,7 @@ behind_event : {T : Type 0} (j : ℤ) (h : List (Message T)) (m : Message T) (ro
 behind_event {T} j h m room w done over is le =
     rw (is, append-nil done, append-nil over, exchanges_event h m is, waits_event j h m is) le
 
-behind_one : {T : Type 0} (j : ℤ) (h : List (Message T)) (m : Message T) (room : Bool) (w : Waiting T) (done : Pairs T) (over : List (Message T)) → Stands h w done → Behind j h w done over → Behind j (h ++ m ∷ []) (taken m room w).after (done ++ now m room w) (over ++ alone_now m room w)
+behind_one : {T : Type 0} (j : ℤ) (h : List (Message T)) (m : Message T) (room : Bool) (w : Waiting T) (done : Pairs T) (over : List (Message T)) → Conforms h w done → Behind j h w done over → Behind j (h ++ m ∷ []) (taken m room w).after (done ++ now m room w) (over ++ alone_now m room w)
 behind_one j h m room w done over p le = elim (cases_Bool (is_event m)) [
   | inl is ↦ behind_event j h m room w done over is le
   | inr isnt ↦ elim (cases_Bool (is_id j (id_of m))) [
@@ -190,13 +190,13 @@ behind_one j h m room w done over p le = elim (cases_Bool (is_event m)) [
 
 -- ---- all messages
 
-behind_all : {T : Type 0} (j : ℤ) (ms : List (Message T × Bool)) (h : List (Message T)) (w : Waiting T) (done : Pairs T) (over : List (Message T)) → Stands h w done → Behind j h w done over → Behind j (h ++ messages ms) (after_all ms w) (done ++ exchanges_in (reported_of ms w)) (over ++ overtaken_of ms w)
+behind_all : {T : Type 0} (j : ℤ) (ms : List (Message T × Bool)) (h : List (Message T)) (w : Waiting T) (done : Pairs T) (over : List (Message T)) → Conforms h w done → Behind j h w done over → Behind j (h ++ messages ms) (after_all ms w) (done ++ exchanges_in (reported_of ms w)) (over ++ overtaken_of ms w)
 behind_all j [] h w done over p le = rw (append-nil h, append-nil done, append-nil over) le
 behind_all {T} j (m ∷ ms) h w done over p le =
     let next = taken m.0 m.1 w in
     let first = now m.0 m.1 w in
     let alone = alone_now m.0 m.1 w in
-    let rest = behind_all j ms (h ++ m.0 ∷ []) next.after (done ++ first) (over ++ alone) (stands_one h m.0 m.1 w done p) (behind_one j h m.0 m.1 w done over p le) in
+    let rest = behind_all j ms (h ++ m.0 ∷ []) next.after (done ++ first) (over ++ alone) (conforms_one h m.0 m.1 w done p) (behind_one j h m.0 m.1 w done over p le) in
     let reported : (done ++ first) ++ exchanges_in (reported_of ms next.after) ≡ done ++ exchanges_in (reported_or_none next.reported ++ reported_of ms next.after) =
     append_assoc done first (exchanges_in (reported_of ms next.after)) ∙ ap (λ (r : Pairs T). done ++ r) (sym (reported_then next.reported (reported_of ms next.after))) in
     let alones : (over ++ alone) ++ overtaken_of ms next.after ≡ over ++ (alone ++ overtaken_of ms next.after) = append_assoc over alone (overtaken_of ms next.after) in
@@ -207,4 +207,4 @@ behind_all {T} j (m ∷ ms) h w done over p le =
     subst P joined (omega (arith, rest, reported_long, alone_long))
 
 pub counts : (T : Type 0) → CountsTheMissing T
-counts T ms id = let all = behind_all id ms [] none_wait [] [] stands_new (omega arith) in omega (arith, all)
+counts T ms id = let all = behind_all id ms [] none_wait [] [] conforms_new (omega arith) in omega (arith, all)

@@ -53,7 +53,7 @@ ReportsNext h sent after = after ≡ sent
 pub record GoesOn {responses : Bool} (step : HeardStep) (new : Heads) (b more : List ℕ) (sent : List (Sent responses)) : Type 0 where
   pub after : List (Sent responses)
   pub reported : ReportsNext step.heard sent after
-  pub stands : IsAt new.stage (drop step.used b ++ more) after
+  pub conforms : IsAt new.stage (drop step.used b ++ more) after
 
 -- So of frames that are sent from the start of a direction each is reported, in order and as whole, in whatever pieces their bytes come.
 abbrev pub ReportsEachFrame : Type 0

@@ -13,7 +13,7 @@ abbrev pub turned : {T : Type 0} → (ms before : List (Message T)) → List (Me
 turned [] before = before
 turned (m ∷ ms) before = turned ms (m ∷ before)
 
--- ---- under one id, of messages of which the latest stand first
+-- ---- under one id, of messages of which the latest come first
 
 abbrev pub last_under : {T : Type 0} → ℤ → (before : List (Message T)) → Option (Message T)
 last_under id before = find (is_under id) before

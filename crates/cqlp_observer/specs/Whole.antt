@@ -51,7 +51,7 @@ KnowsIn (stage.Body f left) responses came = f.extent ≡ Whole → CameSoFar re
 
 pub record Knows (came : Came) (s : Heads) : Type 0 where
   pub position : s.position ≡ length came
-  pub stands : KnowsIn s.stage s.responses came
+  pub conforms : KnowsIn s.stage s.responses came
 
 abbrev pub EndsWhole : (responses : Bool) → Came → Heard → Type 0
 EndsWhole responses came (heard_as.Ends f) = f.extent ≡ Whole → CameWhole responses came f

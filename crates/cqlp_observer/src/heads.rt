@@ -9,7 +9,7 @@ use crate::opening::{Opening, opening_with};
 use crate::stage_record::StageRecord;
 use cqlp_note::Header;
 
-/// Where a direction stands.
+/// Where a direction is.
 #[derive(Drop)]
 pub(crate) enum Stage {
     /// Where the next frame begins is not known.

@@ -1,4 +1,4 @@
-//! Where a direction stands, in fewer bytes.
+//! Where a direction is, in fewer bytes.
 
 ghost use Rattle.std.specs.Prelude.{◌≡◌};
 ghost use Rattle.cqlp_observer.specs.Records.{stage_in};
@@ -11,7 +11,7 @@ use cqlp_note::{Header, Opcode};
 use std::marker::Model;
 use std::mem;
 
-/// Where a direction stands, as it is kept: 40 bytes in place of 64.
+/// Where a direction is, as it is kept: 40 bytes in place of 64.
 #[derive(Drop)]
 pub(crate) struct StageRecord {
     parts: StageParts,

@@ -32,7 +32,7 @@ names_due n t = if n == 0 then types_due t else due.Rows (rows.Name (n - 1) t)
 
 -- ---- the columns
 
--- The flag 04 says that there are no metadata, and 01 that one keyspace and table stand before the columns, and none before each.
+-- The flag 04 says that there are no metadata, and 01 that one keyspace and table are before the columns, and none before each.
 abbrev pub columns_due : (flags columns : ℕ) → Due
 columns_due flags n =
     if has flags 0x04 then due.Rows rows.RowCount

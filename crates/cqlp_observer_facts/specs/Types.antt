@@ -40,7 +40,7 @@ with_fields n t =
 abbrev pub innermost : Types → Types
 innermost t = if is_over t.first then levels t.second t.third t.fourth level_over else t
 
--- A type, or a field, whose own name stands after those of a keyspace and a table where it is qualified.
+-- A type, or a field, whose own name is after those of a keyspace and a table where it is qualified.
 abbrev pub next_in : Types → TypesNext
 next_in t =
     if nat_lt 0 t.first.types then next.Type (with_first (t.first.types - 1) t.first.fields t)

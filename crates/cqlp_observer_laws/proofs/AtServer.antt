@@ -110,7 +110,7 @@ only_one w m rest q e =
       down = none_counted (is_coming_under id) w.down (omega (arith, own));
     }
 
--- what stands but for what the server is to answer
+-- what is but for what the server is to answer
 pub record Came (view : Said → Frame) (h : List Said) (w : World) (rest : List (Message Request)) : Type 0 where
   pub free : (id : ℤ) → under w.client.slots id ≡ None → find (is_under id) (waits_seen view h) ≡ None
   pub up : AllByRecursion (λ m. find (is_under m.tag.ticket.id) (waits_seen view h) ≡ None) rest

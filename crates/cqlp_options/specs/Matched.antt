@@ -24,7 +24,7 @@ use Rattle.cqlp_options.specs.declared.options.Task.TheVariants as task
 
 -- ---- one option
 
--- an option that stands alone is set where it is given, and not where it is left out
+-- an option that is alone is set where it is given, and not where it is left out
 pub record IsFlag (option : Text) (rows : List Row) (set : Bool) : Type 0 where
   pub given : one_of option rows ≡ Some (codes "true") → set ≡ true
   pub left_out : one_of option rows ≡ Some (codes "false") → set ≡ false

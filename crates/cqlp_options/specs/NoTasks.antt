@@ -1,4 +1,4 @@
--- What stands in place of options.
+-- What is in place of options.
 use Rattle.std.specs.Prelude.{Bool, true, false}
 use Rattle.cqlp_options.specs.declared.no_task.NoTask.{NoTask}
 use Rattle.cqlp_options.specs.declared.no_task.NoTask.TheVariants as no_task

@@ -6,7 +6,7 @@ ghost use Rattle.cqlp_options.specs.Matched.{IsFlag, IsNumber};
 
 use clap::ArgMatches;
 
-/// Whether an option that stands alone is given.
+/// Whether an option that is alone is given.
 pub(crate) fn flag(matches: &ArgMatches<'_>, option: &str) -> bool
     ensures { IsFlag option.now (rows_of (found_of matches.now)) result }
 {

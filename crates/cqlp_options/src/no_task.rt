@@ -1,4 +1,4 @@
-//! What stands in place of options.
+//! What is in place of options.
 
 ghost use Rattle.std.specs.Prelude.{◌≡◌, ◌≢◌, ◌⊎◌, true};
 ghost use Rattle.clap.specs.Words.{kind_of};

@@ -1,4 +1,4 @@
--- Where a packet stands in a window, and whether the first has to leave.
+-- Where a packet is in a window, and whether the first has to leave.
 use Rattle.std.proofs.Common.{◌≡◌, ◌∙◌, ℕ, zero, suc, ◌+◌, ◌<◌, ◌≤◌, Bool, true, false, ◌&&◌, ◌==◌, ◌≢◌, cond, List, [], ◌∷◌, ◌++◌, length, map, take, drop, get_or, insert, Option, Some, None, ◌⊎◌, inl, inr, refl, sym, ap, subst, arith}
 use Rattle.std.proofs.Math.ListN.{get_or-map}
 use Rattle.std.proofs.Math.Seq.{drop-cons}
@@ -10,7 +10,7 @@ use Rattle.cqlp_packet_order.specs.declared.packet.KeptPacket.{KeptPacket}
 use Rattle.cqlp_packet_order.specs.Packets.{Packet, packet_in}
 use Rattle.cqlp_packet_order.specs.Orders.{Order, Release, are_later, arrived, bytes_in, counted_by, due_left, first_left, if_none, is_due, is_late, is_later, is_off, last_time, must_leave, must_leave_by, order, passes, place, releasing, with_passed, without_first}
 
--- ---- where a packet stands
+-- ---- where a packet is
 
 -- before all, where all are later
 pub place_first : (t : Option ℕ) (ps : List Packet) → are_later t ps ≡ true → 0 ≡ place t ps

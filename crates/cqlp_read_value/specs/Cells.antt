@@ -103,7 +103,7 @@ AreRead l (k ∷ ks) b (c ∷ cs) = (has_no_items k ≡ true) × IsCell l k b (O
 AreRead l ks b cs = ⊥
 
 -- Where cells of a page that ends with these bytes are read one behind the other: reading the page says their events, each at its
--- offset, and stands behind them; and it refuses what is refused there, at that byte for that reason.
+-- offset, and is behind them; and it refuses what is refused there, at that byte for that reason.
 abbrev pub CellsAreReading : Type 0
 CellsAreReading =
     (l : Rules) (ks more : List Kind) (at : ℕ) (b : List ℕ) (cs : List PageCell) → AreRead l ks b cs

@@ -1,4 +1,4 @@
-//! What stands at the front of the bytes of a container.
+//! What is at the front of the bytes of a container.
 
 ghost use Rattle.std.specs.Prelude.{◌≡◌, ◌+◌, ◌<◌, ◌≤◌, ◌^◌, drop, length, take};
 ghost use Rattle.std.specs.Int.{w32};

@@ -65,7 +65,7 @@ fold-text o form (e ∷ es) =
 -- After these gifts, the bytes s and the events es, these bytes were used, and just the text of their events was written.
 pub record WritesEvents (form : TextForm) (gifts : Gifts) (new : StreamState) (s : List ℕ) (es : List (ℕ × Event)) (bytes : List ℕ) (before after : Output) : Type 0 where
   pub more : List (ℕ × Event)
-  pub stands : AfterGifts gifts new (s ++ bytes) (es ++ more)
+  pub conforms : AfterGifts gifts new (s ++ bytes) (es ++ more)
   pub written : after ≡ with_text before (text form more)
 
 -- The same, but within the text of the last event the target failed.
@@ -73,7 +73,7 @@ pub record StopsInEvents (form : TextForm) (gifts : Gifts) (new : StreamState) (
   pub more : List (ℕ × Event)
   pub at : ℕ
   pub event : Event
-  pub stands : AfterGifts gifts new (s ++ bytes) (es ++ more ++ (at, event) ∷ [])
+  pub conforms : AfterGifts gifts new (s ++ bytes) (es ++ more ++ (at, event) ∷ [])
   pub written : StopsWithin (with_text before (text form more)) (text_of (form_after_all form more) at event) after
 
 -- Of the bytes xs of a reader, `rest` is left or was not used; the text of the events of the others was written.
@@ -113,14 +113,14 @@ TextsTo form turns outcome.SinkFault old new xs left before after = RendersPart 
 
 module _ (gifts : Gifts) (new : StreamState) (s : List ℕ) (es : List (ℕ × Event)) (bytes : List ℕ) (before after : Rendering) where
   abbrev writes_events : Drains with_event gifts new s es bytes before after → WritesEvents before.form gifts new s es bytes before.output after.output
-  writes_events d = record { more = d.more; stands = d.stands; written = ap (λ r. r.output) (d.got ∙ fold-text before.output before.form d.more) }
+  writes_events d = record { more = d.more; conforms = d.conforms; written = ap (λ r. r.output) (d.got ∙ fold-text before.output before.form d.more) }
 
   stops_in_events : Fails with_event StopsWithinEvent gifts new s es bytes before after → StopsInEvents before.form gifts new s es bytes before.output after.output
   stops_in_events d = record {
     more = d.more;
     at = d.at;
     event = d.event;
-    stands = d.stands;
+    conforms = d.conforms;
     written = subst (λ (r : Rendering). StopsWithin r.output (text_of r.form d.at d.event) after.output) (fold-text before.output before.form d.more) d.fault;
   }
 
@@ -130,7 +130,7 @@ module _ (old new : StreamState) (xs : List ℕ) (before after : Rendering) wher
     bytes = d.bytes;
     rest = d.rest;
     parts = d.parts;
-    events = λ gifts s es stands. writes_events gifts new s es d.bytes before after (d.drained gifts s es stands);
+    events = λ gifts s es conforms. writes_events gifts new s es d.bytes before after (d.drained gifts s es conforms);
   }
 
   renders_part : (left : Option (List ℕ)) → FeedsInto with_event StopsWithinEvent old new xs left before after → RendersPart before.form old new xs before.output after.output
@@ -138,7 +138,7 @@ module _ (old new : StreamState) (xs : List ℕ) (before after : Rendering) wher
     bytes = d.bytes;
     rest = d.rest;
     parts = d.parts;
-    events = λ gifts s es stands. stops_in_events gifts new s es d.bytes before after (d.failed gifts s es stands);
+    events = λ gifts s es conforms. stops_in_events gifts new s es d.bytes before after (d.failed gifts s es conforms);
   }
 
   renders_all : (left : Option (List ℕ)) (d : Feeds with_event old new xs before after) → HasAll with_event old new xs left before after d → RendersAll before.form old new xs left before.output after.output (renders d)

@@ -42,7 +42,7 @@ module _ (form : TextForm) (old new : StreamState) (xs : List ℕ) (before : Out
         let t = text form w.more in
         record {
           more = w.more ++ (w.at, w.event) ∷ [];
-          stands = rw (← (append_assoc es w.more ((w.at, w.event) ∷ []))) w.stands;
+          conforms = rw (← (append_assoc es w.more ((w.at, w.event) ∷ []))) w.conforms;
           short = record {
             lost = w.written.lost;
             later = w.written.later;
@@ -65,7 +65,7 @@ module _ (form : TextForm) (old new : StreamState) (xs : List ℕ) (before : Out
         let w = r.events gifts s es a in
         record {
           more = w.more;
-          stands = w.stands;
+          conforms = w.conforms;
           short = record {
             lost = short.lost;
             later = short.later;
@@ -86,7 +86,7 @@ module _ (form : TextForm) (old new : StreamState) (xs : List ℕ) (before : Out
         let more = some_byte waiting w.short.lost w.short.later in
         record {
           more = w.more;
-          stands = w.stands;
+          conforms = w.conforms;
           short = record {
             lost = more.0;
             later = more.1;
@@ -110,7 +110,7 @@ feeds_front old new xs left before after p = record {
       let f : FallsShort (with_text before.output t) last after.output = subst (λ (r : Rendering). FallsShort r.output (text_of r.form d.at d.event) after.output) (fold-text before.output form d.more) d.fault in
       record {
         more = d.more ++ (d.at, d.event) ∷ [];
-        stands = rw (← (append_assoc es d.more ((d.at, d.event) ∷ []))) d.stands;
+        conforms = rw (← (append_assoc es d.more ((d.at, d.event) ∷ []))) d.conforms;
         short = record {
           lost = f.lost;
           later = f.later;

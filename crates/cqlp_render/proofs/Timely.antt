@@ -110,7 +110,7 @@ in_time_at_once turns o old new xs was now left before after fresh (inr l) =
       gave = l.gave;
       free = l.free;
       rules = l.rules;
-      front = onward_goes l.mid new l.rest left l.seen after ([] ++ l.ran.0.bytes) ([] ++ w.more) w.stands o l.onward;
+      front = onward_goes l.mid new l.rest left l.seen after ([] ++ l.ran.0.bytes) ([] ++ w.more) w.conforms o l.onward;
       last = (1 - idle_reads o, omega arith, l.gives);
     })
 

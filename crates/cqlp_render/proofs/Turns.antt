@@ -18,7 +18,7 @@ module _ {V : Type 0} (f : V → ℕ → Event → V) (old mid new : StreamState
     bytes = d.bytes ++ e.bytes;
     rest = e.rest;
     parts = parts_on e.bytes e.rest e.parts;
-    drained = λ gifts s es a. let p = d.drained gifts s es a in drains_then f gifts mid new s d.bytes e.bytes es u v w p (e.drained gifts (s ++ d.bytes) (es ++ p.more) p.stands);
+    drained = λ gifts s es a. let p = d.drained gifts s es a in drains_then f gifts mid new s d.bytes e.bytes es u v w p (e.drained gifts (s ++ d.bytes) (es ++ p.more) p.conforms);
   }
 
   has_all_on : (clear : old.refusal ≡ None → mid.refusal ≡ None) (left : Option (List ℕ)) (e : Feeds f mid new d.rest v w) → HasAll f mid new d.rest left v w e → HasAll f old new xs left u w (feeds_on e)
@@ -31,7 +31,7 @@ module _ {V : Type 0} (f : V → ℕ → Event → V) (old mid new : StreamState
     few = all.few;
     says = λ free gifts s es a.
         let p = d.drained gifts s es a in
-        rw (← (append_assoc s d.bytes e.bytes), ← (append_assoc es p.more (e.drained gifts (s ++ d.bytes) (es ++ p.more) p.stands).more)) (all.says (clear free) gifts (s ++ d.bytes) (es ++ p.more) p.stands);
+        rw (← (append_assoc s d.bytes e.bytes), ← (append_assoc es p.more (e.drained gifts (s ++ d.bytes) (es ++ p.more) p.conforms).more)) (all.says (clear free) gifts (s ++ d.bytes) (es ++ p.more) p.conforms);
   }
 
   module _ (faulted : V → ℕ → Event → V → Type 0) where
@@ -45,7 +45,7 @@ module _ {V : Type 0} (f : V → ℕ → Event → V) (old mid new : StreamState
       split = e.split;
       few = e.few;
       others = e.others;
-      failed = λ gifts s es a. let p = d.drained gifts s es a in fails_then f faulted gifts mid new s d.bytes e.bytes es u v w p (e.failed gifts (s ++ d.bytes) (es ++ p.more) p.stands);
+      failed = λ gifts s es a. let p = d.drained gifts s es a in fails_then f faulted gifts mid new s d.bytes e.bytes es u v w p (e.failed gifts (s ++ d.bytes) (es ++ p.more) p.conforms);
     }
 
     -- a run from where another stopped after its turns

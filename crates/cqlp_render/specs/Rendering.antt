@@ -99,7 +99,7 @@ ReadsOnlyAfterText form turns old xs was now left before given =
 pub record WritesFront (form : TextForm) (gifts : Gifts) (new : StreamState) (s : List ℕ) (es : List (ℕ × Event))
     (bytes : List ℕ) (before after : Output) : Type 0 where
   pub more : List (ℕ × Event)
-  pub stands : AfterGifts gifts new (s ++ bytes) (es ++ more)
+  pub conforms : AfterGifts gifts new (s ++ bytes) (es ++ more)
   pub short : FallsShort before (text form more) after
 
 -- Of the bytes xs of a reader, `rest` is left or was not used; the target failed within the text of the others.

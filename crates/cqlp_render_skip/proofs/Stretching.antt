@@ -24,7 +24,7 @@ use Rattle.cqlp_skip.proofs.Skips.{end_there}
 use Rattle.cqlp_text.specs.Outputs.{Output, output, with_text}
 use Rattle.cqlp_text.proofs.Writing.{known_then}
 use Rattle.cqlp_render_skip.specs.declared.feeding.Handed.TheVariants as handed
-use Rattle.cqlp_render_skip.specs.Reporting.{GoOn, HandsTo, Reporting, Outputs, AreKnown, EndsStretch, Fails, Reports, SaysAll, StandsAt, ended, outputs}
+use Rattle.cqlp_render_skip.specs.Reporting.{GoOn, HandsTo, Reporting, Outputs, AreKnown, EndsStretch, Fails, Reports, SaysAll, ConformsAt, ended, outputs}
 use Rattle.cqlp_render_skip.specs.Texts.{IsLast, afresh, break_of, lines_before, skipped_line, text_before, text_cut, text_with}
 use Rattle.cqlp_render_skip.proofs.Outgoing.{afresh_after, fold_emitted, short_at, short_of_waiting, short_then, shown, stops_short}
 
@@ -99,12 +99,12 @@ module _ (form : TextForm) (l : Rules) (xs : List ℕ) (first : Outputs) where
       -- more events were handed out
       abbrev pub reports_more : (h : Hands with_event xs d' s' r.stretches [] r.events (rendered now.text) (rendered now'.text)) → rules_in d' ≡ rules_in d → d'.last ≡ d.last → now'.err ≡ now.err → now'.passed ≡ now.passed → Reports form l xs first d' s' now'
       reports_more h rules last err passed =
-          let base : d'.base ≡ base_after r.stretches = h.stands.base in
+          let base : d'.base ≡ base_after r.stretches = h.conforms.base in
           let b = base_after r.stretches in
           record {
             stretches = r.stretches;
             events = r.events ++ h.more;
-            stands = record { after = h.stands; plain = r.stands.plain; rules = rules ∙ r.stands.rules; last = subst (IsLast r.stretches) (sym last) r.stands.last };
+            conforms = record { after = h.conforms; plain = r.conforms.plain; rules = rules ∙ r.conforms.rules; last = subst (IsLast r.stretches) (sym last) r.conforms.last };
             text =
                 h.got ∙ ap (λ (n : ℕ). fold_events with_event (rendered now.text) (emitted n h.more)) base
                 ∙ ap (λ v. fold_events with_event v (emitted b h.more)) r.text
@@ -116,14 +116,14 @@ module _ (form : TextForm) (l : Rules) (xs : List ℕ) (first : Outputs) where
       -- the output failed at an event
       pub fails_more : (h : skipping.Fails with_event xs d' s' r.stretches [] r.events FallsShortAtEvent (rendered now.text) (rendered now'.text)) → rules_in d' ≡ rules_in d → d'.last ≡ d.last → now'.err ≡ now.err → now'.passed ≡ now.passed → Fails form l xs first now'.passed (outputs now')
       fails_more h rules last err passed =
-          let base : d'.base ≡ base_after r.stretches = h.stands.base in
+          let base : d'.base ≡ base_after r.stretches = h.conforms.base in
           let fault = subst (λ (n : ℕ). FallsShortAtEvent (fold_events with_event (rendered now.text) (emitted n h.more)) (stream_offset n h.at) h.event (rendered now'.text)) base h.fault in
           inl (record {
             d = d';
             s = s';
             stretches = r.stretches;
             events = r.events ++ h.more ++ (h.at, h.event) ∷ [];
-            stands = record { after = h.stands; plain = r.stands.plain; rules = rules ∙ r.stands.rules; last = subst (IsLast r.stretches) (sym last) r.stands.last };
+            conforms = record { after = h.conforms; plain = r.conforms.plain; rules = rules ∙ r.conforms.rules; last = subst (IsLast r.stretches) (sym last) r.conforms.last };
             out = short_of_waiting first.out _ now'.text.written.given now'.text.written.waiting now'.text.written.failures
                 (short_at first.out (text_before form r.stretches) form (base_after r.stretches) r.events h.more (rendered now.text) h.at h.event (rendered now'.text).output r.text fault);
             emitted = r.stretches;
@@ -139,7 +139,7 @@ module _ (form : TextForm) (l : Rules) (xs : List ℕ) (first : Outputs) where
         s = s;
         stretches = r.stretches;
         events = r.events;
-        stands = r.stands;
+        conforms = r.conforms;
         out =
             let t = text_with form r.stretches r.events in
             subst (λ (z : List ℕ). FallsShort first.out z (outputs now').out) (append-nil t)
@@ -158,17 +158,17 @@ module _ (form : TextForm) (l : Rules) (xs : List ℕ) (first : Outputs) where
 
         goes_over : AfterSkips xs d' s (y ∷ r.stretches) [] []
         goes_over =
-            let e = on xs s r.stretches [] r.events r.stands.after in
+            let e = on xs s r.stretches [] r.events r.conforms.after in
             let f : e.0 ≡ k.f = same_frame e.0 k.f d.frame e.2 k.under_way in
             let q : e.1 ≡ k.r = same_refusal e.1 k.r (stream d).refusal e.3 k.refused in
             subst (λ (z : Refusal). AfterSkips xs d' s (stretch_given_up d [] r.events k.f z ∷ r.stretches) [] []) q
             (subst (λ (z : OpenFrame). AfterSkips xs d' s (stretch_given_up d [] r.events z e.1 ∷ r.stretches) [] []) f e.4)
 
-        stands_over : StandsAt l xs d' s (y ∷ r.stretches) []
-        stands_over = record { after = goes_over; plain = (refl, r.stands.plain); rules = anew.5 ∙ r.stands.rules; last = anew.3 ∙ k.at }
+        conforms_over : ConformsAt l xs d' s (y ∷ r.stretches) []
+        conforms_over = record { after = goes_over; plain = (refl, r.conforms.plain); rules = anew.5 ∙ r.conforms.rules; last = anew.3 ∙ k.at }
 
         here : emitted d.base r.events ≡ emitted (base_after r.stretches) r.events
-        here = ap (λ (n : ℕ). emitted n r.events) r.stands.after.base
+        here = ap (λ (n : ℕ). emitted n r.events) r.conforms.after.base
 
         abbrev E : List (ℕ × Event)
         E = emitted (base_after r.stretches) r.events
@@ -206,7 +206,7 @@ module _ (form : TextForm) (l : Rules) (xs : List ℕ) (first : Outputs) where
         reports_over ends = record {
           stretches = y ∷ r.stretches;
           events = [];
-          stands = stands_over;
+          conforms = conforms_over;
           text =
               ends.0 ∙ ap (λ (o : Output). rendering o (afresh now.text.form)) ended_is
               ∙ ap (λ (z : TextForm). rendering (with_text first.out (text_before form (y ∷ r.stretches))) z) (ap afresh form_is ∙ afresh_after form E ∙ fresh);
@@ -224,7 +224,7 @@ module _ (form : TextForm) (l : Rules) (xs : List ℕ) (first : Outputs) where
           s = s;
           stretches = y ∷ r.stretches;
           events = [];
-          stands = stands_over;
+          conforms = conforms_over;
           out =
               subst (λ (z : List ℕ). FallsShort first.out z (outputs now').out) (text_over ∙ sym nothing_more)
               (short_then first.out (text_before form r.stretches ++ text form E) B (outputs now').out
@@ -239,7 +239,7 @@ module _ (form : TextForm) (l : Rules) (xs : List ℕ) (first : Outputs) where
           d = d';
           s = s;
           stretches = y ∷ r.stretches;
-          stands = stands_over;
+          conforms = conforms_over;
           out = err.0 ∙ ended_is ∙ ap (λ (z : List ℕ). with_text first.out z) (sym nothing_more);
           err =
               let line = skipped_line (stream_offset d.base k.f.at) (refusal_from d.base k.r) in
@@ -259,19 +259,19 @@ module _ (form : TextForm) (l : Rules) (xs : List ℕ) (first : Outputs) (d d' :
 
   pub fed_more : Fed_to fed.More → (stream d').refusal ≡ None → (start piece : List ℕ) → s ++ input ≡ start ++ piece → HandsTo form l xs first start piece handed.More d' now'
   fed_more feeds free start piece all =
-      let h = feeds xs s r.stretches [] r.events later is r.stands.after in
+      let h = feeds xs s r.stretches [] r.events later is r.conforms.after in
       let more = reports_more form l xs first d s now r d' (s ++ input) now' h.0 rules last err passed in
-      let says : Says l (start_with []) (drop d'.base (s ++ input)) more.events Waits = subst (λ (k : Rules). Says k (start_with []) (drop d'.base (s ++ input)) more.events Waits) more.stands.rules h.1 in
+      let says : Says l (start_with []) (drop d'.base (s ++ input)) more.events Waits = subst (λ (k : Rules). Says k (start_with []) (drop d'.base (s ++ input)) more.events Waits) more.conforms.rules h.1 in
       subst (λ (z : List ℕ). (q : Reports form l xs first d' z now') × SaysAll l d' z q.events × ((stream d').refusal ≡ None)) all (more, says, free)
 
   pub fed_fault : (used : ℕ) → Fed_to (fed.Fault used) → Fails form l xs first now'.passed (outputs now')
   fed_fault used feeds =
-      let h = feeds xs s r.stretches [] r.events later is r.stands.after in
+      let h = feeds xs s r.stretches [] r.events later is r.conforms.after in
       fails_more form l xs first d s now r d' (s ++ take used input) now' h rules last err passed
 
   pub fed_refused : (used : ℕ) (q : Refusal) → Fed_to (fed.Refused used q) → Reports form l xs first d' (s ++ take used input) now'
   fed_refused used q feeds =
-      let h = feeds xs s r.stretches [] r.events later is r.stands.after in
+      let h = feeds xs s r.stretches [] r.events later is r.conforms.after in
       reports_more form l xs first d s now r d' (s ++ take used input) now' h.0 rules last err passed
 
 -- ---- pieces of a piece

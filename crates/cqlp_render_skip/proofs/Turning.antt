@@ -49,7 +49,7 @@ shows_by form l xs first d s now r none = record {
   s = s;
   stretches = r.stretches;
   events = r.events;
-  stands = r.stands;
+  conforms = r.conforms;
   out = passed_on now none ∙ ap (λ v. v.output) (taken_is form l xs first d s now r);
   err = r.err;
   any_passed = r.passed;
@@ -60,7 +60,7 @@ abbrev pub reports_flushed : (form : TextForm) (l : Rules) (xs : List ℕ) (firs
 reports_flushed form l xs first d s now now' known r receives same err passed = record {
   stretches = r.stretches;
   events = r.events;
-  stands = r.stands;
+  conforms = r.conforms;
   text = still_rendered now.text now'.text receives same (still_known form l xs first d s now r known).0 ∙ r.text;
   err = err ∙ r.err;
   passed = passed ∙ r.passed;
@@ -97,7 +97,7 @@ finishes_free xs d f s stretches es a free fin = elim (cases_lt d.used d.base) [
   | inl lt ↦ subst IsUnrefused (sym (fin.within lt)) tt
   | inr le ↦
       let b = fin.behind le in
-      let by = subst (λ (o : Option Refusal). FinishesBy o (drop d.base s) es b.0) free (b.1 [] (drop d.base s) es a.stands) in
+      let by = subst (λ (o : Option Refusal). FinishesBy o (drop d.base s) es b.0) free (b.1 [] (drop d.base s) es a.conforms) in
       subst IsUnrefused (sym b.2) (from_free d b.0 (by_free (drop d.base s) es b.0 by))
 ]
 
@@ -142,7 +142,7 @@ module _ (form : TextForm) (l : Rules) (xs : List ℕ) (first : Outputs) (turns 
         s = t.bytes;
         stretches = t.reports.stretches;
         events = t.reports.events;
-        stands = t.reports.stands;
+        conforms = t.reports.conforms;
         waits = t.says;
         rest = t.rest;
         parts = t.parts;
@@ -180,7 +180,7 @@ module _ (form : TextForm) (l : Rules) (xs : List ℕ) (first : Outputs) (turns 
           let none : r.0 ≡ [] = r.3 zero some_room in
           let end : now'.left ≡ Some [] = r.1 ∙ ap (λ (z : List ℕ). Some z) none in
           let rest : t.rest ≡ [] = at_end t.rest r.0 buffer n r.2 zero none in
-          let free = finishes_free xs d f t.bytes t.reports.stretches t.reports.events t.reports.stands.after t.free fin in
+          let free = finishes_free xs d f t.bytes t.reports.stretches t.reports.events t.reports.conforms.after t.free fin in
           let idle : idle_reads (outcome.Finished f) ≡ 1 = idle_at_end f free in
           record {
             shows = finishes_in form l xs first f report.passed (outputs report) now'.left free (shows_of turn now d report t, t.says, [], t.parts ∙ ap (λ (z : List ℕ). t.bytes ++ z) rest, end) end fin;
@@ -289,7 +289,7 @@ module _ (form : TextForm) (l : Rules) (xs : List ℕ) (first : Outputs) (turns 
     reports = record {
       stretches = [];
       events = [];
-      stands = record { after = b.after; plain = tt; rules = b.rules; last = tt };
+      conforms = record { after = b.after; plain = tt; rules = b.rules; last = tt };
       text = ap (λ (r : Reporting). rendered r.text) b.begun;
       err = ap (λ (r : Reporting). r.err) b.begun ∙ ap (λ g. output g first.err.failures) (sym (known_nothing first.err.given));
       passed = ap (λ (r : Reporting). r.passed) b.begun;

@@ -63,7 +63,7 @@ module _ (old : Reporting) (at : ℕ) (r : Refusal) where
 
 -- A decoder that skips used the bytes s of the stream xs. These stretches were given up, and these events of the present
 -- one handed out.
-pub record StandsAt (l : Rules) (xs : List ℕ) (d : Skipping) (s : List ℕ) (stretches : List Stretch)
+pub record ConformsAt (l : Rules) (xs : List ℕ) (d : Skipping) (s : List ℕ) (stretches : List Stretch)
     (events : List (ℕ × Event)) : Type 0 where
   pub after : AfterSkips xs d s stretches [] events
   pub plain : AreGivenNothing stretches
@@ -85,7 +85,7 @@ module _ (form : TextForm) (l : Rules) (xs : List ℕ) (first : Outputs) where
   pub record Reports (d : Skipping) (s : List ℕ) (now : Reporting) : Type 0 where
     pub stretches : List Stretch
     pub events : List (ℕ × Event)
-    pub stands : StandsAt l xs d s stretches events
+    pub conforms : ConformsAt l xs d s stretches events
     pub text : rendered now.text ≡ fold_events with_event
         (rendering (with_text first.out (text_before form stretches)) form) (emitted (base_after stretches) events)
     pub err : now.err ≡ with_text first.err (lines_before stretches)
@@ -98,7 +98,7 @@ module _ (form : TextForm) (l : Rules) (xs : List ℕ) (first : Outputs) where
     pub s : List ℕ
     pub stretches : List Stretch
     pub events : List (ℕ × Event)
-    pub stands : StandsAt l xs d s stretches events
+    pub conforms : ConformsAt l xs d s stretches events
     pub out : FallsShort first.out (text_with form stretches events) now.out
     pub emitted : List Stretch
     pub but_last : (emitted ≡ stretches) ⊎ ((x : Stretch) × (stretches ≡ x ∷ emitted) × (events ≡ []))
@@ -110,7 +110,7 @@ module _ (form : TextForm) (l : Rules) (xs : List ℕ) (first : Outputs) where
     pub d : Skipping
     pub s : List ℕ
     pub stretches : List Stretch
-    pub stands : StandsAt l xs d s stretches []
+    pub conforms : ConformsAt l xs d s stretches []
     pub out : now.out ≡ with_text first.out (text_with form stretches [])
     pub err : FallsShort first.err (lines_before stretches) now.err
     pub any_passed : passed ≡ any stretches

@@ -17,7 +17,7 @@ use Rattle.cqlp_text.specs.declared.ending.Ending.{Ending}
 use Rattle.cqlp_text.specs.declared.ending.Ending.TheVariants as ending
 use Rattle.cqlp_text.specs.Outputs.{Output, with_text}
 use Rattle.cqlp_text.specs.Written.{bare}
-use Rattle.cqlp_render_skip.specs.Reporting.{AreKnown, Outputs, Reporting, Fails, IsRefusedForGood, SaysAll, StandsAt}
+use Rattle.cqlp_render_skip.specs.Reporting.{AreKnown, Outputs, Reporting, Fails, IsRefusedForGood, SaysAll, ConformsAt}
 use Rattle.cqlp_render_skip.specs.Texts.{afresh, any, lines_before, text_with}
 
 -- where a frame was passed over an end that was otherwise good has the status 1
@@ -33,7 +33,7 @@ module _ (form : TextForm) (l : Rules) (xs : List ℕ) (before : Outputs) where
     pub s : List ℕ
     pub stretches : List Stretch
     pub events : List (ℕ × Event)
-    pub stands : StandsAt l xs d s stretches events
+    pub conforms : ConformsAt l xs d s stretches events
     pub out : after.out ≡ with_text before.out (text_with form stretches events)
     pub err : after.err ≡ with_text before.err (lines_before stretches)
     pub any_passed : passed ≡ any stretches
@@ -70,7 +70,7 @@ module _ (form : TextForm) (l : Rules) (xs : List ℕ) (before : Outputs) where
     pub s : List ℕ
     pub stretches : List Stretch
     pub events : List (ℕ × Event)
-    pub stands : StandsAt l xs d s stretches events
+    pub conforms : ConformsAt l xs d s stretches events
     pub waits : SaysAll l d s events
     pub rest : List ℕ
     pub parts : xs ≡ s ++ rest

@@ -39,7 +39,7 @@ break_of forms.Nothing = []
 abbrev pub text_cut : TextForm → List (ℕ × Event) → List ℕ
 text_cut form events = text form events ++ break_of (form_after_all form events)
 
--- the text of stretches that were given up, of which the last stands first
+-- the text of stretches that were given up, of which the last comes first
 abbrev pub text_before : TextForm → List Stretch → List ℕ
 text_before form [] = []
 text_before form (x ∷ earlier) = text_before form earlier ++ text_cut form (emitted x.from x.events)

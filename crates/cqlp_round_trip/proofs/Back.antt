@@ -61,7 +61,7 @@ module _ {V : Type 0} (f : V → ℕ → Event → V) (faulted : V → ℕ → E
       let l = rules_of limits in
       let e = fed.failed [] [] [] fresh.fresh in
       let all = e.more ++ (e.at, e.event) ∷ [] in
-      let r = after_reads [] new fed.bytes all e.stands in
+      let r = after_reads [] new fed.bytes all e.conforms in
       let read : Reads l start fed.bytes all r.0 r.1 = subst (λ (k : Rules). Reads k start fed.bytes all r.0 r.1) (rules ∙ fresh.rules) r.2 in
       let on : Reads l start xs all r.0 (r.1 ++ fed.rest) = subst (λ (z : List ℕ). Reads l start z all r.0 (r.1 ++ fed.rest)) (sym fed.parts) (runs_stay (step l) start fed.bytes fed.rest all r.0 r.1 read) in
       let few = no_further [] l xs es all v r.0 (r.1 ++ fed.rest) says on in

@@ -17,7 +17,7 @@ byte_first a b xs x rest e = ap (doubled a b) e ∙ ap (λ t. t ++ doubled a b r
 plain_byte : (a b x : ℕ) → is_mark a b x ≡ false → byte_text a b x ≡ x ∷ []
 plain_byte a b x plain = rw plain refl
 
--- bytes of which none is doubled stand as themselves
+-- bytes of which none is doubled are written as they are
 pub plain_front : (a b : ℕ) (xs : List ℕ) (n : ℕ) → n ≤ length xs → ((k : ℕ) → k < n → is_mark a b (slice_index xs k) ≡ false) → doubled a b xs ≡ take n xs ++ doubled a b (drop n xs)
 plain_front a b [] zero within none = refl
 plain_front a b [] (suc n) within none = absurd (omega arith)

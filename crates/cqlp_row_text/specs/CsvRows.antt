@@ -19,7 +19,7 @@ use Rattle.cqlp_row_text.specs.declared.place.TablePlace.{TablePlace}
 use Rattle.cqlp_row_text.specs.Places.{table_after, at_first, at_last}
 use Rattle.cqlp_row_text.specs.Quotes.{text_field, text_item}
 
--- ---- what stands around values
+-- ---- what comes around values
 
 -- before a cell of this column, or before an item of the value that is open
 abbrev pub before : (column : ℕ) → Option WrittenValue → List ℕ
@@ -67,7 +67,7 @@ module _ (p : TablePlace) (column : ℕ) where
   abbrev pub after_value : List ℕ
   after_value = after p.page.columns column (innermost p.page.open_values)
 
-  -- a value, with what stands before and after it
+  -- a value, with what comes before and after it
   abbrev pub value_part : CellEvent → List ℕ
   value_part (cell.Leaf level v) = before_value ++ (scalar_value (innermost p.page.open_values) v ++ after_value)
   value_part (cell.Null level) = before_value ++ (null_value (innermost p.page.open_values) ++ after_value)

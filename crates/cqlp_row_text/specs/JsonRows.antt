@@ -20,7 +20,7 @@ use Rattle.cqlp_json.specs.Values.{scalar_text, string}
 use Rattle.cqlp_row_text.specs.declared.place.TablePlace.{TablePlace}
 use Rattle.cqlp_row_text.specs.Places.{table_after, at_first, at_last}
 
--- ---- what stands around values
+-- ---- what comes around values
 
 -- before an item; a pair of a map is an array of its own
 abbrev pub before_item : Kind → Turn → List ℕ
@@ -54,7 +54,7 @@ module _ (p : TablePlace) (column : ℕ) where
   abbrev pub after_value : List ℕ
   after_value = after p.page.columns column (innermost (with_item p.page.open_values))
 
-  -- a value, with what stands before and after it; a list, a set, a map, a tuple and a udt are arrays
+  -- a value, with what comes before and after it; a list, a set, a map, a tuple and a udt are arrays
   abbrev pub value_part : CellEvent → List ℕ
   value_part (cell.Leaf level v) = before_value ++ (scalar_text v ++ after_value)
   value_part (cell.Null level) = before_value ++ (codes "null" ++ after_value)

@@ -27,10 +27,10 @@ table_after p e = record { page = place_after p.page e; is_named = named_after p
 
 -- ---- parts of a long content
 
--- what stands before its first part alone
+-- what comes before its first part alone
 abbrev pub at_first : (offset : ℕ) → List ℕ → List ℕ
 at_first offset text = if offset == 0 then text else []
 
--- what stands after its last part alone
+-- what comes after its last part alone
 abbrev pub at_last : (last : Bool) → List ℕ → List ℕ
 at_last last text = if last then text else []

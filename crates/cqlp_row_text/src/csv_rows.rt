@@ -284,7 +284,7 @@ fn shown_part<'a>(
     }
 }
 
-/// What stands before a cell of this column, or before an item of the open value.
+/// What comes before a cell of this column, or before an item of the open value.
 #[inline(always)]
 fn before(column: u32, around: Option<WrittenValue>) -> &'static str
     ensures { result.now ≡ before column around }
@@ -307,7 +307,7 @@ fn separator(turn: Turn) -> &'static str
     }
 }
 
-/// What stands after a cell, which may be the last of its row, or after an item of the open value.
+/// What comes after a cell, which may be the last of its row, or after an item of the open value.
 #[inline(always)]
 fn after(is_last: bool, around: Option<WrittenValue>) -> &'static str
     ensures { (columns column : ℕ) → is_last ≡ (column + 1 == columns)

@@ -1,4 +1,4 @@
-//! Texts in quotes, where a quote stands twice.
+//! Texts in quotes, where a quote is doubled.
 
 ghost use Rattle.std.specs.Prelude.{◌≡◌, ◌+◌, ◌<◌, ◌≤◌, ◌==◌, ◌∷◌, ℕ, [], false, length, slice_index, IsTrue};
 ghost use Rattle.cqlp_text.specs.Written.{Writes};

@@ -30,14 +30,14 @@ pub(crate) enum Content<'a> {
 /// What is written of an event: the parts in order.
 #[derive(Clone, Copy)]
 pub(crate) struct Shown<'a> {
-    /// What stands between this value and those before it.
+    /// What comes between this value and those before it.
     pub before: &'static str,
     /// What belongs to the value, before its content.
     pub begin: &'static str,
     pub content: Content<'a>,
     /// What belongs to the value, after its content.
     pub end: &'static str,
-    /// What stands after this value.
+    /// What comes after this value.
     pub after: &'static str,
 }
 

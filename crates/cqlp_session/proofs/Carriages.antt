@@ -13,11 +13,11 @@ use Rattle.cqlp_session.specs.declared.ticket.Stray.{Stray}
 use Rattle.cqlp_session.specs.Kind.{answers}
 use Rattle.cqlp_session.specs.Signal.{Signal, is_pushed}
 use Rattle.cqlp_session.specs.Slots.{has_slot, put, under}
-use Rattle.cqlp_session.specs.Carried.{StandWith, handed_out, kept}
+use Rattle.cqlp_session.specs.Carried.{ConformWith, handed_out, kept}
 use Rattle.cqlp_session.specs.Carriage.{Carriage, ClientCall, Begin, Reply_to, Cancel, HaveOtherTickets, IsGivenUnder, IsReturned, ValuesComeBack, after_call, after_calls, empty_carriage, given_under}
 use Rattle.cqlp_session.specs.Client.{ClientCore, begun, cancelled, cancels, closed, marked, replied, reply_for, reply_to, ticket_for}
 use Rattle.cqlp_session.proofs.Paired.{ticket_found}
-use Rattle.cqlp_session.proofs.Progress.{answer_to, begun_stands, cancelled_stands, event_only, has_sized, is_to_request, none_either, replied_open, replied_stands, stand_empty, under_put}
+use Rattle.cqlp_session.proofs.Progress.{answer_to, begun_conforms, cancelled_conforms, event_only, has_sized, is_to_request, none_either, replied_open, replied_conforms, conform_empty, under_put}
 use Rattle.cqlp_session.proofs.Under.{PairsByRecursion, all_pairs, cases_int, each_weaker, none_is, under_new, under_put_other, under_put_same}
 
 contains_first : {X : Type 0} (x : X) (xs : List X) → Contains (x ∷ xs) x
@@ -26,14 +26,14 @@ contains_first x xs = (0, omega arith, refl)
 contains_later : {X : Type 0} (x y : X) (xs : List X) → Contains xs y → Contains (x ∷ xs) y
 contains_later x y xs c = (suc c.0, omega (arith, c.1), c.2)
 
--- What stands of a carriage after each call.
+-- What holds of a carriage after each call.
 pub record Carries {T : Type 0} (w : Carriage T) : Type 0 where
-  pub stands : StandWith w.client.core.slots w.client.carried
+  pub conforms : ConformWith w.client.core.slots w.client.carried
   pub given : (id : ℤ) (o : OpenRequest) → under w.client.core.slots id ≡ Some o → IsGivenUnder w.given (record { id = id; number = o.number }) (under w.client.carried id)
   pub numbers : AllByRecursion (λ g. g.0.number ≤ w.client.core.begun) w.given
   pub apart : PairsByRecursion HaveOtherTickets w.given
 
--- the same value under a ticket with the same id and number, in what stands under the same id
+-- the same value under a ticket with the same id and number, in what is under the same id
 renamed : {T : Type 0} (given : List (Ticket × T)) (t u : Ticket) (a b : Option T) → t ≡ u → b ≡ a → IsGivenUnder given t a → IsGivenUnder given u b
 renamed given t u a b same stays h = record {
   value = h.value;
@@ -61,7 +61,7 @@ carries_begun {T} w k value (Ok t) is p =
     let at = ticket_found w.client.core k t is in
     let entry : OpenRequest = record { number = t.number; kind = k; cancelled = false } in
     record {
-      stands = begun_stands w.client.core k carried value (Ok t) p.stands;
+      conforms = begun_conforms w.client.core k carried value (Ok t) p.conforms;
       given = λ id o e. elim (cases_int id t.id) [
         | inl same ↦
             let there = sym (under_put_same slots t.id (Some entry) at.has) ∙ ap (under (put slots t.id (Some entry))) (sym same) ∙ e in
@@ -69,7 +69,7 @@ carries_begun {T} w k value (Ok t) is p =
             let ticket : t ≡ (record { id = id; number = o.number }) = λ i. record { id = sym same i; number = number i } in
             record {
               value = value;
-              carried_is = ap (under (put carried t.id (Some value))) same ∙ under_put_same carried t.id (Some value) (has_sized carried slots t.id p.stands.size ∙ at.has);
+              carried_is = ap (under (put carried t.id (Some value))) same ∙ under_put_same carried t.id (Some value) (has_sized carried slots t.id p.conforms.size ∙ at.has);
               given_is = subst (λ (q : Ticket). Contains ((t, value) ∷ w.given) (q, value)) ticket (contains_first (t, value) w.given);
             }
         | inr ne ↦ kept_given w.given (t, value) (record { id = id; number = o.number }) (under carried id) (under (put carried t.id (Some value)) id) (under_put_other carried t.id id (Some value) ne) (p.given id o (sym (under_put_other slots t.id id (Some entry) ne) ∙ e))
@@ -100,10 +100,10 @@ was_open slots id other o e = elim (cases_int other id) [
 was_other : (slots : List (Option OpenRequest)) (id other : ℤ) (o : OpenRequest) → is_none (under slots id) ≡ true → under slots other ≡ Some o → (other ≢ id) × (under slots other ≡ Some o)
 was_other slots id other o free e = (λ same. let some = ap (under slots) (sym same) ∙ e in absurd (cc (free, some)), e)
 
-carries_closed : {T : Type 0} (w : Carriage T) (s : Signal) (slot : Option OpenRequest) → is_none slot ≡ false → StandWith (closed w.client.core s slot).slots (put w.client.carried s.stream None) → Carries w → Carries (record { client = record { core = closed w.client.core s slot; carried = put w.client.carried s.stream None }; given = w.given })
-carries_closed w s None some stands p = cc
-carries_closed w s (Some o) some stands p = record {
-  stands = stands;
+carries_closed : {T : Type 0} (w : Carriage T) (s : Signal) (slot : Option OpenRequest) → is_none slot ≡ false → ConformWith (closed w.client.core s slot).slots (put w.client.carried s.stream None) → Carries w → Carries (record { client = record { core = closed w.client.core s slot; carried = put w.client.carried s.stream None }; given = w.given })
+carries_closed w s None some conforms p = cc
+carries_closed w s (Some o) some conforms p = record {
+  conforms = conforms;
   given = given_closed w s.stream (put w.client.core.slots s.stream None) (was_open w.client.core.slots s.stream) p;
   numbers = p.numbers;
   apart = p.apart;
@@ -112,13 +112,13 @@ carries_closed w s (Some o) some stands p = record {
 carries_replied : {T : Type 0} (w : Carriage T) (s : Signal) (r : Result Reply Stray) → reply_to w.client.core s ≡ r → Carries w → Carries (record { client = record { core = replied w.client.core s r; carried = handed_out w.client.carried s.stream r }; given = w.given })
 carries_replied w s (Err why) is p = p
 carries_replied w s (Ok reply.ServerEvent) is p = record {
-  stands = replied_stands w.client.core s w.client.carried (Ok reply.ServerEvent) is p.stands;
+  conforms = replied_conforms w.client.core s w.client.carried (Ok reply.ServerEvent) is p.conforms;
   given = given_closed w s.stream w.client.core.slots (λ other o e. was_other w.client.core.slots s.stream other o (replied_open w.client.core s reply.ServerEvent is) e) p;
   numbers = p.numbers;
   apart = p.apart;
 }
-carries_replied w s (Ok (reply.Answer t k)) is p = carries_closed w s (under w.client.core.slots s.stream) (replied_open w.client.core s (reply.Answer t k) is) (replied_stands w.client.core s w.client.carried (Ok (reply.Answer t k)) is p.stands) p
-carries_replied w s (Ok (reply.Dropped t)) is p = carries_closed w s (under w.client.core.slots s.stream) (replied_open w.client.core s (reply.Dropped t) is) (replied_stands w.client.core s w.client.carried (Ok (reply.Dropped t)) is p.stands) p
+carries_replied w s (Ok (reply.Answer t k)) is p = carries_closed w s (under w.client.core.slots s.stream) (replied_open w.client.core s (reply.Answer t k) is) (replied_conforms w.client.core s w.client.carried (Ok (reply.Answer t k)) is p.conforms) p
+carries_replied w s (Ok (reply.Dropped t)) is p = carries_closed w s (under w.client.core.slots s.stream) (replied_open w.client.core s (reply.Dropped t) is) (replied_conforms w.client.core s w.client.carried (Ok (reply.Dropped t)) is p.conforms) p
 
 -- ---- cancel
 
@@ -148,7 +148,7 @@ carries_cancelled w t true p =
     let slots = w.client.core.slots in
     let what = option_map marked (under slots t.id) in
     record {
-      stands = cancelled_stands w.client.core t w.client.carried true p.stands;
+      conforms = cancelled_conforms w.client.core t w.client.carried true p.conforms;
       given = λ id o e. elim (cases_int id t.id) [
         | inl same ↦
             let was = marked_was slots t.id o (ap (under (put slots t.id what)) (sym same) ∙ e) in
@@ -174,7 +174,7 @@ carries_all (call ∷ calls) w p = carries_all calls (after_call w call) (carrie
 
 pub carries_empty : (T : Type 0) (n : ℕ) → Carries {T = T} (empty_carriage n)
 carries_empty T n = record {
-  stands = stand_empty n;
+  conforms = conform_empty n;
   given = λ id o e. absurd (cc (under_new {A = OpenRequest} n id, e));
   numbers = tt;
   apart = tt;
@@ -226,7 +226,7 @@ given_back w s r t p reported is =
 
 pub returned_for : {T : Type 0} (w : Carriage T) (s : Signal) (r : Result Reply Stray) → reply_to w.client.core s ≡ r → Carries w → IfOk r (IsReturned w.given (under w.client.carried s.stream))
 returned_for w s (Err why) e p = tt
-returned_for w s (Ok reply.ServerEvent) e p = none_is (under w.client.carried s.stream) (p.stands.there s.stream ∙ replied_open w.client.core s reply.ServerEvent e)
+returned_for w s (Ok reply.ServerEvent) e p = none_is (under w.client.carried s.stream) (p.conforms.there s.stream ∙ replied_open w.client.core s reply.ServerEvent e)
 returned_for w s (Ok (reply.Answer t k)) e p = given_back w s (reply.Answer t k) t p (reported_to w.client.core s (reply.Answer t k) e refl) refl
 returned_for w s (Ok (reply.Dropped t)) e p = given_back w s (reply.Dropped t) t p (reported_to w.client.core s (reply.Dropped t) e refl) refl
 

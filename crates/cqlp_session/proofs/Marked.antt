@@ -17,7 +17,7 @@ bit_zero : (b : Bool) → ◌≡◌ {A = ℕ} (cond b 1 0) 0 → b ≡ false
 bit_zero true e = cc
 bit_zero false e = refl
 
--- nothing stands anywhere in new slots
+-- nothing is anywhere in new slots
 pub empty_under : {A : Type 0} (n i : ℕ) → get_or {A = Option A} (replicate n None) i None ≡ None
 empty_under {A} n i = elim (cases_lt i n) [
   | inl lt ↦ get_or-replicate n i None None lt

@@ -1,4 +1,4 @@
--- What stands of a world after each step: each request that is anywhere between the cores stands once, and stands in
+-- What holds of a world after each step: each request that is anywhere between the cores occurs once, and is in
 -- its slot of the client.
 use Rattle.std.proofs.Common.{◌≡◌, ◌≢◌, ℕ, ◌+◌, ◌≤◌, Bool, true, false, not, List, [], ◌∷◌, ◌++◌, Option, Some, None, Ok, Err, Result, cond, arith, refl, ap, ◌∙◌, sym, subst, inl, inr, ℤ, pos, eqb}
 use Rattle.std.specs.Prelude.{◌^◌, ◌-◌, is_none, option_map, nat_lt}
@@ -421,8 +421,8 @@ paired_answered w id o k (Some r) t p e found =
           elim (cases_int at id) [
             | inl same ↦
                 let gone = ap present (ap (under (put served id None)) same ∙ freed) in
-                let stood = ap present (ap (under served) same ∙ found.there) in
-                omega (arith, more, before, gone, stood, one_at_most (int_eq r.ticket.id at))
+                let conformed = ap present (ap (under served) same ∙ found.there) in
+                omega (arith, more, before, gone, conformed, one_at_most (int_eq r.ticket.id at))
             | inr other ↦
                 let stays = ap present (under_put_other served id at None other) in
                 let passed = rw (int_eq_other r.ticket.id at (λ e. other (sym e ∙ stream))) at more in
@@ -576,7 +576,7 @@ paired_delivered_down w (m ∷ rest) p e =
 
 -- ---- a request is cancelled
 
--- whatever stands under an id, marked
+-- whatever is under an id, marked
 known_marked : (slots : List (Option OpenRequest)) (id : ℤ) (r : Request) → IsKnown slots r → IsKnown (put slots id (option_map marked (under slots id))) r
 known_marked slots id r k = elim (cases_int r.ticket.id id) [
   | inl same ↦

@@ -30,7 +30,7 @@ use Rattle.cqlp_session.proofs.Under.{all_pairs}
 abbrev pub client_part : {T U : Type 0} → CarryingWorld T U → Carriage T
 client_part w = record { client = record { core = w.cores.client; carried = w.client_carries }; given = w.given }
 
--- What stands of two cores with values after each step.
+-- What holds of two cores with values after each step.
 pub record BothCarry {T U : Type 0} (w : CarryingWorld T U) : Type 0 where
   pub paired : IsPaired w.cores
   pub client : Carries (client_part w)

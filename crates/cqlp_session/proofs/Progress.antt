@@ -17,7 +17,7 @@ use Rattle.cqlp_session.specs.declared.server.ServerRefusal.{ServerRefusal}
 use Rattle.cqlp_session.specs.Kind.{answers}
 use Rattle.cqlp_session.specs.Signal.{Signal, is_event, is_pushed}
 use Rattle.cqlp_session.specs.Slots.{has_slot, put, under}
-use Rattle.cqlp_session.specs.Carried.{CarryingClient, StandWith, handed_out, kept, kept_under, replied_with}
+use Rattle.cqlp_session.specs.Carried.{CarryingClient, ConformWith, handed_out, kept, kept_under, replied_with}
 use Rattle.cqlp_session.specs.Client.{ClientCore, begun, cancelled, closed, marked, replied, reply_for, reply_to}
 use Rattle.cqlp_session.specs.Server.{ServerCore, accepted, answer_for, answer_of, answered}
 use Rattle.cqlp_session.proofs.Under.{cases_int, length_put, under_new, under_put_other, under_put_same}
@@ -32,15 +32,15 @@ pub has_sized : {A B : Type 0} (a : List (Option A)) (b : List (Option B)) (id :
 has_sized a b (pos i) e = ap (nat_lt i) e
 has_sized a b (negsuc i) e = refl
 
--- what stands under an id that is written is what is written, or nothing if it has no slot
+-- what is under an id that is written is what is written, or nothing if it has no slot
 pub under_put : {A : Type 0} (slots : List (Option A)) (id : ℤ) (what : Option A) → under (put slots id what) id ≡ cond (has_slot slots id) what None
 under_put slots id what = elim (cases_Bool (has_slot slots id)) [
   | inl has ↦ under_put_same slots id what has ∙ sym (ap (λ b. cond b what None) has)
   | inr hasnt ↦ under_past (put slots id what) id (has_sized (put slots id what) slots id (length_put slots id what) ∙ hasnt) ∙ sym (ap (λ b. cond b what None) hasnt)
 ]
 
-pub stand_empty : {A T : Type 0} (n : ℕ) → StandWith {A = A} {T = T} (replicate n None) (replicate n None)
-stand_empty {A} {T} n = record {
+pub conform_empty : {A T : Type 0} (n : ℕ) → ConformWith {A = A} {T = T} (replicate n None) (replicate n None)
+conform_empty {A} {T} n = record {
   size = length-replicate {A = Option T} n None ∙ sym (length-replicate {A = Option A} n None);
   there = λ id. ap (λ (o : Option T). is_none o) (under_new n id) ∙ sym (ap (λ (o : Option A). is_none o) (under_new n id));
 }
@@ -50,8 +50,8 @@ both_none true what value e = e
 both_none false what value e = refl
 
 -- a request and its value are put under one id, or are both taken from it
-pub stand_put : {A T : Type 0} (slots : List (Option A)) (carried : List (Option T)) (id : ℤ) (what : Option A) (value : Option T) → StandWith slots carried → is_none value ≡ is_none what → StandWith (put slots id what) (put carried id value)
-stand_put {A} {T} slots carried id what value s e = record {
+pub conform_put : {A T : Type 0} (slots : List (Option A)) (carried : List (Option T)) (id : ℤ) (what : Option A) (value : Option T) → ConformWith slots carried → is_none value ≡ is_none what → ConformWith (put slots id what) (put carried id value)
+conform_put {A} {T} slots carried id what value s e = record {
   size = length_put carried id value ∙ s.size ∙ sym (length_put slots id what);
   there = λ other. elim (cases_int other id) [
     | inl same ↦
@@ -127,9 +127,9 @@ pub none_either : (T : Type 0) (has : Bool) → is_none (cond {A = Option T} has
 none_either T true = refl
 none_either T false = refl
 
--- nothing is taken from an id under which nothing stands
-stand_cleared : {A T : Type 0} (slots : List (Option A)) (carried : List (Option T)) (id : ℤ) → is_none (under slots id) ≡ true → StandWith slots carried → StandWith slots (put carried id None)
-stand_cleared {A} {T} slots carried id free s = record {
+-- nothing is taken from an id under which nothing is
+conform_cleared : {A T : Type 0} (slots : List (Option A)) (carried : List (Option T)) (id : ℤ) → is_none (under slots id) ≡ true → ConformWith slots carried → ConformWith slots (put carried id None)
+conform_cleared {A} {T} slots carried id free s = record {
   size = length_put carried id None ∙ s.size;
   there = λ other. elim (cases_int other id) [
     | inl same ↦
@@ -142,19 +142,19 @@ stand_cleared {A} {T} slots carried id free s = record {
   ];
 }
 
-closed_stands : {T : Type 0} (c : ClientCore) (s : Signal) (carried : List (Option T)) (o : Option OpenRequest) → is_none o ≡ false → StandWith c.slots carried → StandWith (closed c s o).slots (put carried s.stream None)
-closed_stands c s carried None e h = cc
-closed_stands c s carried (Some o) e h = stand_put c.slots carried s.stream None None h refl
+closed_conforms : {T : Type 0} (c : ClientCore) (s : Signal) (carried : List (Option T)) (o : Option OpenRequest) → is_none o ≡ false → ConformWith c.slots carried → ConformWith (closed c s o).slots (put carried s.stream None)
+closed_conforms c s carried None e h = cc
+closed_conforms c s carried (Some o) e h = conform_put c.slots carried s.stream None None h refl
 
-pub replied_stands : {T : Type 0} (c : ClientCore) (s : Signal) (carried : List (Option T)) (r : Result Reply Stray) → reply_to c s ≡ r → StandWith c.slots carried → StandWith (replied c s r).slots (handed_out carried s.stream r)
-replied_stands c s carried (Ok reply.ServerEvent) e h = stand_cleared c.slots carried s.stream (replied_open c s reply.ServerEvent e) h
-replied_stands c s carried (Ok (reply.Answer t k)) e h = closed_stands c s carried (under c.slots s.stream) (replied_open c s (reply.Answer t k) e) h
-replied_stands c s carried (Ok (reply.Dropped t)) e h = closed_stands c s carried (under c.slots s.stream) (replied_open c s (reply.Dropped t) e) h
-replied_stands c s carried (Err why) e h = h
+pub replied_conforms : {T : Type 0} (c : ClientCore) (s : Signal) (carried : List (Option T)) (r : Result Reply Stray) → reply_to c s ≡ r → ConformWith c.slots carried → ConformWith (replied c s r).slots (handed_out carried s.stream r)
+replied_conforms c s carried (Ok reply.ServerEvent) e h = conform_cleared c.slots carried s.stream (replied_open c s reply.ServerEvent e) h
+replied_conforms c s carried (Ok (reply.Answer t k)) e h = closed_conforms c s carried (under c.slots s.stream) (replied_open c s (reply.Answer t k) e) h
+replied_conforms c s carried (Ok (reply.Dropped t)) e h = closed_conforms c s carried (under c.slots s.stream) (replied_open c s (reply.Dropped t) e) h
+replied_conforms c s carried (Err why) e h = h
 
-pub begun_stands : {T : Type 0} (c : ClientCore) (k : RequestKind) (carried : List (Option T)) (value : T) (r : Result Ticket BeginError) → StandWith c.slots carried → StandWith (begun c k r).slots (kept carried value r)
-begun_stands c k carried value (Ok t) h = stand_put c.slots carried t.id (Some (record { number = t.number; kind = k; cancelled = false })) (Some value) h refl
-begun_stands c k carried value (Err why) h = h
+pub begun_conforms : {T : Type 0} (c : ClientCore) (k : RequestKind) (carried : List (Option T)) (value : T) (r : Result Ticket BeginError) → ConformWith c.slots carried → ConformWith (begun c k r).slots (kept carried value r)
+begun_conforms c k carried value (Ok t) h = conform_put c.slots carried t.id (Some (record { number = t.number; kind = k; cancelled = false })) (Some value) h refl
+begun_conforms c k carried value (Err why) h = h
 
 none_marked : (o : Option OpenRequest) → is_none (option_map marked o) ≡ is_none o
 none_marked None = refl
@@ -170,8 +170,8 @@ marked_under slots id =
           ∙ sym (ap (λ (o : Option OpenRequest). is_none o) (under_past slots id hasnt))
     ]
 
-pub cancelled_stands : {T : Type 0} (c : ClientCore) (t : Ticket) (carried : List (Option T)) (given_up : Bool) → StandWith c.slots carried → StandWith (cancelled c t given_up).slots carried
-cancelled_stands c t carried true h =
+pub cancelled_conforms : {T : Type 0} (c : ClientCore) (t : Ticket) (carried : List (Option T)) (given_up : Bool) → ConformWith c.slots carried → ConformWith (cancelled c t given_up).slots carried
+cancelled_conforms c t carried true h =
     let what = option_map marked (under c.slots t.id) in
     record {
       size = h.size ∙ sym (length_put c.slots t.id what);
@@ -180,20 +180,20 @@ cancelled_stands c t carried true h =
         | inr ne ↦ ap (λ (o : Option OpenRequest). is_none o) (under_put_other c.slots t.id id what ne)
       ]);
     }
-cancelled_stands c t carried false h = h
+cancelled_conforms c t carried false h = h
 
 -- ---- what is carried, where it was written through a slice
 
-through : {A T : Type 0} (slots : List (Option A)) (items new : List (Option T)) (n : ℕ) → n ≡ length items → length new ≡ length items → StandWith slots new → StandWith slots (take n (new ++ drop (length new) items))
+through : {A T : Type 0} (slots : List (Option A)) (items new : List (Option T)) (n : ℕ) → n ≡ length items → length new ≡ length items → ConformWith slots new → ConformWith slots (take n (new ++ drop (length new) items))
 through slots items new n size same h = rw (take_at new (drop (length new) items) n (same ∙ sym size)) h
 
-pub begun_through : {T : Type 0} (old core : ClientCore) (k : RequestKind) (items new : List (Option T)) (n : ℕ) (value : T) (t : Ticket) → StandWith old.slots items → core ≡ begun old k (Ok t) → new ≡ put items t.id (Some value) → n ≡ length items → StandWith core.slots (take n (new ++ drop (length new) items))
+pub begun_through : {T : Type 0} (old core : ClientCore) (k : RequestKind) (items new : List (Option T)) (n : ℕ) (value : T) (t : Ticket) → ConformWith old.slots items → core ≡ begun old k (Ok t) → new ≡ put items t.id (Some value) → n ≡ length items → ConformWith core.slots (take n (new ++ drop (length new) items))
 begun_through old core k items new n value t h after written size =
-    through core.slots items new n size (ap length written ∙ length_put items t.id (Some value)) (rw (after, written) (begun_stands old k items value (Ok t) h))
+    through core.slots items new n size (ap length written ∙ length_put items t.id (Some value)) (rw (after, written) (begun_conforms old k items value (Ok t) h))
 
-pub replied_through : {T : Type 0} (old core : ClientCore) (s : Signal) (items new : List (Option T)) (n : ℕ) (r : Reply) → StandWith old.slots items → reply_to old s ≡ Ok r → core ≡ replied old s (Ok r) → new ≡ put items s.stream None → n ≡ length items → StandWith core.slots (take n (new ++ drop (length new) items))
+pub replied_through : {T : Type 0} (old core : ClientCore) (s : Signal) (items new : List (Option T)) (n : ℕ) (r : Reply) → ConformWith old.slots items → reply_to old s ≡ Ok r → core ≡ replied old s (Ok r) → new ≡ put items s.stream None → n ≡ length items → ConformWith core.slots (take n (new ++ drop (length new) items))
 replied_through old core s items new n r h reported after written size =
-    through core.slots items new n size (ap length written ∙ length_put items s.stream None) (rw (after, written) (replied_stands old s items (Ok r) reported h))
+    through core.slots items new n size (ap length written ∙ length_put items s.stream None) (rw (after, written) (replied_conforms old s items (Ok r) reported h))
 
 pub replied_view : {T : Type 0} (old : CarryingClient T) (core : ClientCore) (s : Signal) (new : List (Option T)) (n : ℕ) (r : Reply) → reply_to old.core s ≡ Ok r → core ≡ replied old.core s (Ok r) → new ≡ put old.carried s.stream None → n ≡ length old.carried
     → ◌≡◌ {A = CarryingClient T} (record { core = core; carried = take n (new ++ drop (length new) old.carried) }) (replied_with old s)
@@ -205,13 +205,13 @@ replied_view {T} old core s new n r reported after written size =
 
 -- ---- the server
 
-pub accepted_stands : {T : Type 0} (c : ServerCore) (s : Signal) (carried : List (Option T)) (value : T) (r : Result RequestKind ServerRefusal) → StandWith c.slots carried → StandWith (accepted c s r).slots (kept_under carried s.stream value r)
-accepted_stands c s carried value (Ok k) h = stand_put c.slots carried s.stream (Some k) (Some value) h refl
-accepted_stands c s carried value (Err why) h = h
+pub accepted_conforms : {T : Type 0} (c : ServerCore) (s : Signal) (carried : List (Option T)) (value : T) (r : Result RequestKind ServerRefusal) → ConformWith c.slots carried → ConformWith (accepted c s r).slots (kept_under carried s.stream value r)
+accepted_conforms c s carried value (Ok k) h = conform_put c.slots carried s.stream (Some k) (Some value) h refl
+accepted_conforms c s carried value (Err why) h = h
 
-pub answered_stands : {T : Type 0} (c : ServerCore) (id : ℤ) (o : Opcode) (carried : List (Option T)) (r : Result RequestKind AnswerError) → StandWith c.slots carried → StandWith (answered c id o r).slots (handed_out carried id r)
-answered_stands c id o carried (Ok k) h = stand_put c.slots carried id None None h refl
-answered_stands c id o carried (Err why) h = h
+pub answered_conforms : {T : Type 0} (c : ServerCore) (id : ℤ) (o : Opcode) (carried : List (Option T)) (r : Result RequestKind AnswerError) → ConformWith c.slots carried → ConformWith (answered c id o r).slots (handed_out carried id r)
+answered_conforms c id o carried (Ok k) h = conform_put c.slots carried id None None h refl
+answered_conforms c id o carried (Err why) h = h
 
 open_answered : (o : Opcode) (slot : Option RequestKind) (k : RequestKind) → answer_for o slot ≡ Ok k → is_none slot ≡ false
 open_answered o None k e = cc
@@ -221,10 +221,10 @@ open_answered o (Some kind) k e = refl
 pub answered_open : (c : ServerCore) (id : ℤ) (o : Opcode) (k : RequestKind) → answer_of c id o ≡ Ok k → is_none (under c.slots id) ≡ false
 answered_open c id o k e = open_answered o (under c.slots id) k e
 
-pub accepted_through : {T : Type 0} (old core : ServerCore) (s : Signal) (items new : List (Option T)) (n : ℕ) (value : T) (k : RequestKind) → StandWith old.slots items → core ≡ accepted old s (Ok k) → new ≡ put items s.stream (Some value) → n ≡ length items → StandWith core.slots (take n (new ++ drop (length new) items))
+pub accepted_through : {T : Type 0} (old core : ServerCore) (s : Signal) (items new : List (Option T)) (n : ℕ) (value : T) (k : RequestKind) → ConformWith old.slots items → core ≡ accepted old s (Ok k) → new ≡ put items s.stream (Some value) → n ≡ length items → ConformWith core.slots (take n (new ++ drop (length new) items))
 accepted_through old core s items new n value k h after written size =
-    through core.slots items new n size (ap length written ∙ length_put items s.stream (Some value)) (rw (after, written) (accepted_stands old s items value (Ok k) h))
+    through core.slots items new n size (ap length written ∙ length_put items s.stream (Some value)) (rw (after, written) (accepted_conforms old s items value (Ok k) h))
 
-pub answered_through : {T : Type 0} (old core : ServerCore) (id : ℤ) (o : Opcode) (items new : List (Option T)) (n : ℕ) (k : RequestKind) → StandWith old.slots items → core ≡ answered old id o (Ok k) → new ≡ put items id None → n ≡ length items → StandWith core.slots (take n (new ++ drop (length new) items))
+pub answered_through : {T : Type 0} (old core : ServerCore) (id : ℤ) (o : Opcode) (items new : List (Option T)) (n : ℕ) (k : RequestKind) → ConformWith old.slots items → core ≡ answered old id o (Ok k) → new ≡ put items id None → n ≡ length items → ConformWith core.slots (take n (new ++ drop (length new) items))
 answered_through old core id o items new n k h after written size =
-    through core.slots items new n size (ap length written ∙ length_put items id None) (rw (after, written) (answered_stands old id o items (Ok k) h))
+    through core.slots items new n size (ap length written ∙ length_put items id None) (rw (after, written) (answered_conforms old id o items (Ok k) h))

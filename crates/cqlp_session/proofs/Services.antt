@@ -9,16 +9,16 @@ use Rattle.cqlp_session.specs.declared.server.ServerRefusal.{ServerRefusal}
 use Rattle.cqlp_session.specs.Kind.{kind_of}
 use Rattle.cqlp_session.specs.Signal.{Signal}
 use Rattle.cqlp_session.specs.Slots.{has_slot, put, under}
-use Rattle.cqlp_session.specs.Carried.{StandWith, handed_out, kept_under}
+use Rattle.cqlp_session.specs.Carried.{ConformWith, handed_out, kept_under}
 use Rattle.cqlp_session.specs.Server.{ServerCore, accept_kind, accept_of, accepted, answer_of, answered}
 use Rattle.cqlp_session.specs.Service.{Acceptance, IsOfLast, Service, ServerCall, Accept, Answer_to, EachAnswerHasItsValue, accepted_under, after_server_call, after_server_calls, empty_service, last_accepted}
 use Rattle.cqlp_session.proofs.Paired.{answer_found}
-use Rattle.cqlp_session.proofs.Progress.{accepted_stands, answered_stands, has_sized, none_either, stand_empty, under_put}
+use Rattle.cqlp_session.proofs.Progress.{accepted_conforms, answered_conforms, has_sized, none_either, conform_empty, under_put}
 use Rattle.cqlp_session.proofs.Under.{cases_int, int_eq_other, int_eq_same, under_new, under_put_other, under_put_same}
 
--- What stands of a server's core that carries values, and of what it accepted.
+-- What holds of a server's core that carries values, and of what it accepted.
 pub record Serves {U : Type 0} (c : ServerCore) (carried : List (Option U)) (taken : List (Acceptance U)) : Type 0 where
-  pub stands : StandWith c.slots carried
+  pub conforms : ConformWith c.slots carried
   pub last : (id : ℤ) (k : RequestKind) → under c.slots id ≡ Some k → IsOfLast taken id k (under carried id)
 
 -- a request that is accepted has a slot
@@ -51,14 +51,14 @@ serves_accepted {U} c carried taken s value (Ok k) is p =
     let has = has_accepted c s k is in
     let new : Acceptance U = record { id = id; kind = k; value = value } in
     record {
-      stands = accepted_stands c s carried value (Ok k) p.stands;
+      conforms = accepted_conforms c s carried value (Ok k) p.conforms;
       last = λ at j there. elim (cases_int at id) [
         | inl same ↦
             let kinds = some_kind k j (sym (under_put_same c.slots id (Some k) has) ∙ sym (ap (under (put c.slots id (Some k))) same) ∙ there) in
             let renamed : ◌≡◌ {A = Acceptance U} new (record { id = at; kind = j; value = value }) = λ i. record { id = sym same i; kind = kinds i; value = value } in
             record {
               value = value;
-              carried_is = ap (under (put carried id (Some value))) same ∙ under_put_same carried id (Some value) (has_sized carried c.slots id p.stands.size ∙ has);
+              carried_is = ap (under (put carried id (Some value))) same ∙ under_put_same carried id (Some value) (has_sized carried c.slots id p.conforms.size ∙ has);
               last = ap (λ i. last_accepted i (new ∷ taken)) same ∙ last_is taken new ∙ ap (λ (a : Acceptance U). Some a) renamed;
             }
         | inr ne ↦
@@ -79,7 +79,7 @@ gone_kind slots id k e =
 pub serves_answered : {U : Type 0} (c : ServerCore) (carried : List (Option U)) (taken : List (Acceptance U)) (id : ℤ) (o : Opcode) (r : Result RequestKind AnswerError) → Serves c carried taken → Serves (answered c id o r) (handed_out carried id r) taken
 serves_answered c carried taken id o (Err why) p = p
 serves_answered c carried taken id o (Ok k) p = record {
-  stands = answered_stands c id o carried (Ok k) p.stands;
+  conforms = answered_conforms c id o carried (Ok k) p.conforms;
   last = λ at j there. elim (cases_int at id) [
     | inl same ↦ absurd (gone_kind c.slots id j (sym (ap (under (put c.slots id None)) same) ∙ there))
     | inr ne ↦
@@ -101,7 +101,7 @@ serves_all [] w p = p
 serves_all (call ∷ calls) w p = serves_all calls (after_server_call w call) (serves_after w call p)
 
 pub serves_new : (U : Type 0) (n : ℕ) → (let w = empty_service {T = U} n in Serves w.server.core w.server.carried w.accepted)
-serves_new U n = record { stands = stand_empty n; last = λ id k e. absurd (cc (under_new {A = RequestKind} n id, e)) }
+serves_new U n = record { conforms = conform_empty n; last = λ id k e. absurd (cc (under_new {A = RequestKind} n id, e)) }
 
 -- what an answer hands out
 pub answer_has : {U : Type 0} (c : ServerCore) (carried : List (Option U)) (taken : List (Acceptance U)) (id : ℤ) (o : Opcode) (r : Result RequestKind AnswerError) → answer_of c id o ≡ r → Serves c carried taken → IfOk r (λ k. IsOfLast taken id k (under carried id))

@@ -1,4 +1,4 @@
--- What stands under an id after another is written, and lists that each element of passes a fact.
+-- What is under an id after another is written, and lists that each element of passes a fact.
 use Rattle.std.proofs.Common.{◌≡◌, ◌≢◌, ℕ, ◌+◌, ◌<◌, Bool, true, false, List, [], ◌∷◌, ◌++◌, zero, suc, Option, Some, None, length, get_or, set, replicate, cond, arith, refl, ap, inl, inr, ◌⊎◌, get_or-set_same, get_or-set_other, ℤ, pos, negsuc}
 use Rattle.std.specs.Prelude.{is_none, filter, AllPairs}
 use Rattle.std.specs.List.{AllByRecursion}

@@ -1,5 +1,5 @@
 -- Cores that carry a value of the caller's with each open request. They move as the cores without values do; beside them
--- stands what is carried under each stream id.
+-- is what is carried under each stream id.
 use Rattle.std.specs.Prelude.{◌≡◌, ℕ, ℤ, List, length, is_none, Option, Some, None, Result, Ok, Err, replicate}
 use Rattle.std.specs.List.{filter_map}
 use Rattle.std.specs.Result.{result_map_both}
@@ -19,8 +19,8 @@ use Rattle.cqlp_session.specs.Server.{ServerCore, accept_of, accepted, answer_of
 use Rattle.cqlp_session.specs.Signal.{Signal}
 use Rattle.cqlp_session.specs.Slots.{put, under}
 
--- There is a place for each id, and a value stands there exactly where a request is open under the id.
-pub record StandWith {A T : Type 0} (slots : List (Option A)) (carried : List (Option T)) : Type 0 where
+-- There is a place for each id, and a value is there exactly where a request is open under the id.
+pub record ConformWith {A T : Type 0} (slots : List (Option A)) (carried : List (Option T)) : Type 0 where
   pub size : length carried ≡ length slots
   pub there : (id : ℤ) → is_none (under carried id) ≡ is_none (under slots id)
 

@@ -15,7 +15,7 @@ use Rattle.cqlp_session.specs.Slots.{under}
 use Rattle.cqlp_session.specs.World.{Message, Request, Step, World, happens, last_under, start}
 use Rattle.cqlp_session.specs.World as plain
 
--- Two cores and two wires, and what each core carries under each id. Beside them stands what was given: the value of
+-- Two cores and two wires, and what each core carries under each id. Beside them is what was given: the value of
 -- each request that began, under its ticket; and the requests that the server accepted with theirs, the last first.
 pub record CarryingWorld (T U : Type 0) : Type 0 where
   pub cores : World

@@ -27,7 +27,7 @@ pub record WithBit (old : List ℕ) (place bit : ℕ) (new : List ℕ) : Type 0 
   pub is : bit_under new place ≡ bit
   pub others : (i : ℕ) → i ≢ place → bit_under new i ≡ bit_under old i
 
--- A bit is set for each id under which nothing stands, and for those past the last.
+-- A bit is set for each id under which nothing is, and for those past the last.
 pub record Marks {A : Type 0} (words : List ℕ) (slots : List (Option A)) : Type 0 where
   pub size : length words ≡ (length slots + 63) / 64
   pub bits : (i : ℕ) → i < 64 * length words

@@ -1,4 +1,4 @@
--- What stands under each stream id (section 2.3 of native_protocol_v4.spec): a list with a slot for each id.
+-- What is under each stream id (section 2.3 of native_protocol_v4.spec): a list with a slot for each id.
 use Rattle.std.specs.Prelude.{◌≡◌, ◌<ℤ◌, ℕ, ◌≤◌, IsTrue, IsSome, ℤ, pos, negsuc, Bool, false, nat_lt, List, length, Option, Some}
 use Rattle.std.specs.Prelude.{None, slice_index_or, slice_set, is_none, is_some, position, ◌<◌, ◌↔◌, ◌⊎◌, Result, IfOk, IsErrOf}
 use Rattle.cqlp_session.specs.declared.refusal.SlotsOrMemory.{SlotsOrMemory}
@@ -14,12 +14,12 @@ abbrev pub has_slot : {A : Type 0} → List (Option A) → ℤ → Bool
 has_slot slots (pos i) = nat_lt i (length slots)
 has_slot slots (negsuc i) = false
 
--- what stands under an id: nothing under a negative one, and past the last
+-- what is under an id: nothing under a negative one, and past the last
 abbrev pub under : {A : Type 0} → List (Option A) → ℤ → Option A
 under slots (pos i) = slice_index_or slots i None
 under slots (negsuc i) = None
 
--- something stands under an id
+-- something is under an id
 abbrev pub is_open : {A : Type 0} → List (Option A) → ℤ → Bool
 is_open slots id = is_some (under slots id)
 

@@ -25,7 +25,7 @@ pub record Message (Tag : Type 0) : Type 0 where
   pub tag : Tag
 
 -- Two cores and what is between them. On the wire up are requests, each tagged with itself. On the wire down are
--- responses, each tagged with the request that it answers, and events with no tag. Beside them stands what happened:
+-- responses, each tagged with the request that it answers, and events with no tag. Beside them is what happened:
 -- the messages that the server accepted, the last first; the requests whose response was not delivered to the client
 -- yet; and those that the server accepted and has not answered yet.
 pub record World : Type 0 where

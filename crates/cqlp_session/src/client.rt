@@ -75,7 +75,7 @@ impl<A: Allocator> Client<A> {
     /// Begins a request. Its header is to have the ticket's id, the least that is free.
     ///
     /// The first of these refuses it, and changes nothing: `Phase`, where requests of this kind may not begin in the
-    /// phase that stands; `Spent`, where 2^64 - 1 requests have begun; `Full`, where each id is taken.
+    /// phase that is; `Spent`, where 2^64 - 1 requests have begun; `Full`, where each id is taken.
     ///
     /// # Errors
     ///

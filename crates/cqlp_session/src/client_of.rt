@@ -50,18 +50,18 @@ pub struct ClientOf<T, A: Allocator = Global> {
 
 impl<T, A: Allocator> Model for ClientOf<T, A> {
     ghost use Rattle.std.specs.Prelude.{◌≡◌, vec_capacity, vec_len};
-    ghost use Rattle.cqlp_session.specs.Carried.{CarryingClient, StandWith};
+    ghost use Rattle.cqlp_session.specs.Carried.{CarryingClient, ConformWith};
 
     ghost Value = { CarryingClient T };
 
     ghost view = { λ c. record { core = c.core; carried = c.carried.items } };
 
-    ghost invariant = { λ c. StandWith c.core.slots c.carried.items × (vec_capacity c.carried ≡ vec_len c.carried) };
+    ghost invariant = { λ c. ConformWith c.core.slots c.carried.items × (vec_capacity c.carried ≡ vec_len c.carried) };
 }
 
 impl<T: Drop, A: Allocator> ClientOf<T, A> {
     ghost use Rattle.cqlp_session.specs.Carried.{answer_alone, begun_with, cancelled_with, new_carrying_client, or_back};
-    ghost use Rattle.cqlp_session.specs.Carried.{replied_with, reply_value, values_in, StandWith};
+    ghost use Rattle.cqlp_session.specs.Carried.{replied_with, reply_value, values_in, ConformWith};
     ghost use Rattle.cqlp_session.specs.Client.{cancels, reply_to, ticket_for};
     ghost use Rattle.cqlp_session.specs.ClientLends.{client_lends, client_lends_value};
     ghost use Rattle.cqlp_session.specs.Signal.{signal_of};
@@ -150,7 +150,7 @@ impl<T: Drop, A: Allocator> ClientOf<T, A> {
         ensures answer { result ≡ or_back carried (ticket_for self.old.core kind) }
         ensures after { self.new ≡ begun_with self.old kind carried }
         ensures refused { OnErr result (self.new ≡ self.old) }
-        ensures held { StandWith self.new.core.slots self.new.carried }
+        ensures held { ConformWith self.new.core.slots self.new.carried }
     {
         match self.core.begin(kind) {
             Ok(ticket) => {
@@ -172,7 +172,7 @@ impl<T: Drop, A: Allocator> ClientOf<T, A> {
         ensures value { IfOk result (λ reply. reply_value reply ≡ under self.old.carried header.now.stream) }
         ensures after { self.new ≡ replied_with self.old (signal_of header.now) }
         ensures refused { OnErr result (self.new ≡ self.old) }
-        ensures held { StandWith self.new.core.slots self.new.carried }
+        ensures held { ConformWith self.new.core.slots self.new.carried }
     {
         let reply = self.core.reply(header)?;
         let value = carried::take(&mut self.carried, header.stream);
@@ -193,7 +193,7 @@ impl<T: Drop, A: Allocator> ClientOf<T, A> {
         ensures answer { result ≡ cancels self.old.core ticket }
         ensures after { self.new ≡ cancelled_with self.old ticket }
         ensures refused { OnFalse result (self.new ≡ self.old) }
-        ensures held { StandWith self.new.core.slots self.new.carried }
+        ensures held { ConformWith self.new.core.slots self.new.carried }
     {
         self.core.cancel(ticket)
     }

@@ -25,17 +25,17 @@ pub struct ServerOf<T, A: Allocator = Global> {
 
 impl<T, A: Allocator> Model for ServerOf<T, A> {
     ghost use Rattle.std.specs.Prelude.{◌≡◌, vec_capacity, vec_len};
-    ghost use Rattle.cqlp_session.specs.Carried.{CarryingServer, StandWith};
+    ghost use Rattle.cqlp_session.specs.Carried.{CarryingServer, ConformWith};
 
     ghost Value = { CarryingServer T };
 
     ghost view = { λ s. record { core = s.core; carried = s.carried.items } };
 
-    ghost invariant = { λ s. StandWith s.core.slots s.carried.items × (vec_capacity s.carried ≡ vec_len s.carried) };
+    ghost invariant = { λ s. ConformWith s.core.slots s.carried.items × (vec_capacity s.carried ≡ vec_len s.carried) };
 }
 
 impl<T: Drop, A: Allocator> ServerOf<T, A> {
-    ghost use Rattle.cqlp_session.specs.Carried.{accepted_with, answered_with, kind_alone, new_carrying_server, or_back, values_in, StandWith};
+    ghost use Rattle.cqlp_session.specs.Carried.{accepted_with, answered_with, kind_alone, new_carrying_server, or_back, values_in, ConformWith};
     ghost use Rattle.cqlp_session.specs.Server.{accept_of, answer_of};
     ghost use Rattle.cqlp_session.specs.ServerLends.{server_lends, server_lends_value};
     ghost use Rattle.cqlp_session.specs.Signal.{signal_of};
@@ -128,7 +128,7 @@ impl<T: Drop, A: Allocator> ServerOf<T, A> {
         ensures answer { result ≡ or_back carried (accept_of self.old.core (signal_of header.now)) }
         ensures after { self.new ≡ accepted_with self.old (signal_of header.now) carried }
         ensures refused { OnErr result (self.new ≡ self.old) }
-        ensures held { StandWith self.new.core.slots self.new.carried }
+        ensures held { ConformWith self.new.core.slots self.new.carried }
     {
         match self.core.accept(header) {
             Ok(kind) => {
@@ -150,7 +150,7 @@ impl<T: Drop, A: Allocator> ServerOf<T, A> {
         ensures value { IfOk result (λ answer. Some answer.1 ≡ under self.old.carried id) }
         ensures after { self.new ≡ answered_with self.old id opcode }
         ensures refused { OnErr result (self.new ≡ self.old) }
-        ensures held { StandWith self.new.core.slots self.new.carried }
+        ensures held { ConformWith self.new.core.slots self.new.carried }
     {
         let kind = self.core.answer(id, opcode)?;
         match carried::take(&mut self.carried, id) {

@@ -1,4 +1,4 @@
-//! What stands under each stream id.
+//! What is under each stream id.
 
 ghost use Rattle.std.specs.Prelude.{◌≡◌, IfOk, None, replicate, vec_capacity};
 ghost use Rattle.cqlp_session.specs.Slots.{has_slot, index_of, put, under};
@@ -25,7 +25,7 @@ pub(crate) fn has<T>(slots: &[Option<T>], id: i16) -> bool
     }
 }
 
-/// What stands under this id.
+/// What is under this id.
 pub(crate) fn under<T: Copy>(slots: &[Option<T>], id: i16) -> Option<T>
     ensures { result ≡ under slots.now id }
 {

@@ -49,12 +49,12 @@ module _ (d d' : Decoding) (base used used' last : ℕ) (frame frame' : Option O
       → AfterGifts gifts (state d') (drop base s ++ take k (drop p input)) (es ++ more) → frame' ≡ frame_from frame more → used' ≡ min (used + (p + k)) (2 ^ 64 - 1)
       → ((r : Refusal) → (state d').refusal ≡ Some r → Says (state d').rules (start_with gifts) (drop base xs) (es ++ more) (Refused r.at r.why))
       → AfterSkips xs (skipping d' base used' frame' last) s' stretches gifts (es ++ more)
-  goes_on s' more k at few stands framed count refused = record {
+  goes_on s' more k at few conforms framed count refused = record {
     unread = drop (p + k) input ++ later;
     whole = is ∙ ap (λ (z : List ℕ). (s ++ z) ++ later) (sym (take-append-drop (p + k) input)) ∙ ap (λ (z : List ℕ). z ++ later) (sym (append_assoc s (take (p + k) input) (drop (p + k) input))) ∙ append_assoc (s ++ take (p + k) input) (drop (p + k) input) later ∙ ap (λ (z : List ℕ). z ++ (drop (p + k) input ++ later)) (sym at);
     given_up = subst (λ (l : Rules). GivenUp l xs stretches) (sym rules) a.given_up;
     base = a.base;
-    stands = subst (λ (z : List ℕ). AfterGifts gifts (state d') z (es ++ more)) (sym (ap (λ (z : List ℕ). drop base z) at ∙ behind_passed base s input p k first)) stands;
+    conforms = subst (λ (z : List ℕ). AfterGifts gifts (state d') z (es ++ more)) (sym (ap (λ (z : List ℕ). drop base z) at ∙ behind_passed base s input p k first)) conforms;
     frame = framed ∙ ap (λ (z : Option OpenFrame). frame_from z more) a.frame ∙ sym (frame-append None es more);
     used = omega (arith, count, a.used, ap length at, length-append s (take (p + k) input), length-take-le (p + k) input few);
     near = a.near;
@@ -95,45 +95,45 @@ module _ (d d' : Decoding) (base used used' last : ℕ) (frame frame' : Option O
 
       feeds_more : (state d').refusal ≡ None → DrainsPiece (with_event f) (state d) (state d') (drop p input) (drop p input) (shifted v base frame) (shifted w base' frame') → used' ≡ min (used + length input) (2 ^ 64 - 1) → HandsAll f xs new (s ++ input) stretches gifts es v w
       feeds_more now drains count =
-          let q = drains gifts (drop base s) es a.stands in
+          let q = drains gifts (drop base s) es a.conforms in
           let more = q.drains.more in
           let k = length input - p in
           let all : p + k ≡ length input = omega (arith, passed) in
           let front : take (p + k) input ≡ input = take_all (p + k) input (omega (arith, all)) in
           let back : take k (drop p input) ≡ drop p input = take_all k (drop p input) (omega (arith, length-drop p input)) in
-          let stands : AfterGifts gifts (state d') (drop base s ++ take k (drop p input)) (es ++ more) = rw back q.drains.stands in
-          let h = goes_on (s ++ input) more k (ap (λ (z : List ℕ). s ++ z) (sym front)) (omega (arith, all)) stands (framed more q.drains.got) (omega (arith, count, all)) (λ r is. absurd (let no = sym now ∙ is in cc)) in
+          let conforms : AfterGifts gifts (state d') (drop base s ++ take k (drop p input)) (es ++ more) = rw back q.drains.conforms in
+          let h = goes_on (s ++ input) more k (ap (λ (z : List ℕ). s ++ z) (sym front)) (omega (arith, all)) conforms (framed more q.drains.got) (omega (arith, count, all)) (λ r is. absurd (let no = sym now ∙ is in cc)) in
           let waits = subst (λ (o : Option Refusal). Says (state d').rules (start_with gifts) (drop base s ++ drop p input) (es ++ more) (verdict_of o)) now (q.says none) in (
-            record { more = more; stands = h; got = seen more q.drains.got },
+            record { more = more; conforms = h; got = seen more q.drains.got },
             subst (λ (z : List ℕ). Says (state d').rules (start_with gifts) z (es ++ more) Waits) (sym (behind_all base s input p first)) waits,
           )
 
       feeds_refused : (k : ℕ) (r : Refusal) → p + k ≤ length input → DrainsTo (with_event f) (FailsAtEvent faulted) (state d) (drop p input) (fed.Refused k r) (state d') (shifted v base frame) (shifted w base' frame') → used' ≡ min (used + (p + k)) (2 ^ 64 - 1) → HandsUpTo f xs new (s ++ take (p + k) input) stretches gifts es (p + k) p v w
       feeds_refused k r few drains count =
-          let e = drains gifts (drop base s) es a.stands in
+          let e = drains gifts (drop base s) es a.conforms in
           let q = e.0 in
           let more = q.drains.more in
           let h : Hands f xs new (s ++ take (p + k) input) stretches gifts es v w = record {
             more = more;
-            stands = goes_on (s ++ take (p + k) input) more k refl few q.drains.stands (framed more q.drains.got) count (λ r is. refused_by more r is (q.says none));
+            conforms = goes_on (s ++ take (p + k) input) more k refl few q.drains.conforms (framed more q.drains.got) count (λ r is. refused_by more r is (q.says none));
             got = seen more q.drains.got;
           } in
           (h, ends_up more k e.1, omega arith)
 
       feeds_fault : (k : ℕ) → p + k ≤ length input → (state d').refusal ≡ None → DrainsTo (with_event f) (FailsAtEvent faulted) (state d) (drop p input) (fed.Fault k) (state d') (shifted v base frame) (shifted w base' frame') → used' ≡ min (used + (p + k)) (2 ^ 64 - 1) → Fails f xs new (s ++ take (p + k) input) stretches gifts es faulted v w
       feeds_fault k few now drains count =
-          let e = drains gifts (drop base s) es a.stands in
+          let e = drains gifts (drop base s) es a.conforms in
           let q = e.0 in
           let one : List (ℕ × Event) = (q.at, q.event) ∷ [] in
           let all = q.more ++ one in
-          let stands : AfterGifts gifts (state d') (drop base s ++ take k (drop p input)) (es ++ all) = rw (← (append_assoc es q.more one)) q.stands in
+          let conforms : AfterGifts gifts (state d') (drop base s ++ take k (drop p input)) (es ++ all) = rw (← (append_assoc es q.more one)) q.conforms in
           let fault = subst (λ (x : Shifted V). FailsAtEvent faulted x q.at q.event (shifted w base' frame')) (fold_shifted f v base frame q.more) q.fault in
-          let h = goes_on (s ++ take (p + k) input) all k refl few stands (fault.2 ∙ sym (frame-append frame q.more one)) count (λ r is. absurd (let no = sym now ∙ is in cc)) in
+          let h = goes_on (s ++ take (p + k) input) all k refl few conforms (fault.2 ∙ sym (frame-append frame q.more one)) count (λ r is. absurd (let no = sym now ∙ is in cc)) in
           record {
             more = q.more;
             at = q.at;
             event = q.event;
-            stands = subst (λ (z : List (ℕ × Event)). AfterSkips xs new (s ++ take (p + k) input) stretches gifts z) (sym (append_assoc es q.more one)) h;
+            conforms = subst (λ (z : List (ℕ × Event)). AfterSkips xs new (s ++ take (p + k) input) stretches gifts z) (sym (append_assoc es q.more one)) h;
             fault = fault.0;
             ends = (e.1.0, subst (λ (z : List ℕ). Reads (state d').rules (start_with gifts) z (es ++ q.more ++ one) e.1.0 []) (sym (behind_passed base s input p k first)) e.1.1);
           }
@@ -142,9 +142,9 @@ module _ (d d' : Decoding) (base used used' last : ℕ) (frame frame' : Option O
     feeds_again : (r : Refusal) → (state d).refusal ≡ Some r → state d' ≡ state d → w ≡ v → frame' ≡ frame → used' ≡ min (used + (p + 0)) (2 ^ 64 - 1) → HandsUpTo f xs new (s ++ take (p + 0) input) stretches gifts es (p + 0) p v w
     feeds_again r was same seen framed count =
         let none = append-nil es in
-        let stands : AfterGifts gifts (state d') (drop base s ++ []) (es ++ []) = subst (λ (z : StreamState). AfterGifts gifts z (drop base s ++ []) (es ++ [])) (sym same) (rw (none, append-nil (drop base s)) a.stands) in
-        let h = goes_on (s ++ take (p + 0) input) [] 0 refl (omega (arith, passed)) stands framed count (λ q is. subst (λ (z : StreamState). Says z.rules (start_with gifts) (drop base xs) (es ++ []) (Refused q.at q.why)) (sym same) (rw none (a.refused q (sym (ap (λ (z : StreamState). z.refusal) same) ∙ is)))) in
-        (record { more = []; stands = h; got = seen }, inl (omega arith, refl), omega arith)
+        let conforms : AfterGifts gifts (state d') (drop base s ++ []) (es ++ []) = subst (λ (z : StreamState). AfterGifts gifts z (drop base s ++ []) (es ++ [])) (sym same) (rw (none, append-nil (drop base s)) a.conforms) in
+        let h = goes_on (s ++ take (p + 0) input) [] 0 refl (omega (arith, passed)) conforms framed count (λ q is. subst (λ (z : StreamState). Says z.rules (start_with gifts) (drop base xs) (es ++ []) (Refused q.at q.why)) (sym same) (rw none (a.refused q (sym (ap (λ (z : StreamState). z.refusal) same) ∙ is)))) in
+        (record { more = []; conforms = h; got = seen }, inl (omega arith, refl), omega arith)
 
     feeds_new : (x : Fed) → (state d).refusal ≡ None → p + used_of (length (drop p input)) x ≤ length input → DrainsBy x (state d').refusal → DrainsTo (with_event f) (FailsAtEvent faulted) (state d) (drop p input) x (state d') (shifted v base frame) (shifted w base' frame')
         → used' ≡ min (used + used_of (length input) (fed_from base p x)) (2 ^ 64 - 1) → FeedsTo f faulted xs p new s stretches gifts es input (fed_from base p x) v w

@@ -16,7 +16,7 @@ use Rattle.cqlp_skip.specs.Stretches.{Stretch, GivenUp}
 use Rattle.cqlp_skip.specs.declared.frame.OpenFrame.{OpenFrame}
 use Rattle.cqlp_skip.proofs.Feeding.{is_bad, skipping}
 
--- A refusal stays, whatever is given where the reading stands.
+-- A refusal stays, whatever is given where the reading is.
 says_more : (l : Rules) (x : Gift) (gifts : Gifts) (bytes : List ℕ) (es : List (ℕ × Event)) (k : ℕ) (why : Reason) → Says l (start_with gifts) bytes es (Refused k why)
     → Says l (start_with (with_gift (length es) x gifts)) bytes es (Refused k why)
 says_more l x gifts bytes es k why a =
@@ -28,16 +28,16 @@ says_more l x gifts bytes es k why a =
 
 module _ (d d' : Decoding) (base used last : ℕ) (frame : Option OpenFrame) (same : (state d').refusal ≡ (state d).refusal) (rules : (state d').rules ≡ (state d).rules) where
   -- Where only what is given differs, the history is the same but for the gifts.
-  stands_on : (more : Gifts) (xs s : List ℕ) (stretches : List Stretch) (gifts : Gifts) (es : List (ℕ × Event)) → AfterSkips xs (skipping d base used frame last) s stretches gifts es
+  conforms_on : (more : Gifts) (xs s : List ℕ) (stretches : List Stretch) (gifts : Gifts) (es : List (ℕ × Event)) → AfterSkips xs (skipping d base used frame last) s stretches gifts es
       → AfterGifts more (state d') (drop base s) es
       → ((k : ℕ) (why : Reason) → Says (state d).rules (start_with gifts) (drop base xs) es (Refused k why) → Says (state d).rules (start_with more) (drop base xs) es (Refused k why))
       → AfterSkips xs (skipping d' base used frame last) s stretches more es
-  stands_on more xs s stretches gifts es a stands says = record {
+  conforms_on more xs s stretches gifts es a conforms says = record {
     unread = a.unread;
     whole = a.whole;
     given_up = subst (λ (l : Rules). GivenUp l xs stretches) (sym rules) a.given_up;
     base = a.base;
-    stands = stands;
+    conforms = conforms;
     frame = a.frame;
     used = a.used;
     near = a.near;
@@ -46,10 +46,10 @@ module _ (d d' : Decoding) (base used last : ℕ) (frame : Option OpenFrame) (sa
 
   pub gives_on : (x : Gift) → GivesStream x (state d) (state d') → GivesAlso x (skipping d base used frame last) (skipping d' base used frame last)
   gives_on x gives xs s stretches gifts es a =
-      stands_on (with_gift (length es) x gifts) xs s stretches gifts es a (gives gifts (drop base s) es a.stands) (says_more (state d).rules x gifts (drop base xs) es)
+      conforms_on (with_gift (length es) x gifts) xs s stretches gifts es a (gives gifts (drop base s) es a.conforms) (says_more (state d).rules x gifts (drop base xs) es)
 
   pub takes_on : (o : Option Table) → TakesStream o (state d) (state d') → TakesAlso o (skipping d base used frame last) (skipping d' base used frame last)
-  takes_on None takes xs s stretches gifts es a = stands_on gifts xs s stretches gifts es a (takes gifts (drop base s) es a.stands) (λ k why says. says)
+  takes_on None takes xs s stretches gifts es a = conforms_on gifts xs s stretches gifts es a (takes gifts (drop base s) es a.conforms) (λ k why says. says)
   takes_on (Some t) takes xs s stretches gifts es a = gives_on TakesBack takes xs s stretches gifts es a
 
 -- what was taken back leaves the rules, and what is refused

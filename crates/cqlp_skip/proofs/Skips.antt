@@ -39,7 +39,7 @@ module _ (d d' : Decoding) (base used last last' : ℕ) (f : OpenFrame) (r : Ref
         whole = a.whole;
         given_up = subst (λ (l : Rules). GivenUp l xs (x ∷ stretches)) (sym rules) (a.base, given, a.given_up);
         base = e.2;
-        stands = rw gone fresh;
+        conforms = rw gone fresh;
         frame = refl;
         used = a.used;
         near = omega (arith, e.0);
@@ -69,7 +69,7 @@ starts d xs fresh unrefused = record {
   whole = refl;
   given_up = tt;
   base = refl;
-  stands = fresh;
+  conforms = fresh;
   frame = refl;
   used = refl;
   near = omega arith;

@@ -41,7 +41,7 @@ pub record AfterSkips (xs : List ℕ) (d : Skipping) (s : List ℕ) (stretches :
   pub whole : xs ≡ s ++ unread
   pub given_up : GivenUp (rules_in d) xs stretches
   pub base : d.base ≡ base_after stretches
-  pub stands : AfterGifts gifts (stream d) (drop d.base s) events
+  pub conforms : AfterGifts gifts (stream d) (drop d.base s) events
   pub frame : d.frame ≡ frame_under_way events
   pub used : d.used ≡ min (length s) (2 ^ 64 - 1)
   pub near : d.base < 2 ^ 64
@@ -60,7 +60,7 @@ module _ {V : Type 0} (f : V → ℕ → Event → V) (xs : List ℕ) (new : Ski
   -- these bytes were used, more events handed out, and the sink has got just them, at their offsets in the whole stream
   pub record Hands (before after : V) : Type 0 where
     pub more : List (ℕ × Event)
-    pub stands : AfterSkips xs new s stretches gifts (events ++ more)
+    pub conforms : AfterSkips xs new s stretches gifts (events ++ more)
     pub got : after ≡ fold_events f before (emitted new.base more)
 
   -- they are all that the bytes of the present stretch say
@@ -79,7 +79,7 @@ module _ {V : Type 0} (f : V → ℕ → Event → V) (xs : List ℕ) (new : Ski
     pub more : List (ℕ × Event)
     pub at : ℕ
     pub event : Event
-    pub stands : AfterSkips xs new s stretches gifts (events ++ more ++ (at, event) ∷ [])
+    pub conforms : AfterSkips xs new s stretches gifts (events ++ more ++ (at, event) ∷ [])
     pub fault : faulted (fold_events f before (emitted new.base more)) (stream_offset new.base at) event after
     pub ends : (q : Place) × Reads (rules_in new) (start_with gifts) (drop new.base s) (events ++ more ++ (at, event) ∷ []) q []
 

@@ -59,7 +59,7 @@ IsGivenUp l bytes x =
     Says l (start_with x.gifts) bytes x.events (Refused x.refusal.at x.refusal.why)
     × (frame_under_way x.events ≡ Some x.frame)
 
--- where the stretch begins that comes after these, of which the last stands first: after the frame that was passed over
+-- where the stretch begins that comes after these, of which the last comes first: after the frame that was passed over
 abbrev pub base_after : List Stretch → ℕ
 base_after [] = 0
 base_after (x ∷ earlier) = x.from + end_of x.frame
@@ -69,7 +69,7 @@ abbrev pub emitted_before : List Stretch → List (ℕ × Event)
 emitted_before [] = []
 emitted_before (x ∷ earlier) = emitted_before earlier ++ emitted x.from x.events
 
--- Of the stream xs these stretches were given up, of which the last stands first.
+-- Of the stream xs these stretches were given up, of which the last comes first.
 abbrev pub GivenUp : Rules → (xs : List ℕ) → List Stretch → Type 0
 GivenUp l xs [] = Unit {0}
 GivenUp l xs (x ∷ earlier) = (x.from ≡ base_after earlier) × IsGivenUp l (drop x.from xs) x × GivenUp l xs earlier

@@ -15,8 +15,8 @@ use Rattle.cqlp_skip.specs.Stretches.{Stretch, IsGivenUp, base_after, frame_unde
 use Rattle.cqlp_skip.specs.Skipping.{Skipping, AfterSkips, FeedsTo, rules_in, stream}
 use Rattle.cqlp_skip.specs.Pieces.{refusal_from}
 use Rattle.cqlp_skip.proofs.Feeding.{still_refused}
-use Rattle.cqlp_skip_laws.specs.Laws.{gifts_of, AreAlike, IsSound, Fed_on, GoesOn, IsGivenUpOnce, IsOneAnswerOfFeed, StandAlike}
-use Rattle.cqlp_laws.proofs.PieceEnds.{EndsUp, behind, has_read, stand_once, used_once}
+use Rattle.cqlp_skip_laws.specs.Laws.{gifts_of, AreAlike, IsSound, Fed_on, GoesOn, IsGivenUpOnce, IsOneAnswerOfFeed, BehaveAlike}
+use Rattle.cqlp_laws.proofs.PieceEnds.{EndsUp, behind, has_read, conform_once, used_once}
 
 -- ---- one list
 
@@ -90,16 +90,16 @@ module _ {V : Type 0} (f : V → ℕ → Event → V) (faulted : V → ℕ → E
   -- the decoders that are left, where the same bytes were used and the same events handed out
   alike : (d d' : Skipping) (x x' : Fed) (w w' : V) (t t' : List ℕ) (m m' : List (ℕ × Event)) → Fed_on f faulted old d input x before w → Fed_on f faulted old d' input x' before w'
       → AfterSkips (s ++ input) d t stretches gifts (events ++ m) → AfterSkips (s ++ input) d' t' stretches gifts (events ++ m')
-      → used_of (length input) x' ≡ used_of (length input) x → t' ≡ t → m' ≡ m → (stream d').refusal ≡ (stream d).refusal → StandAlike d d'
+      → used_of (length input) x' ≡ used_of (length input) x → t' ≡ t → m' ≡ m → (stream d').refusal ≡ (stream d).refusal → BehaveAlike d d'
   alike d d' x x' w w' t t' m m' k k' h h' used bytes same refused =
       let base : d'.base ≡ d.base = k'.place.0 ∙ sym k.place.0 in
       let there : AfterGifts gifts (stream d') (drop d.base t) (events ++ m) =
       subst (λ (n : ℕ). AfterGifts gifts (stream d') (drop n t) (events ++ m)) base
       (subst (λ (z : List ℕ). AfterGifts gifts (stream d') (drop d'.base z) (events ++ m)) bytes
-      (subst (λ (z : List (ℕ × Event)). AfterGifts gifts (stream d') (drop d'.base t') (events ++ z)) same h'.stands)) in
-      let stand = stand_once (rules_in old) gifts (stream d) (stream d') (drop d.base t) (events ++ m) k.rules k'.rules (stream d).refusal (stream d').refusal refused h.stands there in
+      (subst (λ (z : List (ℕ × Event)). AfterGifts gifts (stream d') (drop d'.base t') (events ++ z)) same h'.conforms)) in
+      let conform = conform_once (rules_in old) gifts (stream d) (stream d') (drop d.base t) (events ++ m) k.rules k'.rules (stream d).refusal (stream d').refusal refused h.conforms there in
       record {
-        stretch = record { rules = k'.rules ∙ sym k.rules; refusal = refused; nodes = stand.0; given = k'.given ∙ sym k.given; held = stand.1 };
+        stretch = record { rules = k'.rules ∙ sym k.rules; refusal = refused; nodes = conform.0; given = k'.given ∙ sym k.given; held = conform.1 };
         base = base;
         used = k'.used ∙ ap (λ (n : ℕ). min (old.used + n) (2 ^ 64 - 1)) used ∙ sym k.used;
         frame = h'.frame ∙ ap (λ (z : List (ℕ × Event)). frame_under_way (events ++ z)) same ∙ sym h.frame;
@@ -117,27 +117,27 @@ module _ {V : Type 0} (f : V → ℕ → Event → V) (faulted : V → ℕ → E
         (subst (λ (l : Rules). Reads l (start_with gifts) (drop d.base (s ++ take n input)) (events ++ more) e.0 []) same e.1),
   )
 
-  one_feed : (x x' : Fed) → Fed_on f faulted old new input x before after → Fed_on f faulted old new' input x' before after' → IsSound x → IsSound x' → AreAlike x x' × (after' ≡ after) × StandAlike new new'
+  one_feed : (x x' : Fed) → Fed_on f faulted old new input x before after → Fed_on f faulted old new' input x' before after' → IsSound x → IsSound x' → AreAlike x x' × (after' ≡ after) × BehaveAlike new new'
   one_feed fed.More fed.More k k' sound sound' =
       let h = feeds_here new fed.More after k in
       let h' = feeds_here new' fed.More after' k' in
       let one = same_more h.0.more h'.0.more Waits Waits (to_old new (events ++ h.0.more) Waits k.place.0 k.rules h.1) (to_old new' (events ++ h'.0.more) Waits k'.place.0 k'.rules h'.1) in (
         tt,
         same_view h.0.more h'.0.more one.0 k.place.0 k'.place.0 h.0.got h'.0.got,
-        alike new new' fed.More fed.More after after' (s ++ input) (s ++ input) h.0.more h'.0.more k k' h.0.stands h'.0.stands refl refl one.0 (k'.refusal ∙ sym k.refusal),
+        alike new new' fed.More fed.More after after' (s ++ input) (s ++ input) h.0.more h'.0.more k k' h.0.conforms h'.0.conforms refl refl one.0 (k'.refusal ∙ sym k.refusal),
       )
   one_feed fed.More (fed.Refused used' r') k k' sound sound' =
       let h = feeds_here new fed.More after k in
       let h' = feeds_here new' (fed.Refused used' r') after' k' in
       let own = k'.refusal in
-      let bad = h'.0.stands.refused own.0 own.1 in
+      let bad = h'.0.conforms.refused own.0 own.1 in
       let one = same_more h.0.more h'.0.more Waits (Refused own.0.at own.0.why) (to_old new (events ++ h.0.more) Waits k.place.0 k.rules h.1) (to_old new' (events ++ h'.0.more) (Refused own.0.at own.0.why) k'.place.0 k'.rules bad) in
       absurd (let no = one.1 in cc)
   one_feed (fed.Refused used r) fed.More k k' sound sound' =
       let h = feeds_here new (fed.Refused used r) after k in
       let h' = feeds_here new' fed.More after' k' in
       let own = k.refusal in
-      let bad = h.0.stands.refused own.0 own.1 in
+      let bad = h.0.conforms.refused own.0 own.1 in
       let one = same_more h.0.more h'.0.more (Refused own.0.at own.0.why) Waits (to_old new (events ++ h.0.more) (Refused own.0.at own.0.why) k.place.0 k.rules bad) (to_old new' (events ++ h'.0.more) Waits k'.place.0 k'.rules h'.1) in
       absurd (let no = one.1 in cc)
   one_feed (fed.Refused used r) (fed.Refused used' r') k k' sound sound' =
@@ -145,15 +145,15 @@ module _ {V : Type 0} (f : V → ℕ → Event → V) (faulted : V → ℕ → E
       let h' = feeds_here new' (fed.Refused used' r') after' k' in
       let own = k.refusal in
       let own' = k'.refusal in
-      let one = same_more h.0.more h'.0.more (Refused own.0.at own.0.why) (Refused own'.0.at own'.0.why) (to_old new (events ++ h.0.more) (Refused own.0.at own.0.why) k.place.0 k.rules (h.0.stands.refused own.0 own.1)) (to_old new' (events ++ h'.0.more) (Refused own'.0.at own'.0.why) k'.place.0 k'.rules (h'.0.stands.refused own'.0 own'.1)) in
+      let one = same_more h.0.more h'.0.more (Refused own.0.at own.0.why) (Refused own'.0.at own'.0.why) (to_old new (events ++ h.0.more) (Refused own.0.at own.0.why) k.place.0 k.rules (h.0.conforms.refused own.0 own.1)) (to_old new' (events ++ h'.0.more) (Refused own'.0.at own'.0.why) k'.place.0 k'.rules (h'.0.conforms.refused own'.0 own'.1)) in
       let same : own'.0 ≡ own.0 = refused_same own.0 own'.0 one.1 in
-      let was = has_read (stream old).refusal gifts (stream old) (drop old.base s) events a.stands in
+      let was = has_read (stream old).refusal gifts (stream old) (drop old.base s) events a.conforms in
       let e = ends_up new used h.0.more k.place.0 k.rules h.1 in
       let e' = subst (λ (m : List (ℕ × Event)). EndsUp (rules_in old) gifts old.base s input (min (old.base - old.used) (length input)) first used' events m) one.0 (ends_up new' used' h'.0.more k'.place.0 k'.rules h'.1) in
       let bytes : used' ≡ used = used_once (rules_in old) gifts old.base s input (min (old.base - old.used) (length input)) first events was.0 was.1 was.2 used used' h.0.more h.2 h'.2 k.within k'.within e e' in (
         (bytes, own'.2 ∙ ap (λ (q : Refusal). refusal_from new'.base q) same ∙ ap (λ (n : ℕ). refusal_from n own.0) (k'.place.0 ∙ sym k.place.0) ∙ sym own.2),
         same_view h.0.more h'.0.more one.0 k.place.0 k'.place.0 h.0.got h'.0.got,
-        alike new new' (fed.Refused used r) (fed.Refused used' r') after after' (s ++ take used input) (s ++ take used' input) h.0.more h'.0.more k k' h.0.stands h'.0.stands bytes (ap (λ (n : ℕ). s ++ take n input) bytes) one.0 (own'.1 ∙ ap Some same ∙ sym own.1),
+        alike new new' (fed.Refused used r) (fed.Refused used' r') after after' (s ++ take used input) (s ++ take used' input) h.0.more h'.0.more k k' h.0.conforms h'.0.conforms bytes (ap (λ (n : ℕ). s ++ take n input) bytes) one.0 (own'.1 ∙ ap Some same ∙ sym own.1),
       )
   one_feed (fed.Fault used) x' k k' sound sound' = absurd sound
   one_feed fed.More (fed.Fault used') k k' sound sound' = absurd sound'

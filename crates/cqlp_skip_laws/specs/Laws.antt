@@ -54,21 +54,21 @@ pub record Fed_on {V : Type 0} (f : V → ℕ → Event → V) (faulted : V → 
   pub rules : rules_in new ≡ rules_in old
   pub given : (stream new).given ≡ (stream old).given
 
--- Two decoders stand alike: later calls see no difference, but in how many bytes and levels `held` says.
-pub record StandAlike (new new' : Skipping) : Type 0 where
+-- Two decoders are alike: later calls see no difference, but in how many bytes and levels `held` says.
+pub record BehaveAlike (new new' : Skipping) : Type 0 where
   pub stretch : one.AreAlike (stream new) (stream new')
   pub base : new'.base ≡ new.base
   pub used : new'.used ≡ new.used
   pub frame : new'.frame ≡ new.frame
   pub last : new'.last ≡ new.last
 
--- From one history, over one piece, there is one answer, one view of a sink, and decoders are left that stand alike.
+-- From one history, over one piece, there is one answer, one view of a sink, and decoders are left that are alike.
 abbrev pub IsOneAnswerOfFeed : {V : Type 0} → (V → ℕ → Event → V) → (V → ℕ → Event → V → Type 0) → Type 0
 IsOneAnswerOfFeed f faulted =
     (old new new' : Skipping) (s input : List ℕ) (stretches : List Stretch) (gifts : Gifts) (events : List (ℕ × Event)) (x x' : Fed) (before after after' : _)
     → AfterSkips (s ++ input) old s stretches gifts events
     → Fed_on f faulted old new input x before after → Fed_on f faulted old new' input x' before after'
-    → IsSound x → IsSound x' → AreAlike x x' × (after' ≡ after) × StandAlike new new'
+    → IsSound x → IsSound x' → AreAlike x x' × (after' ≡ after) × BehaveAlike new new'
 
 -- ---- tables that are given and taken back
 

@@ -21,7 +21,7 @@ pub fn without_skips()
 {}
 
 /// After the same bytes, skips and events there is one answer of `feed` over the same piece: more is wanted, or the same
-/// refusal after the same bytes; two sinks that were seen alike, and neither failed, are seen alike; and the decoders stand
+/// refusal after the same bytes; two sinks that were seen alike, and neither failed, are seen alike; and the decoders are
 /// alike that are left.
 pub fn one_answer_of_feed<S: Sink>()
     ensures { IsOneAnswerOfFeed S.after S.faulted }

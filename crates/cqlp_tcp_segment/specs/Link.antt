@@ -1,4 +1,4 @@
--- What stands before the header of IP in a captured packet, by the type of its link (the registry of LINKTYPE_ values).
+-- What comes before the header of IP in a captured packet, by the type of its link (the registry of LINKTYPE_ values).
 use Rattle.std.specs.Prelude.{◌==◌, ◌||◌, ◌∷◌}
 use Rattle.std.specs.Prelude.{ℕ, Bool, true, false, List, [], length, drop, Option, Some, None, Result, Ok, Err}
 use Rattle.std.specs.Prelude.{nat_lt, slice_index, if◌then◌else◌}

@@ -1,4 +1,4 @@
-//! Headers of links, which stand before the header of IP.
+//! Headers of links, which are before the header of IP.
 
 ghost use Rattle.std.specs.Prelude.{◌≡◌, ◌+◌, ◌≤◌};
 ghost use Rattle.cqlp_tcp_segment.specs.EtherType.{view};
@@ -9,7 +9,7 @@ use crate::ether_type::{IpPacket, IpVersion, after_ether_type, with_version};
 use crate::fields::number_16;
 use crate::reason::NoSegment;
 
-/// What stands before the header of IP, as the registry of LINKTYPE_ values has it.
+/// What comes before the header of IP, as the registry of LINKTYPE_ values has it.
 #[derive(Clone, Copy, Debug, PartialEq, Eq)]
 pub enum LinkType {
     /// 0: BSD's loopback, whose family of addresses is in the order of the machine that captured.

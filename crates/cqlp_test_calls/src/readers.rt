@@ -3,7 +3,7 @@
 ghost use Rattle.std.specs.Prelude.{◌≡◌, ◌≤◌, None, false};
 ghost use Rattle.cqlp_kind.specs.Types.{IsPreorder};
 ghost use Rattle.cqlp_type.specs.Progress.{IsShared, started};
-ghost use Rattle.cqlp_cell.specs.Progress.{Stands, is_under_way};
+ghost use Rattle.cqlp_cell.specs.Progress.{Conforms, is_under_way};
 ghost use Rattle.cqlp_cell.specs.Pushing.{begun};
 ghost use Rattle.cqlp_cell.specs.Reading.{Joined};
 
@@ -58,7 +58,7 @@ fn reads_option(partial: &mut Partial, reader: &mut TypeReader, table: &mut Type
 /// Whether a cell of a column whose type is not described is read in two pieces.
 fn reads_cell(partial: &mut Partial, reader: &mut CellReader, table: &TypeTable) -> bool
     requires idle { is_under_way reader.old ≡ false }
-    requires stands { Stands table.now.nodes (begun reader.old None 38 45) }
+    requires conforms { Conforms table.now.nodes (begun reader.old None 38 45) }
     requires joined { Joined table.now.nodes (begun reader.old None 38 45) partial.old }
 {
     reader.begin(None, 38, 45);

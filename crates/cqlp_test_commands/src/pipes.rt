@@ -6,7 +6,7 @@ use cqlp_note::{IoFault, Source, Target};
 use std::alloc::Global;
 use std::cell::{Cell, RefCell};
 
-/// Bytes on their way, and where the next to be read stands.
+/// Bytes on their way, and where the next to be read is.
 #[derive(Drop)]
 struct Wire {
     bytes: Vec<u8>,

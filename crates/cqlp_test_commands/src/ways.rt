@@ -71,7 +71,7 @@ fn is_fault(done: &Done, whole: &Done, line: &[u8]) -> bool {
     are_fronts && done.status == FAULT
 }
 
-/// What may stand on standard error before the end: where a frame is passed over, a front of all, and else nothing.
+/// What may be on standard error before the end: where a frame is passed over, a front of all, and else nothing.
 fn before_end(whole: &Done) -> &[u8] {
     let text = whole.err.text();
     if text.starts_with(b"skipped ") {

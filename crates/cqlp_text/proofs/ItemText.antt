@@ -1,4 +1,4 @@
--- Items of a page that are put into a buffer, with what stands around them.
+-- Items of a page that are put into a buffer, with what comes around them.
 use Rattle.std.proofs.Common.{◌≡◌, ℕ, zero, suc, ◌+◌, ◌-◌, ◌<◌, ◌≤◌, List, [], ◌∷◌, ◌++◌, length, take, drop, set, codes, Option, Result, refl, sym, ap, subst, ◌∙◌, append_assoc, append-nil, add-one, length-append, arith}
 use Rattle.std.proofs.lemmas.Grind.{common_steps}
 use Rattle.cqlp_text.specs.declared.gap.Gap.{Gap}
@@ -90,7 +90,7 @@ all_plain xs n is_n whole =
 pub quoted_plain : (bytes text : List ℕ) → bytes ≡ text → flat_map escaped bytes ≡ bytes → between_quotes bytes ≡ quoted text
 quoted_plain bytes text same plain = ap (λ t. codes "\"" ++ (t ++ codes "\"")) (sym plain) ∙ ap (λ t. codes "\"" ++ (flat_map escaped t ++ codes "\"")) same
 
--- a text with what stands around it, by other names
+-- a text with what comes around it, by other names
 pub item_of : (a b : Written) (r : Result (Unit {0}) SinkFault) (x y text g e : List ℕ) → x ≡ g → y ≡ e → Writes a (g ++ (text ++ e)) r b → Writes a (x ++ (text ++ y)) r b
 item_of a b r x y text g e first last writes =
     subst (λ (s : List ℕ). Writes a (s ++ (text ++ y)) r b) (sym first) (subst (λ (s : List ℕ). Writes a (g ++ (text ++ s)) r b) (sym last) writes)

@@ -24,7 +24,7 @@ next (suc n) (x ∷ xs) = next n xs
 pub drop_next : (n : ℕ) (xs : List WrittenValue) → drop (n + 1) xs ≡ without_open (drop n xs)
 drop_next n xs = ap (λ k. drop k xs) (add-one n) ∙ next n xs
 
--- nothing stands after an item
+-- nothing comes after an item
 pub after_item : (columns column n : ℕ) (xs : List WrittenValue) → n < length xs → after columns column (drop n xs) ≡ []
 after_item columns column n [] lt = absurd (omega arith)
 after_item columns column zero (x ∷ xs) lt = refl

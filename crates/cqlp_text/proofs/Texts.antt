@@ -64,7 +64,7 @@ unfolding encode_with
 encode_lower-append [] ys = refl
 encode_lower-append (x ∷ xs) ys = ap (λ t. encode_lower (x ∷ []) ++ t) (encode_lower-append xs ys)
 
--- the digits of the first n bytes stand at the front of a buffer
+-- the digits of the first n bytes are at the front of a buffer
 pub hex_chunk : (rest out later : List ℕ) (n : ℕ) → out ≡ encode_lower (take n rest) → length (take n rest) ≡ n → encode_lower rest ≡ take (2 * n) (out ++ later) ++ encode_lower (take (length rest - n) (drop n rest))
 hex_chunk rest out later n same size =
     let long : length out ≡ 2 * n = omega (arith, ap length same, length-encode_with lower_digits (take n rest)) in
@@ -106,7 +106,7 @@ plain_prefix : (xs : List ℕ) → flat_map escaped xs ≡ take (plain_count xs)
 plain_prefix [] = refl
 plain_prefix (b ∷ xs) = plain_step b xs (plain_count xs) (is_plain b) refl (plain_prefix xs)
 
--- the bytes before the first that needs an escape stand as themselves
+-- the bytes before the first that needs an escape are written as they are
 pub plain_front : (xs : List ℕ) (n : ℕ) → n ≡ prefix_len is_plain xs → flat_map escaped xs ≡ take n xs ++ flat_map escaped (take (length xs - n) (drop n xs))
 plain_front xs n is_n =
     let count : n ≡ plain_count xs = is_n ∙ prefix_is_count xs in

@@ -1,4 +1,4 @@
--- The names that stand in lines: of fields, opcodes, kinds of types and reasons.
+-- The names that are in lines: of fields, opcodes, kinds of types and reasons.
 use Rattle.std.specs.Prelude.{ℕ, List, codes}
 use Rattle.cqlp_note.specs.declared.field.Field.{Field}
 use Rattle.cqlp_note.specs.declared.field.Field.TheVariants as field

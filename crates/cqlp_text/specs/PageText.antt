@@ -32,7 +32,7 @@ pub record PagePlace : Type 0 where
 abbrev pub no_page : PagePlace
 no_page = record { is_page = false; columns = 0; column = 0; open_values = [] }
 
--- ---- what stands around values
+-- ---- what comes around values
 
 abbrev pub opening : Kind → List ℕ
 opening kind.List = codes "["
@@ -100,11 +100,11 @@ item_text g text ends_line = gap_text g ++ (text ++ line_end ends_line)
 -- ---- the text of an event on a page
 
 module _ (p : PagePlace) (column : ℕ) where
-  -- a value of this text, with what stands before and after it
+  -- a value of this text, with what comes before and after it
   abbrev pub whole_value : List ℕ → List ℕ
   whole_value text = before column p.open_values ++ (text ++ after p.columns column p.open_values)
 
-  -- what stands before a part of a long content, and after it
+  -- what comes before a part of a long content, and after it
   abbrev pub part_start : (offset : ℕ) → List ℕ
   part_start offset = if offset == 0 then before column p.open_values ++ codes "0x" else []
 

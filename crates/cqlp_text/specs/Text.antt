@@ -8,11 +8,11 @@ use Rattle.hex.specs.Hex.{encode_lower}
 abbrev pub hex_text : List ℕ → List ℕ
 hex_text bytes = codes "0x" ++ encode_lower bytes
 
--- a byte that stands as itself between quotes
+-- a byte that is written as it is between quotes
 abbrev pub is_plain : ℕ → Bool
 is_plain b = nat_le 32 b && not (b == 34) && not (b == 92) && not (b == 127)
 
--- a byte as it stands between quotes
+-- a byte as it is written between quotes
 abbrev pub escaped : ℕ → List ℕ
 escaped b =
     if is_plain b then b ∷ []
@@ -31,11 +31,11 @@ quoted text = codes "\"" ++ flat_map escaped text ++ codes "\""
 abbrev pub prints : ℕ → Bool
 prints b = nat_le 32 b && not (b == 127)
 
--- a byte as it stands in a line: one that does not print is escaped as between quotes
+-- a byte as it is written in a line: one that does not print is escaped as between quotes
 abbrev pub printed : ℕ → List ℕ
 printed b = if prints b then b ∷ [] else escaped b
 
--- a text that someone else wrote, in one line; where all its bytes print it stands as it is
+-- a text that someone else wrote, in one line; where all its bytes print it is as it is
 abbrev pub in_one_line : List ℕ → List ℕ
 in_one_line text = flat_map printed text
 

@@ -226,7 +226,7 @@ pub(crate) fn place_digits(number: u64, count: usize, buffer: &mut [u8], at: usi
     fill_with_digits(number, &mut buffer[at..at + count]);
 }
 
-/// Puts bytes into a buffer. What stands between two values has two or three, which take less when they are not copied.
+/// Puts bytes into a buffer. What comes between two values has two or three, which take less when they are not copied.
 #[inline(always)]
 pub(crate) fn place(bytes: &[u8], buffer: &mut [u8], at: usize)
     requires { at + length bytes.now ≤ length buffer.old }

@@ -15,7 +15,7 @@ use std::simd::prelude::*;
 const BLOCK: usize = 16;
 
 impl<P: Pen> TextWriter<P> {
-    /// Takes bytes as they stand between quotes; those that need no escape are taken as they are, many at once.
+    /// Takes bytes as they are written between quotes; those that need no escape are taken as they are, many at once.
     #[inline]
     pub(crate) fn put_escaped(&mut self, bytes: &[u8]) -> Result<(), SinkFault>
         ensures { Writes self.old (flat_map escaped bytes.now) result self.new }
@@ -33,7 +33,7 @@ impl<P: Pen> TextWriter<P> {
         Ok(())
     }
 
-    /// Takes a byte as it stands between quotes.
+    /// Takes a byte as it is written between quotes.
     fn put_byte(&mut self, byte: u8) -> Result<(), SinkFault>
         ensures { Writes self.old (escaped byte) result self.new }
     {
@@ -60,7 +60,7 @@ impl<P: Pen> TextWriter<P> {
         Ok(())
     }
 
-    /// Takes a byte as it stands in a line.
+    /// Takes a byte as it is written in a line.
     fn put_printed(&mut self, byte: u8) -> Result<(), SinkFault>
         ensures { Writes self.old (printed byte) result self.new }
     {
@@ -131,7 +131,7 @@ fn lacks(block: u8x16, byte: u8) -> bool
     block.simd_eq(u8x16::splat(byte)).to_bitmask() == 0
 }
 
-/// Whether a byte stands as itself between quotes.
+/// Whether a byte is written as it is between quotes.
 #[inline(always)]
 pub(crate) fn is_plain(byte: u8) -> bool
     ensures { result ≡ is_plain byte }
@@ -139,7 +139,7 @@ pub(crate) fn is_plain(byte: u8) -> bool
     byte >= 32 && byte != b'"' && byte != b'\\' && byte != 127
 }
 
-/// Whether a byte stands as itself in a line.
+/// Whether a byte is written as it is in a line.
 fn prints(byte: u8) -> bool
     ensures { result ≡ prints byte }
 {

@@ -1,9 +1,9 @@
-//! What stands in front of a value of a page.
+//! What comes in front of a value of a page.
 
 ghost use Rattle.std.specs.Prelude.{◌≡◌, ◌++◌, ℕ, List, length, take};
 ghost use Rattle.cqlp_text.specs.PageText.{gap_text};
 
-/// What stands in front of a value of a page.
+/// What comes in front of a value of a page.
 #[derive(Clone, Copy, Debug, PartialEq, Eq)]
 pub enum Gap {
     /// Nothing: in front of a row's first cell, and of a value's first item.

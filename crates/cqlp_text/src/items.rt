@@ -1,4 +1,4 @@
-//! Items of a page, put into a buffer with what stands around them.
+//! Items of a page, put into a buffer with what comes around them.
 
 ghost use Rattle.std.specs.Prelude.{◌≡◌, ◌+◌, ◌<◌, ◌≤◌, ◌++◌, codes, decimal, length, take};
 ghost use Rattle.cqlp_text.specs.PageText.{gap_text, item_text, line_end};

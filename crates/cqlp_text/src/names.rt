@@ -1,4 +1,4 @@
-//! The names that stand in lines.
+//! The names that are in lines.
 
 ghost use Rattle.std.specs.Prelude.{◌≡◌};
 ghost use Rattle.cqlp_text.specs.Names as names;

@@ -199,7 +199,7 @@ impl PagePlace {
         value_at(&self.open_values, self.free + 1)
     }
 
-    /// What stands before a cell of this column, or before an item of the open value.
+    /// What comes before a cell of this column, or before an item of the open value.
     #[inline(always)]
     fn gap(&self, column: u32) -> Gap
         ensures { before column self.now.open_values ≡ gap_text result }
@@ -488,7 +488,7 @@ impl<P: Pen> TextWriter<P> {
         self.put(b" rows\n")
     }
 
-    /// Takes a cell or an item that has no items, with what stands before and after it, and goes to the place after it,
+    /// Takes a cell or an item that has no items, with what comes before and after it, and goes to the place after it,
     /// also at a fault.
     #[inline(always)]
     fn put_leaf(
@@ -718,7 +718,7 @@ impl<P: Pen> TextWriter<P> {
         self.put_row_end(ends_row)
     }
 
-    /// Takes a cell or an item that has no items, with what stands before and after it.
+    /// Takes a cell or an item that has no items, with what comes before and after it.
     #[inline(always)]
     fn put_value(
         &mut self,
@@ -733,7 +733,7 @@ impl<P: Pen> TextWriter<P> {
         self.put_row_end(place.ends_row(column))
     }
 
-    /// Takes a truth value, with what stands before and after it.
+    /// Takes a truth value, with what comes before and after it.
     #[inline(always)]
     fn put_truth(&mut self, place: &PagePlace, column: u32, value: bool) -> Result<(), SinkFault>
         ensures { Writes self.old (whole_value place.now column (boolean_text value)) result self.new }
@@ -743,7 +743,7 @@ impl<P: Pen> TextWriter<P> {
         self.put_row_end(place.ends_row(column))
     }
 
-    /// Takes a name in place of a value, with what stands before and after it.
+    /// Takes a name in place of a value, with what comes before and after it.
     #[inline]
     fn put_named(&mut self, place: &PagePlace, column: u32, name: &str) -> Result<(), SinkFault>
         ensures { Writes self.old (whole_value place.now column name.now) result self.new }
@@ -753,7 +753,7 @@ impl<P: Pen> TextWriter<P> {
         self.put_row_end(place.ends_row(column))
     }
 
-    /// Takes what stands before a cell of this column, or before an item of the open value.
+    /// Takes what comes before a cell of this column, or before an item of the open value.
     #[inline(always)]
     fn put_before(&mut self, place: &PagePlace, column: u32) -> Result<(), SinkFault>
         ensures { Writes self.old (before column place.now.open_values) result self.new }
@@ -765,7 +765,7 @@ impl<P: Pen> TextWriter<P> {
         }
     }
 
-    /// Takes what stands before an item of an open value.
+    /// Takes what comes before an item of an open value.
     #[inline(always)]
     fn put_separator(&mut self, turn: Turn) -> Result<(), SinkFault>
         ensures { Writes self.old (separator turn) result self.new }
@@ -863,7 +863,7 @@ fn value_at(values: &[WrittenValue], at: usize) -> Option<WrittenValue>
     values.get(at).copied()
 }
 
-/// What stands before an item of an open value.
+/// What comes before an item of an open value.
 #[inline(always)]
 fn gap_at(turn: Turn) -> Gap
     ensures { text_at turn ≡ gap_text result }
@@ -875,7 +875,7 @@ fn gap_at(turn: Turn) -> Gap
     }
 }
 
-/// What stands before the items of a value of this kind.
+/// What comes before the items of a value of this kind.
 #[must_use]
 #[inline]
 pub fn opening(kind: Kind) -> &'static str
@@ -888,7 +888,7 @@ pub fn opening(kind: Kind) -> &'static str
     }
 }
 
-/// What stands after the items of a value of this kind.
+/// What comes after the items of a value of this kind.
 #[must_use]
 #[inline]
 pub fn closing(kind: Kind) -> &'static str

@@ -10,7 +10,7 @@ use Rattle.cqlp_loop.specs.Inboxes.{Supply, InboxState, IsNew}
 use Rattle.cqlp_loop.specs.Script.{End, Wires, Scene, Turn, Comes, Does, Ends, IsFresh, Talks, script}
 use Rattle.cqlp_loop.specs.Script as turn
 use Rattle.cqlp_tool_laws.specs.Conversations.{IsSound, ReadTo, BothReadTheSame, IsDecided, SaidTheSame, SaidMore, TalksOver, IsOneAnswerOfTalk, OneGoesOnFromOther, DecidedGoesFurthest}
-use Rattle.cqlp_tool_laws.proofs.Receipts.{Stood}
+use Rattle.cqlp_tool_laws.proofs.Receipts.{Conformed}
 use Rattle.cqlp_tool_laws.proofs.TalkTurns.{Alike, given_nothing, once, said_then}
 use Rattle.cqlp_tool_laws.proofs.TalkStops.{Gave, gave_as, gave_then, gave_in, furthest, either_front, more_than_nothing, said_more_then, said_same_then}
 
@@ -117,7 +117,7 @@ alike_swapped l to_client to_server a a' al = (
   record { core = sym al.1.core; ids = sym al.1.ids; heard = al.1.heard; used = al.1.used; here = al.1.there; there = al.1.here; waiting = al.1.waiting'; waiting' = al.1.waiting },
 )
 
-read_to : (l : Rules) (xs used : List ℕ) (i : InboxState) (at : Supply) (x : Hearing) → Stood l xs used i at x → length i.waiting ≤ 4096 → ReadTo xs used at
+read_to : (l : Rules) (xs used : List ℕ) (i : InboxState) (at : Supply) (x : Hearing) → Conformed l xs used i at x → length i.waiting ≤ 4096 → ReadTo xs used at
 read_to l xs used i at x st few = record { ahead = i.waiting; rest = st.rest; split = st.stream; few = few; left = st.left }
 
 both_read : (l : Rules) (to_client to_server : List ℕ) (a a' : Scene) → Alike l to_client to_server a a' → BothReadTheSame to_client to_server a.wires a'.wires
@@ -209,8 +209,8 @@ module _ (l : Rules) (to_client to_server : List ℕ) where
 
 -- ---- from the start
 
-new_stands : (i : InboxState) (from : Supply) (xs : List ℕ) → IsNew i → from.left ≡ Some xs → Stood (rules_of DEFAULT) xs [] i from (idle [])
-new_stands i from xs new left = record {
+new_conforms : (i : InboxState) (from : Supply) (xs : List ℕ) → IsNew i → from.left ≡ Some xs → Conformed (rules_of DEFAULT) xs [] i from (idle [])
+new_conforms i from xs new left = record {
   events = [];
   rest = xs;
   emitted = new.emitted;
@@ -237,8 +237,8 @@ fresh_alike to_client to_server a a' f f' all all' = (
     core = f'.client ∙ sym f.client;
     heard = [];
     used = [];
-    here = new_stands a.caller.inbox a.wires.client.source to_client f.client_inbox all.0;
-    there = new_stands a'.caller.inbox a'.wires.client.source to_client f'.client_inbox all'.0;
+    here = new_conforms a.caller.inbox a.wires.client.source to_client f.client_inbox all.0;
+    there = new_conforms a'.caller.inbox a'.wires.client.source to_client f'.client_inbox all'.0;
     waiting = none_wait a.caller.inbox f.client_inbox;
     waiting' = none_wait a'.caller.inbox f'.client_inbox;
   },
@@ -247,8 +247,8 @@ fresh_alike to_client to_server a a' f f' all all' = (
     ids = f'.unanswered ∙ sym f.unanswered;
     heard = [];
     used = [];
-    here = new_stands a.host.inbox a.wires.server.source to_server f.server_inbox all.1;
-    there = new_stands a'.host.inbox a'.wires.server.source to_server f'.server_inbox all'.1;
+    here = new_conforms a.host.inbox a.wires.server.source to_server f.server_inbox all.1;
+    there = new_conforms a'.host.inbox a'.wires.server.source to_server f'.server_inbox all'.1;
     waiting = none_wait a.host.inbox f.server_inbox;
     waiting' = none_wait a'.host.inbox f'.server_inbox;
   },

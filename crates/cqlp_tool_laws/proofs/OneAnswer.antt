@@ -109,7 +109,7 @@ module _ (gifts : Gifts) where
           verdict = Waits;
           says = subst (λ (z : List ℕ). Says l (start_with gifts) z (es ++ w.more) Waits) read (subst (λ (r : Option Refusal). Says l (start_with gifts) (s ++ ran.0.bytes ++ all.looked) (es ++ w.more) (verdict_of r)) is (said_by all));
           all = λ e. refl;
-          ends = subst (λ (z : List ℕ). FinishesBy None z (es ++ w.more) f) whole (subst (λ (r : Option Refusal). FinishesBy r (s ++ ran.0.bytes) (es ++ w.more) f) is (ran.2 gifts (s ++ ran.0.bytes) (es ++ w.more) w.stands));
+          ends = subst (λ (z : List ℕ). FinishesBy None z (es ++ w.more) f) whole (subst (λ (r : Option Refusal). FinishesBy r (s ++ ran.0.bytes) (es ++ w.more) f) is (ran.2 gifts (s ++ ran.0.bytes) (es ++ w.more) w.conforms));
         }
     ended_by (Some r) is =
         let w = ran.0.events gifts s es a in
@@ -121,7 +121,7 @@ module _ (gifts : Gifts) where
           verdict = Refused r.at r.why;
           says = subst (λ (k : Option Refusal). Says l (start_with gifts) (s ++ ran.0.bytes ++ all.looked) (es ++ w.more) (verdict_of k)) is (said_by all);
           all = λ e. absurd cc;
-          ends = subst (λ (k : Option Refusal). FinishesBy k (s ++ ran.0.bytes) (es ++ w.more) f) is (ran.2 gifts (s ++ ran.0.bytes) (es ++ w.more) w.stands);
+          ends = subst (λ (k : Option Refusal). FinishesBy k (s ++ ran.0.bytes) (es ++ w.more) f) is (ran.2 gifts (s ++ ran.0.bytes) (es ++ w.more) w.conforms);
         }
 
     pub whole_by : (more : List (ℕ × Event)) (v : Verdict) → Says l (start_with gifts) (s ++ xs) (es ++ more) v → (after ≡ with_text before (text form more)) × EndsAs (s ++ xs) (es ++ more) v f
@@ -165,12 +165,12 @@ module _ (gifts : Gifts) where
     -- ---- two fronts
 
     reads_by : (o : Option Refusal) (d : StreamState) (z : List ℕ) (fs : List (ℕ × Event)) → AfterBy o gifts d z fs → (q : Place) × (rest : List ℕ) × Reads d.rules (start_with gifts) z fs q rest
-    reads_by None d z fs stands = (stands.place, stands.bytes, stands.read)
+    reads_by None d z fs conforms = (conforms.place, conforms.bytes, conforms.read)
     reads_by (Some r) d z fs refused = (refused.place, refused.bytes, refused.read)
 
     reads_all : (d : StreamState) (bytes rest : List ℕ) (fs : List (ℕ × Event)) → d.rules ≡ l → xs ≡ bytes ++ rest → AfterGifts gifts d (s ++ bytes) fs → (q : Place) × (end : List ℕ) × Reads l (start_with gifts) (s ++ xs) fs q end
-    reads_all d bytes rest fs is parts stands =
-        let r = reads_by d.refusal d (s ++ bytes) fs stands in
+    reads_all d bytes rest fs is parts conforms =
+        let r = reads_by d.refusal d (s ++ bytes) fs conforms in
         let run : Reads l (start_with gifts) (s ++ bytes) fs r.0 r.1 = subst (λ (k : Rules). Reads k (start_with gifts) (s ++ bytes) fs r.0 r.1) is r.2 in
         let whole : (s ++ bytes) ++ rest ≡ s ++ xs = append_assoc s bytes rest ∙ ap (λ k. s ++ k) (sym parts) in
         (r.0, r.1 ++ rest, subst (λ (z : List ℕ). Reads l (start_with gifts) z fs r.0 (r.1 ++ rest)) whole (runs_stay (step l) (start_with gifts) (s ++ bytes) rest fs r.0 r.1 run))
@@ -187,8 +187,8 @@ module _ (gifts : Gifts) where
     front_once p p' =
         let w = p.events gifts s es a in
         let w' = p'.events gifts s es a' in
-        let r = reads_all new p.bytes p.rest (es ++ w.more) rules p.parts w.stands in
-        let r' = reads_all new' p'.bytes p'.rest (es ++ w'.more) rules' p'.parts w'.stands in
+        let r = reads_all new p.bytes p.rest (es ++ w.more) rules p.parts w.conforms in
+        let r' = reads_all new' p'.bytes p'.rest (es ++ w'.more) rules' p'.parts w'.conforms in
         let lost = w.short.lost ∷ w.short.later in
         let lost' = w'.short.lost ∷ w'.short.later in
         let same : after'.failures ≡ after.failures = w'.short.failures ∙ sym w.short.failures in

@@ -13,7 +13,7 @@ use Rattle.cqlp_grammar.specs.Events.{Event}
 use Rattle.cqlp_decode.specs.Reading.{Place, Verdict, Waits, Refused, Reads, Says, start, step}
 use Rattle.cqlp_decode.specs.Progress.{IsPending, ends_due}
 use Rattle.cqlp_laws.proofs.OneAnswer.{pending_none}
-use Rattle.cqlp_decode.specs.Streams.{AfterBy, Stands, state}
+use Rattle.cqlp_decode.specs.Streams.{AfterBy, Conforms, state}
 use Rattle.cqlp_loop.specs.declared.fault.LoopFault.{LoopFault}
 use Rattle.cqlp_loop.specs.declared.fault.LoopFault.TheVariants as fault
 use Rattle.cqlp_loop.specs.Hearing.{Hearing, idle, amid, with_events}
@@ -49,8 +49,8 @@ regroup u w read used nw rest same =
     ap (λ (z : List ℕ). u ++ z) (sym (append_assoc w read rest) ∙ ap (λ (z : List ℕ). z ++ rest) same ∙ append_assoc used nw rest) ∙ sym (append_assoc u used (nw ++ rest))
 
 module _ (l : Rules) (xs : List ℕ) where
-  -- An inbox stands within the stream: its decoder used these bytes, others wait, and the source has the rest.
-  pub record Stood (used : List ℕ) (i : InboxState) (at : Supply) (x : Hearing) : Type 0 where
+  -- An inbox is within the stream: its decoder used these bytes, others wait, and the source has the rest.
+  pub record Conformed (used : List ℕ) (i : InboxState) (at : Supply) (x : Hearing) : Type 0 where
     pub events : List (ℕ × Event)
     pub rest : List ℕ
     pub emitted : HasEmitted (state i.decoder) used events
@@ -59,32 +59,32 @@ module _ (l : Rules) (xs : List ℕ) where
     pub stream : xs ≡ used ++ (i.waiting ++ rest)
     pub heard : with_events (idle []) events ≡ x
 
-  pub stood_as : (used : List ℕ) (i i' : InboxState) (s s' : Supply) (x : Hearing) → i' ≡ i → s' ≡ s → Stood used i s x → Stood used i' s' x
-  stood_as used i i' s s' x same_inbox same_source st = subst (λ (z : InboxState). Stood used z s' x) (sym same_inbox) (subst (λ (z : Supply). Stood used i z x) (sym same_source) st)
+  pub conformed_as : (used : List ℕ) (i i' : InboxState) (s s' : Supply) (x : Hearing) → i' ≡ i → s' ≡ s → Conformed used i s x → Conformed used i' s' x
+  conformed_as used i i' s s' x same_inbox same_source st = subst (λ (z : InboxState). Conformed used z s' x) (sym same_inbox) (subst (λ (z : Supply). Conformed used i z x) (sym same_source) st)
 
-  module _ (used : List ℕ) (i : InboxState) (at : Supply) (x : Hearing) (st : Stood used i at x) where
-    stands : Stands [] (state i.decoder) used st.events
-    stands = subst (λ (o : Option Refusal). AfterBy o [] (state i.decoder) used st.events) st.emitted.0 st.emitted.1
+  module _ (used : List ℕ) (i : InboxState) (at : Supply) (x : Hearing) (st : Conformed used i at x) where
+    conforms : Conforms [] (state i.decoder) used st.events
+    conforms = subst (λ (o : Option Refusal). AfterBy o [] (state i.decoder) used st.events) st.emitted.0 st.emitted.1
 
-    read_on : Reads l start xs st.events stands.place (stands.bytes ++ (i.waiting ++ st.rest))
+    read_on : Reads l start xs st.events conforms.place (conforms.bytes ++ (i.waiting ++ st.rest))
     read_on =
-        let read : Reads l start used st.events stands.place stands.bytes = subst (λ (z : Rules). Reads z start used st.events stands.place stands.bytes) st.rules stands.read in
-        let on = runs_stay (step l) start used (i.waiting ++ st.rest) st.events stands.place stands.bytes read in
-        subst (λ (z : List ℕ). Reads l start z st.events stands.place (stands.bytes ++ (i.waiting ++ st.rest))) (sym st.stream) on
+        let read : Reads l start used st.events conforms.place conforms.bytes = subst (λ (z : Rules). Reads z start used st.events conforms.place conforms.bytes) st.rules conforms.read in
+        let on = runs_stay (step l) start used (i.waiting ++ st.rest) st.events conforms.place conforms.bytes read in
+        subst (λ (z : List ℕ). Reads l start z st.events conforms.place (conforms.bytes ++ (i.waiting ++ st.rest))) (sym st.stream) on
 
-    pub stood_reported : Reported l xs x
-    stood_reported = record { events = st.events; place = stands.place; rest = stands.bytes ++ (i.waiting ++ st.rest); read = read_on; heard = st.heard }
+    pub conformed_reported : Reported l xs x
+    conformed_reported = record { events = st.events; place = conforms.place; rest = conforms.bytes ++ (i.waiting ++ st.rest); read = read_on; heard = st.heard }
 
-    none_before : IsPending (state i.decoder).pending [] → stands.bytes ++ (i.waiting ++ st.rest) ≡ i.waiting ++ st.rest
-    none_before none = ap (λ (z : List ℕ). z ++ (i.waiting ++ st.rest)) (pending_none (state i.decoder).pending stands.bytes none stands.pending)
+    none_before : IsPending (state i.decoder).pending [] → conforms.bytes ++ (i.waiting ++ st.rest) ≡ i.waiting ++ st.rest
+    none_before none = ap (λ (z : List ℕ). z ++ (i.waiting ++ st.rest)) (pending_none (state i.decoder).pending conforms.bytes none conforms.pending)
 
-    due_there : ends_due (state i.decoder).place.symbols ≡ 0 → ends_due stands.place.symbols ≡ 0
-    due_there due = ap (λ (z : Place). ends_due z.symbols) (sym stands.here) ∙ due
+    due_there : ends_due (state i.decoder).place.symbols ≡ 0 → ends_due conforms.place.symbols ≡ 0
+    due_there due = ap (λ (z : Place). ends_due z.symbols) (sym conforms.here) ∙ due
 
-  -- two that stand between two frames, where the same messages came, used the same bytes
-  one_used : (u u' : List ℕ) (i i' : InboxState) (at at' : Supply) (hs : List Header) (st : Stood u i at (idle hs)) (st' : Stood u' i' at' (idle hs)) → IsPending (state i.decoder).pending [] × (ends_due (state i.decoder).place.symbols ≡ 0) → IsPending (state i'.decoder).pending [] × (ends_due (state i'.decoder).place.symbols ≡ 0) → u' ≡ u
+  -- two that are between two frames, where the same messages came, used the same bytes
+  one_used : (u u' : List ℕ) (i i' : InboxState) (at at' : Supply) (hs : List Header) (st : Conformed u i at (idle hs)) (st' : Conformed u' i' at' (idle hs)) → IsPending (state i.decoder).pending [] × (ends_due (state i.decoder).place.symbols ≡ 0) → IsPending (state i'.decoder).pending [] × (ends_due (state i'.decoder).place.symbols ≡ 0) → u' ≡ u
   one_used u u' i i' at at' hs st st' stop stop' =
-      let same = one_between l xs (stands u i at (idle hs) st).place (stands u' i' at' (idle hs) st').place _ _ st.events st'.events hs (due_there u i at (idle hs) st stop.1) (due_there u' i' at' (idle hs) st' stop'.1) (read_on u i at (idle hs) st) (read_on u' i' at' (idle hs) st') st.heard st'.heard in
+      let same = one_between l xs (conforms u i at (idle hs) st).place (conforms u' i' at' (idle hs) st').place _ _ st.events st'.events hs (due_there u i at (idle hs) st stop.1) (due_there u' i' at' (idle hs) st' stop'.1) (read_on u i at (idle hs) st) (read_on u' i' at' (idle hs) st') st.heard st'.heard in
       let rest : i'.waiting ++ st'.rest ≡ i.waiting ++ st.rest = sym (none_before u' i' at' (idle hs) st' stop'.0) ∙ same ∙ none_before u i at (idle hs) st stop.0 in
       append_cancel_right u' u (i.waiting ++ st.rest) (ap (λ (z : List ℕ). u' ++ z) (sym rest) ∙ sym st'.stream ∙ st.stream)
 
@@ -94,8 +94,8 @@ module _ (l : Rules) (xs : List ℕ) where
       events_then (idle []) es more ∙ ap (λ (z : Hearing). with_events z more) (here ∙ ap (λ (z : List Header). idle z) (sym (append-nil hs)))
       ∙ behind_events hs (idle []) more ∙ ap (λ (z : Hearing). behind hs z) there
 
-  -- an inbox that heard more stands there
-  pub heard_on : (used : List ℕ) (old new : InboxState) (from left : Supply) (hs : List Header) (y : Hearing) → Stood used old from (idle hs) → (h : Hears (for_next old) from new left (idle []) y) → Stood (used ++ h.used) new left (behind hs y)
+  -- an inbox that heard more is there
+  pub heard_on : (used : List ℕ) (old new : InboxState) (from left : Supply) (hs : List Header) (y : Hearing) → Conformed used old from (idle hs) → (h : Hears (for_next old) from new left (idle []) y) → Conformed (used ++ h.used) new left (behind hs y)
   heard_on used old new from left hs y st h =
       let c = consumed from.left left.left st.rest h.read st.left h.reads.taken in record {
         events = st.events ++ h.emits.more;
@@ -117,7 +117,7 @@ module _ (l : Rules) (xs : List ℕ) where
     pub stream : xs ≡ bytes ++ rest
     pub heard : with_events (idle []) events ≡ y
 
-  lacked : (used : List ℕ) (old : InboxState) (from at : Supply) (v : Verdict) (n : ℕ) (hs : List Header) (y : Hearing) → Stood used old from (idle hs) → Lacks (for_next old) from v n at (idle []) y → Said v at (behind hs y)
+  lacked : (used : List ℕ) (old : InboxState) (from at : Supply) (v : Verdict) (n : ℕ) (hs : List Header) (y : Hearing) → Conformed used old from (idle hs) → Lacks (for_next old) from v n at (idle []) y → Said v at (behind hs y)
   lacked used old from at v n hs y st k =
       let c = consumed from.left at.left st.rest k.read st.left k.reads.taken in record {
         bytes = used ++ (old.waiting ++ k.read);
@@ -166,15 +166,15 @@ module _ (l : Rules) (xs : List ℕ) where
     Failed fault.SocketFault = Cut Waits
     Failed e = ⊥
 
-    whole : (used : List ℕ) (old new : InboxState) (from left : Supply) (h : Header) → Stood used old from (idle hs) → Receives takes refuses old from (Ok h) new left → Whole h
-    whole used old new from left h st r = (r.0, stood_reported (used ++ r.2.used) new left (idle (hs ++ h ∷ [])) (heard_on used old new from left hs (idle (h ∷ [])) st r.2))
+    whole : (used : List ℕ) (old new : InboxState) (from left : Supply) (h : Header) → Conformed used old from (idle hs) → Receives takes refuses old from (Ok h) new left → Whole h
+    whole used old new from left h st r = (r.0, conformed_reported (used ++ r.2.used) new left (idle (hs ++ h ∷ [])) (heard_on used old new from left hs (idle (h ∷ [])) st r.2))
 
-    cut_bad : (used : List ℕ) (old : InboxState) (from left : Supply) (y : Hearing) → Stood used old from (idle hs) → IsCut (behind hs y) → Misses (for_next old) from fault.BadReply left (idle []) y → Failed fault.BadReply
+    cut_bad : (used : List ℕ) (old : InboxState) (from left : Supply) (y : Hearing) → Conformed used old from (idle hs) → IsCut (behind hs y) → Misses (for_next old) from fault.BadReply left (idle []) y → Failed fault.BadReply
     cut_bad used old from left y st cut m =
         let r = m.0 in
         inl (r.at, r.why, (behind hs y, refused r.at r.why left (behind hs y) (lacked used old from left (Refused r.at r.why) m.1 hs y st m.2), cut))
 
-    cut_end : (used : List ℕ) (old : InboxState) (from left : Supply) (y : Hearing) → IsSound from.failures left.failures → Stood used old from (idle hs) → IsCut (behind hs y) → Misses (for_next old) from fault.SocketFault left (idle []) y → Failed fault.SocketFault
+    cut_end : (used : List ℕ) (old : InboxState) (from left : Supply) (y : Hearing) → IsSound from.failures left.failures → Conformed used old from (idle hs) → IsCut (behind hs y) → Misses (for_next old) from fault.SocketFault left (idle []) y → Failed fault.SocketFault
     cut_end used old from left y sound st cut m =
         let s = lacked used old from m.1 Waits m.0 hs y st m.2 in
         let same = m.2.reads.failures in
@@ -183,10 +183,10 @@ module _ (l : Rules) (xs : List ℕ) where
           | inr none ↦ (behind hs y, ended m.1 (behind hs y) s (at_end m.1.left left.left s.rest s.left m.3 none.1), cut)
         ]
 
-    failed : (used : List ℕ) (old new : InboxState) (from left : Supply) (e : LoopFault) → Stood used old from (idle hs) → Receives takes refuses old from (Err e) new left → IsDecidedBy e from left → Failed e
+    failed : (used : List ℕ) (old new : InboxState) (from left : Supply) (e : LoopFault) → Conformed used old from (idle hs) → Receives takes refuses old from (Err e) new left → IsDecidedBy e from left → Failed e
     failed used old new from left fault.BadReply st (inl m) d = cut_bad used old from left (idle []) st (inl refl) m
     failed used old new from left fault.BadReply st (inr (inl m)) d = cut_bad used old from left (amid (m.0 ∷ [])) st (inr (m.0, m.1, refl)) m.2
-    failed used old new from left fault.BadReply st (inr (inr m)) d = inr (m.0, m.1, stood_reported (used ++ m.3.used) new left (amid (hs ++ m.0 ∷ [])) (heard_on used old new from left hs (amid (m.0 ∷ [])) st m.3))
+    failed used old new from left fault.BadReply st (inr (inr m)) d = inr (m.0, m.1, conformed_reported (used ++ m.3.used) new left (amid (hs ++ m.0 ∷ [])) (heard_on used old new from left hs (amid (m.0 ∷ [])) st m.3))
     failed used old new from left fault.SocketFault st (inl m) d = cut_end used old from left (idle []) d st (inl refl) m
     failed used old new from left fault.SocketFault st (inr (inl m)) d = cut_end used old from left (amid (m.0 ∷ [])) d st (inr (m.0, m.1, refl)) m.2
     failed used old new from left fault.SocketFault st (inr (inr m)) d = absurd (let is = m.2 in cc)
@@ -248,7 +248,7 @@ module _ (l : Rules) (xs : List ℕ) where
 
 -- ---- two ends with the same core
 
-module _ (l : Rules) (xs : List ℕ) {C : Type 0} (takes refuses : C → Header → Type 0) (never : (c : C) (h : Header) → takes c h → refuses c h → ⊥) (c c' : C) (same : c' ≡ c) (i j i' j' : InboxState) (from left from' left' : Supply) (hs : List Header) (used : List ℕ) (here : Stood l xs used i from (idle hs)) (there : Stood l xs used i' from' (idle hs)) where
+module _ (l : Rules) (xs : List ℕ) {C : Type 0} (takes refuses : C → Header → Type 0) (never : (c : C) (h : Header) → takes c h → refuses c h → ⊥) (c c' : C) (same : c' ≡ c) (i j i' j' : InboxState) (from left from' left' : Supply) (hs : List Header) (used : List ℕ) (here : Conformed l xs used i from (idle hs)) (there : Conformed l xs used i' from' (idle hs)) where
   abbrev Got : Result Header LoopFault → Type 0
   Got r = Receives (takes c) (refuses c) i from r j left
 
@@ -261,20 +261,20 @@ module _ (l : Rules) (xs : List ℕ) {C : Type 0} (takes refuses : C → Header 
   pub one_header : (h h' : Header) → Got (Ok h) → GotToo (Ok h') → h' ≡ h
   one_header h h' x y = one_whole l xs (takes c) (refuses c) hs h h' (whole l xs (takes c) (refuses c) hs used i j from left h here x) (whole l xs (takes c) (refuses c) hs used i' j' from' left' h' there (too (Ok h') y))
 
-  -- Both stand there, have used the same bytes, and have no more waiting than a read may give.
-  pub record StandOn (h : Header) : Type 0 where
+  -- Both are there, have used the same bytes, and have no more waiting than a read may give.
+  pub record ConformOn (h : Header) : Type 0 where
     pub bytes : List ℕ
-    pub near : Stood l xs bytes j left (idle (hs ++ h ∷ []))
-    pub far : Stood l xs bytes j' left' (idle (hs ++ h ∷ []))
+    pub near : Conformed l xs bytes j left (idle (hs ++ h ∷ []))
+    pub far : Conformed l xs bytes j' left' (idle (hs ++ h ∷ []))
     pub waiting : length j.waiting ≤ 4096
     pub waiting' : length j'.waiting ≤ 4096
 
-  pub stand_on : (h h' : Header) → Got (Ok h) → GotToo (Ok h') → StandOn h
-  stand_on h h' x y =
+  pub conform_on : (h h' : Header) → Got (Ok h) → GotToo (Ok h') → ConformOn h
+  conform_on h h' x y =
       let near = heard_on l xs used i j from left hs (idle (h ∷ [])) here x.2 in
-      let far = subst (λ (z : Header). Stood l xs (used ++ y.2.used) j' left' (idle (hs ++ z ∷ []))) (one_header h h' x y) (heard_on l xs used i' j' from' left' hs (idle (h' ∷ [])) there y.2) in
+      let far = subst (λ (z : Header). Conformed l xs (used ++ y.2.used) j' left' (idle (hs ++ z ∷ []))) (one_header h h' x y) (heard_on l xs used i' j' from' left' hs (idle (h' ∷ [])) there y.2) in
       let same = one_used l xs (used ++ x.2.used) (used ++ y.2.used) j j' left left' (hs ++ h ∷ []) near far (x.1.stops used here.events here.emitted) (y.1.stops used there.events there.emitted) in
-      record { bytes = used ++ x.2.used; near = near; far = subst (λ (z : List ℕ). Stood l xs z j' left' (idle (hs ++ h ∷ []))) same far; waiting = x.1.waiting; waiting' = y.1.waiting }
+      record { bytes = used ++ x.2.used; near = near; far = subst (λ (z : List ℕ). Conformed l xs z j' left' (idle (hs ++ h ∷ []))) same far; waiting = x.1.waiting; waiting' = y.1.waiting }
 
   pub not_other : (h : Header) (e' : LoopFault) → Got (Ok h) → GotToo (Err e') → IsDecidedBy e' from' left' → ⊥
   not_other h e' x y d = whole_failed l xs (takes c) (refuses c) hs (never c) h e' (whole l xs (takes c) (refuses c) hs used i j from left h here x) (failed l xs (takes c) (refuses c) hs used i' j' from' left' e' there (too (Err e') y) d)

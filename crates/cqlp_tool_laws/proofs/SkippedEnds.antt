@@ -66,7 +66,7 @@ module _ (l : Rules) (xs : List ℕ) where
         g.given_up.1.1,
       )
 
-  -- a reading stands at its end there: no frame can be passed over
+  -- a reading is at its end there: no frame can be passed over
   abbrev pub EndsAt : List Stretch → List (ℕ × Event) → Verdict → Type 0
   EndsAt a es v = Reported a es v × ((v ≡ Waits) ⊎ (frame_under_way es ≡ None))
 
@@ -132,13 +132,13 @@ module _ (form : TextForm) (l : Rules) (xs : List ℕ) (before : Outputs) where
     -- the refusal, if there is one, is that of the stretch
     says_refused : (own : Refusal) → (stream x.d).refusal ≡ Some own → Reported l xs x.stretches x.events (Refused own.at own.why)
     says_refused own is =
-        subst (λ (n : ℕ). Says l (start_with []) (drop n xs) x.events (Refused own.at own.why)) x.stands.after.base
-        (subst (λ (k : Rules). Says k (start_with []) (drop x.d.base xs) x.events (Refused own.at own.why)) x.stands.rules (x.stands.after.refused own is))
+        subst (λ (n : ℕ). Says l (start_with []) (drop n xs) x.events (Refused own.at own.why)) x.conforms.after.base
+        (subst (λ (k : Rules). Says k (start_with []) (drop x.d.base xs) x.events (Refused own.at own.why)) x.conforms.rules (x.conforms.after.refused own is))
 
     at_the_end : (f : Finish) → Says l (start_with []) (drop x.d.base x.s) x.events Waits → x.s ≡ xs → FinishesAs x.d f → Closed f passed after
     at_the_end f says all fin =
         let waits : Reported l xs x.stretches x.events Waits =
-        subst (λ (n : ℕ). Says l (start_with []) (drop n xs) x.events Waits) x.stands.after.base
+        subst (λ (n : ℕ). Says l (start_with []) (drop n xs) x.events Waits) x.conforms.after.base
         (subst (λ (z : List ℕ). Says l (start_with []) (drop x.d.base z) x.events Waits) all says) in
         let free = unrefused_by (stream x.d).refusal (λ r is. let one = says_once l (start_with []) (drop (base_after x.stretches) xs) x.events x.events Waits (Refused r.at r.why) waits (says_refused r is) in let no = one.1 in cc) in
         record { x = x; v = Waits; ends = (waits, inl refl); how = inl (refl, all, fin, free) }
@@ -147,8 +147,8 @@ module _ (form : TextForm) (l : Rules) (xs : List ℕ) (before : Outputs) where
     refused_there r own is reported none = record {
       x = x;
       v = Refused own.at own.why;
-      ends = (says_refused own is, inr (sym x.stands.after.frame ∙ none));
-      how = inr (own, refl, ap finish.Refused (reported ∙ ap (λ (n : ℕ). refusal_from n own) x.stands.after.base));
+      ends = (says_refused own is, inr (sym x.conforms.after.frame ∙ none));
+      how = inr (own, refl, ap finish.Refused (reported ∙ ap (λ (n : ℕ). refusal_from n own) x.conforms.after.base));
     }
 
   no_rest : (s rest : List ℕ) (left : Option (List ℕ)) → xs ≡ s ++ rest → left ≡ Some rest → left ≡ Some [] → s ≡ xs
@@ -165,22 +165,22 @@ module _ (form : TextForm) (l : Rules) (xs : List ℕ) (before : Outputs) where
   module _ (f f' : Finish) (passed passed' : Bool) (after after' : Outputs) (a : Closed f passed after) (b : Closed f' passed' after') where
     one : (b.x.stretches ≡ a.x.stretches) × (b.x.events ≡ a.x.events) × (b.v ≡ a.v)
     one = one_list l xs a.x.stretches b.x.stretches a.x.events b.x.events a.v b.v
-        (subst (λ (k : Rules). GivenUp k xs a.x.stretches) a.x.stands.rules a.x.stands.after.given_up)
-        (subst (λ (k : Rules). GivenUp k xs b.x.stretches) b.x.stands.rules b.x.stands.after.given_up)
-        a.x.stands.plain b.x.stands.plain a.ends b.ends
+        (subst (λ (k : Rules). GivenUp k xs a.x.stretches) a.x.conforms.rules a.x.conforms.after.given_up)
+        (subst (λ (k : Rules). GivenUp k xs b.x.stretches) b.x.conforms.rules b.x.conforms.after.given_up)
+        a.x.conforms.plain b.x.conforms.plain a.ends b.ends
 
-    -- where each stands
+    -- where each is
     base_same : b.x.d.base ≡ a.x.d.base
-    base_same = b.x.stands.after.base ∙ ap base_after one.0 ∙ sym a.x.stands.after.base
+    base_same = b.x.conforms.after.base ∙ ap base_after one.0 ∙ sym a.x.conforms.after.base
 
     module _ (all : a.x.s ≡ xs) (all' : b.x.s ≡ xs) (free : (stream a.x.d).refusal ≡ None) (free' : (stream b.x.d).refusal ≡ None) (fin : FinishesAs a.x.d f) (fin' : FinishesAs b.x.d f') where
       used_same : b.x.d.used ≡ a.x.d.used
-      used_same = b.x.stands.after.used ∙ ap (λ (z : List ℕ). min (length z) (2 ^ 64 - 1)) (all' ∙ sym all) ∙ sym a.x.stands.after.used
+      used_same = b.x.conforms.after.used ∙ ap (λ (z : List ℕ). min (length z) (2 ^ 64 - 1)) (all' ∙ sym all) ∙ sym a.x.conforms.after.used
 
       within : a.x.d.used < a.x.d.base → f' ≡ f
       within lt =
           let last : b.x.d.last ≡ a.x.d.last =
-          last_same a.x.stretches a.x.d.last b.x.d.last (omega (arith, lt, a.x.stands.after.base)) a.x.stands.last (subst (λ (z : List Stretch). IsLast z b.x.d.last) one.0 b.x.stands.last) in
+          last_same a.x.stretches a.x.d.last b.x.d.last (omega (arith, lt, a.x.conforms.after.base)) a.x.conforms.last (subst (λ (z : List Stretch). IsLast z b.x.d.last) one.0 b.x.conforms.last) in
           fin'.within (omega (arith, lt, used_same, base_same)) ∙ cut_same a.x.d.last b.x.d.last a.x.d.used b.x.d.used last used_same ∙ sym (fin.within lt)
 
       behind : a.x.d.base ≤ a.x.d.used → f' ≡ f
@@ -189,12 +189,12 @@ module _ (form : TextForm) (l : Rules) (xs : List ℕ) (before : Outputs) where
           let q = fin'.behind (omega (arith, le, used_same, base_same)) in
           let by : FinishesBy None (drop a.x.d.base xs) a.x.events p.0 =
           subst (λ (z : List ℕ). FinishesBy None (drop a.x.d.base z) a.x.events p.0) all
-          (subst (λ (o : Option Refusal). FinishesBy o (drop a.x.d.base a.x.s) a.x.events p.0) free (p.1 [] (drop a.x.d.base a.x.s) a.x.events a.x.stands.after.stands)) in
+          (subst (λ (o : Option Refusal). FinishesBy o (drop a.x.d.base a.x.s) a.x.events p.0) free (p.1 [] (drop a.x.d.base a.x.s) a.x.events a.x.conforms.after.conforms)) in
           let by' : FinishesBy None (drop a.x.d.base xs) a.x.events q.0 =
           subst (λ (es : List (ℕ × Event)). FinishesBy None (drop a.x.d.base xs) es q.0) one.1
           (subst (λ (n : ℕ). FinishesBy None (drop n xs) b.x.events q.0) base_same
           (subst (λ (z : List ℕ). FinishesBy None (drop b.x.d.base z) b.x.events q.0) all'
-          (subst (λ (o : Option Refusal). FinishesBy o (drop b.x.d.base b.x.s) b.x.events q.0) free' (q.1 [] (drop b.x.d.base b.x.s) b.x.events b.x.stands.after.stands)))) in
+          (subst (λ (o : Option Refusal). FinishesBy o (drop b.x.d.base b.x.s) b.x.events q.0) free' (q.1 [] (drop b.x.d.base b.x.s) b.x.events b.x.conforms.after.conforms)))) in
           let own : q.0 ≡ p.0 = ends_once (drop a.x.d.base xs) a.x.events p.0 q.0 by by' in
           q.2 ∙ from_same a.x.d b.x.d q.0 used_same base_same ∙ ap (finish_from a.x.d) own ∙ sym p.2
 

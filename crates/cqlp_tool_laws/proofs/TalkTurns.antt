@@ -1,4 +1,4 @@
--- Two conversations that stand alike, over the same bytes, make the same next turn.
+-- Two conversations that are alike, over the same bytes, make the same next turn.
 use Rattle.std.proofs.Common.{◌≡◌, ℕ, ℤ, Bool, List, [], ◌∷◌, ◌++◌, length, refl, sym, ap, subst, ◌∙◌, inl, inr, ◌≤◌, arith}
 use Rattle.std.specs.Prelude.{Option, Some, None, IsSome, Result, Ok, Err}
 use Rattle.std.proofs.lemmas.Bool.{lt-ltb}
@@ -32,7 +32,7 @@ use Rattle.cqlp_loop.specs.Hosts as host
 use Rattle.cqlp_loop.specs.Script.{End, Wires, Scene, Turn, Comes}
 use Rattle.cqlp_loop.specs.Script as turn
 use Rattle.cqlp_tool_laws.specs.Conversations.{IsSound, IsSoundEnd, IsDecided, AreGivenTheSame, SaidTheSame}
-use Rattle.cqlp_tool_laws.proofs.Receipts.{Stood, IsDecidedBy, counts_up, stood_as, one_header, stand_on, not_other, not_one, one_fault}
+use Rattle.cqlp_tool_laws.proofs.Receipts.{Conformed, IsDecidedBy, counts_up, conformed_as, one_header, conform_on, not_other, not_one, one_fault}
 
 -- ---- what was given
 
@@ -134,8 +134,8 @@ module _ (l : Rules) (to_client to_server : List ℕ) where
     pub core : a'.caller.core ≡ a.caller.core
     pub heard : List Header
     pub used : List ℕ
-    pub here : Stood l to_client used a.caller.inbox a.wires.client.source (idle heard)
-    pub there : Stood l to_client used a'.caller.inbox a'.wires.client.source (idle heard)
+    pub here : Conformed l to_client used a.caller.inbox a.wires.client.source (idle heard)
+    pub there : Conformed l to_client used a'.caller.inbox a'.wires.client.source (idle heard)
     pub waiting : length a.caller.inbox.waiting ≤ 4096
     pub waiting' : length a'.caller.inbox.waiting ≤ 4096
 
@@ -145,8 +145,8 @@ module _ (l : Rules) (to_client to_server : List ℕ) where
     pub ids : a'.unanswered ≡ a.unanswered
     pub heard : List Header
     pub used : List ℕ
-    pub here : Stood l to_server used a.host.inbox a.wires.server.source (idle heard)
-    pub there : Stood l to_server used a'.host.inbox a'.wires.server.source (idle heard)
+    pub here : Conformed l to_server used a.host.inbox a.wires.server.source (idle heard)
+    pub there : Conformed l to_server used a'.host.inbox a'.wires.server.source (idle heard)
     pub waiting : length a.host.inbox.waiting ≤ 4096
     pub waiting' : length a'.host.inbox.waiting ≤ 4096
 
@@ -164,8 +164,8 @@ module _ (l : Rules) (to_client to_server : List ℕ) where
     core = ap (λ (z : CallerState). z.core) c' ∙ al.core ∙ sym (ap (λ (z : CallerState). z.core) c);
     heard = al.heard;
     used = al.used;
-    here = stood_as l to_client al.used a.caller.inbox b.caller.inbox a.wires.client.source b.wires.client.source (idle al.heard) (ap (λ (z : CallerState). z.inbox) c) s al.here;
-    there = stood_as l to_client al.used a'.caller.inbox b'.caller.inbox a'.wires.client.source b'.wires.client.source (idle al.heard) (ap (λ (z : CallerState). z.inbox) c') s' al.there;
+    here = conformed_as l to_client al.used a.caller.inbox b.caller.inbox a.wires.client.source b.wires.client.source (idle al.heard) (ap (λ (z : CallerState). z.inbox) c) s al.here;
+    there = conformed_as l to_client al.used a'.caller.inbox b'.caller.inbox a'.wires.client.source b'.wires.client.source (idle al.heard) (ap (λ (z : CallerState). z.inbox) c') s' al.there;
     waiting = fewer (ap (λ (z : InboxState). length z.waiting) (ap (λ (z : CallerState). z.inbox) c)) al.waiting;
     waiting' = fewer (ap (λ (z : InboxState). length z.waiting) (ap (λ (z : CallerState). z.inbox) c')) al.waiting';
   }
@@ -176,8 +176,8 @@ module _ (l : Rules) (to_client to_server : List ℕ) where
     ids = i' ∙ al.ids ∙ sym i;
     heard = al.heard;
     used = al.used;
-    here = stood_as l to_server al.used a.host.inbox b.host.inbox a.wires.server.source b.wires.server.source (idle al.heard) (ap (λ (z : HostState). z.inbox) h) s al.here;
-    there = stood_as l to_server al.used a'.host.inbox b'.host.inbox a'.wires.server.source b'.wires.server.source (idle al.heard) (ap (λ (z : HostState). z.inbox) h') s' al.there;
+    here = conformed_as l to_server al.used a.host.inbox b.host.inbox a.wires.server.source b.wires.server.source (idle al.heard) (ap (λ (z : HostState). z.inbox) h) s al.here;
+    there = conformed_as l to_server al.used a'.host.inbox b'.host.inbox a'.wires.server.source b'.wires.server.source (idle al.heard) (ap (λ (z : HostState). z.inbox) h') s' al.there;
     waiting = fewer (ap (λ (z : InboxState). length z.waiting) (ap (λ (z : HostState). z.inbox) h)) al.waiting;
     waiting' = fewer (ap (λ (z : InboxState). length z.waiting) (ap (λ (z : HostState). z.inbox) h')) al.waiting';
   }
@@ -201,8 +201,8 @@ module _ (l : Rules) (to_client to_server : List ℕ) where
               core = ap (λ (z : CallerState). z.core) new' ∙ ap (λ (c : ClientCore). begun c (kind_of q) (Ok t')) al.0.core ∙ ap (λ (u : Ticket). begun a.caller.core (kind_of q) (Ok u)) same ∙ sym (ap (λ (z : CallerState). z.core) new);
               heard = al.0.heard;
               used = al.0.used;
-              here = stood_as l to_client al.0.used a.caller.inbox b.caller.inbox a.wires.client.source b.wires.client.source (idle al.0.heard) (ap (λ (z : CallerState). z.inbox) new) (ap (λ (z : Scene). z.wires.client.source) e) al.0.here;
-              there = stood_as l to_client al.0.used a'.caller.inbox b'.caller.inbox a'.wires.client.source b'.wires.client.source (idle al.0.heard) (ap (λ (z : CallerState). z.inbox) new') (ap (λ (z : Scene). z.wires.client.source) e') al.0.there;
+              here = conformed_as l to_client al.0.used a.caller.inbox b.caller.inbox a.wires.client.source b.wires.client.source (idle al.0.heard) (ap (λ (z : CallerState). z.inbox) new) (ap (λ (z : Scene). z.wires.client.source) e) al.0.here;
+              there = conformed_as l to_client al.0.used a'.caller.inbox b'.caller.inbox a'.wires.client.source b'.wires.client.source (idle al.0.heard) (ap (λ (z : CallerState). z.inbox) new') (ap (λ (z : Scene). z.wires.client.source) e') al.0.there;
               waiting = fewer (ap (λ (z : InboxState). length z.waiting) (ap (λ (z : CallerState). z.inbox) new)) al.0.waiting;
               waiting' = fewer (ap (λ (z : InboxState). length z.waiting) (ap (λ (z : CallerState). z.inbox) new')) al.0.waiting';
             },
@@ -230,7 +230,7 @@ module _ (l : Rules) (to_client to_server : List ℕ) where
     takes (inl (h, ok, x, ids), e) (inl (h', ok', x', ids'), e') =
         let core = a.host.core in
         let same : h' ≡ h = one_header l to_server host.Takes host.Refuses server_never core a'.host.core al.1.core a.host.inbox b.host.inbox a'.host.inbox b'.host.inbox a.wires.server.source b.wires.server.source a'.wires.server.source b'.wires.server.source al.1.heard al.1.used al.1.here al.1.there h h' x.0 x'.0 in
-        let stand = stand_on l to_server host.Takes host.Refuses server_never core a'.host.core al.1.core a.host.inbox b.host.inbox a'.host.inbox b'.host.inbox a.wires.server.source b.wires.server.source a'.wires.server.source b'.wires.server.source al.1.heard al.1.used al.1.here al.1.there h h' x.0 x'.0 in
+        let conform = conform_on l to_server host.Takes host.Refuses server_never core a'.host.core al.1.core a.host.inbox b.host.inbox a'.host.inbox b'.host.inbox a.wires.server.source b.wires.server.source a'.wires.server.source b'.wires.server.source al.1.heard al.1.used al.1.here al.1.there h h' x.0 x'.0 in
         record {
           answer = ok' ∙ sym ok;
           said = record {
@@ -244,11 +244,11 @@ module _ (l : Rules) (to_client to_server : List ℕ) where
               core = x'.1 ∙ ap (λ (c : ServerCore). accepted c (signal_of h') (accept_of c (signal_of h'))) al.1.core ∙ ap (λ (y : Header). accepted core (signal_of y) (accept_of core (signal_of y))) same ∙ sym x.1;
               ids = ids' ∙ ids_kept h'.stream h.stream (ap (λ (y : Header). y.stream) same) ∙ sym ids;
               heard = al.1.heard ++ h ∷ [];
-              used = stand.bytes;
-              here = stand.near;
-              there = stand.far;
-              waiting = stand.waiting;
-              waiting' = stand.waiting';
+              used = conform.bytes;
+              here = conform.near;
+              there = conform.far;
+              waiting = conform.waiting;
+              waiting' = conform.waiting';
             },
           );
         }
@@ -291,8 +291,8 @@ module _ (l : Rules) (to_client to_server : List ℕ) where
               ids = both.1;
               heard = al.1.heard;
               used = al.1.used;
-              here = stood_as l to_server al.1.used a.host.inbox b.host.inbox a.wires.server.source b.wires.server.source (idle al.1.heard) (ap (λ (z : HostState). z.inbox) new) (ap (λ (z : Scene). z.wires.server.source) e) al.1.here;
-              there = stood_as l to_server al.1.used a'.host.inbox b'.host.inbox a'.wires.server.source b'.wires.server.source (idle al.1.heard) (ap (λ (z : HostState). z.inbox) new') (ap (λ (z : Scene). z.wires.server.source) e') al.1.there;
+              here = conformed_as l to_server al.1.used a.host.inbox b.host.inbox a.wires.server.source b.wires.server.source (idle al.1.heard) (ap (λ (z : HostState). z.inbox) new) (ap (λ (z : Scene). z.wires.server.source) e) al.1.here;
+              there = conformed_as l to_server al.1.used a'.host.inbox b'.host.inbox a'.wires.server.source b'.wires.server.source (idle al.1.heard) (ap (λ (z : HostState). z.inbox) new') (ap (λ (z : Scene). z.wires.server.source) e') al.1.there;
               waiting = fewer (ap (λ (z : InboxState). length z.waiting) (ap (λ (z : HostState). z.inbox) new)) al.1.waiting;
               waiting' = fewer (ap (λ (z : InboxState). length z.waiting) (ap (λ (z : HostState). z.inbox) new')) al.1.waiting';
             },
@@ -322,7 +322,7 @@ module _ (l : Rules) (to_client to_server : List ℕ) where
     hears (inl (x, (h, (k, is_answer), opcode, got, new), p), e) (inl (x', (h', (k', is_answer'), opcode', got', new'), p'), e') =
         let core = a.caller.core in
         let same : h' ≡ h = one_header l to_client caller.Takes caller.Refuses client_never core a'.caller.core al.0.core a.caller.inbox b.caller.inbox a'.caller.inbox b'.caller.inbox a.wires.client.source b.wires.client.source a'.wires.client.source b'.wires.client.source al.0.heard al.0.used al.0.here al.0.there h h' got got' in
-        let stand = stand_on l to_client caller.Takes caller.Refuses client_never core a'.caller.core al.0.core a.caller.inbox b.caller.inbox a'.caller.inbox b'.caller.inbox a.wires.client.source b.wires.client.source a'.wires.client.source b'.wires.client.source al.0.heard al.0.used al.0.here al.0.there h h' got got' in
+        let conform = conform_on l to_client caller.Takes caller.Refuses client_never core a'.caller.core al.0.core a.caller.inbox b.caller.inbox a'.caller.inbox b'.caller.inbox a.wires.client.source b.wires.client.source a'.wires.client.source b'.wires.client.source al.0.heard al.0.used al.0.here al.0.there h h' got got' in
         let there : reply_to core (signal_of h) ≡ Ok (Answer x'.0 k') = ap (λ (c : ClientCore). reply_to c (signal_of h)) (sym al.0.core) ∙ ap (λ (y : Header). reply_to a'.caller.core (signal_of y)) (sym same) ∙ is_answer' in
         let ticket : x'.0 ≡ x.0 = same_ticket x.0 x'.0 k k' (same_ok (Answer x.0 k) (Answer x'.0 k') (reply_to core (signal_of h)) is_answer there) in
         let code : x'.1 ≡ x.1 = opcode' ∙ ap (λ (y : Header). y.opcode) same ∙ sym opcode in
@@ -340,11 +340,11 @@ module _ (l : Rules) (to_client to_server : List ℕ) where
             record {
               core = new' ∙ ap (λ (c : ClientCore). replied c (signal_of h') (reply_to c (signal_of h'))) al.0.core ∙ ap (λ (y : Header). replied core (signal_of y) (reply_to core (signal_of y))) same ∙ sym new;
               heard = al.0.heard ++ h ∷ [];
-              used = stand.bytes;
-              here = stand.near;
-              there = stand.far;
-              waiting = stand.waiting;
-              waiting' = stand.waiting';
+              used = conform.bytes;
+              here = conform.near;
+              there = conform.far;
+              waiting = conform.waiting;
+              waiting' = conform.waiting';
             },
             servers_kept a b a' b' (ap (λ (z : Scene). z.host) e) (ap (λ (z : Scene). z.host) e') (ap (λ (z : Scene). z.unanswered) e) (ap (λ (z : Scene). z.unanswered) e') (ap (λ (z : Scene). z.wires.server.source) e) (ap (λ (z : Scene). z.wires.server.source) e') al.1,
           );

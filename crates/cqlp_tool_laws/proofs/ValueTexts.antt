@@ -23,9 +23,9 @@ use Rattle.cqlp_tool_laws.specs.ValueText.{joined, entries, items_text, value_te
 use Rattle.cqlp_tool_laws.specs.Rows.{nesting}
 use Rattle.cqlp_tool_laws.proofs.Shapes.{AreOf}
 
--- ---- items with what stands between them
+-- ---- items with what comes between them
 
--- the texts of values one after the other, each with what stands before and after it among these open values
+-- the texts of values one after the other, each with what comes before and after it among these open values
 abbrev pub spread : (columns column : ℕ) → List WrittenValue → List (List ℕ) → List ℕ
 spread columns column os [] = []
 spread columns column os (t ∷ ts) = before column os ++ (t ++ (after columns column os ++ spread columns column (with_item os) ts))
@@ -81,7 +81,7 @@ pub still_open : (k : Kind) (turn : Turn) (os : List WrittenValue) (ts : List (L
 still_open k turn os [] = (turn, refl)
 still_open k turn os (t ∷ ts) = still_open k (turn_after k turn) os ts
 
--- an item more leaves as many open values, and nothing else stands after an item of them
+-- an item more leaves as many open values, and nothing else comes after an item of them
 length-with_item : (os : List WrittenValue) → length (with_item os) ≡ length os
 length-with_item [] = refl
 length-with_item (o ∷ os) = refl
@@ -119,7 +119,7 @@ first_part a x b c d e = simp (append_assoc, append-nil)
 in_brackets : (a x b y c d e : List ℕ) → (a ++ x) ++ (b ++ ((y ++ c) ++ (d ++ e))) ≡ (a ++ ((x ++ (b ++ y)) ++ (c ++ d))) ++ e
 in_brackets a x b y c d e = simp append_assoc
 
--- what stands before a value with items, its brackets and its items, what stands after it, and the others
+-- what comes before a value with items, its brackets and its items, what comes after it, and the others
 bracketed : (a x items y end others rest b c left : List ℕ) → b ≡ items → c ≡ end → left ≡ others ++ rest
     → (a ++ x) ++ (b ++ ((y ++ c) ++ left)) ≡ (a ++ ((x ++ (items ++ y)) ++ (end ++ others))) ++ rest
 bracketed a x items y end others rest b c left is after behind =
@@ -142,7 +142,7 @@ module _ (l : Rules) (columns row column : ℕ) where
   events-append : (es fs : List (ℕ × CellEvent)) (more : List (ℕ × Event)) → events (es ++ fs) ++ more ≡ events es ++ (events fs ++ more)
   events-append es fs more = ap (λ x. x ++ more) (map-append (λ (e : ℕ × CellEvent). (e.0, cell_event row column e.1)) es fs) ∙ append_assoc (events es) (events fs) more
 
-  -- a value of this text, with what stands before and after it
+  -- a value of this text, with what comes before and after it
   abbrev pub around : List WrittenValue → List ℕ → List ℕ
   around os text = before column os ++ (text ++ after columns column os)
 
@@ -226,7 +226,7 @@ module _ (l : Rules) (columns row column : ℕ) where
         ≡ spread columns column os ((opening k ++ (items_text k items ++ closing k)) ∷ others) ++ page_text (place (counted (with_item os) others)) more
     with_items room within behind = let ends = still_open k First (with_item os) items in with_items_at ends.0 ends.1 room within behind
 
-  -- The text of the events of values is their texts, each with what stands around it among the open values.
+  -- The text of the events of values is their texts, each with what comes around it among the open values.
   pub values_text : (os : List WrittenValue) (level at : ℕ) (ts : Types) (vs : Values) (more : List (ℕ × Event)) → 1 ≤ l.part → AreOf ts vs → length os + nesting vs ≤ 64
       → page_text (place os) (events (values_items l level at ts vs) ++ more) ≡ spread columns column os (value_texts vs) ++ page_text (place (counted os (value_texts vs))) more
   values_text os level at NoMore NoValue more some are room = refl

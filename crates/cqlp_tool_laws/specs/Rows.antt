@@ -27,7 +27,7 @@ use Rattle.cqlp_render.specs.Streams.{Streams}
 use Rattle.cqlp_tool_laws.specs.Tool.{IsGranted}
 use Rattle.cqlp_tool_laws.specs.ValueText.{value_texts, message_text, frames_text}
 
--- how many values with items stand in one another, at most
+-- how many values with items are in one another, at most
 abbrev pub nesting : Values → ℕ
 nesting NoValue = 0
 nesting (Null_and others) = nesting others
@@ -48,7 +48,7 @@ abbrev pub in_column : (columns column : ℕ) → PagePlace
 in_column columns column = record { is_page = true; columns = columns; column = column; open_values = [] }
 
 -- A value that fits has one text. Wherever a page is between two cells, the events of a cell add the text of its value, with
--- what stands before and after a cell of its column.
+-- what comes before and after a cell of its column.
 abbrev pub CellIsItsValue : Type 0
 CellIsItsValue =
     (l : Rules) (at columns last row column : ℕ) (k : Kind) (inner : Types) (v : Values) (more : List (ℕ × Event))

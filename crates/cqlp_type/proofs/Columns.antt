@@ -10,8 +10,8 @@ use Rattle.cqlp_kind.specs.TypeStep.{TypeEvent}
 use Rattle.cqlp_type.specs.Trees.{Trees, NoTree, Tree_and, types_in, Shallow}
 use Rattle.cqlp_type.specs.Pushing.{IsWhole}
 use Rattle.cqlp_type.proofs.Forests.{types_of_own_preorder}
-use Rattle.cqlp_type.specs.Forests.{types_at, depth_of, Forest, Stand}
-use Rattle.cqlp_type.proofs.Inside.{first_read, stand_there, preorder-followed, formed-followed, depth-followed}
+use Rattle.cqlp_type.specs.Forests.{types_at, depth_of, Forest, Conform}
+use Rattle.cqlp_type.proofs.Inside.{first_read, conform_there, preorder-followed, formed-followed, depth-followed}
 
 -- ---- the types of trees
 
@@ -47,7 +47,7 @@ pub record Column (nodes : List Node) (i depth : ℕ) : Type 0 where
   pub get : slice_get nodes i ≡ Some x
   pub is : types_of (drop i nodes) ≡ Type_and x.kind inner others
   pub one : types_at nodes i 1 ≡ Type_and x.kind inner NoMore
-  pub stands : Stand nodes i 1 depth
+  pub conforms : Conform nodes i 1 depth
   pub next : types_of (drop (i + x.span) nodes) ≡ others
   pub left : Forest nodes (i + x.span) depth
   pub within : i + x.span ≤ length nodes
@@ -71,7 +71,7 @@ module _ (nodes : List Node) (i depth : ℕ) where
         get = r.0;
         is = is;
         one = rw is refl;
-        stands = stand_there nodes i (Type_and k inner NoMore) (preorder others) first 1 depth refl (formed.0, formed.1, tt) (omega (arith, shallow));
+        conforms = conform_there nodes i (Type_and k inner NoMore) (preorder others) first 1 depth refl (formed.0, formed.1, tt) (omega (arith, shallow));
         next = ap types_of past ∙ types_of_own_preorder others;
         left = record { types = others; are = past; formed = formed.2; shallow = omega (arith, shallow) };
         within = omega (arith, r.2, length-append (preorder inner) (preorder others));

@@ -9,48 +9,48 @@ use Rattle.cqlp_kind.specs.declared.node.Node.{Node}
 use Rattle.cqlp_kind.specs.Types.{Types, NoMore, Type_and, how_many, preorder}
 use Rattle.cqlp_type.specs.Table.{inner_nodes}
 use Rattle.cqlp_type.specs.Forests.{depth_of}
-use Rattle.cqlp_type.specs.Depths.{later_nodes, StandsAt, First, Inside, Later, IsDepth}
+use Rattle.cqlp_type.specs.Depths.{later_nodes, ConformsAt, First, Inside, Later, IsDepth}
 
--- what it means that a type stands at a depth, by the nodes
-abbrev StandsBy : (d : ℕ) → List Node → Type 0
-StandsBy d [] = ⊥
-StandsBy d (x ∷ xs) = (d ≡ 1) ⊎ (((e : ℕ) × (d ≡ suc e) × StandsAt e (inner_nodes x xs)) ⊎ StandsAt d (later_nodes x xs))
+-- what it means that a type is at a depth, by the nodes
+abbrev ConformsBy : (d : ℕ) → List Node → Type 0
+ConformsBy d [] = ⊥
+ConformsBy d (x ∷ xs) = (d ≡ 1) ⊎ (((e : ℕ) × (d ≡ suc e) × ConformsAt e (inner_nodes x xs)) ⊎ ConformsAt d (later_nodes x xs))
 
-stands_by : (d : ℕ) (nodes : List Node) → StandsAt d nodes → StandsBy d nodes
-stands_by _ _ (First x xs) = inl refl
-stands_by _ _ (Inside x xs e s) = inr (inl (e, refl, s))
-stands_by _ _ (Later x xs d s) = inr (inr s)
+conforms_by : (d : ℕ) (nodes : List Node) → ConformsAt d nodes → ConformsBy d nodes
+conforms_by _ _ (First x xs) = inl refl
+conforms_by _ _ (Inside x xs e s) = inr (inl (e, refl, s))
+conforms_by _ _ (Later x xs d s) = inr (inr s)
 
 -- ---- no nodes, and a type with the nodes after it
 
 pub none_deep : IsDepth [] 0
-none_deep = record { stands = λ lt. absurd (omega arith); greatest = λ d s. absurd (stands_by d [] s) }
+none_deep = record { conforms = λ lt. absurd (omega arith); greatest = λ d s. absurd (conforms_by d [] s) }
 
 module _ (x : Node) (xs : List Node) where
-  inside_first : (a : ℕ) → IsDepth (inner_nodes x xs) a → StandsAt (suc a) (x ∷ xs)
+  inside_first : (a : ℕ) → IsDepth (inner_nodes x xs) a → ConformsAt (suc a) (x ∷ xs)
   inside_first zero i = First x xs
-  inside_first (suc a) i = Inside x xs (suc a) (i.stands (omega arith))
+  inside_first (suc a) i = Inside x xs (suc a) (i.conforms (omega arith))
 
-  no_deeper : (a b d : ℕ) → IsDepth (inner_nodes x xs) a → IsDepth (later_nodes x xs) b → StandsBy d (x ∷ xs) → d ≤ max (suc a) b
+  no_deeper : (a b d : ℕ) → IsDepth (inner_nodes x xs) a → IsDepth (later_nodes x xs) b → ConformsBy d (x ∷ xs) → d ≤ max (suc a) b
   no_deeper a b d i l (inl e) = omega arith
   no_deeper a b d i l (inr (inl s)) = omega (arith, i.greatest s.0 s.2, s.1)
   no_deeper a b d i l (inr (inr s)) = omega (arith, l.greatest d s)
 
-  deeper : (a b : ℕ) → IsDepth (inner_nodes x xs) a → IsDepth (later_nodes x xs) b → (n : ℕ) → ((n ≡ suc a) ⊎ ((n ≡ b) × (suc a ≤ b))) → StandsAt n (x ∷ xs)
+  deeper : (a b : ℕ) → IsDepth (inner_nodes x xs) a → IsDepth (later_nodes x xs) b → (n : ℕ) → ((n ≡ suc a) ⊎ ((n ≡ b) × (suc a ≤ b))) → ConformsAt n (x ∷ xs)
   deeper a b i l n (inl e) = rw e (inside_first a i)
-  deeper a b i l n (inr e) = rw e.0 (Later x xs b (l.stands (omega (arith, e.1))))
+  deeper a b i l n (inr e) = rw e.0 (Later x xs b (l.conforms (omega (arith, e.1))))
 
   pub first_deep : (a b : ℕ) → IsDepth (inner_nodes x xs) a → IsDepth (later_nodes x xs) b → IsDepth (x ∷ xs) (max (suc a) b)
   first_deep a b i l = record {
-    stands = λ lt. deeper a b i l (max (suc a) b) (grind arith);
-    greatest = λ d s. no_deeper a b d i l (stands_by d (x ∷ xs) s);
+    conforms = λ lt. deeper a b i l (max (suc a) b) (grind arith);
+    greatest = λ d s. no_deeper a b d i l (conforms_by d (x ∷ xs) s);
   }
 
 -- ---- one depth
 
 no_more : (nodes : List Node) (a b : ℕ) → IsDepth nodes a → IsDepth nodes b → a ≤ b
 no_more nodes zero b i j = omega arith
-no_more nodes (suc a) b i j = j.greatest (suc a) (i.stands (omega arith))
+no_more nodes (suc a) b i j = j.greatest (suc a) (i.conforms (omega arith))
 
 pub one_depth : (nodes : List Node) (a b : ℕ) → IsDepth nodes a → IsDepth nodes b → a ≡ b
 one_depth nodes a b i j = omega (arith, no_more nodes a b i j, no_more nodes b a j i)
@@ -63,14 +63,14 @@ inner_few x xs = elim (eqb x.span 0) as (λ t. length (cond t xs (take (x.span -
   | false ↦ omega (arith, length-take (x.span - 1) xs)
 ]
 
-stands_few : (d : ℕ) (nodes : List Node) → StandsAt d nodes → d ≤ length nodes
-stands_few _ _ (First x xs) = omega arith
-stands_few _ _ (Inside x xs e s) = omega (arith, stands_few e (inner_nodes x xs) s, inner_few x xs)
-stands_few _ _ (Later x xs d s) = omega (arith, stands_few d (later_nodes x xs) s, length-drop (length (inner_nodes x xs)) xs)
+conforms_few : (d : ℕ) (nodes : List Node) → ConformsAt d nodes → d ≤ length nodes
+conforms_few _ _ (First x xs) = omega arith
+conforms_few _ _ (Inside x xs e s) = omega (arith, conforms_few e (inner_nodes x xs) s, inner_few x xs)
+conforms_few _ _ (Later x xs d s) = omega (arith, conforms_few d (later_nodes x xs) s, length-drop (length (inner_nodes x xs)) xs)
 
 pub depth_few : (nodes : List Node) (d : ℕ) → IsDepth nodes d → d ≤ length nodes
 depth_few nodes zero i = omega arith
-depth_few nodes (suc d) i = stands_few (suc d) nodes (i.stands (omega arith))
+depth_few nodes (suc d) i = conforms_few (suc d) nodes (i.conforms (omega arith))
 
 -- ---- of whole types
 

@@ -5,7 +5,7 @@ use Rattle.std.proofs.lemmas.List.{append-nil, drop-drop, length-append, length-
 use Rattle.cqlp_kind.specs.declared.kind.Kind.{Kind}
 use Rattle.cqlp_kind.specs.declared.node.Node.{Node}
 use Rattle.cqlp_kind.specs.Types.{Types, NoMore, Type_and, how_many, first_types, other_types, types_of, preorder, followed_by, HasInner, AreFormed}
-use Rattle.cqlp_type.specs.Forests.{types_at, node_at, depth_of, Stand, StandTo}
+use Rattle.cqlp_type.specs.Forests.{types_at, node_at, depth_of, Conform, IsAfter}
 
 first-followed : (ts us : Types) → first_types (how_many ts) (followed_by ts us) ≡ ts
 first-followed NoMore us = refl
@@ -20,14 +20,14 @@ types_of-preorder NoMore ns = refl
 types_of-preorder (Type_and k inner others) ns =
     rw (append_assoc (preorder inner) (preorder others) ns, types_of-preorder inner (preorder others ++ ns), types_of-preorder others ns, first-followed inner (followed_by others (types_of ns)), other-followed inner (followed_by others (types_of ns)))
 
--- types that stand from node i on are those at node i
+-- types that are from node i on are those at node i
 module _ (nodes : List Node) (i : ℕ) (ts : Types) (others : List Node) (are : drop i nodes ≡ preorder ts ++ others) where
   pub types_there : (n : ℕ) → how_many ts ≡ n → types_at nodes i n ≡ ts
   unfolding types_at
   types_there n many = rw (are, types_of-preorder ts others, ← many) (first-followed ts (types_of others))
 
-  pub stand_there : (n depth : ℕ) → how_many ts ≡ n → AreFormed ts → depth_of ts ≤ depth → Stand nodes i n depth
-  stand_there n depth many formed shallow =
+  pub conform_there : (n depth : ℕ) → how_many ts ≡ n → AreFormed ts → depth_of ts ≤ depth → Conform nodes i n depth
+  conform_there n depth many formed shallow =
       let same = types_there n many in
       record { others = others; are = rw same are; many = rw same many; formed = rw same formed; shallow = rw same shallow }
 
@@ -38,18 +38,18 @@ first_read [] (suc i) x xs e = absurd cc
 first_read (y ∷ ys) zero x xs e = let a : y ≡ x = cc in let b : ys ≡ xs = cc in (ap Some a, b, rw b (omega arith))
 first_read (y ∷ ys) (suc i) x xs e = let r = first_read ys i x xs e in (r.0, r.1, omega (arith, r.2))
 
--- What stands first: a node, the types in it, and those after it.
+-- What comes first: a node, the types in it, and those after it.
 pub record First (nodes : List Node) (i n depth : ℕ) (x : Node) : Type 0 where
   pub get : slice_get nodes i ≡ Some x
   pub here : node_at nodes i ≡ x
   pub is : types_at nodes i (suc n) ≡ Type_and x.kind (types_at nodes (i + 1) x.arity) (types_at nodes (i + x.span) n)
   pub formed : HasInner x.kind x.arity
   pub deep : 0 < depth
-  pub inner : Stand nodes (i + 1) x.arity (depth - 1)
-  pub after : Stand nodes (i + x.span) n depth
+  pub inner : Conform nodes (i + 1) x.arity (depth - 1)
+  pub after : Conform nodes (i + x.span) n depth
   pub within : i + x.span ≤ length nodes
   pub some : 0 < x.span
-  pub alone : Stand nodes i 1 depth
+  pub alone : Conform nodes i 1 depth
 
 module _ (nodes : List Node) (i n depth : ℕ) where
   first_types_are : (k : Kind) (inner others : Types) (more : List Node) → drop i nodes ≡ preorder (Type_and k inner others) ++ more → suc (how_many others) ≡ suc n
@@ -72,14 +72,14 @@ module _ (nodes : List Node) (i n depth : ℕ) where
           is = types_there nodes i (Type_and k inner others) more are (suc n) many ∙ sym (rw (types_there nodes (i + 1) inner (preorder others ++ more) behind (how_many inner) refl, types_there nodes (i + x.span) others more past n (omega (arith, many))) refl);
           formed = formed.0;
           deep = omega arith;
-          inner = stand_there nodes (i + 1) inner (preorder others ++ more) behind (how_many inner) (depth - 1) refl formed.1 (omega arith);
-          after = stand_there nodes (i + x.span) others more past n depth (omega (arith, many)) formed.2 (omega arith);
+          inner = conform_there nodes (i + 1) inner (preorder others ++ more) behind (how_many inner) (depth - 1) refl formed.1 (omega arith);
+          after = conform_there nodes (i + x.span) others more past n depth (omega (arith, many)) formed.2 (omega arith);
           within = omega (arith, size);
           some = omega arith;
           alone =
               let one : Types = Type_and k inner NoMore in
               let first : drop i nodes ≡ preorder one ++ (preorder others ++ more) = are ∙ ap (λ (m : List Node). x ∷ m) (all ∙ sym (ap (λ (m : List Node). m ++ (preorder others ++ more)) (append-nil (preorder inner)))) in
-              stand_there nodes i one (preorder others ++ more) first 1 depth refl (formed.0, formed.1, tt) (omega arith);
+              conform_there nodes i one (preorder others ++ more) first 1 depth refl (formed.0, formed.1, tt) (omega arith);
         },
       )
 
@@ -87,13 +87,13 @@ module _ (nodes : List Node) (i n depth : ℕ) where
   first_of NoMore more are many formed shallow = absurd (omega (arith, many))
   first_of (Type_and k inner others) more are many formed shallow = first_types_are k inner others more are many formed shallow
 
-  pub first_stands : Stand nodes i (suc n) depth → (x : Node) × First nodes i n depth x
-  first_stands s = first_of (types_at nodes i (suc n)) s.others s.are s.many s.formed s.shallow
+  pub first_conforms : Conform nodes i (suc n) depth → (x : Node) × First nodes i n depth x
+  first_conforms s = first_of (types_at nodes i (suc n)) s.others s.are s.many s.formed s.shallow
 
 -- ---- types that end before a node
 
-pub stand_none : (nodes : List Node) (i depth : ℕ) → i ≤ length nodes → StandTo nodes i i 0 depth
-stand_none nodes i depth le = record { types = NoMore; are = refl; many = refl; formed = tt; shallow = omega arith; within = (omega arith, le) }
+pub conform_none : (nodes : List Node) (i depth : ℕ) → i ≤ length nodes → IsAfter nodes i i 0 depth
+conform_none nodes i depth le = record { types = NoMore; are = refl; many = refl; formed = tt; shallow = omega arith; within = (omega arith, le) }
 
 pub preorder-followed : (ts us : Types) → preorder (followed_by ts us) ≡ preorder ts ++ preorder us
 preorder-followed NoMore us = refl
@@ -111,8 +111,8 @@ pub depth-followed : (ts us : Types) (depth : ℕ) → depth_of ts ≤ depth →
 depth-followed NoMore us depth a b = b
 depth-followed (Type_and k inner others) us depth a b = omega (arith, depth-followed others us depth (omega arith) b)
 
-pub stand_more : (nodes : List Node) (i m e n depth : ℕ) → StandTo nodes i m n depth → StandTo nodes m e 1 depth → StandTo nodes i e (n + 1) depth
-stand_more nodes i m e n depth a b = record {
+pub conform_more : (nodes : List Node) (i m e n depth : ℕ) → IsAfter nodes i m n depth → IsAfter nodes m e 1 depth → IsAfter nodes i e (n + 1) depth
+conform_more nodes i m e n depth a b = record {
   types = followed_by a.types b.types;
   are = a.are ∙ rw (b.are, preorder-followed a.types b.types) (sym (append_assoc (preorder a.types) (preorder b.types) (drop e nodes)));
   many = omega (arith, many-followed a.types b.types, a.many, b.many);
@@ -127,8 +127,8 @@ here_is [] (suc i) x e = absurd cc
 here_is (y ∷ ys) zero x e = let a : y ≡ x = cc in rw a refl
 here_is (y ∷ ys) (suc i) x e = here_is ys i x e
 
-pub stand_whole : (nodes : List Node) (i e depth : ℕ) (x : Node) → slice_get nodes i ≡ Some x → HasInner x.kind x.arity → 0 < depth → StandTo nodes (i + 1) e x.arity (depth - 1) → i + x.span ≡ e → StandTo nodes i e 1 depth
-stand_whole nodes i e depth x get formed deep s ends =
+pub conform_whole : (nodes : List Node) (i e depth : ℕ) (x : Node) → slice_get nodes i ≡ Some x → HasInner x.kind x.arity → 0 < depth → IsAfter nodes (i + 1) e x.arity (depth - 1) → i + x.span ≡ e → IsAfter nodes i e 1 depth
+conform_whole nodes i e depth x get formed deep s ends =
     let next : suc i ≡ i + 1 = omega arith in
     let long : length (drop (i + 1) nodes) ≡ length (preorder s.types) + length (drop e nodes) = rw s.are (length-append (preorder s.types) (drop e nodes)) in
     let span : x.span ≡ suc (length (preorder s.types)) = omega (arith, long, length-drop (i + 1) nodes, length-drop e nodes, s.within) in
@@ -143,5 +143,5 @@ stand_whole nodes i e depth x get formed deep s ends =
       within = (omega (arith, s.within), s.within.1);
     }
 
-pub stands_to : (nodes : List Node) (i e n depth : ℕ) → StandTo nodes i e n depth → Stand nodes i n depth
-stands_to nodes i e n depth s = stand_there nodes i s.types (drop e nodes) s.are n depth s.many s.formed s.shallow
+pub conforms_to : (nodes : List Node) (i e n depth : ℕ) → IsAfter nodes i e n depth → Conform nodes i n depth
+conforms_to nodes i e n depth s = conform_there nodes i s.types (drop e nodes) s.are n depth s.many s.formed s.shallow

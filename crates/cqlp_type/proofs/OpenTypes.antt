@@ -84,7 +84,7 @@ arity_behind n (y ∷ base) x more e =
     let r = arity_behind n base x more e in
     (r.0, r.1, last_cons n y base x more ∙ ap (λ (m : List Node). y ∷ m) r.2, r.3)
 
--- ---- what stands for nothing is passed
+-- ---- what represents nothing is passed
 
 settled_open : (base : List Node) (front : List TypeSymbol) (x : Node) (more nodes : List Node) → Above (length base) front → x.span ≡ 0 → nodes ≡ base ++ x ∷ more
     → Shape base (settled (front ++ Whole (length base) ∷ []) nodes).0 (settled (front ++ Whole (length base) ∷ []) nodes).1

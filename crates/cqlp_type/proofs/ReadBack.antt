@@ -242,13 +242,13 @@ abbrev pub events_in : List (ℕ × TypeEvent) → List TypeEvent
 events_in [] = []
 events_in (e ∷ es) = e.1 ∷ events_in es
 
--- The items of a run come of its symbols, stand where their bytes do, and are spelled by them.
+-- The items of a run come of its symbols, are where their bytes do, and are spelled by them.
 pub record Reads (l : Rules) (p : TypePlace) (bytes : List ℕ) (es : List (ℕ × TypeEvent)) (more : List TypeEvent) (final : List Node) (rest : List ℕ) : Type 0 where
   pub comes : Comes l p.symbols p.nodes (events_in es ++ more) final
   pub body : List ℕ
   pub all : bytes ≡ body ++ rest
   pub spelled : l.lenient ≡ false → ItemsSpell (events_in es) body
-  pub stand : es ≡ placed p.offset (events_in es)
+  pub conform : es ≡ placed p.offset (events_in es)
 
 came_here : (l : Rules) (p : TypePlace) (bytes : List ℕ) (x : Emitted TypeEvent TypePlace) (used : ℕ) → says (type_step l p) 0 bytes ≡ Got x used
     → (front : List ℕ) × (back : List ℕ) × (bytes ≡ front ++ back) × (drop used bytes ≡ back) × (length front ≡ used) × Came l p p.symbols x front
@@ -265,7 +265,7 @@ placed_on : (at at' : ℕ) (e : ℕ × TypeEvent) (es : List (ℕ × TypeEvent))
 placed_on at at' e es fs here next is = λ i. (here i, e.1) ∷ (is ∙ ap (λ (k : ℕ). placed k fs) next) i
 
 pub runs_read : (l : Rules) (es : List (ℕ × TypeEvent)) (p q : TypePlace) (bytes rest : List ℕ) (more : List TypeEvent) (final : List Node) → Runs (type_step l) p bytes es q rest → Comes l q.symbols q.nodes more final → Reads l p bytes es more final rest
-runs_read l [] p q bytes rest more final r h = record { comes = rw r.0 at h; body = []; all = sym r.1; spelled = λ strict. refl; stand = refl }
+runs_read l [] p q bytes rest more final r h = record { comes = rw r.0 at h; body = []; all = sym r.1; spelled = λ strict. refl; conform = refl }
 runs_read l (e ∷ es) p q bytes rest more final r h =
     let x : Emitted TypeEvent TypePlace = record { at = e.0; event = e.1; after = r.1 } in
     let c = came_here l p bytes x r.0 r.2 in
@@ -277,7 +277,7 @@ runs_read l (e ∷ es) p q bytes rest more final r h =
       body = c.0 ++ later.body;
       all = c.2 ∙ ap (λ (t : List ℕ). c.0 ++ t) (sym c.3 ∙ later.all) ∙ sym (append_assoc c.0 later.body rest);
       spelled = λ strict. record { front = c.0; back = later.body; whole = refl; this = came.spelled strict; that = later.spelled strict };
-      stand = placed_on p.offset (r.1 r.0).offset e es (events_in es) came.at next later.stand;
+      conform = placed_on p.offset (r.1 r.0).offset e es (events_in es) came.at next later.conform;
     }
 
 spelled_as : (es fs : List TypeEvent) (s body : List ℕ) → s ≡ body ++ [] → es ≡ fs → ItemsSpell es body → ItemsSpell fs s
@@ -299,6 +299,6 @@ option_read l depth start q s es first done r =
       are = are.1;
       shallow = (c.3.2, c.3.3, tt);
       spelled = λ strict. spelled_as (events_in es) (trees_items false tree) s g.body g.all items (g.spelled strict);
-      items = g.stand ∙ ap (placed start.offset) items;
+      items = g.conform ∙ ap (placed start.offset) items;
       table = c.5.1;
     }

@@ -65,9 +65,9 @@ pub plain_id : (k : Kind) → is_plain k ≡ true → has_id k ≡ true
 plain_id kind.Raw h = absurd cc
 plain_id k h = refl
 
-id_stands : (k : Kind) → has_id k ≡ true → beside_number (id_of k) kinds ≡ Some k
-id_stands kind.Raw h = absurd cc
-id_stands k h = refl
+id_conforms : (k : Kind) → has_id k ≡ true → beside_number (id_of k) kinds ≡ Some k
+id_conforms kind.Raw h = absurd cc
+id_conforms k h = refl
 
 id_small : (k : Kind) → has_id k ≡ true → id_of k < 2 ^ 16
 id_small kind.Raw h = absurd cc
@@ -111,7 +111,7 @@ trees_ids named (Tree_and name h inner others) are =
 -- ---- items
 
 pub item_written : (e : TypeEvent) → HasId e → ItemIsInRange e → item_counts e ≡ true → item_is_short e ≡ true → ItemSpells e (item_bytes e)
-item_written (IsNode k) i r c s = (id_of k, id_stands k i, field_written notation.Short (Short (id_of k)) (id_small k i) refl refl)
+item_written (IsNode k) i r c s = (id_of k, id_conforms k i, field_written notation.Short (Short (id_of k)) (id_small k i) refl refl)
 item_written (IsField f v) i r c s = field_written (notation_for v) v r c s
 
 items_written : (es : List TypeEvent) → HaveIds es → All ItemIsInRange es → list_all item_counts es ≡ true → list_all item_is_short es ≡ true → ItemsSpell es (flat_map item_bytes es)

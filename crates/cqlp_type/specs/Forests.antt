@@ -1,10 +1,10 @@
--- Types that stand side by side in a table, and how deep they are nested.
+-- Types that are side by side in a table, and how deep they are nested.
 use Rattle.std.specs.Prelude.{◌≡◌, ℕ, suc, ◌≤◌, ◌++◌, List, length, drop, max, slice_get, unwrap_or}
 use Rattle.cqlp_kind.specs.declared.kind.Kind.TheVariants as kind
 use Rattle.cqlp_kind.specs.declared.node.Node.{Node}
 use Rattle.cqlp_kind.specs.Types.{Types, NoMore, Type_and, AreFormed, how_many, first_types, types_of, preorder}
 
--- n types that stand side by side from node i on
+-- n types that are side by side from node i on
 unfoldable pub types_at : List Node → (i n : ℕ) → Types
 types_at nodes i n = first_types n (types_of (drop i nodes))
 
@@ -24,16 +24,16 @@ pub record Forest (nodes : List Node) (i depth : ℕ) : Type 0 where
   pub formed : AreFormed types
   pub shallow : depth_of types ≤ depth
 
--- From node i on, n whole types stand side by side, none nested deeper than this.
-pub record Stand (nodes : List Node) (i n depth : ℕ) : Type 0 where
+-- From node i on, n whole types are side by side, none nested deeper than this.
+pub record Conform (nodes : List Node) (i n depth : ℕ) : Type 0 where
   pub others : List Node
   pub are : drop i nodes ≡ preorder (types_at nodes i n) ++ others
   pub many : how_many (types_at nodes i n) ≡ n
   pub formed : AreFormed (types_at nodes i n)
   pub shallow : depth_of (types_at nodes i n) ≤ depth
 
--- From node i on, before node e, n whole types stand side by side, none nested deeper than this.
-pub record StandTo (nodes : List Node) (i e n depth : ℕ) : Type 0 where
+-- From node i on, before node e, n whole types are side by side, none nested deeper than this.
+pub record IsAfter (nodes : List Node) (i e n depth : ℕ) : Type 0 where
   pub types : Types
   pub are : drop i nodes ≡ preorder types ++ drop e nodes
   pub many : how_many types ≡ n

@@ -97,7 +97,7 @@ abbrev pub first_nodes : (number : ℕ) → Types → List ℕ
 first_nodes number NoMore = []
 first_nodes number (Type_and k inner others) = number ∷ first_nodes (number + suc (length (preorder inner))) others
 
--- Types that stand side by side begin where their nodes do, and after them whatever follows; as many as there are.
+-- Types that are side by side begin where their nodes do, and after them whatever follows; as many as there are.
 abbrev pub RootsAreTypes : Type 0
 RootsAreTypes =
     (ts : Types) (number : ℕ) (ns : List Node)
@@ -125,7 +125,7 @@ ChildrenOfOpen =
 abbrev pub OpenIsLast : Type 0
 OpenIsLast = (x : Node) (rest : List Node) (number : ℕ) → x.span ≡ 0 → beginnings number 0 (x ∷ rest) ≡ number ∷ []
 
--- Types that stand side by side are as deep as the deepest of them, or as what follows them.
+-- Types that are side by side are as deep as the deepest of them, or as what follows them.
 abbrev pub DepthIsOfTypes : Type 0
 DepthIsOfTypes =
     (ts : Types) (ns : List Node) (depth : ℕ) → IsDepth ns depth → IsDepth (preorder ts ++ ns) (max (depth_of ts) depth)
@@ -187,7 +187,7 @@ advance_answer input buffer advance.Done = Done
 advance_answer input buffer (advance.Refused r) = Refused r
 
 -- What later calls see of a reader, its `Partial` and its table: the limits; whether an option is under way, where its
--- reading stands, with which nodes, and which bytes of the item have come; whether a field is under way; and the room
+-- reading is, with which nodes, and which bytes of the item have come; whether a field is under way; and the room
 -- for nodes.
 pub record Seen : Type 0 where
   pub rules : Rules

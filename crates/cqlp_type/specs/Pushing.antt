@@ -29,7 +29,7 @@ abbrev pub After : (start : TypePlace) → TypeState → FieldState → Table �
 After start r p t s es = Runs (type_step r.rules) start s es (place_of r t.nodes) (pending r p)
 
 -- The option under way is read into this table: it began where the table was whole types, and what was read of it since
--- stands in the table after them.
+-- is in the table after them.
 pub record ReadsInto (r : TypeState) (p : FieldState) (t : Table) : Type 0 where
   pub start : TypePlace
   pub first : start.symbols ≡ Option_at 1 ∷ []
@@ -53,7 +53,7 @@ AdvanceLeaves advance.Done r p t = IsPreorder t.nodes
 AdvanceLeaves (advance.Refused x) r p t = Unit {0}
 
 -- These bytes spell the option of a type at this depth, none of whose inner types is too deep; these are its items,
--- the first at `at`; and its nodes in preorder stand after the ones before. (What a lenient caller reads of an unknown id
+-- the first at `at`; and its nodes in preorder are after the ones before. (What a lenient caller reads of an unknown id
 -- is a type in the table all the same, but nothing spells it.)
 pub record IsWhole (l : Rules) (depth at : ℕ) (before : List Node) (s : List ℕ) (es : List (ℕ × TypeEvent))
     (nodes : List Node) : Type 0 where

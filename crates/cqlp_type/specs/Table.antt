@@ -21,14 +21,14 @@ HoldsTypes nodes = AreWhole nodes → IsPreorder nodes
 abbrev pub HoldsUpTo : (room : ℕ) → List Node → Type 0
 HoldsUpTo room nodes = (length nodes ≤ room) × HoldsTypes nodes
 
--- The numbers of the nodes at which types begin that stand side by side, from a node with this number on, after some
+-- The numbers of the nodes at which types begin that are side by side, from a node with this number on, after some
 -- that are skipped. The span of a type that is under way is 0: all further nodes are its own.
 abbrev pub beginnings : (number skipped : ℕ) → List Node → List ℕ
 beginnings number skipped [] = []
 beginnings number zero (x ∷ xs) = number ∷ (if x.span == 0 then [] else beginnings (suc number) (x.span - 1) xs)
 beginnings number (suc skipped) (x ∷ xs) = beginnings (suc number) skipped xs
 
--- where type i of those that stand side by side begins
+-- where type i of those that are side by side begins
 abbrev pub root : List Node → (i : ℕ) → Option ℕ
 root xs i = slice_get (beginnings 0 0 xs) i
 

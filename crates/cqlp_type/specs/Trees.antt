@@ -95,7 +95,7 @@ Shallow l depth (Tree_and name h inner others) =
 
 -- ---- spelling
 
--- what stands between an option's id and its n inner options
+-- what comes between an option's id and its n inner options
 abbrev pub head_items : Head → (n : ℕ) → List TypeEvent
 head_items (Custom class) n = IsField field.Class (Text class) ∷ []
 head_items TupleOf n = IsField field.Fields (Count n) ∷ []

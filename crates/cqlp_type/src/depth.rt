@@ -6,7 +6,7 @@ ghost use Rattle.cqlp_type.specs.Depths.{IsDepth};
 
 use cqlp_kind::Node;
 
-/// The greatest depth at which a type stands, 0 where there are no nodes. It looks at each node once, and calls itself
+/// The greatest depth at which a type is, 0 where there are no nodes. It looks at each node once, and calls itself
 /// as deep as types are nested.
 pub(crate) fn deepest(nodes: &[Node]) -> u32
     requires { length nodes.now < 2 ^ 32 }
@@ -22,7 +22,7 @@ pub(crate) fn deepest(nodes: &[Node]) -> u32
     depth
 }
 
-/// The nodes of a type's inner types, of those that stand after its own node.
+/// The nodes of a type's inner types, of those that are after its own node.
 pub(crate) fn inner_of(first: Node, after: &[Node]) -> &[Node]
     ensures { result.now ≡ inner_nodes first after.now }
 {

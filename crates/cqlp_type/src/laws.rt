@@ -42,7 +42,7 @@ pub fn len_is_of_option()
     ensures { LenIsOfOption }
 {}
 
-/// Where types that stand side by side begin, also where the last one is under way.
+/// Where types that are side by side begin, also where the last one is under way.
 pub fn roots_are_types()
     ensures whole { RootsAreTypes }
     ensures under_way { OpenIsLast }
@@ -54,7 +54,7 @@ pub fn children_are_inner_types()
     ensures under_way { ChildrenOfOpen }
 {}
 
-/// How deep types that stand side by side are nested, also where the last one is under way.
+/// How deep types that are side by side are nested, also where the last one is under way.
 #[tactic(auto, using(crate::proofs::Depths::depth_followed, crate::proofs::Depths::open_deeper))]
 pub fn depth_is_of_types()
     ensures whole { DepthIsOfTypes }

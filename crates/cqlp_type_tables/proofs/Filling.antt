@@ -17,7 +17,7 @@ use Rattle.cqlp_type_tables.specs.Making.{AreWritable, table_of}
 use Rattle.cqlp_type_tables.specs.Reading.{IsIdle, IsReadAs}
 use Rattle.cqlp_type_tables.proofs.Fitting.{fits, one_of, read_as, nodes_next, nodes_long}
 
--- The first i types stand in the table, and the limits are those of them all.
+-- The first i types are in the table, and the limits are those of them all.
 pub record Filled (types : List TypeTree) (size i : ℕ) (r : TypeState) (p : FieldState) (t : Table) : Type 0 where
   pub nodes : t.nodes ≡ preorder (types_in (listed_types (take i types)))
   pub room : t.room ≡ options_in (listed_types types)

@@ -61,7 +61,7 @@ first_fits t ts f =
     let texts = first_all item_is_short (IsNode (kind_in h)) hs is os f.texts in
     (record { formed = formed.0; counts = counts.0; texts = texts.0 }, record { formed = formed.1; counts = counts.1; texts = texts.1 })
 
--- a type that is one of them, and after how many nodes it stands
+-- a type that is one of them, and after how many nodes it is
 pub record OneOf (ts : List TypeTree) (i : ℕ) (t : TypeTree) : Type 0 where
   pub fits : Fit false (tree_of t)
   pub size : trees_size false (tree_of t) ≤ trees_size false (listed_types ts)

@@ -30,13 +30,13 @@ use Rattle.cqlp_kind.specs.CellStep.{CellSymbol, Value_of, Items_of, Close_of, C
 use Rattle.cqlp_cell.specs.Items.{content_length, event_at, event_of}
 use Rattle.cqlp_cell.specs.Sizes.{is_counted}
 use Rattle.cqlp_type.specs.Forests.{types_at}
-use Rattle.cqlp_cell.specs.Progress.{CellState, value_symbols, left_of, open_symbols, all_open_symbols, symbols_for, cell_symbols, place, due_value, is_under_way, is_some_next, ended, NextStands, Stands}
+use Rattle.cqlp_cell.specs.Progress.{CellState, value_symbols, left_of, open_symbols, all_open_symbols, symbols_for, cell_symbols, place, due_value, is_under_way, is_some_next, ended, NextConforms, Conforms}
 use Rattle.cqlp_cell.specs.OpenValues.{last_open}
 use Rattle.cqlp_cell.specs.Reading.{gathered, Joined, UnderBy, FurtherUnder, PartUnder, HaveCome, Answers, Empties, Moves}
 use Rattle.cqlp_cell.specs.Pushing.{After, Continues, Keeps, Pushes, Uses, is_done, done_by}
 use Rattle.cqlp_value.specs.Laws.{Answer, More, FieldOutline, Done, Refused, push_answer, advance_answer, Call, Seen, seen, LeaveAlike, IsPush, IsAdvance, AreAlike}
 use Rattle.cqlp_cell.proofs.Coming.{first_kind, one_value, value_first_is}
-use Rattle.cqlp_cell.proofs.Leading.{keeps, answer_is, stands_under, is_over_done, is_not_done}
+use Rattle.cqlp_cell.proofs.Leading.{keeps, answer_is, conforms_under, is_over_done, is_not_done}
 use Rattle.cqlp_cell.proofs.Further.{inner_symbols}
 use Rattle.cqlp_cell.proofs.Leavings.{stop_is}
 
@@ -126,13 +126,13 @@ module _ (nodes : List Node) where
   some_open level o order.Fields = refl
 
   module _ (l : Rules) (stop : ℕ) where
-    endings_by : (n : NextInCell) (os : List OpenValue) → NextStands nodes l os n → endings (symbols_for nodes stop os n) ≡ length os
+    endings_by : (n : NextInCell) (os : List OpenValue) → NextConforms nodes l os n → endings (symbols_for nodes stop os n) ≡ length os
     endings_by next.Nothing os h = rw h refl
     endings_by (next.Cell node) os h = rw h.0 (endings_cell node stop)
     endings_by next.Items os h = endings_levels 0 os
     endings_by (next.Part offset total) os h = omega (arith, endings_levels 0 os)
 
-    done_in : (n : NextInCell) (os : List OpenValue) → NextStands nodes l os n → done_by n os ≡ (is_some_next n && is_none (symbols_for nodes stop os n))
+    done_in : (n : NextInCell) (os : List OpenValue) → NextConforms nodes l os n → done_by n os ≡ (is_some_next n && is_none (symbols_for nodes stop os n))
     done_in next.Nothing os h = refl
     done_in (next.Cell None) os h = refl
     done_in (next.Cell (Some node)) os h = rw (one_value nodes node l.depth 0 stop h.1) refl
@@ -140,14 +140,14 @@ module _ (nodes : List Node) where
     done_in next.Items (o ∷ os) h = sym (none_behind (all_open_symbols nodes 1 os) (open_symbols nodes 0 o) (some_open 0 o o.order))
     done_in (next.Part offset total) os h = refl
 
-  levels_are : (d : CellState) → Stands nodes d → length d.open_values ≡ endings (place nodes d).symbols
-  levels_are d s = sym (endings_by d.rules d.stop d.next d.open_values s.next_stands)
+  levels_are : (d : CellState) → Conforms nodes d → length d.open_values ≡ endings (place nodes d).symbols
+  levels_are d s = sym (endings_by d.rules d.stop d.next d.open_values s.next_conforms)
 
-  done_are : (d : CellState) → Stands nodes d → is_done d ≡ (is_under_way d && is_none (place nodes d).symbols)
-  done_are d s = done_in d.rules d.stop d.next d.open_values s.next_stands
+  done_are : (d : CellState) → Conforms nodes d → is_done d ≡ (is_under_way d && is_none (place nodes d).symbols)
+  done_are d s = done_in d.rules d.stop d.next d.open_values s.next_conforms
 
-  ended_stands : (d : CellState) → Stands nodes d → Stands nodes (ended d)
-  ended_stands d s = record { open_stand = tt; within = omega (arith, stop_is nodes d s); next_stands = refl; bounded = s.bounded }
+  ended_conforms : (d : CellState) → Conforms nodes d → Conforms nodes (ended d)
+  ended_conforms d s = record { open_conform = tt; within = omega (arith, stop_is nodes d s); next_conforms = refl; bounded = s.bounded }
 
 -- ---- what has come of an item, by its bytes
 
@@ -175,7 +175,7 @@ not_counted k e = refl
 behind_length : (head seen : List ℕ) → length head ≡ 4 → (ltb (length (head ++ seen)) 4 ≡ false) × (drop 4 (head ++ seen) ≡ seen)
 behind_length head seen long = (le-ltb (length (head ++ seen)) 4 (omega (arith, length-append head seen)), drop_at head seen 4 long)
 
-module _ (nodes : List Node) (d : CellState) (p : FieldState) (stands : Stands nodes d) (b : List ℕ) where
+module _ (nodes : List Node) (d : CellState) (p : FieldState) (conforms : Conforms nodes d) (b : List ℕ) where
   abbrev first : Option Kind
   first = first_kind (place nodes d).symbols
 
@@ -184,7 +184,7 @@ module _ (nodes : List Node) (d : CellState) (p : FieldState) (stands : Stands n
 
   further_first : (o : Option OpenValue) → FurtherUnder nodes d p o → first_kind (all_open_symbols nodes 0 d.open_values) ≡ None
   further_first None h = absurd h
-  further_first (Some o) h = ap first_kind (inner_symbols nodes d o stands h.0 h.1)
+  further_first (Some o) h = ap first_kind (inner_symbols nodes d o conforms h.0 h.1)
 
   part_first : (n : NextInCell) → PartUnder nodes d p n → first_kind (symbols_for nodes d.stop d.open_values n) ≡ None
   part_first next.Nothing h = absurd h
@@ -201,12 +201,12 @@ module _ (nodes : List Node) (d : CellState) (p : FieldState) (stands : Stands n
   come_in arrived.Nothing h busy come = let no : ◌≡◌ {A = Bool} true false = sym busy ∙ h in absurd cc
   come_in arrived.Length h busy come =
       let short : length p.seen < 4 = h.1.4 in (
-        rw (value_first_is nodes d stands h.0, come, lt-ltb (length p.seen) 4 short) refl,
-        rw (value_first_is nodes d stands h.0, come, drop_all 4 p.seen (omega arith)) (sym (either_none (is_counted (due_value nodes d).kind))),
+        rw (value_first_is nodes d conforms h.0, come, lt-ltb (length p.seen) 4 short) refl,
+        rw (value_first_is nodes d conforms h.0, come, drop_all 4 p.seen (omega arith)) (sym (either_none (is_counted (due_value nodes d).kind))),
       )
-  come_in (arrived.Scalar n) h busy come = known_come come.0 (due_value nodes d).kind false come.1 come.3 (value_first_is nodes d stands h.0) (not_counted (due_value nodes d).kind h.2.can.2)
-  come_in (arrived.Counted n) h busy come = known_come come.0 (due_value nodes d).kind true come.1 come.3 (value_first_is nodes d stands h.0) h.2.can.1
-  come_in (arrived.First n) h busy come = known_come come.0 (due_value nodes d).kind false come.1 come.3 (value_first_is nodes d stands h.0) (not_counted (due_value nodes d).kind h.2.can.3)
+  come_in (arrived.Scalar n) h busy come = known_come come.0 (due_value nodes d).kind false come.1 come.3 (value_first_is nodes d conforms h.0) (not_counted (due_value nodes d).kind h.2.can.2)
+  come_in (arrived.Counted n) h busy come = known_come come.0 (due_value nodes d).kind true come.1 come.3 (value_first_is nodes d conforms h.0) h.2.can.1
+  come_in (arrived.First n) h busy come = known_come come.0 (due_value nodes d).kind false come.1 come.3 (value_first_is nodes d conforms h.0) (not_counted (due_value nodes d).kind h.2.can.3)
   come_in arrived.Later h busy come = rw (part_first d.next h, come) (refl, refl)
 
 -- ---- what is decided
@@ -273,7 +273,7 @@ module _ (nodes : List Node) where
     pub field : q.under_way ≡ o.field
     pub bytes : cond q.under_way q.seen [] ≡ o.bytes
     pub buffer : q.content ≡ o.buffer
-    pub stands : Stands nodes new
+    pub conforms : Conforms nodes new
     pub rules : new.rules ≡ l
     pub room : q.room ≡ most
 
@@ -294,8 +294,8 @@ module _ (nodes : List Node) where
   module _ (l : Rules) (room : ℕ) (o : Outcome) where
     meets_seen : (x : Answer) (new : CellState) (q : FieldState) → Meets l room o x new q → seen nodes new q ≡ seen_by l room o
     meets_seen x new q m =
-        let done : is_done new ≡ (o.under_way && is_none o.place.symbols) = done_are nodes new m.stands ∙ (λ i. m.under_way i && is_none ((m.place i).symbols)) in
-        let levels : length new.open_values ≡ endings o.place.symbols = levels_are nodes new m.stands ∙ (λ i. endings ((m.place i).symbols)) in
+        let done : is_done new ≡ (o.under_way && is_none o.place.symbols) = done_are nodes new m.conforms ∙ (λ i. m.under_way i && is_none ((m.place i).symbols)) in
+        let levels : length new.open_values ≡ endings o.place.symbols = levels_are nodes new m.conforms ∙ (λ i. endings ((m.place i).symbols)) in
         λ i. record { rules = m.rules i; under_way = m.under_way i; done = done i; place = m.place i; levels = levels i; field = m.field i; bytes = m.bytes i; room = m.room i; buffer = m.buffer i }
 
   both_meet : {X : Type 0} (l : Rules) (room : ℕ) (o : Outcome) (x y : Answer) (c d : Call X) → Meets l room o x c.reader' c.partial' → Meets l room o y d.reader' d.partial' → (x ≡ y) × LeaveAlike nodes c d
@@ -306,7 +306,7 @@ module _ (nodes : List Node) where
 
   -- ---- a call
 
-  module _ (old : CellState) (p : FieldState) (under_way : is_under_way old ≡ true) (stands : Stands nodes old) (joined : Joined nodes old p) (b input : List ℕ) (come : HaveCome b old.arrived p.seen) where
+  module _ (old : CellState) (p : FieldState) (under_way : is_under_way old ≡ true) (conforms : Conforms nodes old) (joined : Joined nodes old p) (b input : List ℕ) (come : HaveCome b old.arrived p.seen) where
     abbrev outcome : Outcome
     outcome = decided old.rules (place nodes old) b input p.content
 
@@ -318,24 +318,24 @@ module _ (nodes : List Node) where
 
     some_left : is_done old ≡ false → is_none here.symbols ≡ false
     some_left e =
-        let is : is_done old ≡ (true && is_none here.symbols) = rw under_way at (done_are nodes old stands) in
+        let is : is_done old ≡ (true && is_none here.symbols) = rw under_way at (done_are nodes old conforms) in
         sym is ∙ e
 
     none_left : is_done old ≡ true → is_none here.symbols ≡ true
     none_left e =
-        let is : is_done old ≡ (true && is_none here.symbols) = rw under_way at (done_are nodes old stands) in
+        let is : is_done old ≡ (true && is_none here.symbols) = rw under_way at (done_are nodes old conforms) in
         sym is ∙ e
 
     module _ (new : CellState) (q : FieldState) where
       done_meets : is_done old ≡ true → new ≡ ended old → q.under_way ≡ false → q.content ≡ p.content → q.room ≡ p.room → Meets old.rules p.room outcome Done new q
       done_meets done goes idle same room =
-          rw (decided_done here b input p.content here.symbols said (none_left done), goes) (record { answer = refl; under_way = refl; place = refl; come = refl; field = idle; bytes = rw idle refl; buffer = same; stands = ended_stands nodes old stands; rules = refl; room = room })
+          rw (decided_done here b input p.content here.symbols said (none_left done), goes) (record { answer = refl; under_way = refl; place = refl; come = refl; field = idle; bytes = rw idle refl; buffer = same; conforms = ended_conforms nodes old conforms; rules = refl; room = room })
 
       bad_meets : (r : Refusal) → is_done old ≡ false → said ≡ Bad (r.at, r.why) → new ≡ ended old → q.under_way ≡ false → q.content ≡ [] → q.room ≡ p.room → Meets old.rules p.room outcome (Refused r) new q
       bad_meets r more is goes idle empty room =
-          rw (decided_bad here b input p.content here.symbols said r (some_left more) is, goes) (record { answer = refl; under_way = refl; place = refl; come = refl; field = idle; bytes = rw idle refl; buffer = empty; stands = ended_stands nodes old stands; rules = refl; room = room })
+          rw (decided_bad here b input p.content here.symbols said r (some_left more) is, goes) (record { answer = refl; under_way = refl; place = refl; come = refl; field = idle; bytes = rw idle refl; buffer = empty; conforms = ended_conforms nodes old conforms; rules = refl; room = room })
 
-      more_meets : (used : ℕ) → used ≡ length input → is_done old ≡ false → said ≡ reader.More → is_under_way new ≡ true → place nodes new ≡ here → HaveCome (b ++ input) new.arrived q.seen → q.under_way ≡ true → Joined nodes new q → q.content ≡ gathered new.arrived q.seen → Stands nodes new
+      more_meets : (used : ℕ) → used ≡ length input → is_done old ≡ false → said ≡ reader.More → is_under_way new ≡ true → place nodes new ≡ here → HaveCome (b ++ input) new.arrived q.seen → q.under_way ≡ true → Joined nodes new q → q.content ≡ gathered new.arrived q.seen → Conforms nodes new
           → new.rules ≡ old.rules → q.room ≡ p.room → Meets old.rules p.room outcome (More used) new q
       more_meets used all more is going at came field j kept s rules room =
           let come = come_in nodes new q s (b ++ input) new.arrived j.under_way field came in
@@ -349,7 +349,7 @@ module _ (nodes : List Node) where
             field = field;
             bytes = rw field (come.0 ∙ ap (λ (z : Option Kind). field_bytes z (b ++ input)) symbols);
             buffer = kept ∙ come.1 ∙ ap (λ (z : Option Kind). buffer_bytes z (b ++ input)) symbols;
-            stands = s;
+            conforms = s;
             rules = rules;
             room = room;
           })
@@ -358,13 +358,13 @@ module _ (nodes : List Node) where
       kept_is used e k = elim (cases_lt used (content_length e)) [
         | inl lt ↦
             let h = k.kept lt in
-            let come = come_in nodes old p stands b old.arrived joined.under_way h.0 come in
+            let come = come_in nodes old p conforms b old.arrived joined.under_way h.0 come in
             rw (lt-ltb used (content_length e) lt) (h.1 ∙ ap (λ (z : List ℕ). z ++ take used input) come.0)
         | inr le ↦ rw (le-ltb used (content_length e) le) (k.lent le)
       ]
 
       item_meets : (at used : ℕ) (e : CellEvent) (x : Emitted CellEvent CellPlace) → is_done old ≡ false → said ≡ Got x (length b + used) → x.at ≡ at → x.event ≡ e → x.after (length b + used) ≡ place nodes new → is_under_way new ≡ true
-          → new.arrived ≡ arrived.Nothing → q.under_way ≡ false → Keeps p input used e q → Stands nodes new → new.rules ≡ old.rules → q.room ≡ p.room → Meets old.rules p.room outcome (FieldOutline at used e) new q
+          → new.arrived ≡ arrived.Nothing → q.under_way ≡ false → Keeps p input used e q → Conforms nodes new → new.rules ≡ old.rules → q.room ≡ p.room → Meets old.rules p.room outcome (FieldOutline at used e) new q
       item_meets at used e x more is begins event after going fresh idle keeps s rules room =
           rw (decided_item here b input p.content here.symbols said x used (some_left more) is)
           (record {
@@ -375,7 +375,7 @@ module _ (nodes : List Node) where
             field = idle;
             bytes = rw idle refl;
             buffer = kept_is used e keeps ∙ ap (λ (z : CellEvent). left_by (content_length z) used (field_bytes (first_kind here.symbols) b) input) (sym event);
-            stands = s;
+            conforms = s;
             rules = rules;
             room = room;
           })
@@ -386,10 +386,10 @@ module _ (nodes : List Node) where
       advance_meets (advance.More used) m a empty =
           let w = m b come in
           let same = w.0.same in
-          more_meets used w.0.all (is_not_done old a.1) (sym (answer_is nodes old (b ++ input)) ∙ w.0.is) (ap is_under_way same ∙ under_way) (ap (place nodes) same) w.1 w.0.under_way w.0.joined w.0.kept (rw same (stands_under nodes old new.arrived stands)) (ap (λ (d : CellState). d.rules) same) w.0.longest
+          more_meets used w.0.all (is_not_done old a.1) (sym (answer_is nodes old (b ++ input)) ∙ w.0.is) (ap is_under_way same ∙ under_way) (ap (place nodes) same) w.1 w.0.under_way w.0.joined w.0.kept (rw same (conforms_under nodes old new.arrived conforms)) (ap (λ (d : CellState). d.rules) same) w.0.longest
       advance_meets (advance.Item at used i) m a empty =
           let h = m b come in
-          item_meets at used (event_at i input q.content) h.emits.x (is_not_done old a.1) (sym (answer_is nodes old (b ++ input)) ∙ h.emits.is) h.emits.offset h.emits.event h.emits.after h.goes_on h.fresh h.idle (keeps nodes p q input used i h.can_lend h.lent h.kept empty) h.stands h.rules h.longest
+          item_meets at used (event_at i input q.content) h.emits.x (is_not_done old a.1) (sym (answer_is nodes old (b ++ input)) ∙ h.emits.is) h.emits.offset h.emits.event h.emits.after h.goes_on h.fresh h.idle (keeps nodes p q input used i h.can_lend h.lent h.kept empty) h.conforms h.rules h.longest
       advance_meets advance.Done m a empty =
           let idle : p.under_way ≡ false = rw m.1 at joined.under_way in
           done_meets (is_over_done old under_way m.0) m.2 (rw m.3 idle) (ap (λ (z : FieldState). z.content) m.3) (ap (λ (z : FieldState). z.room) m.3)
@@ -434,7 +434,7 @@ module _ (nodes : List Node) where
   moved_to : (l l' : Rules) (n n' : ℕ) (at at' : CellPlace) (b b' held held' input : List ℕ) (x : Answer) (new : CellState) (q : FieldState) → l ≡ l' → n ≡ n' → at ≡ at' → b ≡ b' → held ≡ held' → Meets l n (decided l at b input held) x new q → Meets l' n' (decided l' at' b' input held') x new q
   moved_to l l' n n' at at' b b' held held' input x new q el en ea eb eh m = rw (← el, ← en, ← ea, ← eb, ← eh) m
 
-  -- after the same bytes and events, two readers stand at the same place, and the same bytes have come
+  -- after the same bytes and events, two readers are at the same place, and the same bytes have come
   alike_place : {X : Type 0} (start : CellPlace) (s : List ℕ) (es : List (ℕ × CellEvent)) (c d : Call X) (a : AreAlike nodes start s es c d) → (place nodes d.reader ≡ place nodes c.reader) × (a.that.pending ≡ a.this.pending)
   alike_place start s es c d a =
       run_same (cell_step c.reader.rules) start (place nodes c.reader) (place nodes d.reader) s a.this.pending a.that.pending es a.this.runs (rw (sym a.rules) at a.that.runs)
@@ -443,14 +443,14 @@ pub one_push : (nodes : List Node) (start : CellPlace) (s : List ℕ) (es : List
     → AreAlike nodes start s es c d → IsPush nodes input c → IsPush nodes input d → (push_answer c.answer ≡ push_answer d.answer) × LeaveAlike nodes c d
 one_push nodes start s es input c d a m n =
     let same = alike_place nodes start s es c d a in
-    let this = push_meets nodes c.reader c.partial m.0.under_way m.0.stands m.0.joined a.this.pending input a.this.come c.reader' c.partial' start s es a.this.runs c.answer m.1 m.2 m.3 in
-    let that = push_meets nodes d.reader d.partial n.0.under_way n.0.stands n.0.joined a.that.pending input a.that.come d.reader' d.partial' start s es a.that.runs d.answer n.1 n.2 n.3 in
+    let this = push_meets nodes c.reader c.partial m.0.under_way m.0.conforms m.0.joined a.this.pending input a.this.come c.reader' c.partial' start s es a.this.runs c.answer m.1 m.2 m.3 in
+    let that = push_meets nodes d.reader d.partial n.0.under_way n.0.conforms n.0.joined a.that.pending input a.that.come d.reader' d.partial' start s es a.that.runs d.answer n.1 n.2 n.3 in
     both_meet nodes c.reader.rules c.partial.room _ _ _ c d this (moved_to nodes _ _ _ _ _ _ _ _ _ _ input (push_answer d.answer) d.reader' d.partial' (sym a.rules) (sym a.room) same.0 same.1 (sym a.buffer) that)
 
 pub one_advance : (nodes : List Node) (start : CellPlace) (s : List ℕ) (es : List (ℕ × CellEvent)) (input : List ℕ) (c d : Call CellAdvance)
     → AreAlike nodes start s es c d → IsAdvance nodes input c → IsAdvance nodes input d → (advance_answer input c.partial'.content c.answer ≡ advance_answer input d.partial'.content d.answer) × LeaveAlike nodes c d
 one_advance nodes start s es input c d a m n =
     let same = alike_place nodes start s es c d a in
-    let this = advance_meets nodes c.reader c.partial m.0.under_way m.0.stands m.0.joined a.this.pending input a.this.come c.reader' c.partial' c.answer m.1 m.2 m.3 in
-    let that = advance_meets nodes d.reader d.partial n.0.under_way n.0.stands n.0.joined a.that.pending input a.that.come d.reader' d.partial' d.answer n.1 n.2 n.3 in
+    let this = advance_meets nodes c.reader c.partial m.0.under_way m.0.conforms m.0.joined a.this.pending input a.this.come c.reader' c.partial' c.answer m.1 m.2 m.3 in
+    let that = advance_meets nodes d.reader d.partial n.0.under_way n.0.conforms n.0.joined a.that.pending input a.that.come d.reader' d.partial' d.answer n.1 n.2 n.3 in
     both_meet nodes c.reader.rules c.partial.room _ _ _ c d this (moved_to nodes _ _ _ _ _ _ _ _ _ _ input (advance_answer input d.partial'.content d.answer) d.reader' d.partial' (sym a.rules) (sym a.room) same.0 same.1 (sym a.buffer) that)

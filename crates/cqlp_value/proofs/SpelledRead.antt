@@ -119,7 +119,7 @@ module _ (l : Rules) where
 
   -- ---- one value
 
-  -- This value alone is read, whatever stands after it.
+  -- This value alone is read, whatever is after it.
   abbrev Reads_one : Values → Type 0
   Reads_one one = (k : Kind) (inner : Types) (front : List ℕ) → ValueSpells k inner one front → (p : CellPlace) (rest : List CellSymbol) (level stop : ℕ) → cell_step l p ≡ value_step l p rest k inner level (stop - p.offset) → p.offset + length front ≤ stop
       → Reads p front (values_items l level p.offset (Type_and k inner NoMore) one) (place (p.offset + length front) rest)

@@ -22,37 +22,37 @@ use Rattle.cqlp_value.proofs.ScalarsWritten.{both_true, scalar_written, scalar_r
 abbrev kind_at : ℕ → Option Kind
 kind_at n = cond (eqb n 0x10000) (Some kind.Raw) (beside_number n kinds)
 
-kind_stands : (k : Kind) → kind_at (id_of k) ≡ Some k
-kind_stands kind.Custom = refl
-kind_stands kind.Ascii = refl
-kind_stands kind.Bigint = refl
-kind_stands kind.Blob = refl
-kind_stands kind.Boolean = refl
-kind_stands kind.Counter = refl
-kind_stands kind.Decimal = refl
-kind_stands kind.Double = refl
-kind_stands kind.Float = refl
-kind_stands kind.Int = refl
-kind_stands kind.Timestamp = refl
-kind_stands kind.Uuid = refl
-kind_stands kind.Varchar = refl
-kind_stands kind.Varint = refl
-kind_stands kind.Timeuuid = refl
-kind_stands kind.Inet = refl
-kind_stands kind.Date = refl
-kind_stands kind.Time = refl
-kind_stands kind.Smallint = refl
-kind_stands kind.Tinyint = refl
-kind_stands kind.List = refl
-kind_stands kind.Map = refl
-kind_stands kind.Set = refl
-kind_stands kind.Udt = refl
-kind_stands kind.Tuple = refl
-kind_stands kind.Raw = refl
+kind_conforms : (k : Kind) → kind_at (id_of k) ≡ Some k
+kind_conforms kind.Custom = refl
+kind_conforms kind.Ascii = refl
+kind_conforms kind.Bigint = refl
+kind_conforms kind.Blob = refl
+kind_conforms kind.Boolean = refl
+kind_conforms kind.Counter = refl
+kind_conforms kind.Decimal = refl
+kind_conforms kind.Double = refl
+kind_conforms kind.Float = refl
+kind_conforms kind.Int = refl
+kind_conforms kind.Timestamp = refl
+kind_conforms kind.Uuid = refl
+kind_conforms kind.Varchar = refl
+kind_conforms kind.Varint = refl
+kind_conforms kind.Timeuuid = refl
+kind_conforms kind.Inet = refl
+kind_conforms kind.Date = refl
+kind_conforms kind.Time = refl
+kind_conforms kind.Smallint = refl
+kind_conforms kind.Tinyint = refl
+kind_conforms kind.List = refl
+kind_conforms kind.Map = refl
+kind_conforms kind.Set = refl
+kind_conforms kind.Udt = refl
+kind_conforms kind.Tuple = refl
+kind_conforms kind.Raw = refl
 
 pub is_the_kind : (j k : Kind) → is_kind j k ≡ true → j ≡ k
 is_the_kind j k t =
-    let same : Some j ≡ Some k = sym (kind_stands j) ∙ ap kind_at (eqb-true (id_of j) (id_of k) t) ∙ kind_stands k in
+    let same : Some j ≡ Some k = sym (kind_conforms j) ∙ ap kind_at (eqb-true (id_of j) (id_of k) t) ∙ kind_conforms k in
     cc
 
 pub kind_is : (j k : Kind) → j ≡ k → is_kind j k ≡ true

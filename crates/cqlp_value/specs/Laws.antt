@@ -20,7 +20,7 @@ use Rattle.cqlp_cell.specs.declared.front.FrontScalar.{FrontScalar}
 use Rattle.cqlp_kind.specs.Contents.{value_of}
 use Rattle.cqlp_cell.specs.Fronts.{IsFront}
 use Rattle.cqlp_cell.specs.Items.{event_at, event_of}
-use Rattle.cqlp_cell.specs.Progress.{CellState, Stands, is_under_way, place}
+use Rattle.cqlp_cell.specs.Progress.{CellState, Conforms, is_under_way, place}
 use Rattle.cqlp_cell.specs.Reading.{Answers, Empties, HaveCome, Joined, Moves}
 use Rattle.cqlp_cell.specs.Pushing.{After, Continues, Pushes, Uses, is_done}
 
@@ -110,7 +110,7 @@ pub record Call (X : Type 0) : Type 0 where
 
 module _ (nodes : List Node) where
   -- What later calls see of a reader and its `Partial`: the limits; whether a cell is under way, and whether nothing of
-  -- it is left; where its reading stands, in how many open values; whether a field is under way, with its bytes so far;
+  -- it is left; where its reading is, in how many open values; whether a field is under way, with its bytes so far;
   -- the room, and what the buffer holds.
   pub record Seen : Type 0 where
     pub rules : Rules
@@ -146,7 +146,7 @@ module _ (nodes : List Node) where
   -- what a call of either requires
   pub record IsReady {X : Type 0} (c : Call X) : Type 0 where
     pub under_way : is_under_way c.reader ≡ true
-    pub stands : Stands nodes c.reader
+    pub conforms : Conforms nodes c.reader
     pub joined : Joined nodes c.reader c.partial
 
   -- what `push` requires and ensures

@@ -54,7 +54,7 @@ pub record IsScalar (k : Kind) (v : ScalarValue) (content : List ℕ) : Type 0 w
   pub size : allows_size k (length content) ≡ true
   pub is : scalar_of k content ≡ Some v
 
--- These bytes spell these values, one of each type. A count stands before the elements of a list or a set and before
+-- These bytes spell these values, one of each type. A count is before the elements of a list or a set and before
 -- the pairs of a map. The last fields of a tuple or a user-defined type may be missing.
 abbrev pub ValuesSpell : Types → Values → List ℕ → Type 0
 ValuesSpell NoMore NoValue b = b ≡ []

@@ -7,7 +7,7 @@ use crate::cqlp_message::{ErrorExtra, SchemaChange, SchemaOptions, ServerEvent};
 use crate::cqlp_note::Field;
 
 impl Held {
-    /// Takes what stands after the message of an error of this code.
+    /// Takes what comes after the message of an error of this code.
     pub fn extra(&mut self, code: u32) -> ErrorExtra {
         match code {
             error_code::UNAVAILABLE => self.unavailable(),

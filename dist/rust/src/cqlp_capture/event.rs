@@ -85,7 +85,7 @@ pub(crate) enum EventOutline {
     Skipped(SkipReason),
 }
 
-/// What the bytes that were wanted say: an event at an offset, or none; where the reading stands after it, and what becomes
+/// What the bytes that were wanted say: an event at an offset, or none; where the reading is after it, and what becomes
 /// of the section's interfaces.
 #[derive(Clone, Copy)]
 pub(crate) struct Emission {

@@ -1,5 +1,5 @@
 // Written by dist/erase from crates/cqlp_capture/src/place.rt.
-//! Where the reading of a capture stands.
+//! Where the reading of a capture is.
 
 use crate::cqlp_capture::block::{Block, EitherLength};
 use crate::cqlp_capture::emission::read_next;

@@ -120,7 +120,7 @@ fn listen<R: Source, O: Target>(
     (answer, Counts { sums, missed }, out)
 }
 
-/// Where the capture was read, writes what stands at the end.
+/// Where the capture was read, writes what is at the end.
 fn finish<O: Target>(
     exchanges: &mut Exchanges<O>,
     read: Result<CaptureRead, StreamsFault>,

@@ -56,7 +56,7 @@ impl<O: Target, A: Allocator + Clone> Exchanges<O, A> {
         }
     }
 
-    /// Writes what stands at the end: the lines of a summary.
+    /// Writes what is at the end: the lines of a summary.
     pub fn finish(&mut self) -> Result<(), SinkFault> {
         self.reporter.finish()
     }

@@ -89,7 +89,7 @@ impl<O: Target, A: Allocator> Reporter<O, A> {
         }
     }
 
-    /// Writes what stands at the end.
+    /// Writes what is at the end.
     pub(crate) fn finish(&mut self) -> Result<(), SinkFault> {
         put_ending(&mut self.writer, self.form, &self.summary)
     }

@@ -5,7 +5,7 @@ use crate::kit_host::prelude::{AllocGlobal, Vec};
 use crate::cqlp_capture_prepared::error::NewPreparedError;
 use crate::kit_std::alloc::{Allocator, Global};
 
-/// Values under their keys, at most as many as the limit: the one that was put or used last stands first, and where all places are taken the
+/// Values under their keys, at most as many as the limit: the one that was put or used last comes first, and where all places are taken the
 /// one goes that was put or used longest ago. All memory is taken in `new`.
 pub struct Latest<K, V, A: Allocator = Global> {
     limit: u16,
@@ -59,7 +59,7 @@ impl<K: Eq, V, A: Allocator> Latest<K, V, A> {
         self.entries.clear();
     }
 
-    /// The place of what stands under a key.
+    /// The place of what is under a key.
     fn place_of(&self, key: &K) -> Option<usize> {
         self.entries.iter().position(|entry| *key == entry.0)
     }

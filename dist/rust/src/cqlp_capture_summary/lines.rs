@@ -9,7 +9,7 @@ use crate::cqlp_capture_summary::tally::{Figures, Tally, Times};
 use crate::cqlp_grammar::SinkFault;
 use crate::cqlp_text::{Pen, TextWriter};
 
-/// What stands above the columns.
+/// What is above the columns.
 const HEADER: &str =
     "     %    time_ms    count errors unanswered      rows       bytes   p50_ms   p95_ms   p99_ms    max_ms statement\n";
 
@@ -199,7 +199,7 @@ fn text_front(bytes: &[u8]) -> &str {
     }
 }
 
-/// What stands behind a name that is not whole.
+/// What comes behind a name that is not whole.
 fn more(is_whole: bool) -> &'static str {
     if is_whole { "" } else { ".." }
 }

@@ -4,7 +4,7 @@
 use crate::cqlp_grammar::SinkFault;
 use crate::cqlp_text::{Pen, TextWriter};
 
-/// Takes a text as it stands between quotes: a quote, a backslash and each character that a terminal may obey is escaped.
+/// Takes a text as it is written between quotes: a quote, a backslash and each character that a terminal may obey is escaped.
 pub fn put_shown_text<P: Pen>(writer: &mut TextWriter<P>, text: &str) -> Result<(), SinkFault> {
     if are_plain(text.as_bytes()) {
         return writer.put(text.as_bytes());
@@ -15,7 +15,7 @@ pub fn put_shown_text<P: Pen>(writer: &mut TextWriter<P>, text: &str) -> Result<
     Ok(())
 }
 
-/// Whether each byte stands for itself.
+/// Whether each byte is written as it is.
 fn are_plain(bytes: &[u8]) -> bool {
     bytes.iter().all(|byte| is_plain(*byte))
 }
@@ -25,7 +25,7 @@ fn is_plain(byte: u8) -> bool {
     (0x20..=0x21).contains(&byte) || (0x23..=0x5B).contains(&byte) || (0x5D..=0x7E).contains(&byte)
 }
 
-/// Takes a character as it stands between quotes.
+/// Takes a character as it is written between quotes.
 fn put_shown<P: Pen>(writer: &mut TextWriter<P>, c: char) -> Result<(), SinkFault> {
     let mut room = [0; 4];
     let bytes = c.encode_utf8(&mut room).as_bytes();

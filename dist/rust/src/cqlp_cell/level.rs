@@ -7,8 +7,8 @@ use crate::cqlp_kind::Kind;
 use crate::cqlp_type::TypeTable;
 use crate::kit_std::alloc::Allocator;
 
-/// A copy of the innermost value that is open, and of where the reading stands in it. A loop over its items changes this in
-/// place of the reader, which `CellReader::set_level` then brings to where the loop stands.
+/// A copy of the innermost value that is open, and of where the reading is in it. A loop over its items changes this in
+/// place of the reader, which `CellReader::set_level` then brings to where the loop is.
 #[derive(Clone, Copy)]
 pub struct Level {
     pub(crate) value: OpenValue,

@@ -57,7 +57,7 @@ pub(crate) struct DueValue {
     pub stop: u64,
 }
 
-/// Where the reading of a cell stands.
+/// Where the reading of a cell is.
 pub(crate) struct CellProgress<A: Allocator> {
     pub limits: Asked,
     /// The offset of what is read next.

@@ -11,7 +11,7 @@ use crate::cqlp_note::{Asked, Limits, NoMemory, Partial};
 use crate::cqlp_type::TypeTable;
 use crate::kit_std::alloc::{Allocator, Global};
 
-/// Reads cells, one at a time, as events. Their contents are read in the caller's `Partial`, and their types stand in
+/// Reads cells, one at a time, as events. Their contents are read in the caller's `Partial`, and their types are in
 /// the caller's table. Section 6 of `native_protocol_v4.spec`.
 pub struct CellReader<A: Allocator = Global> {
     progress: CellProgress<A>,
@@ -96,13 +96,13 @@ impl<A: Allocator> CellReader<A> {
         self.progress.advance(partial, table, input)
     }
 
-    /// A copy of the innermost value that is open, where what is read next stands in it and nothing of that has come.
+    /// A copy of the innermost value that is open, where what is read next is in it and nothing of that has come.
     #[inline(always)]
     pub fn level(&self) -> Option<Level> {
         self.progress.level()
     }
 
-    /// Goes on where a level stands: it is the innermost value from now on, if one is open.
+    /// Goes on where a level is: it is the innermost value from now on, if one is open.
     #[inline(always)]
     pub fn set_level(&mut self, level: Level) {
         self.progress.set_level(level);
@@ -122,7 +122,7 @@ impl<A: Allocator> CellReader<A> {
         self.progress.enter_value(table, input)
     }
 
-    /// Looks into the cell after the one that is under way, of the type at this node, where a level stands at the end of this
+    /// Looks into the cell after the one that is under way, of the type at this node, where a level is at the end of this
     /// one: the beginning of a list, a set or a map, if its length and its count are lawful and lie in the input. A reader
     /// that is set to the level that is answered has ended the one cell and entered the other.
     #[inline(always)]

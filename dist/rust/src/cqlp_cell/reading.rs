@@ -148,7 +148,7 @@ impl<A: Allocator> CellProgress<A> {
         }
     }
 
-    /// The same, and says where it stands in it.
+    /// The same, and says where it is in it.
     #[inline(always)]
     pub(crate) fn open_counted(
         &mut self,

@@ -43,7 +43,7 @@ pub enum BarePart {
     Leave { level: u32, items: u32 },
 }
 
-/// The beginning of a list, a set or a map, and where the reading stands in it.
+/// The beginning of a list, a set or a map, and where the reading is in it.
 #[derive(Clone, Copy)]
 pub struct Entered {
     pub item: BareItem,
@@ -51,7 +51,7 @@ pub struct Entered {
 }
 
 impl<A: Allocator> CellProgress<A> {
-    /// The innermost value that is open, where what is read next stands in it and nothing of that has come.
+    /// The innermost value that is open, where what is read next is in it and nothing of that has come.
     #[inline(always)]
     pub(crate) fn level(&self) -> Option<Level> {
         let Arrived::Nothing = self.arrived else {
@@ -70,7 +70,7 @@ impl<A: Allocator> CellProgress<A> {
         })
     }
 
-    /// Goes on where a level stands, which is the innermost value from now on.
+    /// Goes on where a level is, which is the innermost value from now on.
     #[inline(always)]
     pub(crate) fn set_level(&mut self, level: Level) {
         self.offset = level.offset;
@@ -228,7 +228,7 @@ impl<A: Allocator> CellProgress<A> {
     }
 
     /// The beginning of the list, the set or the map that the next cell of the container is, of the type at this node, where a
-    /// level stands at the end of the cell before.
+    /// level is at the end of the cell before.
     #[inline(always)]
     pub(crate) fn enter_next(
         &self,

@@ -171,7 +171,7 @@ impl<A: Allocator> Column<A> {
         self.values.len() <= bytes as usize
     }
 
-    /// Whether more bytes than so many stand for a cell.
+    /// Whether more bytes than so many represent a cell.
     #[inline(always)]
     pub(crate) fn is_long(&self, cell: &Cell<'_>, content: u32) -> bool {
         cell_len(self.layout, cell) > content as usize
@@ -266,7 +266,7 @@ fn is(one: Kind, other: Kind) -> bool {
     one == other
 }
 
-/// How many bytes stand in a cell's place.
+/// How many bytes are in a cell's place.
 #[inline(always)]
 fn cell_len(layout: Layout, cell: &Cell<'_>) -> usize {
     match *cell {
@@ -275,7 +275,7 @@ fn cell_len(layout: Layout, cell: &Cell<'_>) -> usize {
     }
 }
 
-/// How many bytes stand in the place of a cell without a value.
+/// How many bytes are in the place of a cell without a value.
 #[inline(always)]
 fn blank_len(layout: Layout) -> usize {
     match layout {

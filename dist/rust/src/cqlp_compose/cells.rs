@@ -19,7 +19,7 @@ use crate::kit_std::alloc::Global;
 /// `native_protocol_v4.spec`.
 ///
 /// It takes what a decoder says of the cells, in that order, each event with its row and its column, and holds what it writes and the
-/// events of one cell. The page itself, a [`Frame`] without cells and a [`PagePlace`], is the caller's, and stands behind the cells only once
+/// events of one cell. The page itself, a [`Frame`] without cells and a [`PagePlace`], is the caller's, and is behind the cells only once
 /// the caller puts [`WrittenCells::place`] there. Until then, and where an event was refused, nothing has changed. A page of any size is
 /// written in as many pieces as the caller likes:
 ///
@@ -47,7 +47,7 @@ pub struct PageCells<'a> {
 /// Cells of a page that were written.
 #[derive(Debug, PartialEq, Eq)]
 pub struct WrittenCells {
-    /// Where the page stands behind them.
+    /// Where the page is behind them.
     pub place: PagePlace,
     /// The bytes of these cells, to be written behind those of the cells before them.
     pub bytes: Vec<u8>,
@@ -90,7 +90,7 @@ impl<'a> PageCells<'a> {
         }
     }
 
-    /// The bytes of the cells, and where the page stands behind them.
+    /// The bytes of the cells, and where the page is behind them.
     ///
     /// # Errors
     ///

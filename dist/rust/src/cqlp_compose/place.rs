@@ -1,5 +1,5 @@
 // Written by dist/erase from crates/cqlp_compose/src/place.rt.
-//! Where a page stands whose cells come some at a time.
+//! Where a page is whose cells come some at a time.
 
 use crate::cqlp_message::{Frame, Unfit};
 

@@ -3,8 +3,8 @@
 //!
 //! The loop takes each header, field and end that lies whole in the input. It leaves all else to `Decoder::next`, which
 //! alone decides it: a type option, a cell, a cut, and each refusal; and so it does an \[inet\], which few messages have.
-//! It may, since it is proved to hand out what the reading of the bytes says, and to stand where that does: no rule
-//! stands here alone. What follows a field, and where a message goes on, is found by the functions by which `next` does.
+//! It may, since it is proved to hand out what the reading of the bytes says, and to be where that does: no rule
+//! is here alone. What follows a field, and where a message goes on, is found by the functions by which `next` does.
 
 use crate::cqlp_decode::decoder::event_with;
 use crate::cqlp_decode::metadata::begin_metadata;

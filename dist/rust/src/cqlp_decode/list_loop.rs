@@ -2,7 +2,7 @@
 //! The cells of a page that are lists, sets or maps, handed straight to a sink.
 //!
 //! A cell is taken in one step while all its bytes lie in the input and its items are scalars: the value that is open stays
-//! in the loop's hands. What stands elsewhere is left, with the reading where it would stand: its items to the loop over
+//! in the loop's hands. What is elsewhere is left, with the reading where it would be: its items to the loop over
 //! the items of cells, and all else to `Decoder::next`.
 
 use crate::cqlp_decode::item_loop::{ItemsHanded, due_in, hand_part, stop_at};
@@ -206,7 +206,7 @@ impl StreamProgress {
         stop_at(level, here, rest, within, false)
     }
 
-    /// Hands the items of a list, a set or a map in whose level the reading stands to the sink, its end, and the cells after
+    /// Hands the items of a list, a set or a map in whose level the reading is to the sink, its end, and the cells after
     /// it that are like it. Between two of them the reader and what is read now stay as they are, but for the cursor.
     #[inline(always)]
     fn hand_lists<S: Sink, A: Allocator>(
@@ -256,7 +256,7 @@ impl StreamProgress {
         }
     }
 
-    /// Leaves the cell, at whose end a level stands.
+    /// Leaves the cell, at whose end a level is.
     #[cold]
     #[inline(never)]
     fn end_list<A: Allocator>(
@@ -272,7 +272,7 @@ impl StreamProgress {
         self.end_cell(page, &mut parts.cells, table);
     }
 
-    /// Goes on from a cell, at whose end a level stands, to the next, if that is a list, a set or a map whose length and count
+    /// Goes on from a cell, at whose end a level is, to the next, if that is a list, a set or a map whose length and count
     /// are lawful and lie in the input.
     #[inline(always)]
     fn next_list<A: Allocator>(

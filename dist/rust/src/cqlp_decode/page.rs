@@ -25,7 +25,7 @@ pub struct CellCursor {
     pub columns: Columns,
     pub row: u32,
     pub column: u32,
-    /// Where the type of the column stands in the table, if that is known.
+    /// Where the type of the column is in the table, if that is known.
     pub index: u32,
     pub left: u32,
 }
@@ -120,7 +120,7 @@ impl CellCursor {
         true
     }
 
-    /// Where the type of the next column stands, if this row has one; that of this one takes so many nodes.
+    /// Where the type of the next column is, if this row has one; that of this one takes so many nodes.
     fn next_column<A: Allocator>(&self, span: u32, table: &TypeTable<A>) -> Option<u32> {
         match self.columns {
             Columns::Typed | Columns::Given => {
@@ -146,7 +146,7 @@ pub fn page_table<'a, A: Allocator>(
 }
 
 /// Whether a given table types the page that begins after a field of this role: it waits, the metadata has no types,
-/// and as many types stand in it as the page has columns.
+/// and as many types are in it as the page has columns.
 pub fn serves<A: Allocator>(role: Role, given: &Option<TypeTable<A>>, given_use: GivenUse) -> bool {
     match (role, given, given_use) {
         (Role::PageRows { flags, columns }, Some(table), GivenUse::Waiting) => {
@@ -156,7 +156,7 @@ pub fn serves<A: Allocator>(role: Role, given: &Option<TypeTable<A>>, given_use:
     }
 }
 
-/// Whether this many types stand side by side in a table.
+/// Whether this many types are side by side in a table.
 fn has_types<A: Allocator>(table: &TypeTable<A>, count: u32) -> bool {
     table.roots() == count
 }

@@ -1,5 +1,5 @@
 // Written by dist/erase from crates/cqlp_decode/src/progress.rt.
-//! Where the reading of a stream stands, and one step of it.
+//! Where the reading of a stream is, and one step of it.
 
 use crate::cqlp_decode::advance::{EventAdvance, EventOutline, ScalarCell};
 use crate::cqlp_decode::given::GivenUse;
@@ -29,7 +29,7 @@ pub enum StreamStage {
     Extra,
 }
 
-/// Where the reading of a stream stands, but for the field, type option or cell that is under way.
+/// Where the reading of a stream is, but for the field, type option or cell that is under way.
 pub struct StreamProgress {
     pub limits: Asked,
     /// The start of the frame under way.

@@ -1,5 +1,5 @@
 // Written by dist/erase from crates/cqlp_encode/src/binding.rt.
-//! Values as they are bound to statements, and as they stand in pages whose columns are not described.
+//! Values as they are bound to statements, and as they are in pages whose columns are not described.
 
 use crate::kit_std::prelude::{Vec};
 use crate::cqlp_encode::value_writing::offer_content;

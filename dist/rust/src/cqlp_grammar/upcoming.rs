@@ -97,9 +97,9 @@ impl Upcoming {
         self.push_slot(Slot::One(due));
     }
 
-    /// Puts a field before all else, where it stands.
-    pub(crate) fn push_if(&mut self, stands: bool, due: Expected) {
-        if stands {
+    /// Puts a field before all else, where it is.
+    pub(crate) fn push_if(&mut self, conforms: bool, due: Expected) {
+        if conforms {
             self.push(due);
         }
     }

@@ -3,7 +3,7 @@
 
 use crate::cqlp_kind::kind::Kind;
 
-/// A type in a list of types in preorder, where each type stands before its inner ones.
+/// A type in a list of types in preorder, where each type is before its inner ones.
 #[derive(Clone, Copy, Debug, PartialEq, Eq)]
 pub struct Node {
     /// What the id of its option says; [`Kind::Raw`] for an unknown id in a lenient reading. Section 4.2.5.2 of `native_protocol_v4.spec`.

@@ -6,7 +6,7 @@ use crate::cqlp_note::Address;
 use crate::cqlp_type::TypeTree;
 use crate::cqlp_value::Value;
 
-/// What stands after the message of an error, by the error's code. Section 9 of `native_protocol_v4.spec`.
+/// What comes after the message of an error, by the error's code. Section 9 of `native_protocol_v4.spec`.
 #[derive(Debug, PartialEq, Eq)]
 pub enum ErrorExtra {
     /// Nothing: an error of a code without further fields, or of an unknown code.

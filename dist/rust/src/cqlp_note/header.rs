@@ -23,7 +23,7 @@ impl Header {
     /// The bytes of a body at most, 256 MB. Section 2.5 of `native_protocol_v4.spec`.
     pub const LONGEST_BODY: u32 = 268_435_456;
 
-    /// Whether the header may stand before a frame: the flag 01 is off, the opcode goes in this direction, and the
+    /// Whether the header may be before a frame: the flag 01 is off, the opcode goes in this direction, and the
     /// body is no longer than [`Header::LONGEST_BODY`].
     #[must_use]
     pub fn lawful(&self) -> bool {

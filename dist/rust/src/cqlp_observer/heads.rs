@@ -7,7 +7,7 @@ use crate::cqlp_observer::opening::{Opening, opening_with};
 use crate::cqlp_observer::stage_record::StageRecord;
 use crate::cqlp_note::Header;
 
-/// Where a direction stands.
+/// Where a direction is.
 pub(crate) enum Stage {
     /// Where the next frame begins is not known.
     Lost,

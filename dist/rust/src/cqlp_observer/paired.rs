@@ -7,7 +7,7 @@ use crate::cqlp_observer::message::Message;
 #[derive(Clone, Copy, Debug, PartialEq, Eq)]
 pub enum Paired<T> {
     /// A request and its response, the one next to the other under their stream id. The response came first only where the packets of a
-    /// capture do not stand in the order of their times, and the request was then begun no later.
+    /// capture are not in the order of their times, and the request was then begun no later.
     Exchange {
         /// The message of the client.
         request: Message<T>,

@@ -1,5 +1,5 @@
 // Written by dist/erase from crates/cqlp_observer/src/stage_record.rt.
-//! Where a direction stands, in fewer bytes.
+//! Where a direction is, in fewer bytes.
 
 use crate::cqlp_observer::frame_record::{parts_of, time_of};
 use crate::cqlp_observer::header_front::HeaderFront;
@@ -8,7 +8,7 @@ use crate::cqlp_observer::message::{Extent, Frame};
 use crate::cqlp_note::{Header, Opcode};
 use core::mem;
 
-/// Where a direction stands, as it is kept: 40 bytes in place of 64.
+/// Where a direction is, as it is kept: 40 bytes in place of 64.
 pub(crate) struct StageRecord {
     parts: StageParts,
 }

@@ -3,7 +3,7 @@
 
 use crate::clap::ArgMatches;
 
-/// Whether an option that stands alone is given.
+/// Whether an option that is alone is given.
 pub(crate) fn flag(matches: &ArgMatches<'_>, option: &str) -> bool {
     matches.get_flag(option)
 }

@@ -1,5 +1,5 @@
 // Written by dist/erase from crates/cqlp_options/src/no_task.rt.
-//! What stands in place of options.
+//! What is in place of options.
 
 use crate::kit_host::prelude::{AllocGlobal, String, ToText};
 use crate::clap::error::ErrorKind;

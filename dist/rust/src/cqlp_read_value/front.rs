@@ -1,5 +1,5 @@
 // Written by dist/erase from crates/cqlp_read_value/src/front.rt.
-//! What stands at the front of the bytes of a container.
+//! What is at the front of the bytes of a container.
 
 use crate::cqlp_read_value::error::ReadError;
 use crate::cqlp_kind::content::read_array;

@@ -196,7 +196,7 @@ fn shown_part<'a>(
     }
 }
 
-/// What stands before a cell of this column, or before an item of the open value.
+/// What comes before a cell of this column, or before an item of the open value.
 #[inline(always)]
 fn before(column: u32, around: Option<WrittenValue>) -> &'static str {
     match around {
@@ -216,7 +216,7 @@ fn before_item(kind: Kind, turn: Turn) -> &'static str {
     }
 }
 
-/// What stands after a cell, which may be the last of its row, or after an item of the open value.
+/// What comes after a cell, which may be the last of its row, or after an item of the open value.
 #[inline(always)]
 fn after(is_last: bool, around: Option<WrittenValue>) -> &'static str {
     match around {

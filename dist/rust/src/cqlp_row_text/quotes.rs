@@ -1,5 +1,5 @@
 // Written by dist/erase from crates/cqlp_row_text/src/quotes.rt.
-//! Texts in quotes, where a quote stands twice.
+//! Texts in quotes, where a quote is doubled.
 
 use crate::cqlp_grammar::SinkFault;
 use crate::cqlp_text::{Pen, TextWriter};

@@ -80,7 +80,7 @@ impl<A: Allocator> Server<A> {
     ///
     /// The first of these refuses it, and changes nothing: `NotRequest`, for a response, and for an opcode that is no
     /// request's; `BadId`, for an id that is negative or not below the number of slots; `IdTaken`, where a request is
-    /// open under it; `Phase`, where requests of this kind may not begin in the phase that stands.
+    /// open under it; `Phase`, where requests of this kind may not begin in the present phase.
     ///
     /// # Errors
     ///

@@ -1,5 +1,5 @@
 // Written by dist/erase from crates/cqlp_session/src/slots.rt.
-//! What stands under each stream id.
+//! What is under each stream id.
 
 use crate::kit_std::prelude::{Vec};
 use crate::kit_std::alloc::{AllocError, Allocator};
@@ -20,7 +20,7 @@ pub(crate) fn has<T>(slots: &[Option<T>], id: i16) -> bool {
     }
 }
 
-/// What stands under this id.
+/// What is under this id.
 pub(crate) fn under<T: Copy>(slots: &[Option<T>], id: i16) -> Option<T> {
     match index_of(id) {
         Some(i) if i < slots.len() => slots[i],

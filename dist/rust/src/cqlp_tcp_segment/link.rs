@@ -1,11 +1,11 @@
 // Written by dist/erase from crates/cqlp_tcp_segment/src/link.rt.
-//! Headers of links, which stand before the header of IP.
+//! Headers of links, which are before the header of IP.
 
 use crate::cqlp_tcp_segment::ether_type::{IpPacket, IpVersion, after_ether_type, with_version};
 use crate::cqlp_tcp_segment::fields::number_16;
 use crate::cqlp_tcp_segment::reason::NoSegment;
 
-/// What stands before the header of IP, as the registry of LINKTYPE_ values has it.
+/// What comes before the header of IP, as the registry of LINKTYPE_ values has it.
 #[derive(Clone, Copy, Debug, PartialEq, Eq)]
 pub enum LinkType {
     /// 0: BSD's loopback, whose family of addresses is in the order of the machine that captured.

@@ -1,7 +1,7 @@
 // Written by dist/erase from crates/cqlp_text/src/gap.rt.
-//! What stands in front of a value of a page.
+//! What comes in front of a value of a page.
 
-/// What stands in front of a value of a page.
+/// What comes in front of a value of a page.
 #[derive(Clone, Copy, Debug, PartialEq, Eq)]
 pub enum Gap {
     /// Nothing: in front of a row's first cell, and of a value's first item.

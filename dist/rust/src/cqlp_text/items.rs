@@ -1,5 +1,5 @@
 // Written by dist/erase from crates/cqlp_text/src/items.rt.
-//! Items of a page, put into a buffer with what stands around them.
+//! Items of a page, put into a buffer with what comes around them.
 
 use crate::cqlp_text::digits::{copy_to_front, place, place_in_line};
 use crate::cqlp_text::gap::Gap;

@@ -1,5 +1,5 @@
 // Written by dist/erase from crates/cqlp_text/src/names.rt.
-//! The names that stand in lines.
+//! The names that are in lines.
 
 use crate::cqlp_kind::Kind;
 use crate::cqlp_note::{Field, Opcode, Reason};

@@ -150,7 +150,7 @@ impl PagePlace {
         value_at(&self.open_values, self.free + 1)
     }
 
-    /// What stands before a cell of this column, or before an item of the open value.
+    /// What comes before a cell of this column, or before an item of the open value.
     #[inline(always)]
     fn gap(&self, column: u32) -> Gap {
         match self.innermost() {
@@ -377,7 +377,7 @@ impl<P: Pen> TextWriter<P> {
         self.put(b" rows\n")
     }
 
-    /// Takes a cell or an item that has no items, with what stands before and after it, and goes to the place after it,
+    /// Takes a cell or an item that has no items, with what comes before and after it, and goes to the place after it,
     /// also at a fault.
     #[inline(always)]
     fn put_leaf(
@@ -564,7 +564,7 @@ impl<P: Pen> TextWriter<P> {
         self.put_row_end(ends_row)
     }
 
-    /// Takes a cell or an item that has no items, with what stands before and after it.
+    /// Takes a cell or an item that has no items, with what comes before and after it.
     #[inline(always)]
     fn put_value(
         &mut self,
@@ -577,7 +577,7 @@ impl<P: Pen> TextWriter<P> {
         self.put_row_end(place.ends_row(column))
     }
 
-    /// Takes a truth value, with what stands before and after it.
+    /// Takes a truth value, with what comes before and after it.
     #[inline(always)]
     fn put_truth(&mut self, place: &PagePlace, column: u32, value: bool) -> Result<(), SinkFault> {
         self.put_before(place, column)?;
@@ -585,7 +585,7 @@ impl<P: Pen> TextWriter<P> {
         self.put_row_end(place.ends_row(column))
     }
 
-    /// Takes a name in place of a value, with what stands before and after it.
+    /// Takes a name in place of a value, with what comes before and after it.
     #[inline]
     fn put_named(&mut self, place: &PagePlace, column: u32, name: &str) -> Result<(), SinkFault> {
         self.put_before(place, column)?;
@@ -593,7 +593,7 @@ impl<P: Pen> TextWriter<P> {
         self.put_row_end(place.ends_row(column))
     }
 
-    /// Takes what stands before a cell of this column, or before an item of the open value.
+    /// Takes what comes before a cell of this column, or before an item of the open value.
     #[inline(always)]
     fn put_before(&mut self, place: &PagePlace, column: u32) -> Result<(), SinkFault> {
         match place.innermost() {
@@ -603,7 +603,7 @@ impl<P: Pen> TextWriter<P> {
         }
     }
 
-    /// Takes what stands before an item of an open value.
+    /// Takes what comes before an item of an open value.
     #[inline(always)]
     fn put_separator(&mut self, turn: Turn) -> Result<(), SinkFault> {
         match turn {
@@ -681,7 +681,7 @@ fn value_at(values: &[WrittenValue], at: usize) -> Option<WrittenValue> {
     values.get(at).copied()
 }
 
-/// What stands before an item of an open value.
+/// What comes before an item of an open value.
 #[inline(always)]
 fn gap_at(turn: Turn) -> Gap {
     match turn {
@@ -691,7 +691,7 @@ fn gap_at(turn: Turn) -> Gap {
     }
 }
 
-/// What stands before the items of a value of this kind.
+/// What comes before the items of a value of this kind.
 #[must_use]
 #[inline]
 pub fn opening(kind: Kind) -> &'static str {
@@ -702,7 +702,7 @@ pub fn opening(kind: Kind) -> &'static str {
     }
 }
 
-/// What stands after the items of a value of this kind.
+/// What comes after the items of a value of this kind.
 #[must_use]
 #[inline]
 pub fn closing(kind: Kind) -> &'static str {

@@ -3,7 +3,7 @@
 
 use crate::cqlp_kind::Node;
 
-/// The greatest depth at which a type stands, 0 where there are no nodes. It looks at each node once, and calls itself
+/// The greatest depth at which a type is, 0 where there are no nodes. It looks at each node once, and calls itself
 /// as deep as types are nested.
 pub(crate) fn deepest(nodes: &[Node]) -> u32 {
     let mut depth = 0;
@@ -16,7 +16,7 @@ pub(crate) fn deepest(nodes: &[Node]) -> u32 {
     depth
 }
 
-/// The nodes of a type's inner types, of those that stand after its own node.
+/// The nodes of a type's inner types, of those that are after its own node.
 pub(crate) fn inner_of(first: Node, after: &[Node]) -> &[Node] {
     let span = first.span as usize;
     if span == 0 || span > after.len() {

@@ -7,7 +7,7 @@ use crate::cqlp_kind::Node;
 use crate::cqlp_note::NoMemory;
 use crate::kit_std::alloc::{Allocator, Global};
 
-/// Types in preorder: each stands before its inner ones. The last of those that stand side by side may be under way,
+/// Types in preorder: each is before its inner ones. The last of those that are side by side may be under way,
 /// and then its nodes so far are there.
 pub struct TypeTable<A: Allocator = Global> {
     nodes: Vec<Node, A>,
@@ -43,7 +43,7 @@ impl<A: Allocator> TypeTable<A> {
     }
 
     /// How deep the types are nested; 0 where there are none. A type without inner types has depth 1, and another one
-    /// more than its deepest inner type. Of a type that is under way the inner types that stand so far count.
+    /// more than its deepest inner type. Of a type that is under way the inner types that are so far count.
     pub fn depth(&self) -> u32 {
         deepest(&self.nodes)
     }
@@ -53,17 +53,17 @@ impl<A: Allocator> TypeTable<A> {
         self.nodes.get(i as usize).copied()
     }
 
-    /// How many types stand side by side, one that is under way counted.
+    /// How many types are side by side, one that is under way counted.
     pub fn roots(&self) -> u32 {
         count_beginnings(&self.nodes)
     }
 
-    /// The number of the node at which the type with number `i` begins, of those that stand side by side.
+    /// The number of the node at which the type with number `i` begins, of those that are side by side.
     pub fn root(&self, i: u32) -> Option<u32> {
         beginning(&self.nodes, 0, i)
     }
 
-    /// The number of the node at which inner type `i` of a node's type begins, where it stands in the table.
+    /// The number of the node at which inner type `i` of a node's type begins, where it is in the table.
     pub fn child(&self, node: u32, i: u32) -> Option<u32> {
         let first = self.node(node)?;
         let after = &self.nodes[node as usize + 1..];
@@ -130,7 +130,7 @@ fn append<A: Allocator>(nodes: &mut Vec<Node, A>, added: &[Node]) {
     }
 }
 
-/// How many types stand side by side.
+/// How many types are side by side.
 fn count_beginnings(nodes: &[Node]) -> u32 {
     let mut count = 0;
     let mut at = 0;
@@ -145,7 +145,7 @@ fn count_beginnings(nodes: &[Node]) -> u32 {
     count
 }
 
-/// Where type `i` of those that stand side by side begins, if the first node has the number `first`.
+/// Where type `i` of those that are side by side begins, if the first node has the number `first`.
 fn beginning(nodes: &[Node], first: u32, i: u32) -> Option<u32> {
     let mut at = 0;
     for _ in 0..i {

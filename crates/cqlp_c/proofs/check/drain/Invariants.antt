@@ -11,7 +11,7 @@ invariant-batches l = record {
   long : length l.events ≡ 64;
   rules : (state l.decoder).rules ≡ (state l.fn.decoder).rules;
   same : (state l.decoder).refusal ≡ (state l.fn.decoder).refusal;
-  stands : After (state l.fn.decoder) [] [] → (es : List (ℕ × Event)) × After (state l.decoder) (take l.used l.stream) es;
+  conforms : After (state l.fn.decoder) [] [] → (es : List (ℕ × Event)) × After (state l.decoder) (take l.used l.stream) es;
 }
 
 abbrev pub decreases-batches : goal.decreases-batches

@@ -6,7 +6,7 @@ use Rattle.cqlp_c.proofs.Stretching.{reads_on}
 use Rattle.cqlp_c.proofs.laws.calls_read_stretches.Goals as goal
 
 pub returns-clause-new : goal.returns-clause-new
-returns-clause-new c = λ limits lenient xs d new. record { stands = starts d xs new.fresh new.unrefused; frame = refl }
+returns-clause-new c = λ limits lenient xs d new. record { conforms = starts d xs new.fresh new.unrefused; frame = refl }
 
 pub returns-clause-next : goal.returns-clause-next
 returns-clause-next c = reads_on

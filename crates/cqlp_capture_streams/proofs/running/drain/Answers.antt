@@ -19,14 +19,14 @@ returns-in-More-clause-drains g c = λ t before s k h0 none.
     let i = c.loop-turn.invariant in
     let has = i.has t before s k h0 in
     let h = has.0 in
-    drained_more g.L.Listener.after g.L.Listener.faulted _ t before s c.args.piece.now c.loop-turn.used c.loop-turn.reader c.next.follows.lender-at-none _ _ c.in-More.used h i.limits (i.free none) (rw (c.in-More.is, rest_of) at c.next.follows.holds-at-none.0) (rw (c.in-More.is, rest_of) at c.next.follows.holds-at-none.1 (s ++ take c.loop-turn.used c.args.piece.now) h.events h.stands)
+    drained_more g.L.Listener.after g.L.Listener.faulted _ t before s c.args.piece.now c.loop-turn.used c.loop-turn.reader c.next.follows.lender-at-none _ _ c.in-More.used h i.limits (i.free none) (rw (c.in-More.is, rest_of) at c.next.follows.holds-at-none.0) (rw (c.in-More.is, rest_of) at c.next.follows.holds-at-none.1 (s ++ take c.loop-turn.used c.args.piece.now) h.events h.conforms)
 
 pub returns-in-Refused-clause-drains : goal.returns-in-Refused-clause-drains
 returns-in-Refused-clause-drains g c = λ t before s k h0 none.
     let i = c.loop-turn.invariant in
     let has = i.has t before s k h0 in
     let h = has.0 in
-    drained_refused g.L.Listener.after g.L.Listener.faulted _ t before s c.args.piece.now c.loop-turn.used c.loop-turn.reader c.next.follows.lender-at-none _ _ c.in-Refused.field-0 h i.limits (i.free none) (rw (c.in-Refused.is, rest_of) at c.next.follows.holds-at-none.0) (rw (c.in-Refused.is, rest_of) at c.next.follows.holds-at-none.1 (s ++ take c.loop-turn.used c.args.piece.now) h.events h.stands)
+    drained_refused g.L.Listener.after g.L.Listener.faulted _ t before s c.args.piece.now c.loop-turn.used c.loop-turn.reader c.next.follows.lender-at-none _ _ c.in-Refused.field-0 h i.limits (i.free none) (rw (c.in-Refused.is, rest_of) at c.next.follows.holds-at-none.0) (rw (c.in-Refused.is, rest_of) at c.next.follows.holds-at-none.1 (s ++ take c.loop-turn.used c.args.piece.now) h.events h.conforms)
 
 pub returns-in_err-take-in-Event-clause-drains : goal.returns-in_err-take-in-Event-clause-drains
 returns-in_err-take-in-Event-clause-drains g c =
@@ -36,7 +36,7 @@ returns-in_err-take-in-Event-clause-drains g c =
     let has = i.has t before s k h0 in
     let h = has.0 in
     let a = c.in_err-take-in-Event.ensures (i.reports k) in
-    drain_fails g.L.Listener.after g.L.Listener.faulted _ t before s c.args.piece.now c.loop-turn.used c.loop-turn.reader c.next.follows.lender-at-none c.loop-turn.splitter c.take.new.self (g.L.Listener.view c.loop-turn.listener) (g.L.Listener.view c.take.new.listener) c.in-Event.at c.in-Event.taken c.in-Event.event a.0 c.in_err-take-in-Event.field-0.0 h i.limits (rw (c.in-Event.is, rest_of) at c.next.follows.holds-at-none.0) (rw (c.in-Event.is, rest_of) at c.next.follows.holds-at-none.1 (s ++ take c.loop-turn.used c.args.piece.now) h.events h.stands) a.1 a.2)
+    drain_fails g.L.Listener.after g.L.Listener.faulted _ t before s c.args.piece.now c.loop-turn.used c.loop-turn.reader c.next.follows.lender-at-none c.loop-turn.splitter c.take.new.self (g.L.Listener.view c.loop-turn.listener) (g.L.Listener.view c.take.new.listener) c.in-Event.at c.in-Event.taken c.in-Event.event a.0 c.in_err-take-in-Event.field-0.0 h i.limits (rw (c.in-Event.is, rest_of) at c.next.follows.holds-at-none.0) (rw (c.in-Event.is, rest_of) at c.next.follows.holds-at-none.1 (s ++ take c.loop-turn.used c.args.piece.now) h.events h.conforms) a.1 a.2)
 
 pub loop-turn-preserved : goal.loop-turn-preserved
 loop-turn-preserved g c =
@@ -51,7 +51,7 @@ loop-turn-preserved g c =
       has = λ t before s k h0.
           let has = i.has t before s k h0 in
           let h = has.0 in
-          let leads = rw (c.in-Event.is, rest_of) at c.next.follows.holds-at-none.1 (s ++ take used piece) h.events h.stands in
+          let leads = rw (c.in-Event.is, rest_of) at c.next.follows.holds-at-none.1 (s ++ take used piece) h.events h.conforms in
           let a = c.in_ok-take-in-Event.ensures (i.reports k) in
           takes_event g.L.Listener.after t before s piece used c.loop-turn.reader c.next.follows.lender-at-none c.loop-turn.splitter c.take.new.self (g.L.Listener.view c.loop-turn.listener) (g.L.Listener.view c.take.new.listener) c.in-Event.at c.in-Event.taken c.in-Event.event a.0 h leads a.1 a.2.1 c.loop-turn.turn has.1;
     }

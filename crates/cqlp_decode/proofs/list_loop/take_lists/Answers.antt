@@ -6,7 +6,7 @@ use Rattle.cqlp_decode.specs.Items.{TakesItem, at_level, part_emitted}
 use Rattle.cqlp_decode.specs.Sinks.{Gets, Fails}
 use Rattle.cqlp_decode.proofs.Gets.{rest_is}
 use Rattle.cqlp_decode.proofs.Taken.{fails_then}
-use Rattle.cqlp_decode.proofs.Lists.{back_level, entered_at, entry_faults, not_some, stood_entered, stood_items, stood_stays}
+use Rattle.cqlp_decode.proofs.Lists.{back_level, entered_at, entry_faults, not_some, conformed_entered, conformed_items, conformed_stays}
 use Rattle.cqlp_decode.proofs.list_loop.take_lists.Goals as goal
 
 pub hand_lists-requires-clause-lawful : goal.hand_lists-requires-clause-lawful
@@ -41,12 +41,12 @@ returns-in-Ok-hand_lists-clause-stays g c =
     let emitted = part_emitted p.row p.column t.item.part in
     let enters = entered_at old (state_with s c.begin_list.new.parts) c.in-Some.ensures.same s q t.level c.in-Some-enter_list.ensures.inside input t.item.at t.item.used emitted c.in-Some-enter_list.ensures.takes in
     let inside = state_of s (at_level q t.level) in
-    let entered = stood_entered (Gets g.S.Sink) old input sink none inside t.item.at t.item.used emitted enters _ c.in-Ok.ensures.ok in
+    let entered = conformed_entered (Gets g.S.Sink) old input sink none inside t.item.at t.item.used emitted enters _ c.in-Ok.ensures.ok in
     let new = state_with c.hand_lists.new.self c.hand_lists.new.parts in
     let m = c.in-Ok-hand_lists in
     let w : StaysWithin inside (drop t.item.used input) (Ok m.more) new = rw rest_is at m.ensures.stays in
-    let handed = stood_items (Gets g.S.Sink) old input sink inside t.item.used _ entered new m.more w.0 w.1 w.2 w.3 _ (rw rest_is at m.ensures.drains) in
-    stood_stays (Gets g.S.Sink) old input sink new (t.item.used + m.more) _ handed
+    let handed = conformed_items (Gets g.S.Sink) old input sink inside t.item.used _ entered new m.more w.0 w.1 w.2 w.3 _ (rw rest_is at m.ensures.drains) in
+    conformed_stays (Gets g.S.Sink) old input sink new (t.item.used + m.more) _ handed
 
 pub returns-in-Ok-hand_lists-clause-drains : goal.returns-in-Ok-hand_lists-clause-drains
 returns-in-Ok-hand_lists-clause-drains g c =
@@ -61,11 +61,11 @@ returns-in-Ok-hand_lists-clause-drains g c =
     let emitted = part_emitted p.row p.column t.item.part in
     let enters = entered_at old (state_with s c.begin_list.new.parts) c.in-Some.ensures.same s q t.level c.in-Some-enter_list.ensures.inside input t.item.at t.item.used emitted c.in-Some-enter_list.ensures.takes in
     let inside = state_of s (at_level q t.level) in
-    let entered = stood_entered (Gets g.S.Sink) old input sink none inside t.item.at t.item.used emitted enters _ c.in-Ok.ensures.ok in
+    let entered = conformed_entered (Gets g.S.Sink) old input sink none inside t.item.at t.item.used emitted enters _ c.in-Ok.ensures.ok in
     let new = state_with c.hand_lists.new.self c.hand_lists.new.parts in
     let m = c.in-Ok-hand_lists in
     let w : StaysWithin inside (drop t.item.used input) (Ok m.more) new = rw rest_is at m.ensures.stays in
-    let handed = stood_items (Gets g.S.Sink) old input sink inside t.item.used _ entered new m.more w.0 w.1 w.2 w.3 _ (rw rest_is at m.ensures.drains) in
+    let handed = conformed_items (Gets g.S.Sink) old input sink inside t.item.used _ entered new m.more w.0 w.1 w.2 w.3 _ (rw rest_is at m.ensures.drains) in
     handed.drained
 
 pub returns-in-Err-hand_lists-clause-drains : goal.returns-in-Err-hand_lists-clause-drains
@@ -81,6 +81,6 @@ returns-in-Err-hand_lists-clause-drains g c =
     let emitted = part_emitted p.row p.column t.item.part in
     let enters = entered_at old (state_with s c.begin_list.new.parts) c.in-Some.ensures.same s q t.level c.in-Some-enter_list.ensures.inside input t.item.at t.item.used emitted c.in-Some-enter_list.ensures.takes in
     let inside = state_of s (at_level q t.level) in
-    let entered = stood_entered (Gets g.S.Sink) old input sink none inside t.item.at t.item.used emitted enters _ c.in-Ok.ensures.ok in
+    let entered = conformed_entered (Gets g.S.Sink) old input sink none inside t.item.at t.item.used emitted enters _ c.in-Ok.ensures.ok in
     let new = state_with c.hand_lists.new.self c.hand_lists.new.parts in
     fails_then (Gets g.S.Sink) (Fails g.S.Sink) old inside new input t.item.used c.in-Err-hand_lists.fault.used sink _ _ entered.drained (rw rest_is at c.in-Err-hand_lists.ensures.drains)

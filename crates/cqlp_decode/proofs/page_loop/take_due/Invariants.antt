@@ -5,7 +5,7 @@ use Rattle.cqlp_decode.specs.Cells.{HandsOut}
 use Rattle.cqlp_decode.proofs.PageLoop.{at_cell}
 use Rattle.cqlp_decode.proofs.page_loop.take_due.Given as goal
 
--- what is used is read, the locals say where the reading stands, and the sink has got its events
+-- what is used is read, the locals say where the reading is, and the sink has got its events
 abbrev pub invariant-cells : goal.invariant-cells
 invariant-cells g l = record {
   within : l.used ≤ length l.within;

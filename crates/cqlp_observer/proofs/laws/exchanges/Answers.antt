@@ -1,4 +1,4 @@
-use Rattle.cqlp_observer.proofs.Stood.{reports}
+use Rattle.cqlp_observer.proofs.Conformed.{reports}
 use Rattle.cqlp_observer.proofs.laws.exchanges.Goals as goal
 
 pub returns : goal.returns

@@ -1,4 +1,4 @@
-use Rattle.cqlp_observer.proofs.Stood.{keeps}
+use Rattle.cqlp_observer.proofs.Conformed.{keeps}
 use Rattle.cqlp_observer.proofs.laws.waiting.Goals as goal
 
 pub returns : goal.returns

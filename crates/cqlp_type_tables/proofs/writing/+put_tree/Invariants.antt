@@ -3,7 +3,7 @@ use Rattle.std.specs.List.{flat_map}
 use Rattle.cqlp_type_tables.proofs.Options.{own_bytes, field_option}
 use Rattle.cqlp_type_tables.proofs.writing.+put_tree.Given as goal
 
--- the options so far stand after what was there
+-- the options so far are after what was there
 abbrev pub invariant-put_fields-loop-name : goal.invariant-put_fields-loop-name
 invariant-put_fields-loop-name g l = l.out.items ≡ l.fn.out.items ++ flat_map field_option (take l.name-index l.fields)
 

@@ -38,4 +38,4 @@ returns-else-number-clause-settles g c =
     let seen = seen_before c.args.begun c.args.partial.now in
     let enter = c.enter_counted-item.ensures in
     let room : c.args.self.now.offset + 4 + c.from.result - (c.args.self.now.offset + 4) ≡ c.args.len = omega arith in
-    rw (enter.item, r.value) (count_hands c.args.table.now.nodes (state_of c.args.self.now) (state_of c.enter_counted-item.new.self) c.args.len c.args.start c.in-Got.used c.in-Got.number c.args.partial.now c.take_number.new.partial seen c.args.input.now r.decided r.front r.some (rw room at c.in-Got.ensures) r.stands r.due (omega arith) enter.enters)
+    rw (enter.item, r.value) (count_hands c.args.table.now.nodes (state_of c.args.self.now) (state_of c.enter_counted-item.new.self) c.args.len c.args.start c.in-Got.used c.in-Got.number c.args.partial.now c.take_number.new.partial seen c.args.input.now r.decided r.front r.some (rw room at c.in-Got.ensures) r.conforms r.due (omega arith) enter.enters)

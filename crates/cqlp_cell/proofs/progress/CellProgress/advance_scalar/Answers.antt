@@ -24,4 +24,4 @@ returns-clause-settles g c =
     let kind = c.in-Some-kind_read.kind in
     let there : content_at found.content c.args.input.now c.gather.new.partial.content ≡ c.lend_bytes-bytes.result.now = ap bytes_in c.lend_bytes-bytes.ensures in
     let known : IsReadAs old.rules.lenient (due_value nodes old).kind (content_at found.content c.args.input.now c.gather.new.partial.content) (Some kind) = rw (there, ← r.value) c.in-Some-kind_read.ensures in
-    leaf_hands nodes old (state_of c.pass.new.self) c.args.len c.args.start c.args.partial.now c.gather.new.partial seen c.args.input.now found r.stands r.due r.decided r.front r.some c.in-Some.ensures (gathered_is c.args.begun c.args.len (c.args.self.now.offset + 4) c.args.start c.args.partial.now c.gather.new.partial c.args.input.now found r.under_way c.in-Some.ensures) kind c.len-level.result c.len-level.ensures.is known (rw c.from.ensures at c.pass.ensures.state)
+    leaf_hands nodes old (state_of c.pass.new.self) c.args.len c.args.start c.args.partial.now c.gather.new.partial seen c.args.input.now found r.conforms r.due r.decided r.front r.some c.in-Some.ensures (gathered_is c.args.begun c.args.len (c.args.self.now.offset + 4) c.args.start c.args.partial.now c.gather.new.partial c.args.input.now found r.under_way c.in-Some.ensures) kind c.len-level.result c.len-level.ensures.is known (rw c.from.ensures at c.pass.ensures.state)

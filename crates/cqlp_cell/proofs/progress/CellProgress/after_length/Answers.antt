@@ -13,7 +13,7 @@ advance_scalar-requires g c =
     let h = c.in-Scalar.ensures in
     let s = size.Scalar c.in-Scalar.len in
     record {
-      stands = r.stands;
+      conforms = r.conforms;
       due = r.due;
       value = r.value;
       decided = subst (λ (n : ℕ). Decided nodes old n s) (sym h.can.0) (value_decided nodes old c.args.value c.args.len s r.value h);
@@ -32,7 +32,7 @@ advance_first-requires g c =
     let h = c.in-Parts.ensures in
     let s = size.Parts c.in-Parts.len in
     record {
-      stands = r.stands;
+      conforms = r.conforms;
       due = r.due;
       decided = subst (λ (n : ℕ). Decided nodes old n s) (sym h.can.0) (value_decided nodes old c.args.value c.args.len s r.value h);
       under_way = r.idle;
@@ -51,7 +51,7 @@ advance_count-requires g c =
     let h = c.in-Counted.ensures in
     let s = size.Counted c.in-Counted.len in
     record {
-      stands = r.stands;
+      conforms = r.conforms;
       due = r.due;
       value = r.value;
       decided = subst (λ (n : ℕ). Decided nodes old n s) (sym h.can.0) (value_decided nodes old c.args.value c.args.len s r.value h);
@@ -71,7 +71,7 @@ enter_fields-item-requires g c =
     let h = c.in-Fields.ensures in
     let s = size.Fields c.in-Fields.len in
     record {
-      stands = r.stands;
+      conforms = r.conforms;
       due = r.due;
       value = r.value;
       decided = subst (λ (n : ℕ). Decided nodes old n s) (sym h.can.0) (value_decided nodes old c.args.value c.args.len s r.value h);
@@ -98,14 +98,14 @@ returns-in-Null-clause-settles g c =
     let r = c.requires in
     let h = value_decided c.args.table.now.nodes (state_of c.args.self.now) c.args.value c.args.len _ r.value c.in-Null.ensures in
     let pass = c.pass_length.ensures in
-    rw pass.answer (null_hands c.args.table.now.nodes (state_of c.args.self.now) (state_of c.pass_length.new.self) c.args.len c.args.start c.args.partial.now c.args.partial.now c.args.input.now r.stands r.due r.room r.within r.front r.some r.idle refl c.len-level.result h c.len-level.ensures.is pass.state)
+    rw pass.answer (null_hands c.args.table.now.nodes (state_of c.args.self.now) (state_of c.pass_length.new.self) c.args.len c.args.start c.args.partial.now c.args.partial.now c.args.input.now r.conforms r.due r.room r.within r.front r.some r.idle refl c.len-level.result h c.len-level.ensures.is pass.state)
 
 pub returns-in-Empty-clause-settles : goal.returns-in-Empty-clause-settles
 returns-in-Empty-clause-settles g c =
     let r = c.requires in
     let h = value_decided c.args.table.now.nodes (state_of c.args.self.now) c.args.value c.args.len _ r.value c.in-Empty.ensures in
     let pass = c.pass_length-in-Empty.ensures in
-    rw pass.answer (empty_hands c.args.table.now.nodes (state_of c.args.self.now) (state_of c.pass_length-in-Empty.new.self) c.args.len c.args.start c.args.partial.now c.args.partial.now c.args.input.now r.stands r.due r.room r.within r.front r.some r.idle refl c.len-level.result h c.len-level.ensures.is pass.state)
+    rw pass.answer (empty_hands c.args.table.now.nodes (state_of c.args.self.now) (state_of c.pass_length-in-Empty.new.self) c.args.len c.args.start c.args.partial.now c.args.partial.now c.args.input.now r.conforms r.due r.room r.within r.front r.some r.idle refl c.len-level.result h c.len-level.ensures.is pass.state)
 
 pub returns-in-Fields-clause-settles : goal.returns-in-Fields-clause-settles
 returns-in-Fields-clause-settles g c =
@@ -114,7 +114,7 @@ returns-in-Fields-clause-settles g c =
     let h = value_decided c.args.table.now.nodes (state_of c.args.self.now) c.args.value c.args.len _ r.value sized in
     let low : (due_value c.args.table.now.nodes (state_of c.args.self.now)).arity < 2 ^ 16 = rw (← r.value) (omega arith) in
     let enter = c.enter_fields-item.ensures in
-    rw (enter.item, r.value) (fields_hands c.args.table.now.nodes (state_of c.args.self.now) (state_of c.enter_fields-item.new.self) c.args.len c.args.start c.args.partial.now c.args.partial.now c.args.input.now r.stands r.due r.room r.within r.front r.some r.idle refl (rw sized.can.0 at h) low (rw sized.can.0 at enter.enters))
+    rw (enter.item, r.value) (fields_hands c.args.table.now.nodes (state_of c.args.self.now) (state_of c.enter_fields-item.new.self) c.args.len c.args.start c.args.partial.now c.args.partial.now c.args.input.now r.conforms r.due r.room r.within r.front r.some r.idle refl (rw sized.can.0 at h) low (rw sized.can.0 at enter.enters))
 
 pub returns-in-Refused-clause-settles : goal.returns-in-Refused-clause-settles
 returns-in-Refused-clause-settles g c =

@@ -12,10 +12,10 @@ use Rattle.cqlp_cell.proofs.progress.CellProgress.enter_next.Goals as goal
 pub value_at-value-requires : goal.value_at-value-requires
 value_at-value-requires g c =
     let d = state_of c.args.self.now in
-    cell_there c.args.table.now.nodes d.rules (Some c.args.node) c.requires.stands.next_stands.1
+    cell_there c.args.table.now.nodes d.rules (Some c.args.node) c.requires.conforms.next_conforms.1
 
 pub overflow_sub-room : goal.overflow_sub-room
-overflow_sub-room g c = rw c.value_at-value.ensures (omega (arith, c.requires.stands.within))
+overflow_sub-room g c = rw c.value_at-value.ensures (omega (arith, c.requires.conforms.within))
 
 pub enter_beside-requires-clause-decided : goal.enter_beside-requires-clause-decided
 enter_beside-requires-clause-decided g c =

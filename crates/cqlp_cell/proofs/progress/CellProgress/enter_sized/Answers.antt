@@ -13,5 +13,5 @@ returns-clause-enters g c =
     let count = c.from_be_bytes-count.result in
     let some : count ≡ from_be_bytes w32 (take 4 (take (length input - 4) (drop 4 input))) = c.from_be_bytes-count.ensures ∙ ap (λ (b : List ℕ). from_be_bytes w32 b) c.read_array.ensures in
     let is : count ≡ from_be_bytes w32 (take 4 (drop 4 input)) = some ∙ ap (λ (b : List ℕ). from_be_bytes w32 (take 4 b)) (rest_all 4 input) in
-    let whole = counted_whole nodes d (state_of c.open_counted-level.new.self) c.args.len input r.stands r.fresh r.due r.room (omega (arith, r.within)) r.length count r.decided (omega (arith, c.if-len-lt4.false)) r.within is (omega (arith, c.if-count.false)) c.open_counted-level.ensures.enters in
+    let whole = counted_whole nodes d (state_of c.open_counted-level.new.self) c.args.len input r.conforms r.fresh r.due r.room (omega (arith, r.within)) r.length count r.decided (omega (arith, c.if-len-lt4.false)) r.within is (omega (arith, c.if-count.false)) c.open_counted-level.ensures.enters in
     (rw (c.len-around.ensures.is, r.value) whole, c.open_counted-level.ensures.level)

@@ -8,7 +8,7 @@ use Rattle.cqlp_cell.proofs.Settling.{value_decided}
 use Rattle.cqlp_cell.proofs.progress.CellProgress.enter_value.Goals as goal
 
 pub overflow_sub-room : goal.overflow_sub-room
-overflow_sub-room g c = rw c.value-value.ensures (value_due c.args.table.now.nodes (state_of c.args.self.now) c.requires.stands (sym c.due.ensures ∙ c.in-Value.is)).inside
+overflow_sub-room g c = rw c.value-value.ensures (value_due c.args.table.now.nodes (state_of c.args.self.now) c.requires.conforms (sym c.due.ensures ∙ c.in-Value.is)).inside
 
 pub enter_sized-requires-clause-decided : goal.enter_sized-requires-clause-decided
 enter_sized-requires-clause-decided g c =

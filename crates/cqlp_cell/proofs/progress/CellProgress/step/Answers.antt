@@ -15,7 +15,7 @@ returns-in-Scalar-clause-moves g c =
     let arrived = rw c.in-Scalar.is at r.joined.under_way in
     let s = c.advance_scalar.ensures.settles in
     moves_by nodes old c.args.partial.now c.args.input.now _ _ _ c.advance_scalar.result (state_of c.advance_scalar.new.self) c.advance_scalar.new.partial s
-    (λ b come. resumed nodes old c.args.partial.now c.args.input.now c.in-Scalar.len r.stands arrived.0 (omega (arith, arrived.2.fits.0)) b _ _ _ (rw c.in-Scalar.is at come) s)
+    (λ b come. resumed nodes old c.args.partial.now c.args.input.now c.in-Scalar.len r.conforms arrived.0 (omega (arith, arrived.2.fits.0)) b _ _ _ (rw c.in-Scalar.is at come) s)
 
 pub returns-in-Counted-clause-moves : goal.returns-in-Counted-clause-moves
 returns-in-Counted-clause-moves g c =
@@ -25,7 +25,7 @@ returns-in-Counted-clause-moves g c =
     let arrived = rw c.in-Counted.is at r.joined.under_way in
     let s = c.advance_count.ensures.settles in
     moves_by nodes old c.args.partial.now c.args.input.now _ _ _ c.advance_count.result (state_of c.advance_count.new.self) c.advance_count.new.partial s
-    (λ b come. resumed nodes old c.args.partial.now c.args.input.now c.in-Counted.len r.stands arrived.0 (omega (arith, arrived.2.fits.0)) b _ _ _ (rw c.in-Counted.is at come) s)
+    (λ b come. resumed nodes old c.args.partial.now c.args.input.now c.in-Counted.len r.conforms arrived.0 (omega (arith, arrived.2.fits.0)) b _ _ _ (rw c.in-Counted.is at come) s)
 
 pub returns-in-First-clause-moves : goal.returns-in-First-clause-moves
 returns-in-First-clause-moves g c =
@@ -35,7 +35,7 @@ returns-in-First-clause-moves g c =
     let arrived = rw c.in-First.is at r.joined.under_way in
     let s = c.advance_first.ensures.settles in
     moves_by nodes old c.args.partial.now c.args.input.now _ _ _ c.advance_first.result (state_of c.advance_first.new.self) c.advance_first.new.partial s
-    (λ b come. resumed nodes old c.args.partial.now c.args.input.now c.in-First.total r.stands arrived.0 (omega (arith, arrived.2.fits.0)) b _ _ _ (rw c.in-First.is at come) s)
+    (λ b come. resumed nodes old c.args.partial.now c.args.input.now c.in-First.total r.conforms arrived.0 (omega (arith, arrived.2.fits.0)) b _ _ _ (rw c.in-First.is at come) s)
 
 pub returns-in-Close-clause-answers : goal.returns-in-Close-clause-answers
 returns-in-Close-clause-answers g c =
@@ -46,7 +46,7 @@ pub leave-requires : goal.leave-requires
 leave-requires g c =
     let r = c.requires in
     record {
-      stands = r.stands;
+      conforms = r.conforms;
       due = sym c.due.ensures ∙ c.in-Close.is;
       fresh = c.in-Nothing.is;
       idle = rw c.in-Nothing.is at r.joined.under_way;
@@ -57,7 +57,7 @@ pub advance_length-requires : goal.advance_length-requires
 advance_length-requires g c =
     let r = c.requires in
     record {
-      stands = r.stands;
+      conforms = r.conforms;
       due = sym c.due.ensures ∙ c.in-Value.is;
       under_way = rw c.in-Nothing.is at r.joined.under_way;
       longest = r.joined.longest;
@@ -70,7 +70,7 @@ advance_length-requires-in-Length g c =
     let r = c.requires in
     let arrived = rw c.in-Length.is at r.joined.under_way in
     record {
-      stands = r.stands;
+      conforms = r.conforms;
       due = arrived.0;
       under_way = arrived.1;
       longest = r.joined.longest;
@@ -83,7 +83,7 @@ advance_scalar-requires g c =
     let r = c.requires in
     let arrived = rw c.in-Scalar.is at r.joined.under_way in
     record {
-      stands = r.stands;
+      conforms = r.conforms;
       due = arrived.0;
       value = c.value-value.ensures;
       decided = arrived.2;
@@ -99,7 +99,7 @@ advance_count-requires g c =
     let r = c.requires in
     let arrived = rw c.in-Counted.is at r.joined.under_way in
     record {
-      stands = r.stands;
+      conforms = r.conforms;
       due = arrived.0;
       value = c.value-value-in-Counted.ensures;
       decided = arrived.2;
@@ -116,7 +116,7 @@ advance_first-requires g c =
     let r = c.requires in
     let arrived = rw c.in-First.is at r.joined.under_way in
     record {
-      stands = r.stands;
+      conforms = r.conforms;
       due = arrived.0;
       decided = arrived.2;
       under_way = arrived.1;

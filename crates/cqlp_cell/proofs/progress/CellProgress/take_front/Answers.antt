@@ -10,7 +10,7 @@ use Rattle.cqlp_cell.proofs.WholeItems.{null_whole, empty_whole, fields_whole}
 use Rattle.cqlp_cell.proofs.progress.CellProgress.take_front.Goals as goal
 
 pub overflow_sub-value : goal.overflow_sub-value
-overflow_sub-value g c = rw c.value-value.ensures (value_due c.args.table.now.nodes (state_of c.args.self.now) c.requires.stands c.requires.due).inside
+overflow_sub-value g c = rw c.value-value.ensures (value_due c.args.table.now.nodes (state_of c.args.self.now) c.requires.conforms c.requires.due).inside
 
 pub take_counted-requires-clause-decided : goal.take_counted-requires-clause-decided
 take_counted-requires-clause-decided g c =
@@ -36,7 +36,7 @@ returns-in-Null-clause-takes g c =
     let h = value_decided nodes d c.value-value.result c.from_be_bytes-len.result _ c.value-value.ensures c.in-Null.ensures in
     let number = c.from_be_bytes-len.ensures ∙ ap (λ (b : List ℕ). from_be_bytes w32 b) c.read_array.ensures in
     let room : 4 ≤ room_of nodes d = rw (← c.value-value.ensures) (omega (arith, c.if-value-at-lt4.false)) in
-    null_whole nodes d (state_of c.pass.new.self) c.from_be_bytes-len.result c.args.input.now r.stands r.fresh r.due room (omega (arith, c.if-input-lt4.false)) number c.len-level.result h c.len-level.ensures.is c.pass.ensures.state
+    null_whole nodes d (state_of c.pass.new.self) c.from_be_bytes-len.result c.args.input.now r.conforms r.fresh r.due room (omega (arith, c.if-input-lt4.false)) number c.len-level.result h c.len-level.ensures.is c.pass.ensures.state
 
 pub returns-in-Empty-clause-takes : goal.returns-in-Empty-clause-takes
 returns-in-Empty-clause-takes g c =
@@ -46,7 +46,7 @@ returns-in-Empty-clause-takes g c =
     let h = value_decided nodes d c.value-value.result c.from_be_bytes-len.result _ c.value-value.ensures c.in-Empty.ensures in
     let number = c.from_be_bytes-len.ensures ∙ ap (λ (b : List ℕ). from_be_bytes w32 b) c.read_array.ensures in
     let room : 4 ≤ room_of nodes d = rw (← c.value-value.ensures) (omega (arith, c.if-value-at-lt4.false)) in
-    empty_whole nodes d (state_of c.pass-in-Empty.new.self) c.from_be_bytes-len.result c.args.input.now r.stands r.fresh r.due room (omega (arith, c.if-input-lt4.false)) number c.len-level.result h c.len-level.ensures.is c.pass-in-Empty.ensures.state
+    empty_whole nodes d (state_of c.pass-in-Empty.new.self) c.from_be_bytes-len.result c.args.input.now r.conforms r.fresh r.due room (omega (arith, c.if-input-lt4.false)) number c.len-level.result h c.len-level.ensures.is c.pass-in-Empty.ensures.state
 
 pub returns-in-Fields-clause-takes : goal.returns-in-Fields-clause-takes
 returns-in-Fields-clause-takes g c =
@@ -58,5 +58,5 @@ returns-in-Fields-clause-takes g c =
     let number = c.from_be_bytes-len.ensures ∙ ap (λ (b : List ℕ). from_be_bytes w32 b) c.read_array.ensures in
     let room : 4 ≤ room_of nodes d = rw (← c.value-value.ensures) (omega (arith, c.if-value-at-lt4.false)) in
     let low : (due_value nodes d).arity < 2 ^ 16 = rw (← c.value-value.ensures) (omega arith) in
-    let whole = fields_whole nodes d (state_of c.enter_fields.new.self) c.from_be_bytes-len.result c.args.input.now r.stands r.fresh r.due room (omega (arith, c.if-input-lt4.false)) number (rw sized.can.0 at h) low (rw sized.can.0 at c.enter_fields.ensures.enters) in
+    let whole = fields_whole nodes d (state_of c.enter_fields.new.self) c.from_be_bytes-len.result c.args.input.now r.conforms r.fresh r.due room (omega (arith, c.if-input-lt4.false)) number (rw sized.can.0 at h) low (rw sized.can.0 at c.enter_fields.ensures.enters) in
     rw (c.len-level.ensures.is, c.from.ensures, c.value-value.ensures) whole

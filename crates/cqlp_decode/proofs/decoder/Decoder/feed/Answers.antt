@@ -22,9 +22,9 @@ returns-in-Err-clause-drains g c = λ reports.
     λ gifts s es a.
     let d = (c.events.invariant.drained reports gifts s es a).0 in
     let new = state c.hand_whole.new.self in
-    let r = fails_rest g.S.Sink.after g.S.Sink.faulted gifts (state c.events.self) new s c.args.input.now c.events.used c.in-Err.fault.used es _ _ _ d (cells gifts _ _ d.stands) in
+    let r = fails_rest g.S.Sink.after g.S.Sink.faulted gifts (state c.events.self) new s c.args.input.now c.events.used c.in-Err.fault.used es _ _ _ d (cells gifts _ _ d.conforms) in
     let none = c.in-Err.ensures.stays.1 ∙ is_none (state c.events.self).refusal (λ r is. let cells = c.in-Err.ensures.refused r is in let e = cells.2 in cc) in
-    (r, ends_there gifts new _ _ none (begun_at_fault _ _ _ _ _ _ _ _ c.in-Err.ensures.drains) r.stands)
+    (r, ends_there gifts new _ _ none (begun_at_fault _ _ _ _ _ _ _ _ c.in-Err.ensures.drains) r.conforms)
 
 pub returns-in-Err-clause-refusal : goal.returns-in-Err-clause-refusal
 returns-in-Err-clause-refusal g c = c.in-Err.ensures.stays.1 ∙ is_none (state c.events.self).refusal (λ r is. let cells = c.in-Err.ensures.refused r is in let e = cells.2 in cc)
@@ -65,7 +65,7 @@ returns-in-More-clause-drains g c = λ reports gifts s es a.
     let input = c.args.input.now in
     let e = hands_on g.S.Sink gifts s input es _ old mid c.events.used c.in-Ok.taken _ _ (rw rest_is at c.in-Ok.ensures.drains) (c.events.invariant.reports reports) (c.events.invariant.drained reports gifts s es a) in
     let d = e.0 in
-    let leads = c.next.follows.holds-at-none.1 gifts _ _ d.stands in
+    let leads = c.next.follows.holds-at-none.1 gifts _ _ d.conforms in
     let goes = rw c.in-More.is at c.next.follows.holds-at-none.0 in
     drains_all g.S.Sink.after gifts mid (state c.next.follows.lender-at-none) s input used es _ _ d (state c.args.self.now) (λ none. c.in-Ok.ensures.stays.1 ∙ c.events.invariant.clear none) c.in-More.used goes (rw (c.in-More.is, rest_is) at leads)
 
@@ -94,7 +94,7 @@ returns-in-Refused-clause-drains g c = λ reports.
     λ gifts s es a.
     let e = hands_on g.S.Sink gifts s input es _ old mid c.events.used c.in-Ok.taken _ _ (rw rest_is at c.in-Ok.ensures.drains) (c.events.invariant.reports reports) (c.events.invariant.drained reports gifts s es a) in
     let d = e.0 in
-    let leads = c.next.follows.holds-at-none.1 gifts _ _ d.stands in
+    let leads = c.next.follows.holds-at-none.1 gifts _ _ d.conforms in
     let goes = rw c.in-Refused.is at c.next.follows.holds-at-none.0 in
     ends_refused g.S.Sink.after gifts (state c.args.self.now) mid (state c.next.follows.lender-at-none) s input used es _ _ d (λ none. c.in-Ok.ensures.stays.1 ∙ c.events.invariant.clear none) _ goes (rw (c.in-Refused.is, rest_is) at leads) e.1
 
@@ -115,11 +115,11 @@ returns-in-Err-take-clause-drains g c = λ reports.
     λ gifts s es a.
     let e = hands_on g.S.Sink gifts s input es _ old mid c.events.used c.in-Ok.taken _ _ (rw rest_is at c.in-Ok.ensures.drains) (c.events.invariant.reports reports) (c.events.invariant.drained reports gifts s es a) in
     let d = e.0 in
-    let leads = c.next.follows.holds-at-none.1 gifts _ _ d.stands in
+    let leads = c.next.follows.holds-at-none.1 gifts _ _ d.conforms in
     let new = state c.next.follows.lender-at-none in
     let led = rw (c.in-Event.is, rest_is) at leads in
     let r = fails_event g.S.Sink.after gifts mid new s input used es _ _ d g.S.Sink.faulted c.in-Event.at c.in-Event.taken c.in-Event.event _ led (c.in-Err-take.ensures.err (still_reports g.S.Sink _ _ _ _ _ _ c.in-Ok.ensures.drains (c.events.invariant.reports reports))) in
-    (r, ends_there gifts new _ _ led.1 led.2 r.stands)
+    (r, ends_there gifts new _ _ led.1 led.2 r.conforms)
 
 pub events-smaller : goal.events-smaller
 events-smaller g c =
@@ -157,11 +157,11 @@ events-preserved g c =
       drained = λ reports gifts s es a.
           let e = hands_on g.S.Sink gifts s input es _ old mid c.events.used c.in-Ok.taken _ _ (rw rest_is at c.in-Ok.ensures.drains) (c.events.invariant.reports reports) (c.events.invariant.drained reports gifts s es a) in
           let d = e.0 in
-          let leads = c.next.follows.holds-at-none.1 gifts _ _ d.stands in
+          let leads = c.next.follows.holds-at-none.1 gifts _ _ d.conforms in
           let new = state c.next.follows.lender-at-none in
           let led = rw (c.in-Event.is, rest_is) at leads in
           let r = drains_event g.S.Sink.after gifts mid new s input used es _ _ d c.in-Event.at c.in-Event.taken c.in-Event.event _ led (c.in-Ok-take.ensures.ok (still_reports g.S.Sink _ _ _ _ _ _ c.in-Ok.ensures.drains (c.events.invariant.reports reports))).1 in
-          (r, inr (ends_there gifts new _ _ led.1 led.2 r.stands));
+          (r, inr (ends_there gifts new _ _ led.1 led.2 r.conforms));
     }
 
 pub events-init : goal.events-init
@@ -173,5 +173,5 @@ events-init g c = record {
   clear = λ none. none;
   reports = λ reports. reports;
   also = passes_none g.S.Sink.also c.args.sink.now;
-  drained = λ reports gifts s es a. (record { more = []; stands = rw (append-nil s, append-nil es) a; got = refl }, inl (refl, refl));
+  drained = λ reports gifts s es a. (record { more = []; conforms = rw (append-nil s, append-nil es) a; got = refl }, inl (refl, refl));
 }

@@ -8,7 +8,7 @@ use Rattle.std.proofs.lemmas.Bool.{cases_lt, lt-ltb, le-ltb}
 use Rattle.cqlp_decode.proofs.Columns.{column_there, next_typed, last_typed, others_raw, last_raw}
 use Rattle.cqlp_decode.proofs.page.CellCursor.next_column.Goals as goal
 
--- where the column's type stands
+-- where the column's type is
 typed_here : (nodes : List Node) (depth : ℕ) (p : CellCursor) → (p.columns ≡ columns.Typed) ⊎ (p.columns ≡ columns.Given) → IsPage nodes depth p → IsColumn nodes depth columns.Typed p.column p.index
 typed_here nodes depth p (inl e) page = rw e at page.0
 typed_here nodes depth p (inr e) page = rw e at page.0

@@ -8,7 +8,7 @@ use Rattle.cqlp_decode.specs.Progress.{nodes_of, parts_state}
 use Rattle.cqlp_decode.specs.Sinks.{Gets, Fails}
 use Rattle.cqlp_decode.proofs.Gets.{rest_is}
 use Rattle.cqlp_decode.proofs.ItemLoop.{some_left, level_fits}
-use Rattle.cqlp_decode.proofs.Rests.{before_first, element_is, next_place, next_lawful, next_inside, next_within, next_fails, next_stands}
+use Rattle.cqlp_decode.proofs.Rests.{before_first, element_is, next_place, next_lawful, next_inside, next_within, next_fails, next_conforms}
 use Rattle.cqlp_decode.proofs.progress.StreamProgress.hand_elements.Goals as goal
 
 pub due_element-requires-clause-inside : goal.due_element-requires-clause-inside
@@ -29,7 +29,7 @@ elements-init g c =
     record {
       list = c.requires.list;
       node = refl;
-      stands = before_first (Gets g.S.Sink) s q l c.args.input.now c.args.sink.now _ front few fits.inside c.requires.inside c.requires.lawful;
+      conforms = before_first (Gets g.S.Sink) s q l c.args.input.now c.args.sink.now _ front few fits.inside c.requires.inside c.requires.lawful;
     }
 
 pub pass_element-requires-clause-place : goal.pass_element-requires-clause-place
@@ -40,7 +40,7 @@ pass_element-requires-clause-place g c =
     let kind : c.args.kind ≡ (node_at nodes l.value.node).kind = rw i.node c.requires.kind in
     let is = element_is l c.args.kind c.in-Some-due_element.due i.list (sym c.in-Some-due_element.ensures) in
     let one = rw (c.due_in.ensures, is.0) at c.in-Taken.ensures.hands in
-    next_place c.requires.here c.requires.unrefused c.requires.empty i.stands kind is.1 one
+    next_place c.requires.here c.requires.unrefused c.requires.empty i.conforms kind is.1 one
 
 pub elements-preserved : goal.elements-preserved
 elements-preserved g c =
@@ -56,7 +56,7 @@ elements-preserved g c =
     record {
       list = ap (λ (z : Level). z.value.order) c.pass_element.ensures ∙ i.list;
       node = ap (λ (z : Level). z.value.node) c.pass_element.ensures ∙ i.node;
-      stands = next_stands c.requires.here c.requires.unrefused c.requires.empty i.stands kind is.1 one goes left one.holds;
+      conforms = next_conforms c.requires.here c.requires.unrefused c.requires.empty i.conforms kind is.1 one goes left one.holds;
     }
 
 pub pass_element-requires-in-Fault-clause-place : goal.pass_element-requires-in-Fault-clause-place
@@ -67,7 +67,7 @@ pass_element-requires-in-Fault-clause-place g c =
     let kind : c.args.kind ≡ (node_at nodes l.value.node).kind = rw i.node c.requires.kind in
     let is = element_is l c.args.kind c.in-Some-due_element.due i.list (sym c.in-Some-due_element.ensures) in
     let one = rw (c.due_in.ensures, is.0) at c.in-Fault.ensures.hands in
-    next_place c.requires.here c.requires.unrefused c.requires.empty i.stands kind is.1 one
+    next_place c.requires.here c.requires.unrefused c.requires.empty i.conforms kind is.1 one
 
 pub returns-in-Fault-clause-lawful : goal.returns-in-Fault-clause-lawful
 returns-in-Fault-clause-lawful g c =
@@ -79,7 +79,7 @@ returns-in-Fault-clause-lawful g c =
     let is = element_is l c.args.kind c.in-Some-due_element.due i.list (sym c.in-Some-due_element.ensures) in
     let one = rw (c.due_in.ensures, is.0) at c.in-Fault.ensures.hands in
     let goes : c.pass_element-in-Fault.new.self ≡ passed nodes l n = c.pass_element-in-Fault.ensures ∙ element_passed nodes l n i.list in
-    next_lawful c.requires.here c.requires.unrefused c.requires.empty i.stands kind is.1 one (c.stop_at-in-Fault.ensures.level ∙ goes)
+    next_lawful c.requires.here c.requires.unrefused c.requires.empty i.conforms kind is.1 one (c.stop_at-in-Fault.ensures.level ∙ goes)
 
 pub returns-in-Fault-clause-inside : goal.returns-in-Fault-clause-inside
 returns-in-Fault-clause-inside g c =
@@ -91,7 +91,7 @@ returns-in-Fault-clause-inside g c =
     let is = element_is l c.args.kind c.in-Some-due_element.due i.list (sym c.in-Some-due_element.ensures) in
     let one = rw (c.due_in.ensures, is.0) at c.in-Fault.ensures.hands in
     let goes : c.pass_element-in-Fault.new.self ≡ passed nodes l n = c.pass_element-in-Fault.ensures ∙ element_passed nodes l n i.list in
-    next_inside c.requires.here c.requires.unrefused c.requires.empty i.stands kind is.1 one (c.stop_at-in-Fault.ensures.level ∙ goes)
+    next_inside c.requires.here c.requires.unrefused c.requires.empty i.conforms kind is.1 one (c.stop_at-in-Fault.ensures.level ∙ goes)
 
 pub returns-in-Fault-clause-within : goal.returns-in-Fault-clause-within
 returns-in-Fault-clause-within g c =
@@ -105,7 +105,7 @@ returns-in-Fault-clause-within g c =
     let goes : c.pass_element-in-Fault.new.self ≡ passed nodes l n = c.pass_element-in-Fault.ensures ∙ element_passed nodes l n i.list in
     let left = rest_is n c.elements.rest.now in
     rw c.stop_at-in-Fault.ensures.handed
-    (next_within c.requires.here c.requires.unrefused c.requires.empty i.stands kind is.1 one (c.stop_at-in-Fault.ensures.level ∙ goes) left)
+    (next_within c.requires.here c.requires.unrefused c.requires.empty i.conforms kind is.1 one (c.stop_at-in-Fault.ensures.level ∙ goes) left)
 
 pub returns-in-Fault-clause-drains : goal.returns-in-Fault-clause-drains
 returns-in-Fault-clause-drains g c =
@@ -119,5 +119,5 @@ returns-in-Fault-clause-drains g c =
     let goes : c.pass_element-in-Fault.new.self ≡ passed nodes l n = c.pass_element-in-Fault.ensures ∙ element_passed nodes l n i.list in
     let left = rest_is n c.elements.rest.now in
     rw c.stop_at-in-Fault.ensures.handed
-    (next_fails c.requires.here c.requires.unrefused c.requires.empty i.stands kind is.1 one (c.stop_at-in-Fault.ensures.level ∙ goes)
+    (next_fails c.requires.here c.requires.unrefused c.requires.empty i.conforms kind is.1 one (c.stop_at-in-Fault.ensures.level ∙ goes)
     left (Fails g.S.Sink) one.holds)

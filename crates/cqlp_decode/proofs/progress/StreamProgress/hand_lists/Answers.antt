@@ -4,7 +4,7 @@ use Rattle.cqlp_decode.specs.Progress.{nodes_of, parts_state, state_of, state_wi
 use Rattle.cqlp_decode.specs.Items.{TakesItem, at_level, part_emitted}
 use Rattle.cqlp_decode.specs.Sinks.{Gets, Fails}
 use Rattle.cqlp_decode.proofs.Gets.{rest_is}
-use Rattle.cqlp_decode.proofs.Lists.{item_faults, item_stays, items_fault, items_stay, level_stands, stood_item, stood_items, stood_stays}
+use Rattle.cqlp_decode.proofs.Lists.{item_faults, item_stays, items_fault, items_stay, level_conforms, conformed_item, conformed_items, conformed_stays}
 use Rattle.cqlp_decode.proofs.progress.StreamProgress.hand_lists.Goals as goal
 
 pub returns-then-handed-clause-lawful : goal.returns-then-handed-clause-lawful
@@ -24,7 +24,7 @@ returns-then-handed-clause-stays g c =
     let here = state_of s (at_level q c.lists.level) in
     let m = c.hand_counted-handed in
     let behind = state_of s (at_level q m.new.level) in
-    items_stay (Gets g.S.Sink) old input sink here u _ i.stood behind m.result.used (rw rest_is at m.ensures.within) refl refl refl
+    items_stay (Gets g.S.Sink) old input sink here u _ i.conformed behind m.result.used (rw rest_is at m.ensures.within) refl refl refl
 
 pub returns-then-handed-clause-drains : goal.returns-then-handed-clause-drains
 returns-then-handed-clause-drains g c =
@@ -39,7 +39,7 @@ returns-then-handed-clause-drains g c =
     let here = state_of s (at_level q c.lists.level) in
     let m = c.hand_counted-handed in
     let behind = state_of s (at_level q m.new.level) in
-    rw c.set_level.ensures (items_fault (Gets g.S.Sink) old input sink here u _ i.stood behind m.result.used (rw rest_is at m.ensures.within) refl refl refl (Fails g.S.Sink) _ (rw (rest_is, c.if-handed.true) at m.ensures.drains))
+    rw c.set_level.ensures (items_fault (Gets g.S.Sink) old input sink here u _ i.conformed behind m.result.used (rw rest_is at m.ensures.within) refl refl refl (Fails g.S.Sink) _ (rw (rest_is, c.if-handed.true) at m.ensures.drains))
 
 pub returns-in_default-clause-lawful : goal.returns-in_default-clause-lawful
 returns-in_default-clause-lawful g c =
@@ -59,8 +59,8 @@ returns-in_default-clause-stays g c =
     let m = c.hand_counted-handed in
     let behind = state_of s (at_level q m.new.level) in
     let k = u + m.result.used in
-    let handed = stood_items (Gets g.S.Sink) old input sink here u _ i.stood behind m.result.used (rw rest_is at m.ensures.within) refl refl refl _ (rw (rest_is, c.if-handed.false) at m.ensures.drains) in
-    rw c.set_level-in_default.ensures (stood_stays (Gets g.S.Sink) old input sink behind k _ handed)
+    let handed = conformed_items (Gets g.S.Sink) old input sink here u _ i.conformed behind m.result.used (rw rest_is at m.ensures.within) refl refl refl _ (rw (rest_is, c.if-handed.false) at m.ensures.drains) in
+    rw c.set_level-in_default.ensures (conformed_stays (Gets g.S.Sink) old input sink behind k _ handed)
 
 pub returns-in_default-clause-drains : goal.returns-in_default-clause-drains
 returns-in_default-clause-drains g c =
@@ -76,26 +76,26 @@ returns-in_default-clause-drains g c =
     let m = c.hand_counted-handed in
     let behind = state_of s (at_level q m.new.level) in
     let k = u + m.result.used in
-    let handed = stood_items (Gets g.S.Sink) old input sink here u _ i.stood behind m.result.used (rw rest_is at m.ensures.within) refl refl refl _ (rw (rest_is, c.if-handed.false) at m.ensures.drains) in
+    let handed = conformed_items (Gets g.S.Sink) old input sink here u _ i.conformed behind m.result.used (rw rest_is at m.ensures.within) refl refl refl _ (rw (rest_is, c.if-handed.false) at m.ensures.drains) in
     rw c.set_level-in_default.ensures handed.drained
 
 pub end_list-requires-clause-ends : goal.end_list-requires-clause-ends
 end_list-requires-clause-ends g c =
     let m = c.hand_counted-handed in
     let q = parts_state c.lists.parts in
-    c.in-Some.ensures.is (nodes_of q c.lists.page.columns) q.cells m.ensures.inside (level_stands c.lists.self q c.lists.page c.lists.invariant.here m.new.level m.ensures.lawful)
+    c.in-Some.ensures.is (nodes_of q c.lists.page.columns) q.cells m.ensures.inside (level_conforms c.lists.self q c.lists.page c.lists.invariant.here m.new.level m.ensures.lawful)
 
 pub end_list-requires-in_default-next_list-clause-ends : goal.end_list-requires-in_default-next_list-clause-ends
 end_list-requires-in_default-next_list-clause-ends g c =
     let m = c.hand_counted-handed in
     let q = parts_state c.lists.parts in
-    c.in-Some.ensures.is (nodes_of q c.lists.page.columns) q.cells m.ensures.inside (level_stands c.lists.self q c.lists.page c.lists.invariant.here m.new.level m.ensures.lawful)
+    c.in-Some.ensures.is (nodes_of q c.lists.page.columns) q.cells m.ensures.inside (level_conforms c.lists.self q c.lists.page c.lists.invariant.here m.new.level m.ensures.lawful)
 
 pub next_list-requires-clause-ends : goal.next_list-requires-clause-ends
 next_list-requires-clause-ends g c =
     let m = c.hand_counted-handed in
     let q = parts_state c.lists.parts in
-    c.in-Some.ensures.is (nodes_of q c.lists.page.columns) q.cells m.ensures.inside (level_stands c.lists.self q c.lists.page c.lists.invariant.here m.new.level m.ensures.lawful)
+    c.in-Some.ensures.is (nodes_of q c.lists.page.columns) q.cells m.ensures.inside (level_conforms c.lists.self q c.lists.page c.lists.invariant.here m.new.level m.ensures.lawful)
 
 pub returns-in-Err-clause-stays : goal.returns-in-Err-clause-stays
 returns-in-Err-clause-stays g c =
@@ -111,7 +111,7 @@ returns-in-Err-clause-stays g c =
     let m = c.hand_counted-handed in
     let behind = state_of s (at_level q m.new.level) in
     let k = u + m.result.used in
-    let handed = stood_items (Gets g.S.Sink) old input sink here u _ i.stood behind m.result.used (rw rest_is at m.ensures.within) refl refl refl _ (rw (rest_is, c.if-handed.false) at m.ensures.drains) in
+    let handed = conformed_items (Gets g.S.Sink) old input sink here u _ i.conformed behind m.result.used (rw rest_is at m.ensures.within) refl refl refl _ (rw (rest_is, c.if-handed.false) at m.ensures.drains) in
     let e = c.in-Some.end in
     let emitted = part_emitted p.row p.column e.part in
     let leaves = c.end_list.ensures.leaves (drop k input) in
@@ -132,7 +132,7 @@ returns-in-Err-clause-drains g c =
     let m = c.hand_counted-handed in
     let behind = state_of s (at_level q m.new.level) in
     let k = u + m.result.used in
-    let handed = stood_items (Gets g.S.Sink) old input sink here u _ i.stood behind m.result.used (rw rest_is at m.ensures.within) refl refl refl _ (rw (rest_is, c.if-handed.false) at m.ensures.drains) in
+    let handed = conformed_items (Gets g.S.Sink) old input sink here u _ i.conformed behind m.result.used (rw rest_is at m.ensures.within) refl refl refl _ (rw (rest_is, c.if-handed.false) at m.ensures.drains) in
     let e = c.in-Some.end in
     let emitted = part_emitted p.row p.column e.part in
     let leaves = c.end_list.ensures.leaves (drop k input) in
@@ -153,12 +153,12 @@ returns-in_default-next_list-clause-stays g c =
     let m = c.hand_counted-handed in
     let behind = state_of s (at_level q m.new.level) in
     let k = u + m.result.used in
-    let handed = stood_items (Gets g.S.Sink) old input sink here u _ i.stood behind m.result.used (rw rest_is at m.ensures.within) refl refl refl _ (rw (rest_is, c.if-handed.false) at m.ensures.drains) in
+    let handed = conformed_items (Gets g.S.Sink) old input sink here u _ i.conformed behind m.result.used (rw rest_is at m.ensures.within) refl refl refl _ (rw (rest_is, c.if-handed.false) at m.ensures.drains) in
     let e = c.in-Some.end in
     let emitted = part_emitted p.row p.column e.part in
     let leaves = rw c.in_default-next_list.ensures.goes at (c.end_list-in_default-next_list.ensures.leaves (drop k input)) in
     let new = state_with c.end_list-in_default-next_list.new.self c.end_list-in_default-next_list.new.parts in
-    stood_stays (Gets g.S.Sink) old input sink new (k + e.used) _ (stood_item (Gets g.S.Sink) old input sink behind k _ handed new e.used e.at emitted leaves _ c.in-Ok.ensures.ok)
+    conformed_stays (Gets g.S.Sink) old input sink new (k + e.used) _ (conformed_item (Gets g.S.Sink) old input sink behind k _ handed new e.used e.at emitted leaves _ c.in-Ok.ensures.ok)
 
 pub returns-in_default-next_list-clause-drains : goal.returns-in_default-next_list-clause-drains
 returns-in_default-next_list-clause-drains g c =
@@ -174,12 +174,12 @@ returns-in_default-next_list-clause-drains g c =
     let m = c.hand_counted-handed in
     let behind = state_of s (at_level q m.new.level) in
     let k = u + m.result.used in
-    let handed = stood_items (Gets g.S.Sink) old input sink here u _ i.stood behind m.result.used (rw rest_is at m.ensures.within) refl refl refl _ (rw (rest_is, c.if-handed.false) at m.ensures.drains) in
+    let handed = conformed_items (Gets g.S.Sink) old input sink here u _ i.conformed behind m.result.used (rw rest_is at m.ensures.within) refl refl refl _ (rw (rest_is, c.if-handed.false) at m.ensures.drains) in
     let e = c.in-Some.end in
     let emitted = part_emitted p.row p.column e.part in
     let leaves = rw c.in_default-next_list.ensures.goes at (c.end_list-in_default-next_list.ensures.leaves (drop k input)) in
     let new = state_with c.end_list-in_default-next_list.new.self c.end_list-in_default-next_list.new.parts in
-    (stood_item (Gets g.S.Sink) old input sink behind k _ handed new e.used e.at emitted leaves _ c.in-Ok.ensures.ok).drained
+    (conformed_item (Gets g.S.Sink) old input sink behind k _ handed new e.used e.at emitted leaves _ c.in-Ok.ensures.ok).drained
 
 pub returns-in-Err-hand_part-clause-lawful : goal.returns-in-Err-hand_part-clause-lawful
 returns-in-Err-hand_part-clause-lawful g c =
@@ -199,12 +199,12 @@ returns-in-Err-hand_part-clause-stays g c =
     let m = c.hand_counted-handed in
     let behind = state_of s (at_level q m.new.level) in
     let k = u + m.result.used in
-    let handed = stood_items (Gets g.S.Sink) old input sink here u _ i.stood behind m.result.used (rw rest_is at m.ensures.within) refl refl refl _ (rw (rest_is, c.if-handed.false) at m.ensures.drains) in
+    let handed = conformed_items (Gets g.S.Sink) old input sink here u _ i.conformed behind m.result.used (rw rest_is at m.ensures.within) refl refl refl _ (rw (rest_is, c.if-handed.false) at m.ensures.drains) in
     let e = c.in-Some.end in
     let emitted = part_emitted p.row p.column e.part in
     let n = c.in-Some-next_list.next in
     let goes = c.in-Some-next_list.ensures.goes in
-    let left = stood_item (Gets g.S.Sink) old input sink behind k _ handed goes.0 e.used e.at emitted (goes.1 (drop k input)) _ c.in-Ok.ensures.ok in
+    let left = conformed_item (Gets g.S.Sink) old input sink behind k _ handed goes.0 e.used e.at emitted (goes.1 (drop k input)) _ c.in-Ok.ensures.ok in
     let on = state_of c.next_list.new.self (at_level q n.entered.level) in
     let begins = part_emitted n.page.row n.page.column n.entered.item.part in
     let takes : TakesItem goes.0 (drop (k + e.used) input) n.entered.item.at n.entered.item.used begins on = rw rest_is at goes.2 in
@@ -224,12 +224,12 @@ returns-in-Err-hand_part-clause-drains g c =
     let m = c.hand_counted-handed in
     let behind = state_of s (at_level q m.new.level) in
     let k = u + m.result.used in
-    let handed = stood_items (Gets g.S.Sink) old input sink here u _ i.stood behind m.result.used (rw rest_is at m.ensures.within) refl refl refl _ (rw (rest_is, c.if-handed.false) at m.ensures.drains) in
+    let handed = conformed_items (Gets g.S.Sink) old input sink here u _ i.conformed behind m.result.used (rw rest_is at m.ensures.within) refl refl refl _ (rw (rest_is, c.if-handed.false) at m.ensures.drains) in
     let e = c.in-Some.end in
     let emitted = part_emitted p.row p.column e.part in
     let n = c.in-Some-next_list.next in
     let goes = c.in-Some-next_list.ensures.goes in
-    let left = stood_item (Gets g.S.Sink) old input sink behind k _ handed goes.0 e.used e.at emitted (goes.1 (drop k input)) _ c.in-Ok.ensures.ok in
+    let left = conformed_item (Gets g.S.Sink) old input sink behind k _ handed goes.0 e.used e.at emitted (goes.1 (drop k input)) _ c.in-Ok.ensures.ok in
     let on = state_of c.next_list.new.self (at_level q n.entered.level) in
     let begins = part_emitted n.page.row n.page.column n.entered.item.part in
     let takes : TakesItem goes.0 (drop (k + e.used) input) n.entered.item.at n.entered.item.used begins on = rw rest_is at goes.2 in
@@ -249,12 +249,12 @@ lists-preserved g c =
     let m = c.hand_counted-handed in
     let behind = state_of s (at_level q m.new.level) in
     let k = u + m.result.used in
-    let handed = stood_items (Gets g.S.Sink) old input sink here u _ i.stood behind m.result.used (rw rest_is at m.ensures.within) refl refl refl _ (rw (rest_is, c.if-handed.false) at m.ensures.drains) in
+    let handed = conformed_items (Gets g.S.Sink) old input sink here u _ i.conformed behind m.result.used (rw rest_is at m.ensures.within) refl refl refl _ (rw (rest_is, c.if-handed.false) at m.ensures.drains) in
     let e = c.in-Some.end in
     let emitted = part_emitted p.row p.column e.part in
     let n = c.in-Some-next_list.next in
     let goes = c.in-Some-next_list.ensures.goes in
-    let left = stood_item (Gets g.S.Sink) old input sink behind k _ handed goes.0 e.used e.at emitted (goes.1 (drop k input)) _ c.in-Ok.ensures.ok in
+    let left = conformed_item (Gets g.S.Sink) old input sink behind k _ handed goes.0 e.used e.at emitted (goes.1 (drop k input)) _ c.in-Ok.ensures.ok in
     let on = state_of c.next_list.new.self (at_level q n.entered.level) in
     let begins = part_emitted n.page.row n.page.column n.entered.item.part in
     let takes : TakesItem goes.0 (drop (k + e.used) input) n.entered.item.at n.entered.item.used begins on = rw rest_is at goes.2 in
@@ -263,7 +263,7 @@ lists-preserved g c =
       inside = goes.4;
       here = goes.5;
       empty = i.empty;
-      stood = stood_item (Gets g.S.Sink) old input sink goes.0 (k + e.used) _ left on n.entered.item.used n.entered.item.at begins takes _ c.in-Ok-hand_part.ensures.ok;
+      conformed = conformed_item (Gets g.S.Sink) old input sink goes.0 (k + e.used) _ left on n.entered.item.used n.entered.item.at begins takes _ c.in-Ok-hand_part.ensures.ok;
     }
 
 pub lists-smaller : goal.lists-smaller
@@ -280,15 +280,15 @@ lists-smaller g c =
     let m = c.hand_counted-handed in
     let behind = state_of s (at_level q m.new.level) in
     let k = u + m.result.used in
-    let handed = stood_items (Gets g.S.Sink) old input sink here u _ i.stood behind m.result.used (rw rest_is at m.ensures.within) refl refl refl _ (rw (rest_is, c.if-handed.false) at m.ensures.drains) in
+    let handed = conformed_items (Gets g.S.Sink) old input sink here u _ i.conformed behind m.result.used (rw rest_is at m.ensures.within) refl refl refl _ (rw (rest_is, c.if-handed.false) at m.ensures.drains) in
     let e = c.in-Some.end in
     let emitted = part_emitted p.row p.column e.part in
     let n = c.in-Some-next_list.next in
     let goes = c.in-Some-next_list.ensures.goes in
-    let left = stood_item (Gets g.S.Sink) old input sink behind k _ handed goes.0 e.used e.at emitted (goes.1 (drop k input)) _ c.in-Ok.ensures.ok in
+    let left = conformed_item (Gets g.S.Sink) old input sink behind k _ handed goes.0 e.used e.at emitted (goes.1 (drop k input)) _ c.in-Ok.ensures.ok in
     let on = state_of c.next_list.new.self (at_level q n.entered.level) in
     let begins = part_emitted n.page.row n.page.column n.entered.item.part in
     let takes : TakesItem goes.0 (drop (k + e.used) input) n.entered.item.at n.entered.item.used begins on = rw rest_is at goes.2 in
     let w = rw rest_is at m.ensures.within in
     let leaves = goes.1 (drop k input) in
-    omega (arith, i.stood.within, w.0, leaves.3.within, takes.3.within, w.1, leaves.3.pays, takes.3.pays, length-drop u input, length-drop k input, length-drop (k + e.used) input)
+    omega (arith, i.conformed.within, w.0, leaves.3.within, takes.3.within, w.1, leaves.3.pays, takes.3.pays, length-drop u input, length-drop k input, length-drop (k + e.used) input)

@@ -6,7 +6,7 @@ use Rattle.cqlp_decode.proofs.Gets.{rest_is}
 use Rattle.cqlp_decode.proofs.ItemLoop.{level_fits}
 use Rattle.cqlp_decode.proofs.Pairs.{key_gone, key_more, value_gone, value_more}
 use Rattle.cqlp_decode.proofs.Rests.{before_first, due_of_kind, next_lawful, next_inside, next_within}
-use Rattle.cqlp_decode.proofs.Rests.{StandsBefore, next_fails, next_stands, rest_place}
+use Rattle.cqlp_decode.proofs.Rests.{LiesBefore, next_fails, next_conforms, rest_place}
 use Rattle.cqlp_decode.proofs.progress.StreamProgress.hand_pairs.Goals as goal
 use Rattle.cqlp_decode.proofs.progress.StreamProgress.hand_pairs.Goals.{then-not-has_key-2, else-not-has_key-2+in-Left}
 use Rattle.cqlp_decode.proofs.progress.StreamProgress.hand_pairs.Goals.{else-not-has_key-2+in-Taken+in-Left-hand_value}
@@ -32,7 +32,7 @@ pairs-init g c =
     let few = rw is at c.front_of-within.ensures.bound in
     record {
       pair = c.requires.pair;
-      stands = before_first (Gets g.S.Sink) s q l c.args.input.now c.args.sink.now _ front few fits.inside c.requires.inside c.requires.lawful;
+      conforms = before_first (Gets g.S.Sink) s q l c.args.input.now c.args.sink.now _ front few fits.inside c.requires.inside c.requires.lawful;
     }
 
 pub returns-in-Fault-clause-lawful : goal.returns-in-Fault-clause-lawful
@@ -44,7 +44,7 @@ returns-in-Fault-clause-lawful g c =
     let one = c.in-Fault.ensures.hands in
     let goes = c.in-Fault.ensures.passes nodes in
     let stop = c.stop_at-in-Fault.ensures.level ∙ goes in
-    next_lawful c.requires.here c.requires.unrefused c.requires.empty i.stands i.pair.of_key more one stop
+    next_lawful c.requires.here c.requires.unrefused c.requires.empty i.conforms i.pair.of_key more one stop
 
 pub returns-in-Fault-clause-inside : goal.returns-in-Fault-clause-inside
 returns-in-Fault-clause-inside g c =
@@ -55,7 +55,7 @@ returns-in-Fault-clause-inside g c =
     let one = c.in-Fault.ensures.hands in
     let goes = c.in-Fault.ensures.passes nodes in
     let stop = c.stop_at-in-Fault.ensures.level ∙ goes in
-    next_inside c.requires.here c.requires.unrefused c.requires.empty i.stands i.pair.of_key more one stop
+    next_inside c.requires.here c.requires.unrefused c.requires.empty i.conforms i.pair.of_key more one stop
 
 pub returns-in-Fault-clause-within : goal.returns-in-Fault-clause-within
 returns-in-Fault-clause-within g c =
@@ -68,7 +68,7 @@ returns-in-Fault-clause-within g c =
     let stop = c.stop_at-in-Fault.ensures.level ∙ goes in
     let left = rest_is c.in-Fault.taken c.pairs.rest.now in
     rw c.stop_at-in-Fault.ensures.handed
-    (next_within c.requires.here c.requires.unrefused c.requires.empty i.stands i.pair.of_key more one stop left)
+    (next_within c.requires.here c.requires.unrefused c.requires.empty i.conforms i.pair.of_key more one stop left)
 
 pub returns-in-Fault-clause-drains : goal.returns-in-Fault-clause-drains
 returns-in-Fault-clause-drains g c =
@@ -81,7 +81,7 @@ returns-in-Fault-clause-drains g c =
     let stop = c.stop_at-in-Fault.ensures.level ∙ goes in
     let left = rest_is c.in-Fault.taken c.pairs.rest.now in
     rw c.stop_at-in-Fault.ensures.handed
-    (next_fails c.requires.here c.requires.unrefused c.requires.empty i.stands i.pair.of_key more one stop left (Fails g.S.Sink) one.holds)
+    (next_fails c.requires.here c.requires.unrefused c.requires.empty i.conforms i.pair.of_key more one stop left (Fails g.S.Sink) one.holds)
 
 pub hand_value-requires-clause-value : goal.hand_value-requires-clause-value
 hand_value-requires-clause-value g c =
@@ -102,8 +102,8 @@ hand_value-requires-clause-inside g c =
     let one = c.in-Taken.ensures.hands in
     let goes = c.in-Taken.ensures.passes nodes in
     let left = rest_is c.in-Taken.taken c.pairs.rest.now in
-    let stands = next_stands c.requires.here c.requires.unrefused c.requires.empty i.stands i.pair.of_key more one goes left one.holds in
-    omega (arith, stands.fits)
+    let conforms = next_conforms c.requires.here c.requires.unrefused c.requires.empty i.conforms i.pair.of_key more one goes left one.holds in
+    omega (arith, conforms.fits)
 
 pub hand_key-requires-clause-place : goal.hand_key-requires-clause-place
 hand_key-requires-clause-place g c =
@@ -111,8 +111,8 @@ hand_key-requires-clause-place g c =
     let i = c.pairs.invariant in
     let l = c.pairs.here in
     let more = key_more l (c.has_key-in-pairs.ensures.0 c.if-not-has_key-2.false) in
-    rest_place c.args.self.now (parts_state c.args.parts.now) c.args.page c.requires.here l i.stands.stands.inside i.stands.stands.lawful more
-    c.pairs.rest.now i.stands.fits
+    rest_place c.args.self.now (parts_state c.args.parts.now) c.args.page c.requires.here l i.conforms.conforms.inside i.conforms.conforms.lawful more
+    c.pairs.rest.now i.conforms.fits
 
 pub hand_value-requires-clause-place : goal.hand_value-requires-clause-place
 hand_value-requires-clause-place g c =
@@ -125,9 +125,9 @@ hand_value-requires-clause-place g c =
     let left = rest_is c.in-Taken.taken c.pairs.rest.now in
     let m = c.hand_key.new.here in
     let half = key_gone nodes l m c.in-Taken.taken c.args.kinds.key c.args.kinds.value goes i.pair in
-    let stands = next_stands c.requires.here c.requires.unrefused c.requires.empty i.stands i.pair.of_key more one goes left one.holds in
-    rest_place c.args.self.now (parts_state c.args.parts.now) c.args.page c.requires.here m stands.stands.inside stands.stands.lawful
-    (value_more m half.at_value) _ stands.fits
+    let conforms = next_conforms c.requires.here c.requires.unrefused c.requires.empty i.conforms i.pair.of_key more one goes left one.holds in
+    rest_place c.args.self.now (parts_state c.args.parts.now) c.args.page c.requires.here m conforms.conforms.inside conforms.conforms.lawful
+    (value_more m half.at_value) _ conforms.fits
 
 pub pairs-preserved : goal.pairs-preserved
 pairs-preserved g c =
@@ -140,14 +140,14 @@ pairs-preserved g c =
     let left = rest_is c.in-Taken.taken c.pairs.rest.now in
     let m = c.hand_key.new.here in
     let half = key_gone nodes l m c.in-Taken.taken c.args.kinds.key c.args.kinds.value goes i.pair in
-    let stands = next_stands c.requires.here c.requires.unrefused c.requires.empty i.stands i.pair.of_key more one goes left one.holds in
+    let conforms = next_conforms c.requires.here c.requires.unrefused c.requires.empty i.conforms i.pair.of_key more one goes left one.holds in
     let other = c.in-Taken-hand_value.ensures.hands in
     let gone = c.in-Taken-hand_value.ensures.passes nodes in
     let behind = rest_is c.in-Taken-hand_value.taken _ in
     record {
       pair = value_gone nodes m c.hand_value.new.here c.in-Taken-hand_value.taken c.args.kinds.key c.args.kinds.value gone half;
-      stands =
-          next_stands c.requires.here c.requires.unrefused c.requires.empty stands half.of_value (value_more m half.at_value) other
+      conforms =
+          next_conforms c.requires.here c.requires.unrefused c.requires.empty conforms half.of_value (value_more m half.at_value) other
           gone behind other.holds;
     }
 
@@ -162,11 +162,11 @@ returns-in-Fault-hand_value-clause-lawful g c =
     let left = rest_is c.in-Taken.taken c.pairs.rest.now in
     let m = c.hand_key.new.here in
     let half = key_gone nodes l m c.in-Taken.taken c.args.kinds.key c.args.kinds.value goes i.pair in
-    let stands = next_stands c.requires.here c.requires.unrefused c.requires.empty i.stands i.pair.of_key more one goes left one.holds in
+    let conforms = next_conforms c.requires.here c.requires.unrefused c.requires.empty i.conforms i.pair.of_key more one goes left one.holds in
     let other = c.in-Fault-hand_value.ensures.hands in
     let gone = c.in-Fault-hand_value.ensures.passes nodes in
     let stop = c.stop_at-in-Fault-hand_value.ensures.level ∙ gone in
-    next_lawful c.requires.here c.requires.unrefused c.requires.empty stands half.of_value (value_more m half.at_value) other stop
+    next_lawful c.requires.here c.requires.unrefused c.requires.empty conforms half.of_value (value_more m half.at_value) other stop
 
 pub returns-in-Fault-hand_value-clause-inside : goal.returns-in-Fault-hand_value-clause-inside
 returns-in-Fault-hand_value-clause-inside g c =
@@ -179,11 +179,11 @@ returns-in-Fault-hand_value-clause-inside g c =
     let left = rest_is c.in-Taken.taken c.pairs.rest.now in
     let m = c.hand_key.new.here in
     let half = key_gone nodes l m c.in-Taken.taken c.args.kinds.key c.args.kinds.value goes i.pair in
-    let stands = next_stands c.requires.here c.requires.unrefused c.requires.empty i.stands i.pair.of_key more one goes left one.holds in
+    let conforms = next_conforms c.requires.here c.requires.unrefused c.requires.empty i.conforms i.pair.of_key more one goes left one.holds in
     let other = c.in-Fault-hand_value.ensures.hands in
     let gone = c.in-Fault-hand_value.ensures.passes nodes in
     let stop = c.stop_at-in-Fault-hand_value.ensures.level ∙ gone in
-    next_inside c.requires.here c.requires.unrefused c.requires.empty stands half.of_value (value_more m half.at_value) other stop
+    next_inside c.requires.here c.requires.unrefused c.requires.empty conforms half.of_value (value_more m half.at_value) other stop
 
 pub returns-in-Fault-hand_value-clause-within : goal.returns-in-Fault-hand_value-clause-within
 returns-in-Fault-hand_value-clause-within g c =
@@ -196,13 +196,13 @@ returns-in-Fault-hand_value-clause-within g c =
     let left = rest_is c.in-Taken.taken c.pairs.rest.now in
     let m = c.hand_key.new.here in
     let half = key_gone nodes l m c.in-Taken.taken c.args.kinds.key c.args.kinds.value goes i.pair in
-    let stands = next_stands c.requires.here c.requires.unrefused c.requires.empty i.stands i.pair.of_key more one goes left one.holds in
+    let conforms = next_conforms c.requires.here c.requires.unrefused c.requires.empty i.conforms i.pair.of_key more one goes left one.holds in
     let other = c.in-Fault-hand_value.ensures.hands in
     let gone = c.in-Fault-hand_value.ensures.passes nodes in
     let stop = c.stop_at-in-Fault-hand_value.ensures.level ∙ gone in
     let behind = rest_is c.in-Fault-hand_value.taken _ in
     rw c.stop_at-in-Fault-hand_value.ensures.handed
-    (next_within c.requires.here c.requires.unrefused c.requires.empty stands half.of_value (value_more m half.at_value) other stop behind)
+    (next_within c.requires.here c.requires.unrefused c.requires.empty conforms half.of_value (value_more m half.at_value) other stop behind)
 
 pub returns-in-Fault-hand_value-clause-drains : goal.returns-in-Fault-hand_value-clause-drains
 returns-in-Fault-hand_value-clause-drains g c =
@@ -215,13 +215,13 @@ returns-in-Fault-hand_value-clause-drains g c =
     let left = rest_is c.in-Taken.taken c.pairs.rest.now in
     let m = c.hand_key.new.here in
     let half = key_gone nodes l m c.in-Taken.taken c.args.kinds.key c.args.kinds.value goes i.pair in
-    let stands = next_stands c.requires.here c.requires.unrefused c.requires.empty i.stands i.pair.of_key more one goes left one.holds in
+    let conforms = next_conforms c.requires.here c.requires.unrefused c.requires.empty i.conforms i.pair.of_key more one goes left one.holds in
     let other = c.in-Fault-hand_value.ensures.hands in
     let gone = c.in-Fault-hand_value.ensures.passes nodes in
     let stop = c.stop_at-in-Fault-hand_value.ensures.level ∙ gone in
     let behind = rest_is c.in-Fault-hand_value.taken _ in
     rw c.stop_at-in-Fault-hand_value.ensures.handed
-    (next_fails c.requires.here c.requires.unrefused c.requires.empty stands half.of_value (value_more m half.at_value) other stop behind
+    (next_fails c.requires.here c.requires.unrefused c.requires.empty conforms half.of_value (value_more m half.at_value) other stop behind
     (Fails g.S.Sink) other.holds)
 
 pub returns-clause-lawful : goal.returns-clause-lawful
@@ -229,89 +229,89 @@ returns-clause-lawful g c =
     let nodes = nodes_of (parts_state c.args.parts.now) c.args.page.columns in
     let i = c.pairs.invariant in
     let end = c.if-not-has_key-2 in
-    let stands : StandsBefore (Gets g.S.Sink) c.args.self.now (parts_state c.args.parts.now) c.args.level.now c.args.input.now
+    let conforms : LiesBefore (Gets g.S.Sink) c.args.self.now (parts_state c.args.parts.now) c.args.level.now c.args.input.now
     c.args.sink.now end.rest.now c.front_of-within.result.now end.here end.sink =
     elim c.if-not-has_key-2.branch [
-      | then-not-has_key-2 w ↦ rw (w.rest-is, w.here-is, w.sink-is) i.stands
+      | then-not-has_key-2 w ↦ rw (w.rest-is, w.here-is, w.sink-is) i.conforms
       | else-not-has_key-2+in-Left w ↦
-          rw (w.rest-is, w.here-is, w.sink-is, w.in-Left.ensures.passes nodes, w.in-Left.ensures.left refl) i.stands
+          rw (w.rest-is, w.here-is, w.sink-is, w.in-Left.ensures.passes nodes, w.in-Left.ensures.left refl) i.conforms
       | else-not-has_key-2+in-Taken+in-Left-hand_value w ↦
           let more = key_more c.pairs.here (c.has_key-in-pairs.ensures.0 w.if-not-has_key-2.false) in
           let one = w.in-Taken.ensures.hands in
           let left = rest_is w.in-Taken.taken c.pairs.rest.now in
           let after =
-          next_stands c.requires.here c.requires.unrefused c.requires.empty i.stands i.pair.of_key more one
+          next_conforms c.requires.here c.requires.unrefused c.requires.empty i.conforms i.pair.of_key more one
           (w.in-Taken.ensures.passes nodes) left one.holds in
           rw (w.rest-is, w.here-is, w.sink-is, w.in-Left-hand_value.ensures.passes nodes, w.in-Left-hand_value.ensures.left refl)
           after
     ] in
-    rw c.stop_at-2.ensures.level stands.stands.lawful
+    rw c.stop_at-2.ensures.level conforms.conforms.lawful
 
 pub returns-clause-inside : goal.returns-clause-inside
 returns-clause-inside g c =
     let nodes = nodes_of (parts_state c.args.parts.now) c.args.page.columns in
     let i = c.pairs.invariant in
     let end = c.if-not-has_key-2 in
-    let stands : StandsBefore (Gets g.S.Sink) c.args.self.now (parts_state c.args.parts.now) c.args.level.now c.args.input.now
+    let conforms : LiesBefore (Gets g.S.Sink) c.args.self.now (parts_state c.args.parts.now) c.args.level.now c.args.input.now
     c.args.sink.now end.rest.now c.front_of-within.result.now end.here end.sink =
     elim c.if-not-has_key-2.branch [
-      | then-not-has_key-2 w ↦ rw (w.rest-is, w.here-is, w.sink-is) i.stands
+      | then-not-has_key-2 w ↦ rw (w.rest-is, w.here-is, w.sink-is) i.conforms
       | else-not-has_key-2+in-Left w ↦
-          rw (w.rest-is, w.here-is, w.sink-is, w.in-Left.ensures.passes nodes, w.in-Left.ensures.left refl) i.stands
+          rw (w.rest-is, w.here-is, w.sink-is, w.in-Left.ensures.passes nodes, w.in-Left.ensures.left refl) i.conforms
       | else-not-has_key-2+in-Taken+in-Left-hand_value w ↦
           let more = key_more c.pairs.here (c.has_key-in-pairs.ensures.0 w.if-not-has_key-2.false) in
           let one = w.in-Taken.ensures.hands in
           let left = rest_is w.in-Taken.taken c.pairs.rest.now in
           let after =
-          next_stands c.requires.here c.requires.unrefused c.requires.empty i.stands i.pair.of_key more one
+          next_conforms c.requires.here c.requires.unrefused c.requires.empty i.conforms i.pair.of_key more one
           (w.in-Taken.ensures.passes nodes) left one.holds in
           rw (w.rest-is, w.here-is, w.sink-is, w.in-Left-hand_value.ensures.passes nodes, w.in-Left-hand_value.ensures.left refl)
           after
     ] in
-    rw c.stop_at-2.ensures.level stands.stands.inside
+    rw c.stop_at-2.ensures.level conforms.conforms.inside
 
 pub returns-clause-within : goal.returns-clause-within
 returns-clause-within g c =
     let nodes = nodes_of (parts_state c.args.parts.now) c.args.page.columns in
     let i = c.pairs.invariant in
     let end = c.if-not-has_key-2 in
-    let stands : StandsBefore (Gets g.S.Sink) c.args.self.now (parts_state c.args.parts.now) c.args.level.now c.args.input.now
+    let conforms : LiesBefore (Gets g.S.Sink) c.args.self.now (parts_state c.args.parts.now) c.args.level.now c.args.input.now
     c.args.sink.now end.rest.now c.front_of-within.result.now end.here end.sink =
     elim c.if-not-has_key-2.branch [
-      | then-not-has_key-2 w ↦ rw (w.rest-is, w.here-is, w.sink-is) i.stands
+      | then-not-has_key-2 w ↦ rw (w.rest-is, w.here-is, w.sink-is) i.conforms
       | else-not-has_key-2+in-Left w ↦
-          rw (w.rest-is, w.here-is, w.sink-is, w.in-Left.ensures.passes nodes, w.in-Left.ensures.left refl) i.stands
+          rw (w.rest-is, w.here-is, w.sink-is, w.in-Left.ensures.passes nodes, w.in-Left.ensures.left refl) i.conforms
       | else-not-has_key-2+in-Taken+in-Left-hand_value w ↦
           let more = key_more c.pairs.here (c.has_key-in-pairs.ensures.0 w.if-not-has_key-2.false) in
           let one = w.in-Taken.ensures.hands in
           let left = rest_is w.in-Taken.taken c.pairs.rest.now in
           let after =
-          next_stands c.requires.here c.requires.unrefused c.requires.empty i.stands i.pair.of_key more one
+          next_conforms c.requires.here c.requires.unrefused c.requires.empty i.conforms i.pair.of_key more one
           (w.in-Taken.ensures.passes nodes) left one.holds in
           rw (w.rest-is, w.here-is, w.sink-is, w.in-Left-hand_value.ensures.passes nodes, w.in-Left-hand_value.ensures.left refl)
           after
     ] in
-    rw (c.stop_at-2.ensures.level, c.stop_at-2.ensures.handed) (stands.stands.within, stands.stands.pays)
+    rw (c.stop_at-2.ensures.level, c.stop_at-2.ensures.handed) (conforms.conforms.within, conforms.conforms.pays)
 
 pub returns-clause-drains : goal.returns-clause-drains
 returns-clause-drains g c =
     let nodes = nodes_of (parts_state c.args.parts.now) c.args.page.columns in
     let i = c.pairs.invariant in
     let end = c.if-not-has_key-2 in
-    let stands : StandsBefore (Gets g.S.Sink) c.args.self.now (parts_state c.args.parts.now) c.args.level.now c.args.input.now
+    let conforms : LiesBefore (Gets g.S.Sink) c.args.self.now (parts_state c.args.parts.now) c.args.level.now c.args.input.now
     c.args.sink.now end.rest.now c.front_of-within.result.now end.here end.sink =
     elim c.if-not-has_key-2.branch [
-      | then-not-has_key-2 w ↦ rw (w.rest-is, w.here-is, w.sink-is) i.stands
+      | then-not-has_key-2 w ↦ rw (w.rest-is, w.here-is, w.sink-is) i.conforms
       | else-not-has_key-2+in-Left w ↦
-          rw (w.rest-is, w.here-is, w.sink-is, w.in-Left.ensures.passes nodes, w.in-Left.ensures.left refl) i.stands
+          rw (w.rest-is, w.here-is, w.sink-is, w.in-Left.ensures.passes nodes, w.in-Left.ensures.left refl) i.conforms
       | else-not-has_key-2+in-Taken+in-Left-hand_value w ↦
           let more = key_more c.pairs.here (c.has_key-in-pairs.ensures.0 w.if-not-has_key-2.false) in
           let one = w.in-Taken.ensures.hands in
           let left = rest_is w.in-Taken.taken c.pairs.rest.now in
           let after =
-          next_stands c.requires.here c.requires.unrefused c.requires.empty i.stands i.pair.of_key more one
+          next_conforms c.requires.here c.requires.unrefused c.requires.empty i.conforms i.pair.of_key more one
           (w.in-Taken.ensures.passes nodes) left one.holds in
           rw (w.rest-is, w.here-is, w.sink-is, w.in-Left-hand_value.ensures.passes nodes, w.in-Left-hand_value.ensures.left refl)
           after
     ] in
-    rw (c.stop_at-2.ensures.level, c.stop_at-2.ensures.handed) stands.stands.drained
+    rw (c.stop_at-2.ensures.level, c.stop_at-2.ensures.handed) conforms.conforms.drained

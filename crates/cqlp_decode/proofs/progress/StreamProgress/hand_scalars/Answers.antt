@@ -6,7 +6,7 @@ use Rattle.cqlp_decode.specs.Progress.{nodes_of, parts_state}
 use Rattle.cqlp_decode.specs.Sinks.{Gets, Fails}
 use Rattle.cqlp_decode.proofs.Gets.{rest_is}
 use Rattle.cqlp_decode.proofs.ItemLoop.{level_fits}
-use Rattle.cqlp_decode.proofs.Rests.{before_first, due_is, next_place, next_lawful, next_inside, next_within, next_fails, next_stands}
+use Rattle.cqlp_decode.proofs.Rests.{before_first, due_is, next_place, next_lawful, next_inside, next_within, next_fails, next_conforms}
 use Rattle.cqlp_decode.proofs.progress.StreamProgress.hand_scalars.Goals as goal
 
 pub due_item-requires : goal.due_item-requires
@@ -32,7 +32,7 @@ due_item-requires-in-scalars g c =
     let q = parts_state c.args.parts.now in
     let i = c.scalars.invariant in
     rw c.page_table-table.ensures
-    (level_fits c.args.self.now q c.args.page c.requires.here c.scalars.here i.stands.inside i.stands.lawful)
+    (level_fits c.args.self.now q c.args.page c.requires.here c.scalars.here i.conforms.inside i.conforms.lawful)
 
 pub pass-requires-clause-next : goal.pass-requires-clause-next
 pass-requires-clause-next g c =
@@ -41,7 +41,7 @@ pass-requires-clause-next g c =
     let l = c.scalars.here in
     let nodes = nodes_of q c.args.page.columns in
     let is = due_is nodes l c.in-Some-due_item.due (sym (rw c.page_table-table.ensures at c.in-Some-due_item.ensures)) in
-    let next = (level_fits c.args.self.now q c.args.page c.requires.here l i.stands.inside i.stands.lawful is.1).next in
+    let next = (level_fits c.args.self.now q c.args.page c.requires.here l i.conforms.inside i.conforms.lawful is.1).next in
     subst (λ (z : List Node). HasNext z l.value l.value.order) (sym c.page_table-table.ensures) next
 
 pub pass-requires-clause-place : goal.pass-requires-clause-place
@@ -60,7 +60,7 @@ scalars-preserved g c =
     let one = rw (c.due_in.ensures, is.0) at c.in-Taken.ensures.hands in
     let goes : c.pass.new.self ≡ passed nodes l n = c.pass.ensures ∙ ap (λ (z : List Node). passed z l n) c.page_table-table.ensures in
     let left = rest_is n c.scalars.rest.now in
-    next_stands c.requires.here c.requires.unrefused c.requires.empty c.scalars.invariant refl is.1 one goes left one.holds
+    next_conforms c.requires.here c.requires.unrefused c.requires.empty c.scalars.invariant refl is.1 one goes left one.holds
 
 pub pass-requires-in-Fault-clause-next : goal.pass-requires-in-Fault-clause-next
 pass-requires-in-Fault-clause-next g c =
@@ -69,7 +69,7 @@ pass-requires-in-Fault-clause-next g c =
     let l = c.scalars.here in
     let nodes = nodes_of q c.args.page.columns in
     let is = due_is nodes l c.in-Some-due_item.due (sym (rw c.page_table-table.ensures at c.in-Some-due_item.ensures)) in
-    let next = (level_fits c.args.self.now q c.args.page c.requires.here l i.stands.inside i.stands.lawful is.1).next in
+    let next = (level_fits c.args.self.now q c.args.page c.requires.here l i.conforms.inside i.conforms.lawful is.1).next in
     subst (λ (z : List Node). HasNext z l.value l.value.order) (sym c.page_table-table.ensures) next
 
 pub pass-requires-in-Fault-clause-place : goal.pass-requires-in-Fault-clause-place

@@ -4,7 +4,7 @@ use Rattle.cqlp_encode.proofs.Calls.{rest_calls}
 use Rattle.cqlp_note.specs.Outputs.{written}
 use Rattle.cqlp_value.specs.Owned.{value_of}
 use Rattle.cqlp_encode.proofs.PageSteps.{fits_where_some, size_of_some}
-use Rattle.cqlp_encode.proofs.PageRests.{rest_all, rest_refused_as, stands_before}
+use Rattle.cqlp_encode.proofs.PageRests.{rest_all, rest_refused_as, conforms_before}
 use Rattle.cqlp_encode.proofs.page_writer.PageWriter.put_rest.Goals as goal
 
 pub returns-in_err-size-clause-adds : goal.returns-in_err-size-clause-adds
@@ -13,7 +13,7 @@ returns-in_err-size-clause-adds g c cells cell s =
     let failed : p.failed ≡ true = sym (ap (λ w. w.failed) c.self.view_is) ∙ c.if-not-self.false in
     let v = value_of c.args.value.now in
     let checks = rw c.before_cut-writer.ensures at c.in_err-size.ensures.checks in
-    rest_refused_as p cells _ v cell s c.from_residual.result _ (written g.W.Target c.args.target.now) c.from_residual.ensures failed (checks v c.requires cells cell (stands_before p cells _ v cell s))
+    rest_refused_as p cells _ v cell s c.from_residual.result _ (written g.W.Target c.args.target.now) c.from_residual.ensures failed (checks v c.requires cells cell (conforms_before p cells _ v cell s))
 
 pub returns-clause-adds : goal.returns-clause-adds
 returns-clause-adds g c cells cell s =
@@ -24,7 +24,7 @@ returns-clause-adds g c cells cell s =
     let size = c.in_ok-size.ensures.size in
     let is = size_of_some c.args.size c.in_ok-size.size v c.requires size c.in_ok-size.ensures.small in
     let checks = rw c.before_cut-writer.ensures at c.in_ok-size.ensures.checks in
-    let none = checks v c.requires cells cell (stands_before p cells _ v cell s) in
+    let none = checks v c.requires cells cell (conforms_before p cells _ v cell s) in
     let gave = rw cut at c.offer_value-taken.ensures.continued in
     let counted = rw c.before_cut-writer.ensures at c.count.ensures in
     rest_all p cells _ v cell s _ _ c.in_ok-size.size c.offer_value-taken.result failed (fits_where_some c.args.size c.in_ok-size.size size) is none (omega (arith, cut, c.if-size-self.false)) gave _ c.if-taken-size.false (c.self-2.view_is ∙ counted)

@@ -1,16 +1,16 @@
 use Rattle.std.proofs.Common.{ℕ, List, is_some}
 use Rattle.cqlp_value.specs.Owned.{value_of}
 use Rattle.cqlp_value.specs.Values.{Values}
-use Rattle.cqlp_encode.specs.PagePlaces.{StandsFor}
+use Rattle.cqlp_encode.specs.PagePlaces.{Represents}
 use Rattle.cqlp_encode.specs.PageWriting.{After}
 use Rattle.cqlp_encode.proofs.PageRests.{after_rest}
-use Rattle.cqlp_encode.proofs.PageSteps.{stands}
+use Rattle.cqlp_encode.proofs.PageSteps.{conforms}
 use Rattle.cqlp_encode.proofs.page_writer.PageWriter.resume.Goals as goal
 
 pub returns-clause-adds : goal.returns-clause-adds
 returns-clause-adds g c n cells a =
     let v = value_of c.args.value.now in
-    let s : (n : ℕ) (cells : List Values) → After c.args.self.now n cells → StandsFor c.args.self.now cells (is_some c.column_size-size.result) v v = rw (← c.self.view_is) (stands _ c.self.inside.column v _ c.self.invariant.0 c.column_size-size.ensures.fits) in
+    let s : (n : ℕ) (cells : List Values) → After c.args.self.now n cells → Represents c.args.self.now cells (is_some c.column_size-size.result) v v = rw (← c.self.view_is) (conforms _ c.self.inside.column v _ c.self.invariant.0 c.column_size-size.ensures.fits) in
     c.put_rest.ensures.adds cells v (s n cells a)
 
 pub returns-clause-after : goal.returns-clause-after

@@ -2,7 +2,7 @@ use Rattle.std.proofs.Common.{◌≡◌, ◌+◌, ◌-◌, ◌≤◌, ◌++◌, 
 use Rattle.cqlp_grammar.specs.Upcoming.{symbols_in, wants}
 use Rattle.cqlp_grammar.proofs.upcoming.Upcoming.push_fields.Given as goal
 
--- the fields from number `left` on stand before all else
+-- the fields from number `left` on are before all else
 abbrev pub invariant-loop-left : goal.invariant-loop-left
 invariant-loop-left l = record {
   within : l.left ≤ length l.fields;

@@ -18,4 +18,4 @@ pub returns-clause-refused : goal.returns-clause-refused
 returns-clause-refused g c =
     let d = c.self.inside in
     subst (λ (z : Skipping). GivesBack c.take_given.result z) c.self.view_is
-    (λ r xs s stretches gifts es is a. c.take_given.ensures.refused r gifts (drop d.base s) es is a.stands)
+    (λ r xs s stretches gifts es is a. c.take_given.ensures.refused r gifts (drop d.base s) es is a.conforms)

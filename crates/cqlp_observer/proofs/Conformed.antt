@@ -1,4 +1,4 @@
--- What stands after each message: those that wait, and the exchanges that were reported.
+-- What comes after each message: those that wait, and the exchanges that were reported.
 use Rattle.std.proofs.Common.{inl, inr, ◌≡◌, Bool, true, false, List, [], ◌∷◌, ◌++◌, refl, sym, ap, subst, ◌∙◌, append_assoc, append-nil, Option, Some, None, ℤ}
 use Rattle.std.specs.List.Sorted.{IsPermutation, IsStrictlySortedBy}
 use Rattle.std.proofs.lemmas.Bool.{cases_Bool}
@@ -64,7 +64,7 @@ pub record AreOf {T : Type 0} (h : List (Message T)) (done : Pairs T) : Type 0 w
   pub missed : Pairs T
   pub each : IsPermutation (meetings h) (missed ++ done)
 
-pub record Stands {T : Type 0} (h : List (Message T)) (w : Waiting T) (done : Pairs T) : Type 0 where
+pub record Conforms {T : Type 0} (h : List (Message T)) (w : Waiting T) (done : Pairs T) : Type 0 where
   pub ordered : IsInOrder w
   pub last : AreLast h w
   pub reported : AreOf h done
@@ -113,8 +113,8 @@ of_more {T} h m w done isnt are p =
           rw some.1 (reported_one h m done (exchange_with m (Some some.0)) (more ∙ ap (λ (r : Pairs T). meetings h ++ r) same) p)
     ]
 
-pub stands_one : {T : Type 0} (h : List (Message T)) (m : Message T) (room : Bool) (w : Waiting T) (done : Pairs T) → Stands h w done → Stands (h ++ m ∷ []) (taken m room w).after (done ++ now m room w)
-stands_one {T} h m room w done p = elim (cases_Bool (is_event m)) [
+pub conforms_one : {T : Type 0} (h : List (Message T)) (m : Message T) (room : Bool) (w : Waiting T) (done : Pairs T) → Conforms h w done → Conforms (h ++ m ∷ []) (taken m room w).after (done ++ now m room w)
+conforms_one {T} h m room w done p = elim (cases_Bool (is_event m)) [
   | inl is ↦
       let more : meetings (h ++ m ∷ []) ≡ meetings h ++ [] = meetings_event h m is ∙ sym (append-nil (meetings h)) in
       rw is (record {
@@ -150,9 +150,9 @@ joined {T} P m ms h w done p =
 ended : {T : Type 0} (P : Holds T) (h : List (Message T)) (w : Waiting T) (done : Pairs T) → P h w done → P (h ++ []) w (done ++ [])
 ended {T} P h w done p = subst (λ (r : List (Message T)). P r w (done ++ [])) (sym (append-nil h)) (subst (λ (r : Pairs T). P h w r) (sym (append-nil done)) p)
 
-stands_all : {T : Type 0} (ms : List (Message T × Bool)) (h : List (Message T)) (w : Waiting T) (done : Pairs T) → Stands h w done → Stands (h ++ messages ms) (after_all ms w) (done ++ exchanges_in (reported_of ms w))
-stands_all [] h w done p = ended Stands h w done p
-stands_all (m ∷ ms) h w done p = joined Stands m ms h w done (stands_all ms (h ++ m.0 ∷ []) (taken m.0 m.1 w).after (done ++ now m.0 m.1 w) (stands_one h m.0 m.1 w done p))
+conforms_all : {T : Type 0} (ms : List (Message T × Bool)) (h : List (Message T)) (w : Waiting T) (done : Pairs T) → Conforms h w done → Conforms (h ++ messages ms) (after_all ms w) (done ++ exchanges_in (reported_of ms w))
+conforms_all [] h w done p = ended Conforms h w done p
+conforms_all (m ∷ ms) h w done p = joined Conforms m ms h w done (conforms_all ms (h ++ m.0 ∷ []) (taken m.0 m.1 w).after (done ++ now m.0 m.1 w) (conforms_one h m.0 m.1 w done p))
 
 open_all : {T : Type 0} (ms : List (Message T × Bool)) (h : List (Message T)) (w : Waiting T) (done : Pairs T) → HasRoom ms → Open h w done → Open (h ++ messages ms) (after_all ms w) (done ++ exchanges_in (reported_of ms w))
 open_all [] h w done room p = ended Open h w done p
@@ -165,8 +165,8 @@ none_in_order : (T : Type 0) → IsInOrder {T = T} none_wait
 unfolding IsStrictlySortedBy
 none_in_order T = tt
 
-pub stands_new : {T : Type 0} → Stands {T = T} [] none_wait []
-stands_new {T} = record {
+pub conforms_new : {T : Type 0} → Conforms {T = T} [] none_wait []
+conforms_new {T} = record {
   ordered = none_in_order T;
   last = λ id x e. e;
   reported = record { missed = []; each = IsPermutation-refl [] };
@@ -177,7 +177,7 @@ open_new {T} = record { ordered = none_in_order T; wait = λ id. refl; reported 
 
 pub keeps : (T : Type 0) → KeepsThoseThatWait T
 keeps T ms =
-    let p = stands_all ms [] none_wait [] stands_new in
+    let p = conforms_all ms [] none_wait [] conforms_new in
     record {
       ordered = p.ordered;
       all = λ room. (open_all ms [] none_wait [] room open_new).wait;
@@ -186,7 +186,7 @@ keeps T ms =
 
 pub reports : (T : Type 0) → ReportsTheExchanges T
 reports T ms =
-    let p = stands_all ms [] none_wait [] stands_new in
+    let p = conforms_all ms [] none_wait [] conforms_new in
     record {
       all = λ room. (open_all ms [] none_wait [] room open_new).reported;
       missed = p.reported.missed;
