@@ -14,7 +14,7 @@ use Rattle.cqlp_cell.specs.declared.progress.NextInCell.TheVariants as next
 use Rattle.cqlp_cell.specs.declared.progress.CellDue.{CellDue}
 use Rattle.cqlp_cell.specs.declared.progress.CellDue.TheVariants as due
 use Rattle.cqlp_cell.specs.declared.progress.DueValue.{DueValue}
-use Rattle.cqlp_kind.specs.CellStep.{CellSymbol, Value_of, Items_of, Close_of, CellPlace, cell_copies, cell_step, cell_step_at, value_step, close_step, part_step, reads_further}
+use Rattle.cqlp_kind.specs.CellStep.{CellSymbol, Value_of, Items_of, Close_of, CellPlace, cell_copies, cell_step, cell_step_at, value_step, close_step, part_step, lenient_excess}
 use Rattle.cqlp_type.specs.Forests.{types_at, node_at, Conform}
 use Rattle.cqlp_cell.specs.Progress.{CellState, value_symbols, left_of, open_symbols, all_open_symbols, symbols_for, place, value_at, due_value, open_after, rest_of, after_item_by, after_item, is_over, over_by, due_of, further_by, has_further, TypesConform, Conforms, HasNext}
 use Rattle.cqlp_cell.specs.Coming.{ValueDue}
@@ -98,10 +98,10 @@ module _ (l : Rules) (p : CellPlace) (rest : List CellSymbol) where
       → cell_step l p ≡ value_step l p (Items_of others level stop (taken + 1) ∷ rest) k inner (level + 1) (stop - p.offset)
   field_first k inner others level stop taken before e = ap (cell_step_at l p) e ∙ rw before refl
 
-  none_first : (level stop taken : ℕ) → reads_further l (stop - p.offset) ≡ false → p.symbols ≡ Items_of NoMore level stop taken ∷ rest → cell_step l p ≡ close_step p rest level stop taken
+  none_first : (level stop taken : ℕ) → lenient_excess l (stop - p.offset) ≡ false → p.symbols ≡ Items_of NoMore level stop taken ∷ rest → cell_step l p ≡ close_step p rest level stop taken
   none_first level stop taken shut e = ap (cell_step_at l p) e ∙ rw shut refl
 
-  over_first : (ts : Types) (level stop taken : ℕ) → leb stop p.offset ≡ true → reads_further l (stop - p.offset) ≡ false → p.symbols ≡ Items_of ts level stop taken ∷ rest → cell_step l p ≡ close_step p rest level stop taken
+  over_first : (ts : Types) (level stop taken : ℕ) → leb stop p.offset ≡ true → lenient_excess l (stop - p.offset) ≡ false → p.symbols ≡ Items_of ts level stop taken ∷ rest → cell_step l p ≡ close_step p rest level stop taken
   over_first NoMore level stop taken past shut e = none_first level stop taken shut e
   over_first (Type_and k inner others) level stop taken past shut e = ap (cell_step_at l p) e ∙ rw past refl
 

@@ -3,11 +3,11 @@ use Rattle.std.proofs.Common.{◌≡◌, ℕ, Bool, true, false, ◌&&◌, cond,
 use Rattle.std.specs.Prelude.{Option, Some, None}
 use Rattle.cqlp_kind.specs.declared.kind.Kind.{Kind}
 use Rattle.cqlp_kind.specs.declared.kind.Kind.TheVariants as kind
-use Rattle.cqlp_kind.specs.Scalars.{ScalarValue, Raw, allows_size, scalar_of, takes_size, or_raw, scalar_taken}
+use Rattle.cqlp_kind.specs.Scalars.{ScalarValue, Raw, allows_size, scalar_of, size_or_lenient, or_raw, scalar_or_lenient}
 use Rattle.cqlp_cell.specs.Contents.{IsReadAs}
 
 -- what the type has, each caller takes
-pub allowed_taken : (lenient : Bool) (k : Kind) (n : ℕ) → allows_size k n ≡ true → takes_size lenient k n ≡ true
+pub allowed_taken : (lenient : Bool) (k : Kind) (n : ℕ) → allows_size k n ≡ true → size_or_lenient lenient k n ≡ true
 allowed_taken true k n t = refl
 allowed_taken false k n t = t
 
@@ -15,7 +15,7 @@ some_kept : (o : Option ScalarValue) (c : List ℕ) → is_some o ≡ true → o
 some_kept None c t = absurd cc
 some_kept (Some v) c t = refl
 
-pub taken_is : (lenient : Bool) (k : Kind) (c : List ℕ) → allows_size k (length c) ≡ true → is_some (scalar_of k c) ≡ true → scalar_of k c ≡ scalar_taken lenient k c
+pub taken_is : (lenient : Bool) (k : Kind) (c : List ℕ) → allows_size k (length c) ≡ true → is_some (scalar_of k c) ≡ true → scalar_of k c ≡ scalar_or_lenient lenient k c
 taken_is false k c a t = refl
 taken_is true k c a t = rw a (some_kept (scalar_of k c) c t)
 
@@ -24,7 +24,7 @@ both_true true true t = (refl, refl)
 both_true true false t = absurd cc
 both_true false b t = absurd cc
 
-pub spelled_taken : (lenient : Bool) (k : Kind) (c : List ℕ) (v : ScalarValue) → allows_size k (length c) ≡ true → scalar_of k c ≡ Some v → scalar_taken lenient k c ≡ Some v
+pub spelled_taken : (lenient : Bool) (k : Kind) (c : List ℕ) (v : ScalarValue) → allows_size k (length c) ≡ true → scalar_of k c ≡ Some v → scalar_or_lenient lenient k c ≡ Some v
 spelled_taken false k c v a e = e
 spelled_taken true k c v a e = rw (a, e) refl
 
@@ -57,7 +57,7 @@ none_when false o e t = absurd cc
 none_for : (k : Kind) (c : List ℕ) → allows_size k (length c) ≡ true → (allows_size k (length c) && is_some (scalar_of k c)) ≡ false → IsReadAs false k c None
 none_for k c a t = none_when (allows_size k (length c)) (scalar_of k c) a t
 
-pub as_none : (lenient : Bool) (k : Kind) (c : List ℕ) → lenient ≡ false → takes_size lenient k (length c) ≡ true → (allows_size k (length c) && is_some (scalar_of k c)) ≡ false → IsReadAs lenient k c None
+pub as_none : (lenient : Bool) (k : Kind) (c : List ℕ) → lenient ≡ false → size_or_lenient lenient k (length c) ≡ true → (allows_size k (length c) && is_some (scalar_of k c)) ≡ false → IsReadAs lenient k c None
 as_none lenient k c e a t = rw e (none_for k c (rw e at a) t)
 
 -- Whatever is read is a scalar of some kind that has these bytes: of its type, or of one that is not known.
@@ -69,6 +69,6 @@ kind_when true (Some w) k c v a s e = (k, a, s ∙ e)
 kind_when true None k c v a s e = (kind.Raw, refl, raw_known c ∙ e)
 kind_when false o k c v a s e = (kind.Raw, refl, raw_known c ∙ e)
 
-pub kind_taken : (lenient : Bool) (k : Kind) (c : List ℕ) (v : ScalarValue) → takes_size lenient k (length c) ≡ true → scalar_taken lenient k c ≡ Some v → HasKind c v
+pub kind_taken : (lenient : Bool) (k : Kind) (c : List ℕ) (v : ScalarValue) → size_or_lenient lenient k (length c) ≡ true → scalar_or_lenient lenient k c ≡ Some v → HasKind c v
 kind_taken false k c v t e = (k, t, e)
 kind_taken true k c v t e = kind_when (allows_size k (length c)) (scalar_of k c) k c v refl refl e

@@ -14,7 +14,7 @@ use Rattle.cqlp_kind.specs.declared.kind.Kind.{Kind}
 use Rattle.cqlp_kind.specs.declared.kind.Kind.TheVariants as kind
 use Rattle.cqlp_kind.specs.Types.{NoMore, has_no_items}
 use Rattle.cqlp_cell.specs.declared.size.Sized.TheVariants as size
-use Rattle.cqlp_kind.specs.Scalars.{ScalarValue, allows_size, scalar_of, fault_of, takes_size, scalar_taken}
+use Rattle.cqlp_kind.specs.Scalars.{ScalarValue, allows_size, scalar_of, fault_of, size_or_lenient, scalar_or_lenient}
 use Rattle.cqlp_kind.specs.CellStep.{CellEvent, Leaf, CellPlace, is_opaque, leaf_step, part_step, counted_step, scalar_step, content_step, sized_step, value_step}
 use Rattle.cqlp_kind.specs.Contents.{scalar_in}
 use Rattle.cqlp_cell.specs.Fronts.{SaysScalar}
@@ -33,7 +33,7 @@ pub scalar_is : (k : Kind) (c : List ℕ) (v : ScalarValue) → ◌≡◌ {A = R
 scalar_is k c v e = scalar_when (allows_size k (length c)) k c v refl e
 
 module _ (l : Rules) (k : Kind) (room n : ℕ) (input : List ℕ) (v : ScalarValue) (part : l.part ≡ l.cell) (number : n ≡ from_be_bytes w32 (take 4 input)) (some : n ≢ 0) (low : n < 2 ^ 31) (short : n ≤ l.cell) (enough : 4 + n ≤ room) (there : 4 + n ≤ length input) (kind : has_no_items k ≡ true)
-    (allows : takes_size l.lenient k n ≡ true) (is : scalar_taken l.lenient k (take n (drop 4 input)) ≡ Some v) where
+    (allows : size_or_lenient l.lenient k n ≡ true) (is : scalar_or_lenient l.lenient k (take n (drop 4 input)) ≡ Some v) where
   pub says_scalar : SaysScalar l k room input (4 + n) v
   unfolding number_of
   says_scalar =
@@ -122,10 +122,10 @@ pub record IsThere (l : Rules) (k : Kind) (room n : ℕ) (input : List ℕ) : Ty
   pub some : n ≢ 0
   pub enough : 4 + n ≤ room
   pub kind : has_no_items k ≡ true
-  pub allows : takes_size l.lenient k n ≡ true
+  pub allows : size_or_lenient l.lenient k n ≡ true
   pub short : n ≤ l.cell
   pub there : 4 + n ≤ length input
-  pub is : is_some (scalar_taken l.lenient k (take n (drop 4 input))) ≡ true
+  pub is : is_some (scalar_or_lenient l.lenient k (take n (drop 4 input))) ≡ true
 
 module _ (l : Rules) (k : Kind) (room used : ℕ) (input : List ℕ) (v : ScalarValue) (h : SaysScalar l k room input used v) where
   abbrev start : CellPlace
@@ -158,7 +158,7 @@ module _ (l : Rules) (k : Kind) (room used : ℕ) (input : List ℕ) (v : Scalar
   front_there =
       let kind = scalar_kind l start 4 rest k n content.3 in
       let scalar : emits_leaf (says (scalar_step l start [] 0 k n) 4 rest) ≡ true = rw (scalar_content_is l start [] 0 k NoMore n kind) at content.3 in
-      let a = then_leads 4 rest (takes_size l.lenient k n) _ _ scalar refl in
+      let a = then_leads 4 rest (size_or_lenient l.lenient k n) _ _ scalar refl in
       let b = else_leads 4 rest (l.parts && is_opaque k && ltb l.part n) _ _ a.1 (part_leads l start 4 rest n) in
       let c = else_leads 4 rest (ltb l.cell n) _ _ b.1 refl in
       let d = waits_or (ltb (length rest) n) _ c.1 in
@@ -172,7 +172,7 @@ module _ (l : Rules) (k : Kind) (room used : ℕ) (input : List ℕ) (v : Scalar
         allows = a.0;
         short = ltb-false l.cell n c.0;
         there = omega (arith, length-drop 4 input, sized.1);
-        is = leaf_is start k (scalar_taken l.lenient k (take n rest)) _ _ d.1;
+        is = leaf_is start k (scalar_or_lenient l.lenient k (take n rest)) _ _ d.1;
       }
 
 -- ---- the scalar that it is
@@ -196,7 +196,7 @@ module _ (l : Rules) (k : Kind) (room used : ℕ) (input : List ℕ) (v : Scalar
   abbrev content_of : List ℕ
   content_of = take content_long (drop 4 input)
 
-  front_by : (o : Option ScalarValue) → scalar_taken l.lenient k content_of ≡ o → is_some o ≡ true → (used ≡ 4 + content_long) × (scalar_taken l.lenient k content_of ≡ Some v)
+  front_by : (o : Option ScalarValue) → scalar_or_lenient l.lenient k content_of ≡ o → is_some o ≡ true → (used ≡ 4 + content_long) × (scalar_or_lenient l.lenient k content_of ≡ Some v)
   front_by None e t = absurd cc
   front_by (Some w) e t =
       let t = front_there l k room used input v h in
@@ -207,8 +207,8 @@ module _ (l : Rules) (k : Kind) (room used : ℕ) (input : List ℕ) (v : Scalar
       (ap emitted_used both, e ∙ sym is)
 
   -- all that the bytes say of it
-  pub front_is : IsThere l k room content_long input × (used ≡ 4 + content_long) × (scalar_taken l.lenient k content_of ≡ Some v)
+  pub front_is : IsThere l k room content_long input × (used ≡ 4 + content_long) × (scalar_or_lenient l.lenient k content_of ≡ Some v)
   front_is =
       let t = front_there l k room used input v h in
-      let leaf = front_by (scalar_taken l.lenient k content_of) refl t.is in
+      let leaf = front_by (scalar_or_lenient l.lenient k content_of) refl t.is in
       (t, leaf.0, leaf.1)

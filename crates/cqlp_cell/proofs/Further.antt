@@ -7,7 +7,7 @@ use Rattle.cqlp_note.specs.Limits.{Rules}
 use Rattle.cqlp_note.specs.Partial.{FieldState}
 use Rattle.cqlp_kind.specs.declared.node.Node.{Node}
 use Rattle.cqlp_kind.specs.Types.{NoMore}
-use Rattle.cqlp_kind.specs.CellStep.{Items_of, cell_step, cell_step_at, part_step, reads_further}
+use Rattle.cqlp_kind.specs.CellStep.{Items_of, cell_step, cell_step_at, part_step, lenient_excess}
 use Rattle.cqlp_cell.specs.declared.advance.CellAdvance.{CellAdvance}
 use Rattle.cqlp_cell.specs.declared.advance.CellAdvance.TheVariants as advance
 use Rattle.cqlp_cell.specs.declared.advance.CellOutline.{CellOutline}
@@ -35,14 +35,14 @@ both true b e = (refl, e)
 both false b e = absurd cc
 
 -- so many bytes are read on by a lenient caller alone, in parts of some byte each, and are some
-pub reads_when : (l : Rules) (left : ℕ) → reads_further l left ≡ true → (l.lenient ≡ true) × (0 < l.part) × (0 < left) × (left < 2 ^ 32)
+pub reads_when : (l : Rules) (left : ℕ) → lenient_excess l left ≡ true → (l.lenient ≡ true) × (0 < l.part) × (0 < left) × (left < 2 ^ 32)
 reads_when l left e =
     let a = both (l.lenient && ltb 0 l.part && ltb 0 left) (ltb left (2 ^ 32)) e in
     let b = both (l.lenient && ltb 0 l.part) (ltb 0 left) a.0 in
     let c = both l.lenient (ltb 0 l.part) b.0 in
     (c.0, ltb-true _ _ c.1, ltb-true _ _ b.1, ltb-true _ _ a.1)
 
-further_is_of : (l : Rules) (left : ℕ) (k : Order) → further_by l left k ≡ true → (k ≡ order.Fields) × (reads_further l left ≡ true)
+further_is_of : (l : Rules) (left : ℕ) (k : Order) → further_by l left k ≡ true → (k ≡ order.Fields) × (lenient_excess l left ≡ true)
 further_is_of l left order.Fields e = (refl, e)
 further_is_of l left order.Elements e = absurd cc
 further_is_of l left order.Keys e = absurd cc
@@ -54,7 +54,7 @@ none_shut true true c = refl
 none_shut true false c = refl
 none_shut false b c = refl
 
-pub past_reads : (l : Rules) (left : ℕ) → left ≡ 0 → reads_further l left ≡ false
+pub past_reads : (l : Rules) (left : ℕ) → left ≡ 0 → lenient_excess l left ≡ false
 past_reads l left e = rw e (none_shut l.lenient (ltb 0 l.part) (ltb 0 (2 ^ 32)))
 
 past_by : (l : Rules) (left : ℕ) (k : Order) → left ≡ 0 → further_by l left k ≡ false
@@ -110,7 +110,7 @@ module _ (nodes : List Node) (d : CellState) (o : OpenValue) (conforms : Conform
     abbrev left : ℕ
     left = o.stop - d.offset
 
-    fields : (o.order ≡ order.Fields) × (reads_further d.rules left ≡ true)
+    fields : (o.order ≡ order.Fields) × (lenient_excess d.rules left ≡ true)
     fields = further_is_of d.rules left o.order further
 
     pub some_left : (0 < d.rules.part) × (0 < left) × (left < 2 ^ 32)

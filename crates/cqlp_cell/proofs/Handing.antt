@@ -13,7 +13,7 @@ use Rattle.cqlp_cell.specs.declared.size.Sized.TheVariants as size
 use Rattle.cqlp_cell.specs.declared.progress.Arrived.{Arrived}
 use Rattle.cqlp_cell.specs.declared.progress.Arrived.TheVariants as arrived
 use Rattle.cqlp_cell.specs.declared.progress.CellDue.TheVariants as due
-use Rattle.cqlp_kind.specs.Scalars.{ScalarValue, scalar_of, scalar_taken, fault_of}
+use Rattle.cqlp_kind.specs.Scalars.{ScalarValue, scalar_of, scalar_or_lenient, fault_of}
 use Rattle.cqlp_kind.specs.CellStep.{CellSymbol, CellEvent, CellPlace, leaf_step}
 use Rattle.cqlp_cell.specs.Contents.{IsReadAs}
 use Rattle.cqlp_cell.specs.Items.{content_at, leaf_event}
@@ -51,7 +51,7 @@ module _ (nodes : List Node) (d : CellState) (n : ℕ) (decided : Decided nodes 
   scalar_short lt = rw (decided.is, lt-ltb (length x) n lt) refl
 
   abbrev read : Option ScalarValue
-  read = scalar_taken d.rules.lenient its_kind (take n x)
+  read = scalar_or_lenient d.rules.lenient its_kind (take n x)
 
   pub scalar_got : n ≤ length x → is_some read ≡ true → Emits nodes (says (sized_of nodes d n) 4 x) d.offset (4 + n) (leaf_event (length d.open_values) read) (state_after nodes d (4 + n))
   scalar_got le t =
@@ -79,7 +79,7 @@ module _ (nodes : List Node) (old new : CellState) (n start : ℕ) (p q : FieldS
   pub leaf_hands : (k : Kind) (level : ℕ) → level ≡ length old.open_values → IsReadAs old.rules.lenient kind (content_at f.content input q.content) (Some k) → new ≡ state_after nodes old (4 + n)
       → Hands nodes old p input (says (sized_of nodes old n) 4 bytes) ((4 - start) + length seen) old.offset f.used (outline.Leaf level k f.content) new q
   leaf_hands k level at known goes =
-      let is : scalar_of k (content_at f.content input q.content) ≡ scalar_taken old.rules.lenient kind (take n bytes) = known.2 ∙ ap (scalar_taken old.rules.lenient kind) content_is in
+      let is : scalar_of k (content_at f.content input q.content) ≡ scalar_or_lenient old.rules.lenient kind (take n bytes) = known.2 ∙ ap (scalar_or_lenient old.rules.lenient kind) content_is in
       let got = scalar_got nodes old n decided bytes found.enough (rw is at known.1) in
       let count : ((4 - start) + length seen) + f.used ≡ 4 + n = omega (arith, found.count, found.after) in
       let size : length (take n bytes) ≡ n = length-take-le n bytes found.enough in
@@ -106,7 +106,7 @@ module _ (nodes : List Node) (old new : CellState) (n start : ℕ) (p q : FieldS
   -- one that the type refuses
   pub leaf_fails : IsReadAs old.rules.lenient kind (content_at f.content input q.content) None → new ≡ ended old → Fails nodes old p (says (sized_of nodes old n) 4 bytes) (record { at = old.offset; why = fault_of kind }) new q
   leaf_fails refused goes =
-      let none : scalar_taken old.rules.lenient kind (take n bytes) ≡ None = rw content_is at refused in
+      let none : scalar_or_lenient old.rules.lenient kind (take n bytes) ≡ None = rw content_is at refused in
       record { is = rw (decided.is, le-ltb (length bytes) n found.enough, none) refl; ends = goes; idle = found.idle; longest = found.room }
 
 -- a scalar that goes on

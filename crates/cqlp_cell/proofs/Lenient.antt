@@ -12,7 +12,7 @@ use Rattle.cqlp_kind.specs.declared.kind.Kind.{Kind}
 use Rattle.cqlp_kind.specs.declared.kind.Kind.TheVariants as kind
 use Rattle.cqlp_kind.specs.Types.{Types, NoMore, Type_and, has_id}
 use Rattle.cqlp_kind.specs.Scalars.{ScalarValue, Raw, only_if, allows_size, scalar_of, fault_of, or_raw, scalar_or_raw}
-use Rattle.cqlp_kind.specs.CellStep.{CellSymbol, Value_of, Items_of, Close_of, Content_from, CellEvent, CellPlace, is_opaque, reads_further, leaf_step, scalar_step, content_step, sized_step, value_step, items_step, cell_step_at}
+use Rattle.cqlp_kind.specs.CellStep.{CellSymbol, Value_of, Items_of, Close_of, Content_from, CellEvent, CellPlace, is_opaque, lenient_excess, leaf_step, scalar_step, content_step, sized_step, value_step, items_step, cell_step_at}
 use Rattle.cqlp_cell.specs.Lenient.{IsOfContent, GoesOn, LenientGoesOn, RawIsNoneOfItsType}
 use Rattle.cqlp_cell.proofs.Further.{reads_when}
 
@@ -83,14 +83,14 @@ module _ (l : Rules) (p : CellPlace) (rest : List CellSymbol) where
 
 module _ (l : Rules) (p : CellPlace) (bytes : List ℕ) where
   -- where bytes are read on behind the last field, they are refused by a caller who is not lenient
-  further_goes : (level stop taken : ℕ) (rest : List CellSymbol) (t : Bool) → reads_further (with_lenient true l) (stop - p.offset) ≡ t → Goes 0 bytes (items_step (with_lenient false l) p NoMore level stop taken rest) (items_step (with_lenient true l) p NoMore level stop taken rest)
+  further_goes : (level stop taken : ℕ) (rest : List CellSymbol) (t : Bool) → lenient_excess (with_lenient true l) (stop - p.offset) ≡ t → Goes 0 bytes (items_step (with_lenient false l) p NoMore level stop taken rest) (items_step (with_lenient true l) p NoMore level stop taken rest)
   further_goes level stop taken rest true e =
       let some = (reads_when (with_lenient true l) (stop - p.offset) e).2 in
       rw (e, lt-ltb p.offset stop (omega (arith, some))) (inr (p.offset, ExtraInValue, refl, tt))
   further_goes level stop taken rest false e = rw e (inl refl)
 
   items_goes : (ts : Types) (level stop taken : ℕ) (rest : List CellSymbol) → Goes 0 bytes (items_step (with_lenient false l) p ts level stop taken rest) (items_step (with_lenient true l) p ts level stop taken rest)
-  items_goes NoMore level stop taken rest = further_goes level stop taken rest (reads_further (with_lenient true l) (stop - p.offset)) refl
+  items_goes NoMore level stop taken rest = further_goes level stop taken rest (lenient_excess (with_lenient true l) (stop - p.offset)) refl
   items_goes (Type_and k inner others) level stop taken rest =
       either_goes 0 bytes (leb stop p.offset) _ _ _ _ (inl refl) (value_goes l p (Items_of others level stop (taken + 1) ∷ rest) k inner (level + 1) (stop - p.offset) bytes)
 

@@ -8,7 +8,7 @@ use Rattle.cqlp_kind.specs.declared.kind.Kind.TheVariants as kind
 use Rattle.cqlp_kind.specs.Types.{Types, has_no_items}
 use Rattle.cqlp_cell.specs.declared.size.Sized.{Sized}
 use Rattle.cqlp_cell.specs.declared.size.Sized.TheVariants as size
-use Rattle.cqlp_kind.specs.Scalars.{takes_size}
+use Rattle.cqlp_kind.specs.Scalars.{size_or_lenient}
 use Rattle.cqlp_kind.specs.CellStep.{CellSymbol, CellPlace, is_opaque, content_step, scalar_step}
 use Rattle.cqlp_cell.specs.Sizes.{is_counted, sized_as, IsContent, HasRoom, IsSized}
 
@@ -38,7 +38,7 @@ module _ (l : Rules) (n : ℕ) where
   tuple_content = record { is = λ p rest inner level. refl; can = (refl, refl, refl) }
 
 module _ (l : Rules) (k : Kind) (n : ℕ) (scalar : has_no_items k ≡ true) where
-  pub bad_size : takes_size l.lenient k n ≡ false → IsContent l k n (size.Refused BadSize)
+  pub bad_size : size_or_lenient l.lenient k n ≡ false → IsContent l k n (size.Refused BadSize)
   bad_size t = record { is = λ p rest inner level. scalar_content_is l p rest level k inner n scalar ∙ rw t refl; can = tt }
 
   and_false : (a b : Bool) → (a && b && false) ≡ false
@@ -46,19 +46,19 @@ module _ (l : Rules) (k : Kind) (n : ℕ) (scalar : has_no_items k ≡ true) whe
   and_false true false = refl
   and_false false b = refl
 
-  pub short_is : l.part ≡ l.cell → takes_size l.lenient k n ≡ true → n ≤ l.cell → IsContent l k n (size.Scalar n)
+  pub short_is : l.part ≡ l.cell → size_or_lenient l.lenient k n ≡ true → n ≤ l.cell → IsContent l k n (size.Scalar n)
   short_is e t le = record {
     is = λ p rest inner level. scalar_content_is l p rest level k inner n scalar ∙ rw (t, e, le-ltb l.cell n le, and_false l.parts (is_opaque k)) refl;
     can = (refl, le, scalar, t);
   }
 
-  pub long_is : l.part ≡ l.cell → takes_size l.lenient k n ≡ true → l.cell < n → l.parts ≡ true → is_opaque k ≡ true → IsContent l k n (size.Parts n)
+  pub long_is : l.part ≡ l.cell → size_or_lenient l.lenient k n ≡ true → l.cell < n → l.parts ≡ true → is_opaque k ≡ true → IsContent l k n (size.Parts n)
   long_is e t lt parts opaque = record {
     is = λ p rest inner level. scalar_content_is l p rest level k inner n scalar ∙ rw (t, e, lt-ltb l.cell n lt, parts, opaque) refl;
     can = (refl, lt, parts, scalar);
   }
 
-  pub too_long : takes_size l.lenient k n ≡ true → l.cell < n → (l.parts && is_opaque k) ≡ false → IsContent l k n (size.Refused TooLong)
+  pub too_long : size_or_lenient l.lenient k n ≡ true → l.cell < n → (l.parts && is_opaque k) ≡ false → IsContent l k n (size.Refused TooLong)
   too_long t lt whole = record {
     is = λ p rest inner level. scalar_content_is l p rest level k inner n scalar ∙ rw (t, whole, lt-ltb l.cell n lt) refl;
     can = tt;

@@ -6,7 +6,7 @@ use Rattle.cqlp_note.specs.Reader.{Said, Bad, says}
 use Rattle.cqlp_note.specs.Limits.{Rules, with_lenient}
 use Rattle.cqlp_kind.specs.declared.kind.Kind.{Kind}
 use Rattle.cqlp_kind.specs.Types.{has_id}
-use Rattle.cqlp_kind.specs.Scalars.{Raw, allows_size, scalar_of, scalar_taken}
+use Rattle.cqlp_kind.specs.Scalars.{Raw, allows_size, scalar_of, scalar_or_lenient}
 use Rattle.cqlp_kind.specs.CellStep.{CellPlace, cell_step}
 
 -- why a content is refused that its type does not have, or further bytes in a value than its fields
@@ -35,5 +35,5 @@ LenientGoesOn =
 -- the type, by its length or by its bytes.
 abbrev pub RawIsNoneOfItsType : Type 0
 RawIsNoneOfItsType =
-    (lenient : Bool) (k : Kind) (c raw : List ℕ) → has_id k ≡ true → scalar_taken lenient k c ≡ Some (Raw raw)
+    (lenient : Bool) (k : Kind) (c raw : List ℕ) → has_id k ≡ true → scalar_or_lenient lenient k c ≡ Some (Raw raw)
     → (lenient ≡ true) × (raw ≡ c) × ((allows_size k (length c) && is_some (scalar_of k c)) ≡ false)

@@ -18,7 +18,7 @@ use Rattle.cqlp_cell.specs.declared.progress.CellDue.TheVariants as due
 use Rattle.cqlp_cell.specs.declared.progress.DueValue.{DueValue}
 use Rattle.cqlp_cell.specs.declared.progress.CellProgress.{CellProgress}
 use Rattle.cqlp_kind.specs.CellStep.{CellSymbol, Value_of, Items_of, Close_of, Content_from, CellPlace, cell_copies, values_of}
-use Rattle.cqlp_kind.specs.CellStep.{reads_further}
+use Rattle.cqlp_kind.specs.CellStep.{lenient_excess}
 use Rattle.cqlp_cell.specs.OpenValues.{last_open, with_last}
 use Rattle.cqlp_type.specs.Forests.{types_at, node_at, Conform}
 
@@ -188,7 +188,7 @@ due_of d = due_for d.offset d.open_values d.next
 
 -- A lenient caller reads on behind the last field of an open value.
 abbrev pub further_by : Rules → (left : ℕ) → Order → Bool
-further_by l left order.Fields = reads_further l left
+further_by l left order.Fields = lenient_excess l left
 further_by l left _ = false
 
 abbrev pub has_further : Rules → OpenValue → (offset : ℕ) → Bool

@@ -8,7 +8,7 @@ use Rattle.cqlp_kind.specs.declared.kind.Kind.TheVariants as kind
 use Rattle.cqlp_kind.specs.Types.{Types, has_no_items}
 use Rattle.cqlp_cell.specs.declared.size.Sized.{Sized}
 use Rattle.cqlp_cell.specs.declared.size.Sized.TheVariants as size
-use Rattle.cqlp_kind.specs.Scalars.{takes_size, scalar_taken}
+use Rattle.cqlp_kind.specs.Scalars.{size_or_lenient, scalar_or_lenient}
 use Rattle.cqlp_kind.specs.CellStep.{CellSymbol, CellEvent, Null, Empty, CellPlace, place_after, leaf_step, part_step, counted_step}
 use Rattle.cqlp_kind.specs.CellStep.{fielded_step, content_step, sized_step}
 
@@ -23,7 +23,7 @@ abbrev pub sized_as : Rules → CellPlace → List CellSymbol → Kind → Types
     → Step CellEvent CellPlace
 sized_as l p rest k inner level size.Null = Emit p.offset (Null level) (place_after p rest [])
 sized_as l p rest k inner level size.Empty = Emit p.offset (Empty level) (place_after p rest [])
-sized_as l p rest k inner level (size.Scalar n) = Takes n (λ c. leaf_step p rest level k (scalar_taken l.lenient k c))
+sized_as l p rest k inner level (size.Scalar n) = Takes n (λ c. leaf_step p rest level k (scalar_or_lenient l.lenient k c))
 sized_as l p rest k inner level (size.Parts n) = part_step l p rest level 4 0 n
 sized_as l p rest k inner level (size.Counted n) = counted_step p rest level k inner n
 sized_as l p rest k inner level (size.Fields n) = fielded_step p rest level k inner n
@@ -31,7 +31,7 @@ sized_as l p rest k inner level (size.Refused why) = Refuses (p.offset, why)
 
 -- such a value can be of this kind and of n bytes
 abbrev pub CanBe : Rules → Kind → (n : ℕ) → Sized → Type 0
-CanBe l k n (size.Scalar m) = (m ≡ n) × (n ≤ l.cell) × (has_no_items k ≡ true) × (takes_size l.lenient k n ≡ true)
+CanBe l k n (size.Scalar m) = (m ≡ n) × (n ≤ l.cell) × (has_no_items k ≡ true) × (size_or_lenient l.lenient k n ≡ true)
 CanBe l k n (size.Parts m) = (m ≡ n) × (l.cell < n) × (l.parts ≡ true) × (has_no_items k ≡ true)
 CanBe l k n (size.Counted m) = (m ≡ n) × (is_counted k ≡ true)
 CanBe l k n (size.Fields m) = (m ≡ n) × (is_counted k ≡ false) × (has_no_items k ≡ false)

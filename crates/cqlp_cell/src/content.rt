@@ -2,7 +2,7 @@
 
 ghost use Rattle.std.specs.Prelude.{◌≡◌, ◌&&◌, true, length, is_some};
 ghost use Rattle.cqlp_kind.specs.Types.{has_no_items};
-ghost use Rattle.cqlp_kind.specs.Scalars.{allows_size, scalar_of, takes_size};
+ghost use Rattle.cqlp_kind.specs.Scalars.{allows_size, scalar_of, size_or_lenient};
 ghost use Rattle.cqlp_cell.specs.Contents.{IsReadAs};
 
 use cqlp_kind::Kind;
@@ -14,7 +14,7 @@ use cqlp_kind::content::{accepts, allows};
 #[inline]
 pub(crate) fn kind_read(lenient: bool, kind: Kind, bytes: &[u8]) -> Option<Kind>
     requires scalar { has_no_items kind ≡ true }
-    requires size { takes_size lenient kind (length bytes.now) ≡ true }
+    requires size { size_or_lenient lenient kind (length bytes.now) ≡ true }
     ensures { IsReadAs lenient kind bytes.now result }
 {
     if is_of(kind, bytes) {

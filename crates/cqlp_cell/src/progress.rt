@@ -4,7 +4,7 @@ ghost use Rattle.std.specs.Prelude.{◌≡◌, ◌+◌, ◌-◌, ◌<◌, ◌≤
 ghost use Rattle.std.specs.Prelude.{IsSome, slice_get};
 ghost use Rattle.cqlp_cell.specs.Progress.{CellThere, cell_value as cell_value_of, value_at as value_of_node};
 ghost use Rattle.cqlp_note.specs.Limits.{rules_asked};
-ghost use Rattle.cqlp_kind.specs.CellStep.{reads_further as reads_further_is};
+ghost use Rattle.cqlp_kind.specs.CellStep.{lenient_excess as reads_further_is};
 ghost use Rattle.cqlp_cell.specs.declared.progress.NextInCell.TheVariants as next;
 ghost use Rattle.cqlp_cell.specs.declared.progress.Arrived.TheVariants as arrived;
 ghost use Rattle.cqlp_cell.specs.declared.progress.CellDue.TheVariants as due;
@@ -187,7 +187,7 @@ pub(crate) fn value_at<A: Allocator>(table: &TypeTable<A>, node: u32, stop: u64)
 
 /// Whether so many bytes behind the last field of a value are read on, since the caller is lenient.
 #[inline]
-fn reads_further(limits: &Asked, left: u64) -> bool
+fn lenient_excess(limits: &Asked, left: u64) -> bool
     ensures { result ≡ reads_further_is (rules_asked limits.now) left }
 {
     limits.lenient && 0 < limits.cell && 0 < left && left < 1 << 32
@@ -215,7 +215,7 @@ impl OpenValue {
         ensures { result ≡ has_further (rules_asked limits.now) self offset }
     {
         match self.order {
-            Order::Fields => reads_further(limits, self.stop - offset),
+            Order::Fields => lenient_excess(limits, self.stop - offset),
             Order::Elements | Order::Keys | Order::Values => false,
         }
     }

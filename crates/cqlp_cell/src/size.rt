@@ -3,7 +3,7 @@
 ghost use Rattle.std.specs.Prelude.{◌≡◌, true};
 ghost use Rattle.cqlp_note.specs.Limits.{rules_asked};
 ghost use Rattle.cqlp_kind.specs.Types.{has_no_items};
-ghost use Rattle.cqlp_kind.specs.Scalars.{takes_size};
+ghost use Rattle.cqlp_kind.specs.Scalars.{size_or_lenient};
 ghost use Rattle.cqlp_kind.specs.CellStep.{is_opaque as has_parts};
 ghost use Rattle.cqlp_cell.specs.Sizes.{IsContent, IsSized};
 
@@ -79,7 +79,7 @@ fn size_scalar(limits: &Asked, kind: Kind, len: u32) -> Sized
 /// Whether a content of this many bytes, which are not none, is read on: the type allows so many, or the caller is lenient.
 #[inline]
 fn takes(lenient: bool, kind: Kind, len: u32) -> bool
-    ensures { result ≡ takes_size lenient kind len }
+    ensures { result ≡ size_or_lenient lenient kind len }
 {
     lenient || allows(kind, len as usize)
 }

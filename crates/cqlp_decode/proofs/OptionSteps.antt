@@ -20,7 +20,7 @@ use Rattle.cqlp_kind.specs.declared.kind.Kind.{Kind}
 use Rattle.cqlp_type.specs.declared.advance.TypeOutline.{TypeOutline}
 use Rattle.cqlp_kind.specs.Types.{kinds}
 use Rattle.cqlp_type.specs.Pushing.{ReadsInto}
-use Rattle.cqlp_kind.specs.TypeStep.{TypeSymbol, TypeEvent, IsNode, IsField, TypePlace, Option_at, Text_of, Fields_of, Whole, option_kind, option_step, type_step_at, type_step, type_place, settled, symbol_copies, inner_symbols, with_arity, count_in}
+use Rattle.cqlp_kind.specs.TypeStep.{TypeSymbol, TypeEvent, IsNode, IsField, TypePlace, Option_at, Text_of, Fields_of, Whole, kind_or_lenient, option_step, type_step_at, type_step, type_place, settled, symbol_copies, inner_symbols, with_arity, count_in}
 use Rattle.cqlp_type.specs.Table.{Table}
 use Rattle.cqlp_type.specs.Progress as type
 use Rattle.cqlp_type.specs.Progress.{place_of, pending}
@@ -74,8 +74,8 @@ step_forward : (l : Rules) (p : TypePlace) (ss : List TypeSymbol) → Always (Is
 unfolding number_of
 step_forward l p [] = tt
 step_forward l p (Option_at depth ∷ rest) =
-    let next : List ℕ → Step TypeEvent TypePlace = λ b. option_step l depth rest p (option_kind (beside_number (from_be_bytes w16 b) kinds) l.lenient) in
-    either_always (IsForward p.offset) [] (ltb (p.stop - p.offset) 2) (Refuses (p.offset, Overrun)) (Takes 2 next) (λ _. tt) (λ _ c long. option_forward l depth rest p (option_kind (beside_number (from_be_bytes w16 c) kinds) l.lenient) c)
+    let next : List ℕ → Step TypeEvent TypePlace = λ b. option_step l depth rest p (kind_or_lenient (beside_number (from_be_bytes w16 b) kinds) l.lenient) in
+    either_always (IsForward p.offset) [] (ltb (p.stop - p.offset) 2) (Refuses (p.offset, Overrun)) (Takes 2 next) (λ _. tt) (λ _ c long. option_forward l depth rest p (kind_or_lenient (beside_number (from_be_bytes w16 c) kinds) l.lenient) c)
 step_forward l p (Text_of f ∷ rest) =
     let next : FieldValue → Step TypeEvent TypePlace = λ v. Emit p.offset (IsField f v) (type_place p (settled rest p.nodes)) in
     field_forward p.offset p.offset (field_of notation.Text16 l.text (p.stop - p.offset)) next [] (λ v b u. refl)

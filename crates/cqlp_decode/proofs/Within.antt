@@ -19,9 +19,9 @@ use Rattle.cqlp_note.proofs.Yields.{says_yields}
 use Rattle.cqlp_kind.specs.declared.kind.Kind.{Kind}
 use Rattle.cqlp_kind.specs.declared.kind.Kind.TheVariants as kind
 use Rattle.cqlp_kind.specs.Types.{Types, NoMore, Type_and, kinds}
-use Rattle.cqlp_kind.specs.TypeStep.{TypeSymbol, Option_at, Text_of, Fields_of, Whole, TypeEvent, IsNode, IsField, TypePlace, option_kind, option_step, type_step_at, type_step}
-use Rattle.cqlp_kind.specs.Scalars.{ScalarValue, takes_size, scalar_taken, content_size}
-use Rattle.cqlp_kind.specs.CellStep.{CellSymbol, Value_of, Items_of, Close_of, Content_from, CellEvent, Leaf, Part, CellPlace, is_opaque, leaf_step, close_step, counted_step, part_step, scalar_step, content_step, value_step, cell_step_at, cell_step, reads_further}
+use Rattle.cqlp_kind.specs.TypeStep.{TypeSymbol, Option_at, Text_of, Fields_of, Whole, TypeEvent, IsNode, IsField, TypePlace, kind_or_lenient, option_step, type_step_at, type_step}
+use Rattle.cqlp_kind.specs.Scalars.{ScalarValue, size_or_lenient, scalar_or_lenient, content_size}
+use Rattle.cqlp_kind.specs.CellStep.{CellSymbol, Value_of, Items_of, Close_of, Content_from, CellEvent, Leaf, Part, CellPlace, is_opaque, leaf_step, close_step, counted_step, part_step, scalar_step, content_step, value_step, cell_step_at, cell_step, lenient_excess}
 use Rattle.cqlp_kind.specs.CellStep as cell
 use Rattle.cqlp_cell.proofs.Contents.{kind_taken}
 use Rattle.cqlp_cell.proofs.ScalarSizes.{scalar_sized}
@@ -89,7 +89,7 @@ module _ (l : Rules) where
   type_inside : (p : TypePlace) (ss : List TypeSymbol) → Always TypeInside (type_step_at l p ss) []
   unfolding number_of
   type_inside p [] = tt
-  type_inside p (Option_at d ∷ rest) = either_always TypeInside [] (ltb (p.stop - p.offset) 2) _ _ (λ _. tt) (λ _ c long. option_inside p d rest (option_kind (beside_number (from_be_bytes w16 c) kinds) l.lenient) c)
+  type_inside p (Option_at d ∷ rest) = either_always TypeInside [] (ltb (p.stop - p.offset) 2) _ _ (λ _. tt) (λ _ c long. option_inside p d rest (kind_or_lenient (beside_number (from_be_bytes w16 c) kinds) l.lenient) c)
   type_inside p (Text_of f ∷ rest) =
       after_always (Inside l.text (p.stop - p.offset)) TypeInside p.offset (field_of notation.Text16 l.text (p.stop - p.offset)) _ [] (field_inside l.text (p.stop - p.offset) notation.Text16) (λ v b le. le)
   type_inside p (Fields_of named d ∷ rest) =
@@ -108,7 +108,7 @@ module _ (l : Rules) where
 
   module _ (p : CellPlace) where
     module _ (rest : List CellSymbol) where
-      leaf_kept : (level : ℕ) (k : Kind) (d : List ℕ) (o : Option ScalarValue) (b : List ℕ) → takes_size l.lenient k (length d) ≡ true → scalar_taken l.lenient k d ≡ o → length d ≤ length b → Always Kept (leaf_step p rest level k o) b
+      leaf_kept : (level : ℕ) (k : Kind) (d : List ℕ) (o : Option ScalarValue) (b : List ℕ) → size_or_lenient l.lenient k (length d) ≡ true → scalar_or_lenient l.lenient k d ≡ o → length d ≤ length b → Always Kept (leaf_step p rest level k o) b
       leaf_kept level k d None b a e le = tt
       leaf_kept level k d (Some v) b a e le = let h = kind_taken l.lenient k d v a e in omega (arith, scalar_sized h.0 d v h.1 h.2, le)
 
@@ -119,9 +119,9 @@ module _ (l : Rules) where
       close_kept level stop taken b = either_always Kept b (ltb p.offset stop) _ _ (λ _. tt) (λ _. tt)
 
       scalar_kept : (level : ℕ) (k : Kind) (n : ℕ) (b : List ℕ) → Always Kept (scalar_step l p rest level k n) b
-      scalar_kept level k n b = either_always Kept b (takes_size l.lenient k n) _ _ (λ allowed.
+      scalar_kept level k n b = either_always Kept b (size_or_lenient l.lenient k n) _ _ (λ allowed.
           either_always Kept b (l.parts && is_opaque k && ltb l.part n) _ _ (λ _. part_kept level 4 0 n b) (λ _.
-          either_always Kept b (ltb l.cell n) _ _ (λ _. tt) (λ t c long. leaf_kept level k c (scalar_taken l.lenient k c) (b ++ c) (rw long allowed) refl (omega (arith, length-append b c))))) (λ _. tt)
+          either_always Kept b (ltb l.cell n) _ _ (λ _. tt) (λ t c long. leaf_kept level k c (scalar_or_lenient l.lenient k c) (b ++ c) (rw long allowed) refl (omega (arith, length-append b c))))) (λ _. tt)
 
       counted_kept : (level : ℕ) (k : Kind) (inner : Types) (n : ℕ) (b : List ℕ) → Always Kept (counted_step p rest level k inner n) b
       unfolding number_of
@@ -147,7 +147,7 @@ module _ (l : Rules) where
     cell_kept [] = tt
     cell_kept (Value_of k inner level stop ∷ rest) = value_kept rest k inner level (stop - p.offset)
     cell_kept (Items_of NoMore level stop taken ∷ rest) =
-        either_always Kept [] (reads_further l (stop - p.offset)) _ _ (λ _. part_kept (Items_of NoMore level stop taken ∷ rest) (level + 1) 0 0 (stop - p.offset) []) (λ _. close_kept rest level stop taken [])
+        either_always Kept [] (lenient_excess l (stop - p.offset)) _ _ (λ _. part_kept (Items_of NoMore level stop taken ∷ rest) (level + 1) 0 0 (stop - p.offset) []) (λ _. close_kept rest level stop taken [])
     cell_kept (Items_of (Type_and k inner others) level stop taken ∷ rest) =
         either_always Kept [] (leb stop p.offset) _ _ (λ _. close_kept rest level stop taken []) (λ _. value_kept (Items_of others level stop (taken + 1) ∷ rest) k inner (level + 1) (stop - p.offset))
     cell_kept (Close_of level stop taken ∷ rest) = close_kept rest level stop taken []

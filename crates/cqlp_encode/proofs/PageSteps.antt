@@ -127,7 +127,7 @@ module _ (p : PageState) (cells : List Values) (v : Values) (sound : p.failed �
   pub accepts : cells_fit (page p) (cells ++ v ∷ []) ≡ true → values_size v ≤ p.free → cell_error p cells v ≡ None
   accepts fits short = rw (sound, some_left p.left some, fits, le-ltb p.free (values_size v) short) refl
 
--- a value is written as it is, where it is said whether it fits its column
+-- a value represents itself, where it is said whether it fits its column
 pub conforms : (p : PageState) (at : ℕ) (v : Values) (fits : Bool) → IsPlace p at → fits ≡ fits_column (types_of_page (page p).message) at v → (n : ℕ) (cells : List Values) → After p n cells → Represents p cells fits v v
 conforms p at v fits place is n cells a = record {
   fit = λ some. fits_next p at v place some n cells a ∙ sym is;

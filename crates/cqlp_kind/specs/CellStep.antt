@@ -10,7 +10,7 @@ use Rattle.cqlp_note.specs.Limits.{Rules}
 use Rattle.cqlp_kind.specs.declared.kind.Kind.{Kind}
 use Rattle.cqlp_kind.specs.declared.kind.Kind.TheVariants as kind
 use Rattle.cqlp_kind.specs.Types.{Types, NoMore, Type_and, how_many}
-use Rattle.cqlp_kind.specs.Scalars.{ScalarValue, takes_size, scalar_taken, fault_of}
+use Rattle.cqlp_kind.specs.Scalars.{ScalarValue, size_or_lenient, scalar_or_lenient, fault_of}
 
 -- What is still to be read of a cell. A level is the number of values around a value; stop is where the value
 -- around it ends.
@@ -45,10 +45,10 @@ abbrev pub values_of : Types → (level stop : ℕ) → List CellSymbol
 values_of NoMore level stop = []
 values_of (Type_and k inner others) level stop = Value_of k inner level stop ∷ values_of others level stop
 
--- A lenient caller reads on where a tuple or a udt has more bytes than fields: they come in parts, of some byte each, whose
--- offsets have 32 bits.
-abbrev pub reads_further : Rules → (left : ℕ) → Bool
-reads_further l left = l.lenient && nat_lt 0 l.part && nat_lt 0 left && nat_lt left (2 ^ 32)
+-- Lenient: behind the last field of a tuple or a udt may be more bytes. They come in parts, of some byte each, whose offsets
+-- have 32 bits.
+abbrev pub lenient_excess : Rules → (left : ℕ) → Bool
+lenient_excess l left = l.lenient && nat_lt 0 l.part && nat_lt 0 left && nat_lt left (2 ^ 32)
 
 -- a scalar that comes in parts where it is long, if the caller asks for parts
 abbrev pub is_opaque : Kind → Bool
@@ -96,10 +96,10 @@ module _ (l : Rules) (p : CellPlace) (rest : List CellSymbol) where
 
   abbrev pub scalar_step : (level : ℕ) → Kind → (n : ℕ) → Step CellEvent CellPlace
   scalar_step level k n =
-      if takes_size l.lenient k n
+      if size_or_lenient l.lenient k n
       then (if l.parts && is_opaque k && nat_lt l.part n then part_step level 4 0 n
       else if nat_lt l.cell n then Refuses (p.offset, TooLong)
-      else Takes n (λ c. leaf_step p rest level k (scalar_taken l.lenient k c)))
+      else Takes n (λ c. leaf_step p rest level k (scalar_or_lenient l.lenient k c)))
       else Refuses (p.offset, BadSize)
 
   abbrev pub content_step : (level : ℕ) → Kind → Types → (n : ℕ) → Step CellEvent CellPlace
@@ -123,7 +123,7 @@ module _ (l : Rules) (p : CellPlace) (rest : List CellSymbol) where
 module _ (l : Rules) (p : CellPlace) where
   abbrev pub items_step : Types → (level stop taken : ℕ) → List CellSymbol → Step CellEvent CellPlace
   items_step NoMore level stop taken rest =
-      if reads_further l (stop - p.offset)
+      if lenient_excess l (stop - p.offset)
       then part_step l p (Items_of NoMore level stop taken ∷ rest) (level + 1) 0 0 (stop - p.offset)
       else close_step p rest level stop taken
   items_step (Type_and k inner others) level stop taken rest =

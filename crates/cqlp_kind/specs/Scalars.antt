@@ -81,21 +81,23 @@ scalar_of kind.Set c = None
 scalar_of kind.Udt c = None
 scalar_of kind.Tuple c = None
 
--- For a caller who asks for a lenient reading any length is taken, and what a content is that its type does not have: its
--- bytes, as of a type that is not known. Else the type decides.
-abbrev pub takes_size : (lenient : Bool) → Kind → ℕ → Bool
-takes_size lenient k n = lenient || allows_size k n
+-- Lenient: a scalar may have any length. Else the type decides.
+abbrev pub size_or_lenient : (lenient : Bool) → Kind → ℕ → Bool
+size_or_lenient lenient k n = lenient || allows_size k n
 
+-- Lenient: the value, or else the bytes.
 abbrev pub or_raw : Option ScalarValue → List ℕ → ScalarValue
 or_raw (Some v) c = v
 or_raw None c = Raw c
 
+-- Lenient: the scalar of a content, or else its bytes.
 abbrev pub scalar_or_raw : Kind → List ℕ → ScalarValue
 scalar_or_raw k c = if allows_size k (length c) then or_raw (scalar_of k c) c else Raw c
 
-abbrev pub scalar_taken : (lenient : Bool) → Kind → List ℕ → Option ScalarValue
-scalar_taken false k c = scalar_of k c
-scalar_taken true k c = Some (scalar_or_raw k c)
+-- Lenient: the scalar of a content; where it has none, its bytes.
+abbrev pub scalar_or_lenient : (lenient : Bool) → Kind → List ℕ → Option ScalarValue
+scalar_or_lenient false k c = scalar_of k c
+scalar_or_lenient true k c = Some (scalar_or_raw k c)
 
 -- why a content of an allowed length spells no scalar of the type
 abbrev pub fault_of : Kind → Reason

@@ -95,11 +95,11 @@ settled (Fields_of named d ∷ rest) nodes = (Fields_of named d ∷ rest, nodes)
 abbrev pub type_place : TypePlace → List TypeSymbol × List Node → (used : ℕ) → TypePlace
 type_place p s used = record { offset = p.offset + used; stop = p.stop; symbols = s.0; nodes = s.1 }
 
--- For a caller who asks for a lenient reading an option of an id that no kind has is taken as a type that is not known.
-abbrev pub option_kind : Option Kind → (lenient : Bool) → Option Kind
-option_kind (Some k) lenient = Some k
-option_kind None true = Some kind.Raw
-option_kind None false = None
+-- Lenient: an option of an id that no kind has is a type that is not known.
+abbrev pub kind_or_lenient : Option Kind → (lenient : Bool) → Option Kind
+kind_or_lenient (Some k) lenient = Some k
+kind_or_lenient None true = Some kind.Raw
+kind_or_lenient None false = None
 
 -- what an id makes of an option at this depth: no kind has it, or the option is too deep or one too many, or its
 -- node is added
@@ -126,7 +126,7 @@ module _ (l : Rules) (p : TypePlace) where
   type_step_at [] = Idles
   type_step_at (Option_at depth ∷ rest) =
       number_of (p.offset, Overrun) 2 w16 (p.stop - p.offset) (λ n.
-      option_step l depth rest p (option_kind (beside_number n kinds) l.lenient))
+      option_step l depth rest p (kind_or_lenient (beside_number n kinds) l.lenient))
   type_step_at (Text_of f ∷ rest) =
       after_field p.offset (field_of notation.Text16 l.text (p.stop - p.offset)) (λ v.
       Emit p.offset (IsField f v) (type_place p (settled rest p.nodes)))

@@ -24,10 +24,10 @@ use Rattle.cqlp_note.proofs.Yields.{says_yields}
 use Rattle.cqlp_kind.specs.declared.kind.Kind.{Kind}
 use Rattle.cqlp_kind.specs.declared.kind.Kind.TheVariants as kind
 use Rattle.cqlp_kind.specs.Types.{Types, NoMore, Type_and, kinds}
-use Rattle.cqlp_kind.specs.TypeStep.{TypeSymbol, TypePlace, Option_at, Text_of, Fields_of, Whole, option_kind, option_step, type_step_at, type_step}
-use Rattle.cqlp_kind.specs.Scalars.{ScalarValue, takes_size, scalar_taken}
+use Rattle.cqlp_kind.specs.TypeStep.{TypeSymbol, TypePlace, Option_at, Text_of, Fields_of, Whole, kind_or_lenient, option_step, type_step_at, type_step}
+use Rattle.cqlp_kind.specs.Scalars.{ScalarValue, size_or_lenient, scalar_or_lenient}
 use Rattle.cqlp_cell.proofs.Further.{reads_when}
-use Rattle.cqlp_kind.specs.CellStep.{CellSymbol, Value_of, Items_of, Close_of, Content_from, CellEvent, CellPlace, cell_copies, values_of, is_opaque, leaf_step, fielded_step, close_step, counted_step, part_step, scalar_step, content_step, sized_step, value_step, items_step, cell_step_at, cell_step, reads_further}
+use Rattle.cqlp_kind.specs.CellStep.{CellSymbol, Value_of, Items_of, Close_of, Content_from, CellEvent, CellPlace, cell_copies, values_of, is_opaque, leaf_step, fielded_step, close_step, counted_step, part_step, scalar_step, content_step, sized_step, value_step, items_step, cell_step_at, cell_step, lenient_excess}
 use Rattle.cqlp_grammar.specs.declared.grammar.Group.{Group}
 use Rattle.cqlp_grammar.specs.declared.grammar.Group.TheVariants as group_of
 use Rattle.cqlp_grammar.specs.declared.grammar.Role.{Role}
@@ -255,7 +255,7 @@ field_some (notation.Content n) limit room = some_always 1 (field_of (notation.C
 
 type_some : (l : Rules) (p : TypePlace) (ss : List TypeSymbol) → Always (Some_taken 0) (type_step_at l p ss) []
 type_some l p [] = tt
-type_some l p (Option_at depth ∷ rest) = number_some (p.offset, Overrun) 2 w16 (p.stop - p.offset) (λ n. option_step l depth rest p (option_kind (beside_number n kinds) l.lenient)) (omega arith)
+type_some l p (Option_at depth ∷ rest) = number_some (p.offset, Overrun) 2 w16 (p.stop - p.offset) (λ n. option_step l depth rest p (kind_or_lenient (beside_number n kinds) l.lenient)) (omega arith)
 type_some l p (Text_of f ∷ rest) = after_always (Some_taken 0) (Some_taken 0) p.offset (field_of notation.Text16 l.text (p.stop - p.offset)) _ [] (field_some notation.Text16 l.text (p.stop - p.offset)) (λ v b some. some)
 type_some l p (Fields_of named depth ∷ rest) = after_always (Some_taken 0) (Some_taken 0) p.offset (field_of notation.Count16 0 (p.stop - p.offset)) _ [] (field_some notation.Count16 0 (p.stop - p.offset)) (λ v b some. some)
 type_some l p (Whole i ∷ rest) = tt
@@ -298,9 +298,9 @@ module _ (l : Rules) (some : 1 ≤ l.part) (p : CellPlace) where
       leaf_pays level k (Some v) c size = omega (arith, size)
 
       scalar_pays : (level : ℕ) (k : Kind) (n : ℕ) → Always Pays (scalar_step l p rest level k n) b
-      scalar_pays level k n = either_always Pays b (takes_size l.lenient k n) _ _ (λ _.
+      scalar_pays level k n = either_always Pays b (size_or_lenient l.lenient k n) _ _ (λ _.
           either_always Pays b (l.parts && is_opaque k && ltb l.part n) _ _ (λ _. part_pays level 4 0 n (cell_dues rest) b (omega (arith, long))) (λ _.
-          either_always Pays b (ltb l.cell n) _ _ (λ _. tt) (λ _ c size. leaf_pays level k (scalar_taken l.lenient k c) (b ++ c) (omega (arith, long, length-append b c))))) (λ _. tt)
+          either_always Pays b (ltb l.cell n) _ _ (λ _. tt) (λ _ c size. leaf_pays level k (scalar_or_lenient l.lenient k c) (b ++ c) (omega (arith, long, length-append b c))))) (λ _. tt)
 
       fielded_pays : (level : ℕ) (k : Kind) (inner : Types) (n : ℕ) → Always Pays (fielded_step p rest level k inner n) b
       fielded_pays level k inner n = omega (arith, long)
@@ -333,7 +333,7 @@ module _ (l : Rules) (some : 1 ≤ l.part) (p : CellPlace) where
 
   items_pay : (ts : Types) (level stop taken : ℕ) (rest : List CellSymbol) → Always (CellPays (suc (cell_dues rest))) (items_step l p ts level stop taken rest) []
   items_pay NoMore level stop taken rest =
-      either_always (CellPays (suc (cell_dues rest))) [] (reads_further l (stop - p.offset)) _ _
+      either_always (CellPays (suc (cell_dues rest))) [] (lenient_excess l (stop - p.offset)) _ _
       (λ further.
       let more = (reads_when l (stop - p.offset) further).2 in
       part_pays (Items_of NoMore level stop taken ∷ rest) (level + 1) 0 0 (stop - p.offset) (suc (cell_dues rest)) [] (omega (arith, some, more)))

@@ -25,9 +25,9 @@ use Rattle.cqlp_kind.specs.declared.kind.Kind.{Kind}
 use Rattle.cqlp_kind.specs.declared.kind.Kind.TheVariants as kind
 use Rattle.cqlp_kind.specs.declared.node.Node.{Node}
 use Rattle.cqlp_kind.specs.Types.{Types, NoMore, Type_and, kinds}
-use Rattle.cqlp_kind.specs.TypeStep.{TypeSymbol, TypeEvent, TypePlace, Option_at, Text_of, Fields_of, Whole, symbol_copies, parameters_of, inner_symbols, arity_of, with_arity, with_span, settled, count_in, option_kind, option_step, type_step_at, type_step}
-use Rattle.cqlp_kind.specs.Scalars.{ScalarValue, takes_size, scalar_taken}
-use Rattle.cqlp_kind.specs.CellStep.{CellSymbol, Value_of, Items_of, Close_of, Content_from, CellEvent, CellPlace, is_opaque, leaf_step, close_step, counted_step, part_step, scalar_step, content_step, value_step, cell_step_at, cell_step, reads_further}
+use Rattle.cqlp_kind.specs.TypeStep.{TypeSymbol, TypeEvent, TypePlace, Option_at, Text_of, Fields_of, Whole, symbol_copies, parameters_of, inner_symbols, arity_of, with_arity, with_span, settled, count_in, kind_or_lenient, option_step, type_step_at, type_step}
+use Rattle.cqlp_kind.specs.Scalars.{ScalarValue, size_or_lenient, scalar_or_lenient}
+use Rattle.cqlp_kind.specs.CellStep.{CellSymbol, Value_of, Items_of, Close_of, Content_from, CellEvent, CellPlace, is_opaque, leaf_step, close_step, counted_step, part_step, scalar_step, content_step, value_step, cell_step_at, cell_step, lenient_excess}
 use Rattle.cqlp_grammar.specs.declared.grammar.Group.{Group}
 use Rattle.cqlp_grammar.specs.declared.grammar.Group.TheVariants as group_of
 use Rattle.cqlp_grammar.specs.declared.grammar.Role.{Role}
@@ -293,7 +293,7 @@ module _ (l : Rules) (p : TypePlace) (base : ℕ) (counted : length p.nodes + ba
   type_stays : (ss : List TypeSymbol) → depth_of ss + base ≤ suc p.offset → Always TypeStays (type_step_at l p ss) []
   unfolding number_of
   type_stays [] deep = tt
-  type_stays (Option_at d ∷ rest) deep = either_always TypeStays [] (ltb (p.stop - p.offset) 2) _ _ (λ _. tt) (λ _ c long. option_stays d rest c (option_kind (beside_number (from_be_bytes w16 c) kinds) l.lenient) long deep)
+  type_stays (Option_at d ∷ rest) deep = either_always TypeStays [] (ltb (p.stop - p.offset) 2) _ _ (λ _. tt) (λ _ c long. option_stays d rest c (kind_or_lenient (beside_number (from_be_bytes w16 c) kinds) l.lenient) long deep)
   type_stays (Text_of f ∷ rest) deep =
       after_always (λ v b. Unit {0}) TypeStays p.offset (field_of notation.Text16 l.text (p.stop - p.offset)) _ [] (always_trivial (field_of notation.Text16 l.text (p.stop - p.offset)) []) (λ v b _.
       settled_stays rest p.nodes (length b) (omega (arith, deep)) (omega (arith, counted)))
@@ -323,9 +323,9 @@ module _ (l : Rules) (p : CellPlace) where
     close_goes level stop taken b = either_always CellGoes b (ltb p.offset stop) _ _ (λ _. tt) (λ _. omega arith)
 
     scalar_goes : (level : ℕ) (k : Kind) (n : ℕ) (b : List ℕ) → Always CellGoes (scalar_step l p rest level k n) b
-    scalar_goes level k n b = either_always CellGoes b (takes_size l.lenient k n) _ _ (λ _.
+    scalar_goes level k n b = either_always CellGoes b (size_or_lenient l.lenient k n) _ _ (λ _.
         either_always CellGoes b (l.parts && is_opaque k && ltb l.part n) _ _ (λ _. part_goes level 4 0 n b) (λ _.
-        either_always CellGoes b (ltb l.cell n) _ _ (λ _. tt) (λ _ c long. leaf_goes level k (scalar_taken l.lenient k c) (b ++ c)))) (λ _. tt)
+        either_always CellGoes b (ltb l.cell n) _ _ (λ _. tt) (λ _ c long. leaf_goes level k (scalar_or_lenient l.lenient k c) (b ++ c)))) (λ _. tt)
 
     counted_goes : (level : ℕ) (k : Kind) (inner : Types) (n : ℕ) (b : List ℕ) → Always CellGoes (counted_step p rest level k inner n) b
     unfolding number_of
@@ -351,7 +351,7 @@ module _ (l : Rules) (p : CellPlace) where
   cell_goes [] = tt
   cell_goes (Value_of k inner level stop ∷ rest) = value_goes rest k inner level (stop - p.offset)
   cell_goes (Items_of NoMore level stop taken ∷ rest) =
-      either_always CellGoes [] (reads_further l (stop - p.offset)) _ _ (λ _. part_goes (Items_of NoMore level stop taken ∷ rest) (level + 1) 0 0 (stop - p.offset) []) (λ _. close_goes rest level stop taken [])
+      either_always CellGoes [] (lenient_excess l (stop - p.offset)) _ _ (λ _. part_goes (Items_of NoMore level stop taken ∷ rest) (level + 1) 0 0 (stop - p.offset) []) (λ _. close_goes rest level stop taken [])
   cell_goes (Items_of (Type_and k inner others) level stop taken ∷ rest) =
       either_always CellGoes [] (leb stop p.offset) _ _ (λ _. close_goes rest level stop taken []) (λ _. value_goes (Items_of others level stop (taken + 1) ∷ rest) k inner (level + 1) (stop - p.offset))
   cell_goes (Close_of level stop taken ∷ rest) = close_goes rest level stop taken []

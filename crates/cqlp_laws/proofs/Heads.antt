@@ -25,11 +25,11 @@ use Rattle.cqlp_kind.specs.declared.kind.Kind.{Kind}
 use Rattle.cqlp_kind.specs.declared.kind.Kind.TheVariants as kind
 use Rattle.cqlp_kind.specs.declared.node.Node.{Node}
 use Rattle.cqlp_kind.specs.Types.{Types, NoMore, Type_and, kinds}
-use Rattle.cqlp_kind.specs.TypeStep.{TypeSymbol, Option_at, Text_of, Fields_of, Whole, TypeEvent, TypePlace, begun_node, parameters_of, inner_symbols, symbol_copies, with_span, with_arity, count_in, fields_settled, option_kind, option_step, type_step_at, type_step}
+use Rattle.cqlp_kind.specs.TypeStep.{TypeSymbol, Option_at, Text_of, Fields_of, Whole, TypeEvent, TypePlace, begun_node, parameters_of, inner_symbols, symbol_copies, with_span, with_arity, count_in, fields_settled, kind_or_lenient, option_step, type_step_at, type_step}
 use Rattle.cqlp_kind.specs.TypeStep as types
 use Rattle.cqlp_cell.proofs.Contents.{kind_taken}
-use Rattle.cqlp_kind.specs.Scalars.{ScalarValue, only_if, allows_size, scalar_of, takes_size, scalar_taken}
-use Rattle.cqlp_kind.specs.CellStep.{CellSymbol, Value_of, Items_of, Close_of, Content_from, CellEvent, CellPlace, is_opaque, leaf_step, close_step, counted_step, part_step, scalar_step, content_step, value_step, cell_step_at, cell_step, reads_further}
+use Rattle.cqlp_kind.specs.Scalars.{ScalarValue, only_if, allows_size, scalar_of, size_or_lenient, scalar_or_lenient}
+use Rattle.cqlp_kind.specs.CellStep.{CellSymbol, Value_of, Items_of, Close_of, Content_from, CellEvent, CellPlace, is_opaque, leaf_step, close_step, counted_step, part_step, scalar_step, content_step, value_step, cell_step_at, cell_step, lenient_excess}
 use Rattle.cqlp_grammar.specs.declared.grammar.Group.{Group}
 use Rattle.cqlp_grammar.specs.declared.grammar.Group.TheVariants as group_of
 use Rattle.cqlp_grammar.specs.declared.grammar.Role.{Role}
@@ -294,7 +294,7 @@ module _ (l : Rules) (p : TypePlace) where
   type_typed : (ss : List TypeSymbol) → type_odd ss ≡ 0 → Always Typed (type_step_at l p ss) []
   unfolding number_of
   type_typed [] fair = tt
-  type_typed (Option_at d ∷ rest) fair = either_always Typed [] (ltb (p.stop - p.offset) 2) _ _ (λ _. tt) (λ _ c long. option_typed d rest (option_kind (beside_number (from_be_bytes w16 c) kinds) l.lenient) c fair)
+  type_typed (Option_at d ∷ rest) fair = either_always Typed [] (ltb (p.stop - p.offset) 2) _ _ (λ _. tt) (λ _ c long. option_typed d rest (kind_or_lenient (beside_number (from_be_bytes w16 c) kinds) l.lenient) c fair)
   type_typed (Text_of f ∷ rest) fair =
       after_always (Behind l.text (p.stop - p.offset) f) Typed p.offset (field_of notation.Text16 l.text (p.stop - p.offset)) _ [] (field_behind l.text (p.stop - p.offset) f notation.Text16 (omega (arith, fair)))
       (λ v b h. (settled_odd rest p.nodes ∙ omega (arith, fair), lies_on (content_in (Holds f v)) p.offset (before_content (Holds f v)) b h))
@@ -364,7 +364,7 @@ module _ (l : Rules) (row column : ℕ) (p : CellPlace) where
   Ends x b = Lies (content_in (cell_event row column x.event)) (x.at + before_content (cell_event row column x.event)) p.offset b
 
   module _ (rest : List CellSymbol) where
-    leaf_ends : (level : ℕ) (k : Kind) (front d : List ℕ) (o : Option ScalarValue) → takes_size l.lenient k (length d) ≡ true → scalar_taken l.lenient k d ≡ o → length front ≡ 4 → Always Ends (leaf_step p rest level k o) (front ++ d)
+    leaf_ends : (level : ℕ) (k : Kind) (front d : List ℕ) (o : Option ScalarValue) → size_or_lenient l.lenient k (length d) ≡ true → scalar_or_lenient l.lenient k d ≡ o → length front ≡ 4 → Always Ends (leaf_step p rest level k o) (front ++ d)
     leaf_ends level k front d None a e four = tt
     leaf_ends level k front d (Some v) a e four = let h = kind_taken l.lenient k d v a e in lies_behind (scalar_content v) p.offset (before_scalar v) front d four (scalar_lies h.0 d v h.1 h.2)
 
@@ -375,9 +375,9 @@ module _ (l : Rules) (row column : ℕ) (p : CellPlace) where
     close_ends level stop taken b = either_always Ends b (ltb p.offset stop) _ _ (λ _. tt) (λ _. tt)
 
     scalar_ends : (level : ℕ) (k : Kind) (n : ℕ) (b : List ℕ) → length b ≡ 4 → Always Ends (scalar_step l p rest level k n) b
-    scalar_ends level k n b four = either_always Ends b (takes_size l.lenient k n) _ _ (λ fits.
+    scalar_ends level k n b four = either_always Ends b (size_or_lenient l.lenient k n) _ _ (λ fits.
         either_always Ends b (l.parts && is_opaque k && ltb l.part n) _ _ (λ _. part_ends level 4 0 n b four) (λ _.
-        either_always Ends b (ltb l.cell n) _ _ (λ _. tt) (λ t d long. leaf_ends level k b d (scalar_taken l.lenient k d) (rw long fits) refl four))) (λ _. tt)
+        either_always Ends b (ltb l.cell n) _ _ (λ _. tt) (λ t d long. leaf_ends level k b d (scalar_or_lenient l.lenient k d) (rw long fits) refl four))) (λ _. tt)
 
     counted_ends : (level : ℕ) (k : Kind) (inner : Types) (n : ℕ) (b : List ℕ) → Always Ends (counted_step p rest level k inner n) b
     unfolding number_of
@@ -403,7 +403,7 @@ module _ (l : Rules) (row column : ℕ) (p : CellPlace) where
   cell_ends [] = tt
   cell_ends (Value_of k inner level stop ∷ rest) = value_ends rest k inner level (stop - p.offset)
   cell_ends (Items_of NoMore level stop taken ∷ rest) =
-      either_always Ends [] (reads_further l (stop - p.offset)) _ _ (λ _. part_ends (Items_of NoMore level stop taken ∷ rest) (level + 1) 0 0 (stop - p.offset) [] refl) (λ _. close_ends rest level stop taken [])
+      either_always Ends [] (lenient_excess l (stop - p.offset)) _ _ (λ _. part_ends (Items_of NoMore level stop taken ∷ rest) (level + 1) 0 0 (stop - p.offset) [] refl) (λ _. close_ends rest level stop taken [])
   cell_ends (Items_of (Type_and k inner others) level stop taken ∷ rest) =
       either_always Ends [] (leb stop p.offset) _ _ (λ _. close_ends rest level stop taken []) (λ _. value_ends (Items_of others level stop (taken + 1) ∷ rest) k inner (level + 1) (stop - p.offset))
   cell_ends (Close_of level stop taken ∷ rest) = close_ends rest level stop taken []

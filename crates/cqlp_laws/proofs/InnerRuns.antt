@@ -16,10 +16,10 @@ use Rattle.cqlp_kind.specs.declared.kind.Kind.{Kind}
 use Rattle.cqlp_kind.specs.declared.kind.Kind.TheVariants as kind
 use Rattle.cqlp_kind.specs.declared.node.Node.{Node}
 use Rattle.cqlp_kind.specs.Types.{Types, NoMore, Type_and, kinds}
-use Rattle.cqlp_kind.specs.TypeStep.{TypeSymbol, Option_at, Text_of, Fields_of, Whole, TypeEvent, TypePlace, parameters_of, inner_symbols, symbol_copies, with_arity, with_span, begun_node, settled, type_place, option_kind, option_step, count_in, type_step_at, type_step}
+use Rattle.cqlp_kind.specs.TypeStep.{TypeSymbol, Option_at, Text_of, Fields_of, Whole, TypeEvent, TypePlace, parameters_of, inner_symbols, symbol_copies, with_arity, with_span, begun_node, settled, type_place, kind_or_lenient, option_step, count_in, type_step_at, type_step}
 use Rattle.cqlp_type.proofs.Nodes.{length_with_span, length_with_arity}
-use Rattle.cqlp_kind.specs.Scalars.{ScalarValue, takes_size, scalar_taken}
-use Rattle.cqlp_kind.specs.CellStep.{CellSymbol, Value_of, Items_of, Close_of, Content_from, CellEvent, CellPlace, is_opaque, leaf_step, close_step, counted_step, part_step, scalar_step, content_step, value_step, cell_step_at, cell_step, reads_further}
+use Rattle.cqlp_kind.specs.Scalars.{ScalarValue, size_or_lenient, scalar_or_lenient}
+use Rattle.cqlp_kind.specs.CellStep.{CellSymbol, Value_of, Items_of, Close_of, Content_from, CellEvent, CellPlace, is_opaque, leaf_step, close_step, counted_step, part_step, scalar_step, content_step, value_step, cell_step_at, cell_step, lenient_excess}
 use Rattle.cqlp_value.specs.Values.{Values, ValueSpells, value_items}
 use Rattle.cqlp_value.proofs.ReadBack.{Comes, runs_come}
 use Rattle.cqlp_laws.proofs.RunsBack.{always_yields, field_back, taken}
@@ -74,7 +74,7 @@ module _ (l : Rules) (p : TypePlace) (inside : p.offset ≤ p.stop) where
   pub type_gets : (ss : List TypeSymbol) → Few l ss (length p.nodes) → Always Gets (type_step_at l p ss) []
   unfolding number_of
   type_gets [] h = tt
-  type_gets (Option_at d ∷ rest) h = either_always Gets [] (ltb (p.stop - p.offset) 2) _ _ (λ _. tt) (λ t c long. option_gets d rest c (option_kind (beside_number (from_be_bytes w16 c) kinds) l.lenient) (omega (arith, ltb-false _ _ t, long)))
+  type_gets (Option_at d ∷ rest) h = either_always Gets [] (ltb (p.stop - p.offset) 2) _ _ (λ _. tt) (λ t c long. option_gets d rest c (kind_or_lenient (beside_number (from_be_bytes w16 c) kinds) l.lenient) (omega (arith, ltb-false _ _ t, long)))
   type_gets (Text_of f ∷ rest) h =
       let r = field_of notation.Text16 l.text (p.stop - p.offset) in
       after_always Fits Gets p.offset r _ [] (always_yields Fits r [] (λ v b y. (field_back notation.Text16 l.text (p.stop - p.offset) v b y).1)) (λ v b le.
@@ -115,9 +115,9 @@ module _ (l : Rules) (p : CellPlace) where
     close_goes level stop taken b = either_always Goes b (ltb p.offset stop) _ _ (λ _. tt) (λ _. refl)
 
     scalar_goes : (level : ℕ) (k : Kind) (n : ℕ) (b : List ℕ) → Always Goes (scalar_step l p rest level k n) b
-    scalar_goes level k n b = either_always Goes b (takes_size l.lenient k n) _ _ (λ _.
+    scalar_goes level k n b = either_always Goes b (size_or_lenient l.lenient k n) _ _ (λ _.
         either_always Goes b (l.parts && is_opaque k && ltb l.part n) _ _ (λ _. part_goes level 4 0 n b) (λ _.
-        either_always Goes b (ltb l.cell n) _ _ (λ _. tt) (λ _ c long. leaf_goes level k (scalar_taken l.lenient k c) (b ++ c)))) (λ _. tt)
+        either_always Goes b (ltb l.cell n) _ _ (λ _. tt) (λ _ c long. leaf_goes level k (scalar_or_lenient l.lenient k c) (b ++ c)))) (λ _. tt)
 
     counted_goes : (level : ℕ) (k : Kind) (inner : Types) (n : ℕ) (b : List ℕ) → Always Goes (counted_step p rest level k inner n) b
     unfolding number_of
@@ -143,7 +143,7 @@ module _ (l : Rules) (p : CellPlace) where
   cell_goes [] = tt
   cell_goes (Value_of k inner level stop ∷ rest) = value_goes rest k inner level (stop - p.offset)
   cell_goes (Items_of NoMore level stop taken ∷ rest) =
-      either_always Goes [] (reads_further l (stop - p.offset)) _ _ (λ _. part_goes (Items_of NoMore level stop taken ∷ rest) (level + 1) 0 0 (stop - p.offset) []) (λ _. close_goes rest level stop taken [])
+      either_always Goes [] (lenient_excess l (stop - p.offset)) _ _ (λ _. part_goes (Items_of NoMore level stop taken ∷ rest) (level + 1) 0 0 (stop - p.offset) []) (λ _. close_goes rest level stop taken [])
   cell_goes (Items_of (Type_and k inner others) level stop taken ∷ rest) =
       either_always Goes [] (leb stop p.offset) _ _ (λ _. close_goes rest level stop taken []) (λ _. value_goes (Items_of others level stop (taken + 1) ∷ rest) k inner (level + 1) (stop - p.offset))
   cell_goes (Close_of level stop taken ∷ rest) = close_goes rest level stop taken []

@@ -15,7 +15,7 @@ use Rattle.cqlp_note.proofs.Runs.{runs_compare}
 use Rattle.cqlp_note.proofs.Yields.{map_said, says_map}
 use Rattle.cqlp_kind.specs.declared.kind.Kind.{Kind}
 use Rattle.cqlp_kind.specs.Types.{kinds}
-use Rattle.cqlp_kind.specs.TypeStep.{TypeSymbol, TypePlace, Option_at, Text_of, Fields_of, Whole, option_kind, option_step, type_step_at}
+use Rattle.cqlp_kind.specs.TypeStep.{TypeSymbol, TypePlace, Option_at, Text_of, Fields_of, Whole, kind_or_lenient, option_step, type_step_at}
 use Rattle.cqlp_kind.specs.CellStep.{CellPlace, Value_of, cell_step}
 use Rattle.cqlp_cell.specs.Lenient.{GoesOn, GoesOnWhere, IsOfContent}
 use Rattle.cqlp_cell.proofs.Lenient.{goes_on}
@@ -51,7 +51,7 @@ module _ {E P : Type 0} (taken : ℕ) (bytes : List ℕ) where
   ]
 
 module _ (l : Rules) (p : TypePlace) where
-  option_passes : (d : ℕ) (rest : List TypeSymbol) (o : Option Kind) (k : ℕ) (b : List ℕ) → GoesOnWhere IsPassed (says (option_step (with_lenient false l) d rest p (option_kind o false)) k b) (says (option_step (with_lenient true l) d rest p (option_kind o true)) k b)
+  option_passes : (d : ℕ) (rest : List TypeSymbol) (o : Option Kind) (k : ℕ) (b : List ℕ) → GoesOnWhere IsPassed (says (option_step (with_lenient false l) d rest p (kind_or_lenient o false)) k b) (says (option_step (with_lenient true l) d rest p (kind_or_lenient o true)) k b)
   option_passes d rest None k b = inr (p.offset, BadType, refl, tt)
   option_passes d rest (Some j) k b = inl refl
 
@@ -60,7 +60,7 @@ module _ (l : Rules) (p : TypePlace) where
   type_passes [] bytes = inl refl
   type_passes (Option_at d ∷ rest) bytes =
       either_passes 0 bytes (ltb (p.stop - p.offset) 2) _ _ _ _ (inl refl)
-      (takes_passes 0 bytes 2 (λ c. option_step (with_lenient false l) d rest p (option_kind (beside_number (from_be_bytes w16 c) kinds) false)) (λ c. option_step (with_lenient true l) d rest p (option_kind (beside_number (from_be_bytes w16 c) kinds) true))
+      (takes_passes 0 bytes 2 (λ c. option_step (with_lenient false l) d rest p (kind_or_lenient (beside_number (from_be_bytes w16 c) kinds) false)) (λ c. option_step (with_lenient true l) d rest p (kind_or_lenient (beside_number (from_be_bytes w16 c) kinds) true))
       (λ c k b. option_passes d rest (beside_number (from_be_bytes w16 c) kinds) k b))
   type_passes (Text_of f ∷ rest) bytes = inl refl
   type_passes (Fields_of named d ∷ rest) bytes = inl refl

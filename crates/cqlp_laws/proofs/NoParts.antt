@@ -22,9 +22,9 @@ use Rattle.cqlp_laws.proofs.EventCounts.{always_then}
 use Rattle.cqlp_kind.specs.declared.kind.Kind.{Kind}
 use Rattle.cqlp_kind.specs.declared.kind.Kind.TheVariants as kind
 use Rattle.cqlp_kind.specs.Types.{Types, NoMore, Type_and, kinds}
-use Rattle.cqlp_kind.specs.TypeStep.{TypeSymbol, TypeEvent, TypePlace, Option_at, Text_of, Fields_of, Whole, option_kind, option_step, type_step_at, type_step}
-use Rattle.cqlp_kind.specs.Scalars.{ScalarValue, takes_size, scalar_taken}
-use Rattle.cqlp_kind.specs.CellStep.{CellSymbol, Value_of, Items_of, Close_of, Content_from, CellEvent, Null, Empty, CellPlace, cell_copies, values_of, is_opaque, leaf_step, fielded_step, close_step, counted_step, part_step, scalar_step, content_step, sized_step, value_step, items_step, cell_step_at, cell_step, reads_further}
+use Rattle.cqlp_kind.specs.TypeStep.{TypeSymbol, TypeEvent, TypePlace, Option_at, Text_of, Fields_of, Whole, kind_or_lenient, option_step, type_step_at, type_step}
+use Rattle.cqlp_kind.specs.Scalars.{ScalarValue, size_or_lenient, scalar_or_lenient}
+use Rattle.cqlp_kind.specs.CellStep.{CellSymbol, Value_of, Items_of, Close_of, Content_from, CellEvent, Null, Empty, CellPlace, cell_copies, values_of, is_opaque, leaf_step, fielded_step, close_step, counted_step, part_step, scalar_step, content_step, sized_step, value_step, items_step, cell_step_at, cell_step, lenient_excess}
 use Rattle.cqlp_kind.specs.CellStep as cells
 use Rattle.cqlp_grammar.specs.declared.grammar.Group.{Group}
 use Rattle.cqlp_grammar.specs.declared.grammar.Group.TheVariants as group_of
@@ -254,8 +254,8 @@ module _ (text cell entries depth : ℕ) (types : Bool) where
       leaf_keeps level n (Some v) b = free
 
       scalar_keeps : (level : ℕ) (n : Kind) (size : ℕ) (b : List ℕ) → Always KeepsCell (scalar_step (strict k) p rest level n size) b
-      scalar_keeps level n size b = either_always KeepsCell b (takes_size false n size) _ _ (λ _.
-          either_always KeepsCell b (ltb cell size) _ _ (λ _. tt) (λ _ c long. leaf_keeps level n (scalar_taken false n c) (b ++ c))) (λ _. tt)
+      scalar_keeps level n size b = either_always KeepsCell b (size_or_lenient false n size) _ _ (λ _.
+          either_always KeepsCell b (ltb cell size) _ _ (λ _. tt) (λ _ c long. leaf_keeps level n (scalar_or_lenient false n c) (b ++ c))) (λ _. tt)
 
       counted_keeps : (level : ℕ) (n : Kind) (inner : Types) (size : ℕ) (b : List ℕ) → Always KeepsCell (counted_step p rest level n inner size) b
       unfolding number_of
@@ -347,7 +347,7 @@ module _ (text cell entries depth : ℕ) (types : Bool) where
 
     same_type : (p : TypePlace) (ts : List TypeSymbol) → type_step_at (strict j) p ts ≡ type_step_at (strict k) p ts
     same_type p [] = refl
-    same_type p (Option_at d ∷ rest) = λ i. number_of (p.offset, Overrun) 2 w16 (p.stop - p.offset) (λ n. same_option d rest p (option_kind (beside_number n kinds) false) i)
+    same_type p (Option_at d ∷ rest) = λ i. number_of (p.offset, Overrun) 2 w16 (p.stop - p.offset) (λ n. same_option d rest p (kind_or_lenient (beside_number n kinds) false) i)
     same_type p (Text_of f ∷ rest) = refl
     same_type p (Fields_of named d ∷ rest) = refl
     same_type p (Whole i ∷ rest) = refl

@@ -16,8 +16,8 @@ use Rattle.cqlp_kind.specs.declared.kind.Kind.{Kind}
 use Rattle.cqlp_kind.specs.declared.kind.Kind.TheVariants as kind
 use Rattle.cqlp_kind.specs.Types.{Types, NoMore, Type_and}
 use Rattle.cqlp_kind.specs.TypeStep.{TypeSymbol, TypePlace, type_step}
-use Rattle.cqlp_kind.specs.Scalars.{ScalarValue, takes_size, scalar_taken}
-use Rattle.cqlp_kind.specs.CellStep.{CellSymbol, Value_of, Items_of, Close_of, Content_from, CellEvent, CellPlace, cell_copies, values_of, is_opaque, leaf_step, close_step, counted_step, part_step, scalar_step, content_step, value_step, cell_step_at, cell_step, reads_further}
+use Rattle.cqlp_kind.specs.Scalars.{ScalarValue, size_or_lenient, scalar_or_lenient}
+use Rattle.cqlp_kind.specs.CellStep.{CellSymbol, Value_of, Items_of, Close_of, Content_from, CellEvent, CellPlace, cell_copies, values_of, is_opaque, leaf_step, close_step, counted_step, part_step, scalar_step, content_step, value_step, cell_step_at, cell_step, lenient_excess}
 use Rattle.cqlp_grammar.specs.declared.grammar.Role.{Role}
 use Rattle.cqlp_grammar.specs.Productions.{Symbol, Stream, In, In_type, Cell_due, In_cell, Extra, message, following, fault_in}
 use Rattle.cqlp_decode.specs.Reading.{Event, Place, Gifts, start_with, settled, type_event, cell_event, types_for, types_left, cells_left, place_of_types, place_of_cells, header_step, step_at, step, Reads}
@@ -96,9 +96,9 @@ module _ (l : Rules) (stop : ℕ) (p : CellPlace) where
     close_goes level end taken b le = either_always Goes b (ltb p.offset end) _ _ (λ _. tt) (λ _. made rest (length b) fit le)
 
     scalar_goes : (level : ℕ) (k : Kind) (n : ℕ) (b : List ℕ) → (p.offset + length b) + n ≤ stop → Always Goes (scalar_step l p rest level k n) b
-    scalar_goes level k n b le = either_always Goes b (takes_size l.lenient k n) _ _ (λ _.
+    scalar_goes level k n b le = either_always Goes b (size_or_lenient l.lenient k n) _ _ (λ _.
         either_always Goes b (l.parts && is_opaque k && ltb l.part n) _ _ (λ _. part_goes level 4 0 n b (omega (arith, le))) (λ _.
-        either_always Goes b (ltb l.cell n) _ _ (λ _. tt) (λ _ c long. leaf_goes level k (scalar_taken l.lenient k c) (b ++ c) (omega (arith, le, long, length-append b c))))) (λ _. tt)
+        either_always Goes b (ltb l.cell n) _ _ (λ _. tt) (λ _ c long. leaf_goes level k (scalar_or_lenient l.lenient k c) (b ++ c) (omega (arith, le, long, length-append b c))))) (λ _. tt)
 
     counted_goes : (level : ℕ) (k : Kind) (inner : Types) (n : ℕ) (b : List ℕ) → length b ≡ 4 → p.offset + 4 + n ≤ stop → Always Goes (counted_step p rest level k inner n) b
     unfolding number_of
@@ -131,7 +131,7 @@ module _ (l : Rules) (stop : ℕ) (p : CellPlace) where
   cell_goes [] le fit = tt
   cell_goes (Value_of k inner level end ∷ rest) le fit = value_goes rest fit.1 k inner level end fit.0
   cell_goes (Items_of NoMore level end taken ∷ rest) le fit =
-      either_always Goes [] (reads_further l (end - p.offset)) _ _ (λ _. part_goes (Items_of NoMore level end taken ∷ rest) fit (level + 1) 0 0 (end - p.offset) [] (omega (arith, le, fit.0))) (λ _. close_goes rest fit.1 level end taken [] (omega (arith, le)))
+      either_always Goes [] (lenient_excess l (end - p.offset)) _ _ (λ _. part_goes (Items_of NoMore level end taken ∷ rest) fit (level + 1) 0 0 (end - p.offset) [] (omega (arith, le, fit.0))) (λ _. close_goes rest fit.1 level end taken [] (omega (arith, le)))
   cell_goes (Items_of (Type_and k inner others) level end taken ∷ rest) le fit =
       either_always Goes [] (leb end p.offset) _ _ (λ _. close_goes rest fit.1 level end taken [] (omega (arith, le))) (λ _. value_goes (Items_of others level end (taken + 1) ∷ rest) fit k inner (level + 1) end fit.0)
   cell_goes (Close_of level end taken ∷ rest) le fit = close_goes rest fit level end taken [] (omega (arith, le))

@@ -18,9 +18,9 @@ use Rattle.cqlp_note.proofs.Fields.{either_always, field_spells}
 use Rattle.cqlp_kind.specs.declared.kind.Kind.{Kind}
 use Rattle.cqlp_kind.specs.declared.kind.Kind.TheVariants as kind
 use Rattle.cqlp_kind.specs.Types.{Types, NoMore, Type_and, kinds, how_many}
-use Rattle.cqlp_kind.specs.TypeStep.{TypeSymbol, Option_at, Text_of, Fields_of, Whole, TypeEvent, TypePlace, option_kind, option_step, type_step_at, type_step}
-use Rattle.cqlp_kind.specs.Scalars.{ScalarValue, takes_size, scalar_taken}
-use Rattle.cqlp_kind.specs.CellStep.{CellSymbol, Value_of, Items_of, Close_of, Content_from, CellEvent, CellPlace, is_opaque, leaf_step, close_step, counted_step, part_step, scalar_step, content_step, value_step, cell_step_at, cell_step, reads_further}
+use Rattle.cqlp_kind.specs.TypeStep.{TypeSymbol, Option_at, Text_of, Fields_of, Whole, TypeEvent, TypePlace, kind_or_lenient, option_step, type_step_at, type_step}
+use Rattle.cqlp_kind.specs.Scalars.{ScalarValue, size_or_lenient, scalar_or_lenient}
+use Rattle.cqlp_kind.specs.CellStep.{CellSymbol, Value_of, Items_of, Close_of, Content_from, CellEvent, CellPlace, is_opaque, leaf_step, close_step, counted_step, part_step, scalar_step, content_step, value_step, cell_step_at, cell_step, lenient_excess}
 use Rattle.cqlp_kind.specs.CellStep as cell
 use Rattle.cqlp_grammar.specs.declared.grammar.Role.{Role}
 use Rattle.cqlp_grammar.specs.Productions.{Symbol, Stream, In, In_type, Cell_due, In_cell, Extra, fault_in}
@@ -52,7 +52,7 @@ module _ (l : Rules) (p : TypePlace) where
   type_typed : (ss : List TypeSymbol) → Always Typed (type_step_at l p ss) []
   unfolding number_of
   type_typed [] = tt
-  type_typed (Option_at d ∷ rest) = either_always Typed [] (ltb (p.stop - p.offset) 2) _ _ (λ _. tt) (λ _ c long. option_typed d rest (option_kind (beside_number (from_be_bytes w16 c) kinds) l.lenient) c long)
+  type_typed (Option_at d ∷ rest) = either_always Typed [] (ltb (p.stop - p.offset) 2) _ _ (λ _. tt) (λ _ c long. option_typed d rest (kind_or_lenient (beside_number (from_be_bytes w16 c) kinds) l.lenient) c long)
   type_typed (Text_of f ∷ rest) =
       after_always (Spells notation.Text16) Typed p.offset (field_of notation.Text16 l.text (p.stop - p.offset)) _ [] (field_spells notation.Text16 l.text (p.stop - p.offset))
       (λ v b h. all_own (Holds f v) p.offset b (notation.Text16, h))
@@ -79,9 +79,9 @@ module _ (l : Rules) (row column : ℕ) (p : CellPlace) where
     close_ends level stop taken = either_always Ends [] (ltb p.offset stop) _ _ (λ _. tt) (λ _. ([], [], refl, omega arith, refl))
 
     scalar_ends : (level : ℕ) (k : Kind) (n : ℕ) (b : List ℕ) → length b ≡ 4 → n ≡ from_be_bytes w32 b → Always Ends (scalar_step l p rest level k n) b
-    scalar_ends level k n b four is = either_always Ends b (takes_size l.lenient k n) _ _ (λ _.
+    scalar_ends level k n b four is = either_always Ends b (size_or_lenient l.lenient k n) _ _ (λ _.
         either_always Ends b (l.parts && is_opaque k && ltb l.part n) _ _ (λ _. part_ends level 4 0 n b four) (λ _.
-        either_always Ends b (ltb l.cell n) _ _ (λ _. tt) (λ _ d long. leaf_ends level k b d (scalar_taken l.lenient k d) four (long ∙ is)))) (λ _. tt)
+        either_always Ends b (ltb l.cell n) _ _ (λ _. tt) (λ _ d long. leaf_ends level k b d (scalar_or_lenient l.lenient k d) four (long ∙ is)))) (λ _. tt)
 
     counted_ends : (level : ℕ) (k : Kind) (inner : Types) (n : ℕ) (b : List ℕ) → before_items k ≡ 8 → length b ≡ 4 → Always Ends (counted_step p rest level k inner n) b
     unfolding number_of
@@ -108,7 +108,7 @@ module _ (l : Rules) (row column : ℕ) (p : CellPlace) where
   cell_ends [] = tt
   cell_ends (Value_of k inner level stop ∷ rest) = value_ends rest k inner level (stop - p.offset)
   cell_ends (Items_of NoMore level stop taken ∷ rest) =
-      either_always Ends [] (reads_further l (stop - p.offset)) _ _ (λ _. part_ends (Items_of NoMore level stop taken ∷ rest) (level + 1) 0 0 (stop - p.offset) [] refl) (λ _. close_ends rest level stop taken)
+      either_always Ends [] (lenient_excess l (stop - p.offset)) _ _ (λ _. part_ends (Items_of NoMore level stop taken ∷ rest) (level + 1) 0 0 (stop - p.offset) [] refl) (λ _. close_ends rest level stop taken)
   cell_ends (Items_of (Type_and k inner others) level stop taken ∷ rest) =
       either_always Ends [] (leb stop p.offset) _ _ (λ _. close_ends rest level stop taken) (λ _. value_ends (Items_of others level stop (taken + 1) ∷ rest) k inner (level + 1) (stop - p.offset))
   cell_ends (Close_of level stop taken ∷ rest) = close_ends rest level stop taken

@@ -15,9 +15,9 @@ use Rattle.cqlp_note.proofs.Yields.{map_said, says_map, after_got, after_more, a
 use Rattle.cqlp_kind.specs.declared.kind.Kind.{Kind}
 use Rattle.cqlp_kind.specs.declared.kind.Kind.TheVariants as kind
 use Rattle.cqlp_kind.specs.Types.{Types, NoMore, Type_and, kinds, has_no_items}
-use Rattle.cqlp_kind.specs.TypeStep.{TypeSymbol, TypePlace, Option_at, Text_of, Fields_of, Whole, option_step, type_step_at, option_kind}
-use Rattle.cqlp_kind.specs.Scalars.{takes_size, scalar_taken}
-use Rattle.cqlp_kind.specs.CellStep.{CellSymbol, Value_of, Items_of, Close_of, Content_from, CellPlace, leaf_step, part_step, scalar_step, content_step, value_step, cell_step_at, reads_further}
+use Rattle.cqlp_kind.specs.TypeStep.{TypeSymbol, TypePlace, Option_at, Text_of, Fields_of, Whole, option_step, type_step_at, kind_or_lenient}
+use Rattle.cqlp_kind.specs.Scalars.{size_or_lenient, scalar_or_lenient}
+use Rattle.cqlp_kind.specs.CellStep.{CellSymbol, Value_of, Items_of, Close_of, Content_from, CellPlace, leaf_step, part_step, scalar_step, content_step, value_step, cell_step_at, lenient_excess}
 use Rattle.cqlp_grammar.specs.Productions.{Symbol, Stream, In, In_type, Cell_due, In_cell, Extra}
 use Rattle.cqlp_laws.specs.Excess.{with_limits, first_number, IsLong16, IsLong32, IsLongField, comes_in_parts, IsLongValue, IsLongInCell, IsOption, IsOver, ExceedsInType, ExceedsAt}
 use Rattle.cqlp_laws.specs.Limits.{IsOfLimit}
@@ -208,7 +208,7 @@ module _ (l : Rules) (text cell entries depth : ℕ) (texts : l.text ≤ text) (
     abbrev InType : List TypeSymbol → ℕ × Reason → Type 0
     InType ss = AtFirst p.offset (ExceedsInType l (p.stop - p.offset) (length p.nodes) ss bytes)
 
-    option_cut : (d : ℕ) (rest : List TypeSymbol) (o : Option Kind) → option_kind (beside_number (first_number 2 w16 bytes) kinds) l.lenient ≡ o → 2 ≤ p.stop - p.offset → 2 ≤ length bytes → Cuts AtLimit (InType (Option_at d ∷ rest)) 2 (drop 2 bytes) (option_step l d rest p o) (option_step wide d rest p o)
+    option_cut : (d : ℕ) (rest : List TypeSymbol) (o : Option Kind) → kind_or_lenient (beside_number (first_number 2 w16 bytes) kinds) l.lenient ≡ o → 2 ≤ p.stop - p.offset → 2 ≤ length bytes → Cuts AtLimit (InType (Option_at d ∷ rest)) 2 (drop 2 bytes) (option_step l d rest p o) (option_step wide d rest p o)
     option_cut d rest None is fits came = same refl (λ e. e) (λ f e. let no : None ≡ Some e.1.0.kind = sym is ∙ e.1.0.known in absurd cc)
     option_cut d rest (Some k) is fits came =
         let E = InType (Option_at d ∷ rest) in
@@ -220,8 +220,8 @@ module _ (l : Rules) (text cell entries depth : ℕ) (texts : l.text ≤ text) (
     type_cut : (ss : List TypeSymbol) → Cuts AtLimit (InType ss) 0 bytes (type_step_at l p ss) (type_step_at wide p ss)
     type_cut [] = same refl tt (λ f e. e.1)
     type_cut (Option_at d ∷ rest) =
-        number_cut AtLimit (InType (Option_at d ∷ rest)) 0 bytes (p.offset, Overrun) 2 w16 (p.stop - p.offset) (λ n. option_step l d rest p (option_kind (beside_number n kinds) l.lenient)) (λ n. option_step wide d rest p (option_kind (beside_number n kinds) l.lenient))
-        (λ e. e) (λ f e. (e.1.0.fits, e.1.0.came)) (λ fits came. option_cut d rest (option_kind (beside_number (first_number 2 w16 bytes) kinds) l.lenient) refl fits came)
+        number_cut AtLimit (InType (Option_at d ∷ rest)) 0 bytes (p.offset, Overrun) 2 w16 (p.stop - p.offset) (λ n. option_step l d rest p (kind_or_lenient (beside_number n kinds) l.lenient)) (λ n. option_step wide d rest p (kind_or_lenient (beside_number n kinds) l.lenient))
+        (λ e. e) (λ f e. (e.1.0.fits, e.1.0.came)) (λ fits came. option_cut d rest (kind_or_lenient (beside_number (first_number 2 w16 bytes) kinds) l.lenient) refl fits came)
     type_cut (Text_of f ∷ rest) = after_cut p.offset (field_of notation.Text16 l.text (p.stop - p.offset)) (field_of notation.Text16 text (p.stop - p.offset)) _ bytes (LongField (p.stop - p.offset) bytes notation.Text16) (λ v. tt) (field_cut (p.stop - p.offset) bytes notation.Text16)
     type_cut (Fields_of named d ∷ rest) = same refl (clean_says AtLimit _ 0 bytes (after_never p.offset (field_of notation.Count16 0 (p.stop - p.offset)) _ (count_never 0 (p.stop - p.offset)) (λ v. tt))) (λ f e. e.1)
     type_cut (Whole i ∷ rest) = same refl tt (λ f e. e.1)
@@ -238,10 +238,10 @@ module _ (l : Rules) (text cell entries depth : ℕ) (texts : l.text ≤ text) (
       scalar_cut k scalar came low fit =
           let n = first_number 4 w32 bytes in
           let E = LongValue k in
-          either_cut AtLimit E 4 (drop 4 bytes) (takes_size l.lenient k n) _ _ _ _ (λ ok.
+          either_cut AtLimit E 4 (drop 4 bytes) (size_or_lenient l.lenient k n) _ _ _ _ (λ ok.
           either_cut AtLimit E 4 (drop 4 bytes) (comes_in_parts l k n) _ _ _ _ (λ t. same refl (clean_says AtLimit (part_step l p rest level 4 0 n) 4 (drop 4 bytes) (λ c. tt)) (λ f e. let no : true ≡ false = sym t ∙ e.1.1.whole in absurd cc)) (λ one.
           limit_cut AtLimit E 4 (drop 4 bytes) l.cell cell n (p.offset, TooLong) _ _ cells (λ lt. (refl, (refl, record { scalar = scalar; content = (low, record { came = came; fits = fit; long = lt }); allowed = ok; whole = one }))) (λ ge.
-          same refl (clean_says AtLimit (Takes n (λ c. leaf_step p rest level k (scalar_taken l.lenient k c))) 4 (drop 4 bytes) (λ c. leaf_never p rest level k (scalar_taken l.lenient k c))) (λ f e. absurd (omega (arith, ge, e.1.1.content.1.long))))))
+          same refl (clean_says AtLimit (Takes n (λ c. leaf_step p rest level k (scalar_or_lenient l.lenient k c))) 4 (drop 4 bytes) (λ c. leaf_never p rest level k (scalar_or_lenient l.lenient k c))) (λ f e. absurd (omega (arith, ge, e.1.1.content.1.long))))))
           (λ t. same refl (λ e. e) (λ f e. let no : true ≡ false = sym e.1.1.allowed ∙ t in absurd cc))
 
       no_scalar : (k : Kind) → has_no_items k ≡ false → (f : ℕ × Reason) → LongValue k f → ⊥
@@ -274,7 +274,7 @@ module _ (l : Rules) (text cell entries depth : ℕ) (texts : l.text ≤ text) (
     cell_cut [] = same refl tt (λ f e. e.1.1)
     cell_cut (Value_of k inner level stop ∷ rest) = value_cut p (stop - p.offset) bytes rest level k inner
     cell_cut (Items_of NoMore level stop taken ∷ rest) =
-        either_cut AtLimit (InCell (Items_of NoMore level stop taken ∷ rest)) 0 bytes (reads_further l (stop - p.offset)) _ _ _ _
+        either_cut AtLimit (InCell (Items_of NoMore level stop taken ∷ rest)) 0 bytes (lenient_excess l (stop - p.offset)) _ _ _ _
         (λ _. same refl (clean_says AtLimit (part_step l p (Items_of NoMore level stop taken ∷ rest) (level + 1) 0 0 (stop - p.offset)) 0 bytes (λ c. tt)) (λ f e. e.1.1))
         (λ _. same refl (clean_says AtLimit _ 0 bytes (close_never p rest level stop taken)) (λ f e. e.1.1))
     cell_cut (Items_of (Type_and k inner others) level stop taken ∷ rest) =

@@ -9,8 +9,8 @@ use Rattle.cqlp_note.specs.Heading.{beside_number}
 use Rattle.cqlp_note.specs.Limits.{Rules}
 use Rattle.cqlp_kind.specs.declared.kind.Kind.{Kind}
 use Rattle.cqlp_kind.specs.Types.{Type_and, kinds, has_no_items}
-use Rattle.cqlp_kind.specs.TypeStep.{TypeSymbol, Option_at, Text_of, option_kind}
-use Rattle.cqlp_kind.specs.Scalars.{takes_size}
+use Rattle.cqlp_kind.specs.TypeStep.{TypeSymbol, Option_at, Text_of, kind_or_lenient}
+use Rattle.cqlp_kind.specs.Scalars.{size_or_lenient}
 use Rattle.cqlp_kind.specs.CellStep.{CellSymbol, Value_of, Items_of, is_opaque}
 use Rattle.cqlp_grammar.specs.Productions.{Symbol, In, In_type, Cell_due, In_cell}
 use Rattle.cqlp_decode.specs.Reading.{Place, Event, Verdict, Refused, Gifts, Reads, Says, start_with}
@@ -62,7 +62,7 @@ comes_in_parts l k n = l.parts && is_opaque k && nat_lt l.part n
 pub record IsLongValue (l : Rules) (k : Kind) (room : ℕ) (bytes : List ℕ) : Type 0 where
   pub scalar : has_no_items k ≡ true
   pub content : IsLong32 l.cell room bytes
-  pub allowed : takes_size l.lenient k (first_number 4 w32 bytes) ≡ true
+  pub allowed : size_or_lenient l.lenient k (first_number 4 w32 bytes) ≡ true
   pub whole : comes_in_parts l k (first_number 4 w32 bytes) ≡ false
 
 -- The value that is next in a cell is longer than `cell`.
@@ -79,7 +79,7 @@ pub record IsOption (l : Rules) (room : ℕ) (bytes : List ℕ) : Type 0 where
   pub came : 2 ≤ length bytes
   pub fits : 2 ≤ room
   pub kind : Kind
-  pub known : option_kind (beside_number (first_number 2 w16 bytes) kinds) l.lenient ≡ Some kind
+  pub known : kind_or_lenient (beside_number (first_number 2 w16 bytes) kinds) l.lenient ≡ Some kind
 
 -- An option at this depth, after n others of its metadata, is too deep; or it is not, and is one too many.
 abbrev pub IsOver : Rules → (depth n : ℕ) → Reason → Type 0

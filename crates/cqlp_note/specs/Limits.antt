@@ -23,8 +23,7 @@ first_bad l =
     else Err bad.Cell)
     else Err bad.Text
 
--- What a caller sets, as definitions see it: the limits, the size of a part of a long content, what is read, and whether
--- what a type does not have is taken as raw bytes.
+-- What a caller sets, as definitions see it: the limits, the size of a part of a long content, and what is read.
 pub record Rules : Type 0 where
   pub text : ℕ
   pub cell : ℕ
@@ -33,6 +32,7 @@ pub record Rules : Type 0 where
   pub part : ℕ
   pub types : Bool
   pub parts : Bool
+  -- Lenient: what a type does not have is read as raw bytes.
   pub lenient : Bool
 
 abbrev pub rules_of : Limits → Rules
@@ -47,7 +47,7 @@ rules_of l = record {
   lenient = false;
 }
 
--- the same rules, for a caller who asks for a lenient reading, or for one who does not
+-- Lenient: the same rules, for a caller who asks for it or not.
 abbrev pub with_lenient : (lenient : Bool) → Rules → Rules
 with_lenient lenient l = record l { lenient = lenient }
 

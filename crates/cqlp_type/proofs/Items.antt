@@ -16,7 +16,7 @@ use Rattle.cqlp_note.specs.Limits.{Rules, limit_of}
 use Rattle.cqlp_note.specs.Heading.{beside_number}
 use Rattle.cqlp_note.proofs.Yields.{says_yields, after_more, after_bad, after_got}
 use Rattle.cqlp_kind.specs.Types.{kinds}
-use Rattle.cqlp_kind.specs.TypeStep.{TypeSymbol, Option_at, Text_of, Fields_of, Whole, TypeEvent, IsField, TypePlace, symbol_copies, inner_symbols, with_arity, settled, type_place, option_kind, option_step, count_in, type_step_at}
+use Rattle.cqlp_kind.specs.TypeStep.{TypeSymbol, Option_at, Text_of, Fields_of, Whole, TypeEvent, IsField, TypePlace, symbol_copies, inner_symbols, with_arity, settled, type_place, kind_or_lenient, option_step, count_in, type_step_at}
 use Rattle.cqlp_type.specs.Remaining.{short_in, item_step}
 use Rattle.cqlp_type.specs.Progress.{notation_of}
 
@@ -85,7 +85,7 @@ module _ (l : Rules) (p : TypePlace) (bytes : List ℕ) where
   pub item_waits : (ss : List TypeSymbol) → IsRead ss → field_says ss ≡ More → says (type_step_at l p ss) 0 bytes ≡ More
   unfolding field_of number_of
   item_waits [] r s = absurd r
-  item_waits (Option_at depth ∷ rest) r s = short_more (p.offset, Overrun) 0 room (λ n. option_step l depth rest p (option_kind (beside_number n kinds) l.lenient)) bytes s
+  item_waits (Option_at depth ∷ rest) r s = short_more (p.offset, Overrun) 0 room (λ n. option_step l depth rest p (kind_or_lenient (beside_number n kinds) l.lenient)) bytes s
   item_waits (Text_of f ∷ rest) r s = after_more p.offset (field_of notation.Text16 l.text room) (text f rest) 0 bytes s
   item_waits (Fields_of named depth ∷ rest) r s = after_more p.offset (field_of notation.Count16 0 room) (counted named depth rest) 0 bytes (short_more Overrun 0 room (λ n. Gives (Count n)) bytes s)
   item_waits (Whole i ∷ rest) r s = absurd r
@@ -93,7 +93,7 @@ module _ (l : Rules) (p : TypePlace) (bytes : List ℕ) where
   pub item_fails : (ss : List TypeSymbol) (why : Reason) → IsRead ss → field_says ss ≡ Bad why → says (type_step_at l p ss) 0 bytes ≡ Bad (p.offset, why)
   unfolding field_of number_of
   item_fails [] why r s = absurd r
-  item_fails (Option_at depth ∷ rest) why r s = let b = short_bad (p.offset, Overrun) 0 room (λ n. option_step l depth rest p (option_kind (beside_number n kinds) l.lenient)) bytes why s in rw b.0 b.1
+  item_fails (Option_at depth ∷ rest) why r s = let b = short_bad (p.offset, Overrun) 0 room (λ n. option_step l depth rest p (kind_or_lenient (beside_number n kinds) l.lenient)) bytes why s in rw b.0 b.1
   item_fails (Text_of f ∷ rest) why r s = after_bad p.offset (field_of notation.Text16 l.text room) (text f rest) 0 bytes why s
   item_fails (Fields_of named depth ∷ rest) why r s = let b = short_bad Overrun 0 room (λ n. Gives (Count n)) bytes why s in after_bad p.offset (field_of notation.Count16 0 room) (counted named depth rest) 0 bytes why (rw b.0 b.1)
   item_fails (Whole i ∷ rest) why r s = absurd r
@@ -101,7 +101,7 @@ module _ (l : Rules) (p : TypePlace) (bytes : List ℕ) where
   pub item_gives : (ss : List TypeSymbol) (v : FieldValue) (k : ℕ) → IsRead ss → field_says ss ≡ Got v k → says (type_step_at l p ss) 0 bytes ≡ says (item_step l p ss v) k (drop k bytes)
   unfolding field_of number_of
   item_gives [] v k r s = absurd r
-  item_gives (Option_at depth ∷ rest) v k r s = (short_got (p.offset, Overrun) 0 room (λ n. option_step l depth rest p (option_kind (beside_number n kinds) l.lenient)) bytes v k s).2
+  item_gives (Option_at depth ∷ rest) v k r s = (short_got (p.offset, Overrun) 0 room (λ n. option_step l depth rest p (kind_or_lenient (beside_number n kinds) l.lenient)) bytes v k s).2
   item_gives (Text_of f ∷ rest) v k r s = (after_got p.offset (field_of notation.Text16 l.text room) (text f rest) 0 bytes v k s).1
   item_gives (Fields_of named depth ∷ rest) v k r s =
       let g = short_got Overrun 0 room (λ n. Gives (Count n)) bytes v k s in

@@ -22,7 +22,7 @@ use Rattle.cqlp_kind.specs.declared.kind.Kind.TheVariants as kind
 use Rattle.cqlp_kind.specs.declared.node.Node.{Node}
 use Rattle.cqlp_type.specs.declared.advance.TypeOutline.{TypeOutline}
 use Rattle.cqlp_kind.specs.Types.{Types, NoMore, Type_and, how_many, HasInner, AreFormed, IsPreorder, preorder, followed_by, kinds}
-use Rattle.cqlp_kind.specs.TypeStep.{TypeSymbol, Option_at, Text_of, Fields_of, Whole, TypeEvent, IsNode, IsField, TypePlace, parameters_of, arity_of, inner_symbols, symbol_copies, with_arity, with_span, settled, type_place, option_kind, option_step, count_in, type_step_at, type_step}
+use Rattle.cqlp_kind.specs.TypeStep.{TypeSymbol, Option_at, Text_of, Fields_of, Whole, TypeEvent, IsNode, IsField, TypePlace, parameters_of, arity_of, inner_symbols, symbol_copies, with_arity, with_span, settled, type_place, kind_or_lenient, option_step, count_in, type_step_at, type_step}
 use Rattle.cqlp_type.specs.Table.{Table, HoldsTypes}
 use Rattle.cqlp_type.specs.Remaining.{Closes, Keeps, item_step, short_in, event_at}
 use Rattle.cqlp_type.specs.Progress.{TypeState, IsShared, place_of, pending, step_says, started, Waits, Ends}
@@ -223,8 +223,8 @@ module _ (base : List Node) (l : Rules) (p : TypePlace) where
   unfolding number_of
   step_shaped [] h = tt
   step_shaped (Option_at depth ∷ rest) h =
-      let next : List ℕ → Step TypeEvent TypePlace = λ b. option_step l depth rest p (option_kind (beside_number (from_be_bytes w16 b) kinds) l.lenient) in
-      either_always (IsShaped base) [] (ltb (p.stop - p.offset) 2) (Refuses (p.offset, Overrun)) (Takes 2 next) (λ _. tt) (λ _ c long. option_shaped depth rest (option_kind (beside_number (from_be_bytes w16 c) kinds) l.lenient) c h)
+      let next : List ℕ → Step TypeEvent TypePlace = λ b. option_step l depth rest p (kind_or_lenient (beside_number (from_be_bytes w16 b) kinds) l.lenient) in
+      either_always (IsShaped base) [] (ltb (p.stop - p.offset) 2) (Refuses (p.offset, Overrun)) (Takes 2 next) (λ _. tt) (λ _ c long. option_shaped depth rest (kind_or_lenient (beside_number (from_be_bytes w16 c) kinds) l.lenient) c h)
   step_shaped (Text_of f ∷ rest) h =
       let next : FieldValue → Step TypeEvent TypePlace = λ v. Emit p.offset (IsField f v) (type_place p (settled rest p.nodes)) in
       field_shaped base p.offset (field_of notation.Text16 l.text (p.stop - p.offset)) next [] (λ v b u. settled_shape base rest p.nodes (text_opens base f rest p.nodes h))
@@ -290,7 +290,7 @@ module _ (r : TypeState) (p : FieldState) (t : Table) (input : List ℕ) (reads 
   keeps used v [] same within said = tt
   keeps used v (Option_at depth ∷ rest) same within said = λ k is deep room.
       let next = type_place (place_of r t.nodes) (settled (parameters_of k depth ++ Whole (length t.nodes) ∷ rest) (t.nodes ++ new_node k ∷ [])) in
-      let step : option_step r.rules depth rest (place_of r t.nodes) (option_kind (beside_number (short_in v) kinds) r.rules.lenient) ≡ Emit r.offset (IsNode k) next = rw (is, le-ltb _ _ deep, lt-leb _ _ room) refl in
+      let step : option_step r.rules depth rest (place_of r t.nodes) (kind_or_lenient (beside_number (short_in v) kinds) r.rules.lenient) ≡ Emit r.offset (IsNode k) next = rw (is, le-ltb _ _ deep, lt-leb _ _ room) refl in
       let all_said = said ∙ ap (λ (z : Step TypeEvent TypePlace). says z (length (pending r p) + used) (drop (length (pending r p) + used) all)) step in
       let o = option_opens reads.start.nodes depth depth rest t.nodes k (rw same shape) in
       closes reads.start.nodes (parameters_of k depth ++ Whole (length t.nodes) ∷ rest) (t.nodes ++ new_node k ∷ []) o (ended used (IsNode k) (parameters_of k depth ++ Whole (length t.nodes) ∷ rest) (t.nodes ++ new_node k ∷ []) within all_said)

@@ -19,7 +19,7 @@ use Rattle.cqlp_kind.specs.declared.kind.Kind.{Kind}
 use Rattle.cqlp_kind.specs.declared.kind.Kind.TheVariants as kind
 use Rattle.cqlp_kind.specs.declared.node.Node.{Node}
 use Rattle.cqlp_kind.specs.Types.{NoMore, Type_and, has_id, HasInner, AreFormed, preorder, kinds}
-use Rattle.cqlp_kind.specs.TypeStep.{TypeSymbol, Option_at, Text_of, Fields_of, Whole, TypeEvent, IsNode, IsField, TypePlace, parameters_of, arity_of, inner_symbols, symbol_copies, with_arity, with_span, settled, option_kind, option_step, count_in, type_step_at, type_step}
+use Rattle.cqlp_kind.specs.TypeStep.{TypeSymbol, Option_at, Text_of, Fields_of, Whole, TypeEvent, IsNode, IsField, TypePlace, parameters_of, arity_of, inner_symbols, symbol_copies, with_arity, with_span, settled, kind_or_lenient, option_step, count_in, type_step_at, type_step}
 use Rattle.cqlp_type.specs.Trees.{Head, Plain, Custom, ListOf, SetOf, MapOf, TupleOf, UdtOf, Trees, NoTree, Tree_and, kind_in, trees_in, types_in, has_names, IsHead, AreTrees, Shallow, head_items, trees_items, notation_for, ItemSpells, ItemsSpell, item_size, placed}
 use Rattle.cqlp_type.specs.Pushing.{IsWhole}
 use Rattle.cqlp_type.proofs.Forests.{last_arity, span_at, and_more, many_types}
@@ -166,7 +166,7 @@ known : (n : ℕ) (k : Kind) → beside_number n kinds ≡ Some k → has_id k �
 known n k e = all_beside has_id n kinds k all_known e
 
 -- where the caller is not lenient, an option is of a kind that has its id
-strict_kind : (o : Option Kind) (lenient : Bool) (k : Kind) → option_kind o lenient ≡ Some k → lenient ≡ false → o ≡ Some k
+strict_kind : (o : Option Kind) (lenient : Bool) (k : Kind) → kind_or_lenient o lenient ≡ Some k → lenient ≡ false → o ≡ Some k
 strict_kind (Some j) lenient k e strict = e
 strict_kind None true k e strict = absurd cc
 strict_kind None false k e strict = absurd cc
@@ -204,7 +204,7 @@ count_is (Count n) b h = refl
 count_is v b h = absurd h
 
 module _ (l : Rules) (p : TypePlace) where
-  option_came : (o : Option Kind) (id depth : ℕ) (rest : List TypeSymbol) (b : List ℕ) → option_kind (beside_number id kinds) l.lenient ≡ o → IsNumber 2 w16 id b → Always (Came l p (Option_at depth ∷ rest)) (option_step l depth rest p o) b
+  option_came : (o : Option Kind) (id depth : ℕ) (rest : List TypeSymbol) (b : List ℕ) → kind_or_lenient (beside_number id kinds) l.lenient ≡ o → IsNumber 2 w16 id b → Always (Came l p (Option_at depth ∷ rest)) (option_step l depth rest p o) b
   unfolding Spells
   option_came None id depth rest b e n = tt
   option_came (Some k) id depth rest b e n = either_always _ b (ltb l.depth depth) _ _ (λ _. tt) (λ within. either_always _ b (leb l.entries (length p.nodes)) _ _ (λ _. tt) (λ _. record {
@@ -218,7 +218,7 @@ module _ (l : Rules) (p : TypePlace) where
   pub step_came : (ss : List TypeSymbol) → Always (Came l p ss) (type_step_at l p ss) []
   unfolding number_of
   step_came [] = tt
-  step_came (Option_at depth ∷ rest) = either_always _ [] (ltb (p.stop - p.offset) 2) _ _ (λ _. tt) (λ _ c long. option_came (option_kind (beside_number (from_be_bytes w16 c) kinds) l.lenient) (from_be_bytes w16 c) depth rest c refl (record { long = long; is = refl }))
+  step_came (Option_at depth ∷ rest) = either_always _ [] (ltb (p.stop - p.offset) 2) _ _ (λ _. tt) (λ _ c long. option_came (kind_or_lenient (beside_number (from_be_bytes w16 c) kinds) l.lenient) (from_be_bytes w16 c) depth rest c refl (record { long = long; is = refl }))
   step_came (Text_of f ∷ rest) = after_field_always (Spells notation.Text16) (Came l p (Text_of f ∷ rest)) p.offset (field_of notation.Text16 l.text (p.stop - p.offset)) _ [] (field_spells notation.Text16 l.text (p.stop - p.offset)) (λ v b s.
       let t = text_is v b s in
       let spelled : ItemSpells (IsField f v) b = subst (λ (w : FieldValue). Spells (notation_for w) w b) (sym t.1) (rw t.1 at s) in

@@ -22,7 +22,7 @@ use Rattle.cqlp_type.specs.declared.advance.TypeOutline.TheVariants as part
 use Rattle.cqlp_kind.specs.Types.{kinds}
 use Rattle.cqlp_kind.specs.TypeStep.{TypeSymbol, Option_at, Text_of, Fields_of, Whole, TypeEvent, IsNode, IsField, TypePlace}
 use Rattle.cqlp_kind.specs.TypeStep.{symbol_copies, parameters_of, inner_symbols, with_arity, with_span, settled, type_place}
-use Rattle.cqlp_kind.specs.TypeStep.{option_kind, option_step, begun_node, fields_settled}
+use Rattle.cqlp_kind.specs.TypeStep.{kind_or_lenient, option_step, begun_node, fields_settled}
 use Rattle.cqlp_type.specs.Table.{Table, HoldsTypes}
 use Rattle.cqlp_type.specs.OpenOptions.{Nest}
 
@@ -79,7 +79,7 @@ short_in _ = 0
 abbrev pub item_step : Rules → TypePlace → List TypeSymbol → FieldValue → Step TypeEvent TypePlace
 item_step l p [] v = Idles
 item_step l p (Option_at depth ∷ rest) v =
-    option_step l depth rest p (option_kind (beside_number (short_in v) kinds) l.lenient)
+    option_step l depth rest p (kind_or_lenient (beside_number (short_in v) kinds) l.lenient)
 item_step l p (Text_of f ∷ rest) v = Emit p.offset (IsField f v) (type_place p (settled rest p.nodes))
 item_step l p (Fields_of named depth ∷ rest) v =
     let n = short_in v in
@@ -140,7 +140,7 @@ Closes ss nodes = Unit {0}
 -- So does all that an item does to it which is this number or a text.
 abbrev pub Keeps : Rules → List TypeSymbol → List Node → ℕ → Type 0
 Keeps l (Option_at depth ∷ rest) nodes n =
-    (k : Kind) → option_kind (beside_number n kinds) l.lenient ≡ Some k → depth ≤ l.depth → length nodes < l.entries
+    (k : Kind) → kind_or_lenient (beside_number n kinds) l.lenient ≡ Some k → depth ≤ l.depth → length nodes < l.entries
     → Closes (parameters_of k depth ++ Whole (length nodes) ∷ rest) (nodes ++ begun_node k ∷ [])
 Keeps l (Text_of f ∷ rest) nodes n = Closes rest nodes
 Keeps l (Fields_of named depth ∷ rest) nodes n =

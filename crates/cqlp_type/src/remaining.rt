@@ -10,7 +10,7 @@ ghost use Rattle.cqlp_type.specs.Remaining.{is_under_way, is_wanted, number_of, 
 ghost use Rattle.cqlp_note.specs.Heading.{beside_number};
 ghost use Rattle.cqlp_kind.specs.declared.kind.Kind.{Kind};
 ghost use Rattle.cqlp_kind.specs.Types.{kinds};
-ghost use Rattle.cqlp_kind.specs.TypeStep.{option_kind as option_kind_is};
+ghost use Rattle.cqlp_kind.specs.TypeStep.{kind_or_lenient as option_kind_is};
 
 use crate::advance::TypeOutline;
 use crate::open_options::{NextOption, OpenOptions};
@@ -116,7 +116,7 @@ impl<A: Allocator> Remaining<A> {
         ensures part { IfOk result (λ q. (k : Kind) × (q ≡ TypeOutline.Node k)) }
         ensures follows { FollowsId (rules_asked limits.now) self.old table.old id result self.new table.new }
     {
-        let Some(kind) = option_kind(limits.lenient, id) else {
+        let Some(kind) = kind_or_lenient(limits.lenient, id) else {
             return Err(Reason::BadType);
         };
         if self.open_options.len() >= limits.depth {
@@ -143,7 +143,7 @@ impl<A: Allocator> Remaining<A> {
 }
 
 /// The kind of an option of this id: of an unknown type, where no kind has the id and the caller is lenient.
-fn option_kind(lenient: bool, id: u16) -> Option<Kind>
+fn kind_or_lenient(lenient: bool, id: u16) -> Option<Kind>
     ensures { result ≡ option_kind_is (beside_number id kinds) lenient }
 {
     match Kind::from_id(id) {

@@ -17,9 +17,9 @@ use Rattle.cqlp_kind.specs.declared.kind.Kind.{Kind}
 use Rattle.cqlp_kind.specs.declared.kind.Kind.TheVariants as kind
 use Rattle.cqlp_kind.specs.Types.{Types, NoMore, Type_and, how_many, first_types, followed_by}
 use Rattle.cqlp_type.specs.Trees.{Joined}
-use Rattle.cqlp_kind.specs.Scalars.{ScalarValue, allows_size, scalar_of, takes_size, scalar_taken, content_size}
+use Rattle.cqlp_kind.specs.Scalars.{ScalarValue, allows_size, scalar_of, size_or_lenient, scalar_or_lenient, content_size}
 use Rattle.cqlp_cell.proofs.Further.{reads_when}
-use Rattle.cqlp_kind.specs.CellStep.{CellSymbol, Value_of, Items_of, Close_of, Content_from, CellEvent, Null, Empty, Enter, Leave, Part, CellPlace, cell_copies, values_of, is_opaque, place_after, leaf_step, fielded_step, close_step, counted_step, part_step, scalar_step, content_step, sized_step, value_step, items_step, cell_step_at, cell_step, reads_further}
+use Rattle.cqlp_kind.specs.CellStep.{CellSymbol, Value_of, Items_of, Close_of, Content_from, CellEvent, Null, Empty, Enter, Leave, Part, CellPlace, cell_copies, values_of, is_opaque, place_after, leaf_step, fielded_step, close_step, counted_step, part_step, scalar_step, content_step, sized_step, value_step, items_step, cell_step_at, cell_step, lenient_excess}
 use Rattle.cqlp_cell.specs.Sizes.{is_counted}
 use Rattle.cqlp_value.specs.Values.{Values, NoValue, Null_and, Empty_and, Scalar_and, Counted_and, Fields_and, values_in, type_copies, has_fields, IsBytes, IsScalar, ValuesSpell, ValueSpells, values_size, part_items, scalar_items, values_items, value_items}
 use Rattle.cqlp_value.proofs.ScalarItems.{is_own, whole_items, parted_items}
@@ -383,10 +383,10 @@ module _ (l : Rules) (strict : l.lenient ≡ false) where
             rw (more, size) (λ d long. first_came k d long a e.0 e.1 lt)
 
         scalar_came : (k : Kind) → Always (Value_came k) (scalar_step l p rest level k number) c
-        scalar_came k = either_always (Value_came k) c (takes_size l.lenient k number) _ _ (λ taken.
+        scalar_came k = either_always (Value_came k) c (size_or_lenient l.lenient k number) _ _ (λ taken.
             let a : allows_size k number ≡ true = rw strict at taken in
             either_always (Value_came k) c (l.parts && is_opaque k && ltb l.part number) _ _ (λ t. parts_came k a t) (λ f.
-            either_always (Value_came k) c (ltb l.cell number) _ _ (λ _. tt) (λ _ d size. leaf_came k d (scalar_taken l.lenient k d) size a f (rw strict refl)))) (λ _. tt)
+            either_always (Value_came k) c (ltb l.cell number) _ _ (λ _. tt) (λ _ d size. leaf_came k d (scalar_or_lenient l.lenient k d) size a f (rw strict refl)))) (λ _. tt)
 
         fields_came : (k : Kind) → has_fields k ≡ true → Always (Value_came k) (fielded_step p rest level k inner number) c
         fields_came k fields = λ es b h.
@@ -498,7 +498,7 @@ module _ (l : Rules) (strict : l.lenient ≡ false) where
 
     items_came : (ts : Types) (level stop taken : ℕ) → Always (Came p.offset (Items_of ts level stop taken ∷ rest)) (items_step l p ts level stop taken rest) []
     items_came NoMore level stop taken =
-        either_always (Came p.offset (Items_of NoMore level stop taken ∷ rest)) [] (reads_further l (stop - p.offset)) _ _
+        either_always (Came p.offset (Items_of NoMore level stop taken ∷ rest)) [] (lenient_excess l (stop - p.offset)) _ _
         (λ t. let no : ◌≡◌ {A = Bool} true false = sym (reads_when l (stop - p.offset) t).0 ∙ strict in absurd cc)
         (λ _. last_came NoMore level stop taken)
     items_came (Type_and k inner others) level stop taken =

@@ -152,7 +152,7 @@ pub(crate) fn value_at<A: Allocator>(table: &TypeTable<A>, node: u32, stop: u64)
 
 /// Whether so many bytes behind the last field of a value are read on, since the caller is lenient.
 #[inline]
-fn reads_further(limits: &Asked, left: u64) -> bool {
+fn lenient_excess(limits: &Asked, left: u64) -> bool {
     limits.lenient && 0 < limits.cell && 0 < left && left < 1 << 32
 }
 
@@ -171,7 +171,7 @@ impl OpenValue {
     #[inline]
     pub(crate) fn has_further(self, limits: &Asked, offset: u64) -> bool {
         match self.order {
-            Order::Fields => reads_further(limits, self.stop - offset),
+            Order::Fields => lenient_excess(limits, self.stop - offset),
             Order::Elements | Order::Keys | Order::Values => false,
         }
     }

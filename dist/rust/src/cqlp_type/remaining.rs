@@ -78,7 +78,7 @@ impl<A: Allocator> Remaining<A> {
         id: u16,
         table: &mut TypeTable<C>,
     ) -> Result<TypeOutline, Reason> {
-        let Some(kind) = option_kind(limits.lenient, id) else {
+        let Some(kind) = kind_or_lenient(limits.lenient, id) else {
             return Err(Reason::BadType);
         };
         if self.open_options.len() >= limits.depth {
@@ -105,7 +105,7 @@ impl<A: Allocator> Remaining<A> {
 }
 
 /// The kind of an option of this id: of an unknown type, where no kind has the id and the caller is lenient.
-fn option_kind(lenient: bool, id: u16) -> Option<Kind> {
+fn kind_or_lenient(lenient: bool, id: u16) -> Option<Kind> {
     match Kind::from_id(id) {
         None if lenient => Some(Kind::Raw),
         known => known,
