@@ -12,18 +12,18 @@ use Rattle.cqlp_value.specs.Owned.{value_of}
 use Rattle.cqlp_value.specs.declared.value.Value.{Value}
 use Rattle.cqlp_grammar.specs.Events.{Event, cell_event}
 use Rattle.cqlp_build_cells.specs.Building.{AreEventsOf, FinishesAs, cell_of, ends}
-use Rattle.cqlp_build_cells.specs.Held as cell
+use Rattle.cqlp_build_cells.specs.CellEvents as cell
 use Rattle.cqlp_build_cells.specs.Said.{Fit, values_said}
-use Rattle.cqlp_build_cells.specs.declared.held.Held.{Held as CellHeld}
+use Rattle.cqlp_build_cells.specs.declared.held.CellEvents.{CellEvents as CellHeld}
 use Rattle.cqlp_build_cells.specs.declared.error.CellError.{CellError}
 use Rattle.cqlp_build_cells.specs.declared.error.CellError.TheVariants as error
 use Rattle.cqlp_build_cells.proofs.Whole.{are_said, items_said}
 use Rattle.cqlp_build.specs.declared.held.Fault.{Fault}
 use Rattle.cqlp_build.specs.declared.held.Fault.TheVariants as fault
-use Rattle.cqlp_build.specs.declared.held.Held.{Held}
+use Rattle.cqlp_build.specs.declared.held.FrameEvents.{FrameEvents}
 use Rattle.std.proofs.lemmas.List.{map-append}
 use Rattle.cqlp_build_cells.specs.declared.step.Step.{Step}
-use Rattle.cqlp_build.specs.Held.{IsSound, TakesStep, first_fault, left}
+use Rattle.cqlp_build.specs.FrameEvents.{IsSound, TakesStep, first_fault, left}
 use Rattle.cqlp_build.specs.Productions.{BuildsCell, Gathers, ends_at_last, fault_of}
 use Rattle.cqlp_build.proofs.Several.{both, join}
 use Rattle.cqlp_build.proofs.Steps.{no_memory}
@@ -140,12 +140,12 @@ on_ok (Ok a) e p = p
 on_ok (Err x) e p = absurd cc
 
 -- what has come of a cell that has not ended
-pub record Comes (row column : ℕ) (start now : Held) : Type 0 where
+pub record Comes (row column : ℕ) (start now : FrameEvents) : Type 0 where
   pub fault : now.fault ≡ start.fault
   pub came : left start ≡ map (cell_event row column) (cell.left now.cell) ++ left now
   pub none : none_ends (cell.left now.cell) ≡ true
 
-module _ (row column : ℕ) (start now next new : Held) (c : Comes row column start now) (s : ℕ × Step) (t : TakesStep row column (Some s) now next)
+module _ (row column : ℕ) (start now next new : FrameEvents) (c : Comes row column start now) (s : ℕ × Step) (t : TakesStep row column (Some s) now next)
     (fault : new.fault ≡ next.fault) (rest : left new ≡ left next) (held : cell.left new.cell ≡ cell.left now.cell ++ cell.emitted_by s ∷ []) where
   come : left start ≡ map (cell_event row column) (cell.left new.cell) ++ left new
   come =
@@ -164,7 +164,7 @@ module _ (row column : ℕ) (start now next new : Held) (c : Comes row column st
   pub comes_whole : ends (cell.emitted_by s) ≡ true → Gathers row column true start new
   comes_whole e = (sym c.fault ∙ t.0, fault ∙ t.2, come, ap ends_at_last held ∙ at_last (cell.left now.cell) (cell.emitted_by s) c.none e)
 
-pub comes_not : (row column : ℕ) (start now new : Held) → Comes row column start now → TakesStep row column None now new → Gathers row column false start new
+pub comes_not : (row column : ℕ) (start now new : FrameEvents) → Comes row column start now → TakesStep row column None now new → Gathers row column false start new
 comes_not row column start now new c t = inr (
   t.0 ∙ c.fault,
   λ s es rest q e.
@@ -183,7 +183,7 @@ are_of h ts w e = record { rules = whole_limits; at = 0; are = items_said whole_
 said_of : (h : CellHeld) (ts : Types) (w : Values) → AreEventsOf (cell.left h) ts w → cell.left h ≡ values_said 0 ts w
 said_of h ts w a = are_said h ts w a ∙ append-nil (values_said 0 ts w)
 
-module _ (row column : ℕ) (k : Kind) (inner : Types) (old mid new : Held) (same : new.fault ≡ mid.fault) (rest : left new ≡ left mid) (g : Gathers row column true old mid) where
+module _ (row column : ℕ) (k : Kind) (inner : Types) (old mid new : FrameEvents) (same : new.fault ≡ mid.fault) (rest : left new ≡ left mid) (g : Gathers row column true old mid) where
   abbrev ts : Types
   ts = Type_and k inner NoMore
 
@@ -206,7 +206,7 @@ module _ (row column : ℕ) (k : Kind) (inner : Types) (old mid new : Held) (sam
     none = λ r. let d : None ≡ Some fault.NoFrame = sym g.1 ∙ (sym same ∙ r) in absurd cc;
   }
 
-module _ (row column : ℕ) (k : Kind) (inner : Types) (old mid new : Held) (g : Gathers row column true old mid) (v : Values) where
+module _ (row column : ℕ) (k : Kind) (inner : Types) (old mid new : FrameEvents) (g : Gathers row column true old mid) (v : Values) where
   none_of : FinishesAs (cell.left mid.cell) (Type_and k inner NoMore) (Err error.NoValue) → new.fault ≡ Some fault.NoFrame → BuildsCell row column (Type_and k inner NoMore) v old new
   none_of n r = record {
     made = λ s. absurd cc;
@@ -231,7 +231,7 @@ module _ (row column : ℕ) (k : Kind) (inner : Types) (old mid new : Held) (g :
 
 -- ---- it did not come
 
-module _ (row column : ℕ) (k : Kind) (inner : Types) (old mid new : Held) (v : Values) where
+module _ (row column : ℕ) (k : Kind) (inner : Types) (old mid new : FrameEvents) (v : Values) where
   cell_of_fault : (o : Option Fault) → old.fault ≡ o → mid.fault ≡ old.fault
       → (IsSound old → (es : List CellEvent) (rest : List Event) → ends_at_last es ≡ true → left old ≡ map (cell_event row column) es ++ rest → ⊥)
       → new.fault ≡ first_fault mid.fault fault.NoFrame → BuildsCell row column (Type_and k inner NoMore) v old new

@@ -13,10 +13,10 @@ use Rattle.cqlp_message.specs.declared.frame.Frame.{Frame as OwnedFrame}
 use Rattle.cqlp_message.specs.declared.unfit.Unfit.{Unfit}
 use Rattle.cqlp_build.specs.declared.error.BuildError.{BuildError}
 use Rattle.cqlp_build.specs.declared.error.BuildError.TheVariants as error
-use Rattle.cqlp_build.specs.declared.held.Held.{Held}
+use Rattle.cqlp_build.specs.declared.held.FrameEvents.{FrameEvents}
 use Rattle.cqlp_build.specs.Building.{AreOfNone, BeginsWith, IsOfHeader}
 use Rattle.cqlp_build.specs.Closing.{ClosesAt, IsOfSome, ReportsOf, of_length}
-use Rattle.cqlp_build.specs.Held.{Builds, IsRefused, IsSound, left}
+use Rattle.cqlp_build.specs.FrameEvents.{Builds, IsRefused, IsSound, left}
 use Rattle.cqlp_build.specs.Emitted.{emitted}
 use Rattle.cqlp_build.proofs.Finishing.{built_of, directed_by, header_by, none_left, none_of_header, none_refused, measured, only_this, refused}
 use Rattle.cqlp_build.proofs.FrameViews.{left_none}
@@ -28,7 +28,7 @@ begins_of h n f b = record { flags = b.flags; stream = b.stream; opcode = b.opco
 begins_back : (h : Header) (n : ℕ) (f : FrameValue) → BeginsWith (of_length h n) f → BeginsWith h f
 begins_back h n f b = record { flags = b.flags; stream = b.stream; opcode = b.opcode; agrees = b.agrees; built = b.built; cells = b.cells }
 
-module _ (h : Header) (n : ℕ) (f : FrameValue) (old new : Held) (b : Builds (λ g. emitted (frame_parts g)) (BeginsWith h) f old new) where
+module _ (h : Header) (n : ℕ) (f : FrameValue) (old new : FrameEvents) (b : Builds (λ g. emitted (frame_parts g)) (BeginsWith h) f old new) where
   none_by : IsRefused old ⊎ AreNone (λ g. emitted (frame_parts g)) (BeginsWith h) old
       → IsRefused old ⊎ AreNone (λ g. emitted (frame_parts g)) (BeginsWith (of_length h n)) old
   none_by (inl r) = inl r
@@ -52,7 +52,7 @@ of_some h f b s =
 pub some_of : (h : Header) (n : ℕ) (f : FrameValue) → BeginsWith (of_length h n) f → IsOfHeader f (of_length h n) 0 → IsOfSome h f
 some_of h n f b i = (i.0, directed_by f (of_length h n) 0 b i)
 
-module _ (h : Header) (f : OwnedFrame) (old new : Held) (s : IsSound old) (b : Builds (λ g. emitted (frame_parts g)) (BeginsWith h) (frame_of f) old new) where
+module _ (h : Header) (f : OwnedFrame) (old new : FrameEvents) (s : IsSound old) (b : Builds (λ g. emitted (frame_parts g)) (BeginsWith h) (frame_of f) old new) where
   pub closes : ReportsOf h (frame_of f) new None → ClosesAt h (left old) (Ok f)
   closes t =
       let n = parts_size (frame_parts (frame_of f)) in

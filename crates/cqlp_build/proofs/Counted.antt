@@ -7,8 +7,8 @@ use Rattle.cqlp_note.specs.Field as note
 use Rattle.cqlp_grammar.specs.Events.{Holds}
 use Rattle.cqlp_message.specs.Parts.{Part}
 use Rattle.cqlp_message.specs.Bodies.{counted}
-use Rattle.cqlp_build.specs.declared.held.Held.{Held}
-use Rattle.cqlp_build.specs.Held.{Builds, Many, any}
+use Rattle.cqlp_build.specs.declared.held.FrameEvents.{FrameEvents}
+use Rattle.cqlp_build.specs.FrameEvents.{Builds, Many, any}
 use Rattle.cqlp_build.specs.Emitted.{emitted, part_emitted}
 use Rattle.cqlp_build.proofs.Steps.{pair_builds, as_builds}
 
@@ -20,7 +20,7 @@ pub emitted_counted : {A : Type 0} (f : Field) (parts : A → List Part) (n : �
 emitted_counted f parts n xs e = rw (e, emitted_many parts xs) refl
 
 -- items after their number
-pub counted_builds : {A : Type 0} (f : Field) (parts : A → List Part) (t : A → Bool) {n : ℕ} {xs : List A} {old mid new : Held}
+pub counted_builds : {A : Type 0} (f : Field) (parts : A → List Part) (t : A → Bool) {n : ℕ} {xs : List A} {old mid new : FrameEvents}
     → Builds (λ k. Holds f (note.Count k) ∷ []) any n old mid → Builds (flat_map (λ x. emitted (parts x))) (Many t n) xs mid new
     → Builds (λ ys. emitted (counted f parts ys)) (λ ys. list_all t ys ≡ true) xs old new
 counted_builds {A} f parts t one many =

@@ -12,7 +12,7 @@ use Rattle.cqlp_message.specs.Frames.{announced_parts, frame_parts, frame_size, 
 use Rattle.cqlp_message.specs.declared.unfit.Unfit.{Unfit}
 use Rattle.cqlp_message.specs.Parts.{Part, cell_fits, parts_size}
 use Rattle.cqlp_message.proofs.FramesWritten.{IsFit, is_fit}
-use Rattle.cqlp_build.specs.declared.held.Held.{Held}
+use Rattle.cqlp_build.specs.declared.held.FrameEvents.{FrameEvents}
 use Rattle.cqlp_note.specs.Heading.{answers, same}
 use Rattle.cqlp_message.specs.Agreement.{has_its_cells, opcode_of}
 use Rattle.std.specs.Prelude.{IsTrue, false}
@@ -20,7 +20,7 @@ use Rattle.std.proofs.Common.{◌↔◌}
 use Rattle.cqlp_build.specs.Building.{BuilderState, TakesEvent, empty, is_due, AreEventsOf, AreOfNone, BeginsWith, CanBeBuilt, Finishes, HaveNoParts, IsOfHeader, Reports, has_fit_cells}
 use Rattle.cqlp_build.specs.declared.error.BuildError.{BuildError}
 use Rattle.cqlp_build.specs.declared.error.BuildError.TheVariants as error
-use Rattle.cqlp_build.specs.Held.{Builds, IsRefused, IsSound, left}
+use Rattle.cqlp_build.specs.FrameEvents.{Builds, IsRefused, IsSound, left}
 use Rattle.cqlp_build.specs.Emitted.{emitted}
 use Rattle.cqlp_build.proofs.Several.{both, join}
 use Rattle.cqlp_build.proofs.FrameViews.{body_of, body_events, frame_said, left_none}
@@ -96,7 +96,7 @@ are_events h es x f c i = record {
   are = frame_said no_rules 0 f x ∙ ap (λ k. Frame k ∷ body_of no_rules 0 f ++ End x ∷ []) i.header ∙ ap (λ r. Frame h ∷ r ++ End x ∷ []) (body_events no_rules 0 f (inl refl) ∙ i.parts);
 }
 
-module _ (h : Header) (x : ℕ) (f : FrameValue) (old new : Held) (b : Builds (λ g. emitted (frame_parts g)) (BeginsWith h) f old new) where
+module _ (h : Header) (x : ℕ) (f : FrameValue) (old new : FrameEvents) (b : Builds (λ g. emitted (frame_parts g)) (BeginsWith h) f old new) where
   pub only_this : (g : FrameValue) (y : ℕ) → IsSound new → CanBeBuilt g → AreEventsOf (Frame h ∷ left old ++ End x ∷ []) g y → (g ≡ f) × ([] ≡ left new) × (y ≡ x)
   only_this g y s c a =
       let i = is_frame_of h (left old) x g y (left_none old) a in

@@ -12,9 +12,9 @@ use Rattle.cqlp_message.specs.FrameValues.{Octets, FrameValue, Message}
 use Rattle.cqlp_message.specs.Bodies as body
 use Rattle.cqlp_message.specs.Frames.{frame_parts}
 use Rattle.cqlp_message.specs.Parts.{Field_is}
-use Rattle.cqlp_build.specs.declared.held.Held.{Held}
+use Rattle.cqlp_build.specs.declared.held.FrameEvents.{FrameEvents}
 use Rattle.cqlp_build.specs.Building.{BeginsWith}
-use Rattle.cqlp_build.specs.Held.{Builds}
+use Rattle.cqlp_build.specs.FrameEvents.{Builds}
 use Rattle.cqlp_build.specs.Productions.{BuildsMessage, IsOf}
 use Rattle.cqlp_build.specs.Emitted.{payload_parts, emitted}
 use Rattle.cqlp_build.proofs.Several.{both, join}
@@ -88,7 +88,7 @@ to_parts h f b =
     let p = all_of (not (has h.flags 0x01)) (there_if (answers h.opcode && has h.flags 0x02) f.tracing) (there_if (answers h.opcode && has h.flags 0x08) f.warnings) (there_if (has h.flags 0x04) f.payload) (message_agrees f.message) all in
     (p.0, record { opcode = b.opcode; agrees = p.1; built = b.built; cells = b.cells })
 
-pub frame_builds : (h : Header) {tracing : Option Octets} {warnings : Option (List Octets)} {payload : Option (List (Octets × Option Octets))} {message : Message} {a b c d e f : Held}
+pub frame_builds : (h : Header) {tracing : Option Octets} {warnings : Option (List Octets)} {payload : Option (List (Octets × Option Octets))} {message : Message} {a b c d e f : FrameEvents}
     → Builds {A = Unit {0}} (λ _. []) (λ _. not (has h.flags 0x01) ≡ true) tt a b
     → Builds (λ o. emitted (body.where_some (λ id. Field_is field.TraceId notation.Uuid (note.Uuid id) ∷ []) o)) (λ o. there_if (answers h.opcode && has h.flags 0x02) o ≡ true) tracing b c
     → Builds (λ o. emitted (body.where_some (body.texts field.Warnings field.Warning) o)) (λ o. there_if (answers h.opcode && has h.flags 0x08) o ≡ true) warnings c d

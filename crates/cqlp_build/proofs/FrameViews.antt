@@ -17,11 +17,11 @@ use Rattle.cqlp_message.specs.Parts.{Field_is, Type_is, Cell_is, part_events, pa
 use Rattle.cqlp_message.specs.Frames.{Flat, frame_parts, frame_size, header_of}
 use Rattle.cqlp_build_cells.specs.declared.step.Step.TheVariants as step
 use Rattle.cqlp_build_cells.proofs.Whole.{NoParts, have_none, is_no_part, items_said}
-use Rattle.cqlp_build.specs.declared.held.Held.{Held}
+use Rattle.cqlp_build.specs.declared.held.FrameEvents.{FrameEvents}
 use Rattle.cqlp_build.specs.declared.item.Item.{Item}
 use Rattle.cqlp_build.specs.declared.item.Item.TheVariants as item
 use Rattle.cqlp_build.specs.Building.{HaveNoParts, is_inner, is_unbuilt}
-use Rattle.cqlp_build.specs.Held.{left, item_event}
+use Rattle.cqlp_build.specs.FrameEvents.{left, item_event}
 use Rattle.cqlp_build.specs.Emitted.{part_emitted, emitted}
 use Rattle.cqlp_build.proofs.Several.{both, join}
 
@@ -168,5 +168,5 @@ items_none : (is : List Item) → HaveNoParts (map item_event is)
 items_none [] = refl
 items_none (i ∷ is) = join (not (is_unbuilt (item_event i))) (list_all (λ e. not (is_unbuilt e)) (map item_event is)) (item_none i) (items_none is)
 
-pub left_none : (h : Held) → HaveNoParts (left h)
+pub left_none : (h : FrameEvents) → HaveNoParts (left h)
 left_none h = items_none h.items.items

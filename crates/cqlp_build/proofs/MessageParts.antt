@@ -11,8 +11,8 @@ use Rattle.cqlp_message.specs.Agreement.{bits, event_agrees, extra_agrees, param
 use Rattle.cqlp_message.specs.FrameValues.{Octets, Message, Startup, Options, Query, Prepare, Execute, Batch, Register, AuthResponse, Error, Ready, Authenticate, Supported, Void, SetKeyspace, Rows, Prepared, Change, UnknownResult, AuthChallenge, AuthSuccess, QueryParams, BatchEntry, Text, Id, ErrorExtra, SchemaChange, ServerEvent}
 use Rattle.cqlp_message.specs.FrameValues as value
 use Rattle.cqlp_message.specs.Bodies as body
-use Rattle.cqlp_build.specs.declared.held.Held.{Held}
-use Rattle.cqlp_build.specs.Held.{Builds, any}
+use Rattle.cqlp_build.specs.declared.held.FrameEvents.{FrameEvents}
+use Rattle.cqlp_build.specs.FrameEvents.{Builds, any}
 use Rattle.cqlp_build.specs.Productions.{BuildsMessage, IsOf}
 use Rattle.cqlp_build.specs.Emitted.{emitted}
 use Rattle.cqlp_build.proofs.Optional.{all_true}
@@ -114,7 +114,7 @@ batch_events kind es consistency flags serial timestamp =
     ∙ append_assoc entries (one ∷ two ∷ []) (s ++ t)
     ∙ sym (append_assoc entries (one ∷ []) (two ∷ (s ++ t))))
 
-pub batch_builds : {kind consistency flags : ℕ} {entries : List BatchEntry} {serial : Option ℕ} {timestamp : Option ℤ} {a b c d e f g h : Held}
+pub batch_builds : {kind consistency flags : ℕ} {entries : List BatchEntry} {serial : Option ℕ} {timestamp : Option ℤ} {a b c d e f g h : FrameEvents}
     → Builds (λ n. Holds field.BatchType (note.Byte n) ∷ []) any kind a b
     → Builds (λ es. emitted (body.counted field.Entries body.entry_parts es)) (λ es. list_all (λ _. true) es ≡ true) entries b c
     → Builds (λ n. Holds field.Consistency (note.Short n) ∷ []) any consistency c d

@@ -12,8 +12,8 @@ use Rattle.cqlp_message.specs.Agreement.{bits, columns_agree, metadata_agrees, p
 use Rattle.cqlp_message.specs.Bodies as body
 use Rattle.cqlp_message.specs.FrameValues.{Octets, TableName, Spec, Metadata, PreparedStatement}
 use Rattle.cqlp_message.specs.Parts.{Type_is}
-use Rattle.cqlp_build.specs.declared.held.Held.{Held}
-use Rattle.cqlp_build.specs.Held.{Builds, Many, any}
+use Rattle.cqlp_build.specs.declared.held.FrameEvents.{FrameEvents}
+use Rattle.cqlp_build.specs.FrameEvents.{Builds, Many, any}
 use Rattle.cqlp_build.specs.Productions.{AreColumns, AreColumnsIf, columns_parts, columns_parts_if}
 use Rattle.cqlp_build.specs.Emitted.{emitted}
 use Rattle.cqlp_build.specs.Types.{are_built_columns, are_built_if, is_built_metadata, is_built_statement, is_built_type, names_count, type_events}
@@ -63,7 +63,7 @@ spec_view own c e =
     let q = both (there_if own c.table) (is_tree c.tree) p.0 in
     (((c.table, c.name), c.tree), ((q.0, refl), join (is_tree c.tree) (names_count false c.tree) q.1 p.1), refl)
 
-pub spec_builds : (own : Bool) {table : Option TableName} {name : Octets} {tree : Trees} {a b c d : Held}
+pub spec_builds : (own : Bool) {table : Option TableName} {name : Octets} {tree : Trees} {a b c d : FrameEvents}
     → Builds (λ o. emitted (body.table_parts o)) (λ o. there_if own o ≡ true) table a b → Builds (λ t. Holds field.ColumnName (note.Text t) ∷ []) any name b c
     → Builds type_events (λ t. is_built_type t ≡ true) tree c d
     → Builds (λ c. emitted (body.spec_parts c)) (λ c. (spec_agrees own c && names_count false c.tree) ≡ true) (record { table = table; name = name; tree = tree }) a d
@@ -92,7 +92,7 @@ columns_view flags n c e =
 columns_said : (c : Columns) → emitted (columns_parts c) ≡ emitted (body.table_parts c.0) ++ flat_map (λ c. emitted (body.spec_parts c)) c.1
 columns_said c = emitted_append (body.table_parts c.0) (flat_map body.spec_parts c.1) ∙ ap (λ es. emitted (body.table_parts c.0) ++ es) (emitted_many body.spec_parts c.1)
 
-pub columns_builds : (flags n : ℕ) {table : Option TableName} {specs : List Spec} {a b c : Held}
+pub columns_builds : (flags n : ℕ) {table : Option TableName} {specs : List Spec} {a b c : FrameEvents}
     → Builds (λ o. emitted (body.table_parts o)) (λ o. there_if (has flags 0x01) o ≡ true) table a b
     → Builds (flat_map (λ c. emitted (body.spec_parts c))) (Many (λ c. spec_agrees (not (has flags 0x01)) c && names_count false c.tree) n) specs b c
     → Builds (λ c. emitted (columns_parts c)) (AreColumns flags n) (table, specs) a c
@@ -117,7 +117,7 @@ nothing_described flags n on (o, Some specs) e =
     let d : false ≡ true = sym (ap not on) ∙ q.0 in
     absurd cc
 
-pub undescribed_builds : (flags n : ℕ) → has flags 0x04 ≡ true → (old : Held) → Builds (λ c. emitted (columns_parts_if c)) (AreColumnsIf flags n) (None, None) old old
+pub undescribed_builds : (flags n : ℕ) → has flags 0x04 ≡ true → (old : FrameEvents) → Builds (λ c. emitted (columns_parts_if c)) (AreColumnsIf flags n) (None, None) old old
 undescribed_builds flags n on old =
     nothing_builds (λ c. emitted (columns_parts_if c)) (AreColumnsIf flags n) (None, None) old refl (join (has flags 0x04 && true) true (join (has flags 0x04) true on refl) refl) (nothing_described flags n on)
 
@@ -137,7 +137,7 @@ described_on flags n off c e =
     let p = both (specs_agree flags n c.0 c.1) (are_built_columns c.1) e in
     join (not (has flags 0x04) && specs_agree flags n c.0 c.1) (are_built_columns c.1) (join (not (has flags 0x04)) (specs_agree flags n c.0 c.1) (ap not off) p.0) p.1
 
-pub described_builds : (flags n : ℕ) → has flags 0x04 ≡ false → {c : Columns} {old new : Held} → Builds (λ c. emitted (columns_parts c)) (AreColumns flags n) c old new
+pub described_builds : (flags n : ℕ) → has flags 0x04 ≡ false → {c : Columns} {old new : FrameEvents} → Builds (λ c. emitted (columns_parts c)) (AreColumns flags n) c old new
     → Builds (λ c. emitted (columns_parts_if c)) (AreColumnsIf flags n) (c.0, Some c.1) old new
 described_builds flags n off one = as_builds (λ c. emitted (columns_parts_if c)) (AreColumnsIf flags n) (λ (c : Columns). (c.0, Some c.1)) (λ c p. refl) (described_on flags n off) (described_view flags n off) one
 
@@ -177,7 +177,7 @@ metadata_view m e =
     let q = both (there_if (has f 0x02) m.paging) (columns_agree f m.columns m.table m.specs) p.0 in
     ((m.flags, (m.columns, (m.paging, (m.table, m.specs)))), (refl, (refl, (q.0, join (columns_agree f m.columns m.table m.specs) (are_built_if m.specs) q.1 p.1))), refl)
 
-pub metadata_builds : {flags : ℤ} {columns : ℕ} {paging : Option (Option Octets)} {c : ColumnsIf} {h i j k l : Held}
+pub metadata_builds : {flags : ℤ} {columns : ℕ} {paging : Option (Option Octets)} {c : ColumnsIf} {h i j k l : FrameEvents}
     → Builds (λ z. Holds field.MetaFlags (note.Int z) ∷ []) any flags h i → Builds (λ n. Holds field.Columns (note.Count n) ∷ []) any columns i j
     → Builds (λ o. emitted (body.paging_parts o)) (λ o. there_if (has (bits flags) 0x02) o ≡ true) paging j k
     → Builds (λ c. emitted (columns_parts_if c)) (AreColumnsIf (bits flags) columns) c k l
@@ -238,7 +238,7 @@ statement_view s e =
       refl,
     )
 
-pub statement_builds : {id : Octets} {flags : ℤ} {columns : ℕ} {keys : List ℕ} {c : Columns} {m : Metadata} {h i j k l n o : Held}
+pub statement_builds : {id : Octets} {flags : ℤ} {columns : ℕ} {keys : List ℕ} {c : Columns} {m : Metadata} {h i j k l n o : FrameEvents}
     → Builds (λ id. Holds field.StatementId (note.Bytes (Some id)) ∷ []) any id h i → Builds (λ z. Holds field.MetaFlags (note.Int z) ∷ []) any flags i j
     → Builds (λ n. Holds field.Columns (note.Count n) ∷ []) any columns j k → Builds (λ ks. emitted (body.counted_keys ks)) any keys k l
     → Builds (λ c. emitted (columns_parts c)) (AreColumns (bits flags) columns) c l n → Builds (λ m. emitted (body.metadata_parts m)) IsMetadata m n o

@@ -12,8 +12,8 @@ use Rattle.cqlp_message.specs.Bodies.{cell_types, count, metadata_parts, page_pa
 use Rattle.cqlp_message.specs.FrameValues.{Metadata, Page}
 use Rattle.cqlp_message.specs.Parts.{cell_fits}
 use Rattle.cqlp_message.proofs.PageWalks.{rows_cut}
-use Rattle.cqlp_build.specs.declared.held.Held.{Held}
-use Rattle.cqlp_build.specs.Held.{Builds, any, left}
+use Rattle.cqlp_build.specs.declared.held.FrameEvents.{FrameEvents}
+use Rattle.cqlp_build.specs.FrameEvents.{Builds, any, left}
 use Rattle.cqlp_build.specs.Productions.{AreCells, IsPage, cells_parts}
 use Rattle.cqlp_build.specs.Emitted.{emitted}
 use Rattle.cqlp_build.specs.Types.{is_built_metadata}
@@ -40,7 +40,7 @@ page_on p q = let m = both (metadata_agrees p.0) (is_built_metadata p.0) q.0 in 
 page_view : (p : Page) → IsPage p → (a : Metadata × (ℕ × List Values)) × (IsMetadata a.0 × AreRest a.0 a.1) × (p ≡ page_from a)
 page_view p q = ((p.meta, (p.rows, p.cells)), (join (metadata_agrees p.meta) (is_built_metadata p.meta) q.0 q.1, (refl, q.2)), refl)
 
-pub page_made : {m : Metadata} {n : ℕ} {cells : List Values} {a b c d : Held}
+pub page_made : {m : Metadata} {n : ℕ} {cells : List Values} {a b c d : FrameEvents}
     → Builds (λ m. emitted (metadata_parts m)) IsMetadata m a b → Builds (λ n. Holds field.Rows (note.Count n) ∷ []) any n b c
     → Builds (λ vs. emitted (cells_parts m n vs)) (AreCells m n) cells c d
     → Builds (λ p. emitted (page_parts p)) IsPage (page_from (m, (n, cells))) a d
@@ -51,13 +51,13 @@ page_made {m} one two three =
 -- ---- cells
 
 -- the cells of all rows are those of the page
-pub cells_made : (m : Metadata) (n : ℕ) (vs : List Values) (old new : Held) → how_many (cell_types m) ≡ m.columns → BuildsRows 0 n (cell_types m) vs old new
+pub cells_made : (m : Metadata) (n : ℕ) (vs : List Values) (old new : FrameEvents) → how_many (cell_types m) ≡ m.columns → BuildsRows 0 n (cell_types m) vs old new
     → Builds (λ ws. emitted (cells_parts m n ws)) (AreCells m n) vs old new
 cells_made m n vs old new e b =
     subst (λ (k : ℕ). Builds (λ ws. emitted (cells_parts m n ws)) (λ ws. (length ws ≡ n * k) × (list_all cell_fits (cells_parts m n ws) ≡ true)) vs old new) e b
 
 -- a page without columns has none
-pub no_cells : (m : Metadata) (n : ℕ) (h : Held) → m.columns ≡ 0 → Builds (λ ws. emitted (cells_parts m n ws)) (AreCells m n) [] h h
+pub no_cells : (m : Metadata) (n : ℕ) (h : FrameEvents) → m.columns ≡ 0 → Builds (λ ws. emitted (cells_parts m n ws)) (AreCells m n) [] h h
 no_cells m n h z =
     let cut : cells_parts m n [] ≡ [] = rows_cut 0 (cell_types m) n in
     let none : n * m.columns ≡ 0 = rw z (omega arith) in

@@ -9,8 +9,8 @@ use Rattle.cqlp_grammar.specs.Events.{Holds}
 use Rattle.cqlp_message.specs.Agreement.{there_if, are_named, params_agree}
 use Rattle.cqlp_message.specs.FrameValues.{Octets, QueryParams}
 use Rattle.cqlp_message.specs.Bodies as body
-use Rattle.cqlp_build.specs.declared.held.Held.{Held}
-use Rattle.cqlp_build.specs.Held.{Builds, any}
+use Rattle.cqlp_build.specs.declared.held.FrameEvents.{FrameEvents}
+use Rattle.cqlp_build.specs.FrameEvents.{Builds, any}
 use Rattle.cqlp_build.specs.Emitted.{emitted}
 use Rattle.cqlp_build.proofs.Optional.{none_builds, some_builds}
 use Rattle.cqlp_build.proofs.Several.{both, join}
@@ -53,7 +53,7 @@ abbrev to_parts : QueryParams → ℕ × (ℕ × Announced)
 to_parts q = (q.consistency, (q.flags, ((((q.values, q.page_size), q.paging), q.serial), q.timestamp)))
 
 -- the parameters of a query, part by part
-pub params_builds : {consistency flags : ℕ} {values : Values} {size : Option ℤ} {paging : Option (Option Octets)} {serial : Option ℕ} {timestamp : Option ℤ} {a b c d e f g h : Held}
+pub params_builds : {consistency flags : ℕ} {values : Values} {size : Option ℤ} {paging : Option (Option Octets)} {serial : Option ℕ} {timestamp : Option ℤ} {a b c d e f g h : FrameEvents}
     → Builds (λ n. Holds field.Consistency (note.Short n) ∷ []) any consistency a b
     → Builds (λ n. Holds field.QueryFlags (note.Byte n) ∷ []) any flags b c
     → Builds (λ o. emitted (body.where_some (body.counted field.Values body.value_parts) o)) (λ o. (there_if (has flags 0x01) o && are_named (has flags 0x40) o) ≡ true) values c d
@@ -73,13 +73,13 @@ params_builds one two three four five six seven =
 
 -- ---- values of queries
 
-pub values_there : (there named : Bool) → there ≡ true → {vs : List (Option Octets × BoundValue)} {a b : Held}
+pub values_there : (there named : Bool) → there ≡ true → {vs : List (Option Octets × BoundValue)} {a b : FrameEvents}
     → Builds (λ vs. emitted (body.counted field.Values body.value_parts vs)) (λ vs. list_all (λ v. there_if named v.0) vs ≡ true) vs a b
     → Builds (λ o. emitted (body.where_some (body.counted field.Values body.value_parts) o)) (λ o. (there_if there o && are_named named o) ≡ true) (Some vs) a b
 values_there true named e one = some_builds (body.counted field.Values body.value_parts) (λ o. (there_if true o && are_named named o) ≡ true) (λ x p. p) (λ x q. q) (λ q. absurd cc) one
 values_there false named e one = absurd cc
 
-pub values_not : (there named : Bool) → there ≡ false → (old : Held)
+pub values_not : (there named : Bool) → there ≡ false → (old : FrameEvents)
     → Builds (λ o. emitted (body.where_some (body.counted field.Values body.value_parts) o)) (λ o. (there_if there o && are_named named o) ≡ true) None old old
 values_not false named e old = none_builds (body.counted field.Values body.value_parts) (λ o. (there_if false o && are_named named o) ≡ true) refl (λ x q. absurd cc) old
 values_not true named e old = absurd cc

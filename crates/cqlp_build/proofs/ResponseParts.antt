@@ -6,8 +6,8 @@ use Rattle.cqlp_grammar.specs.Codes as error
 use Rattle.cqlp_grammar.specs.Events.{Event}
 use Rattle.cqlp_message.specs.Agreement.{change_agrees, extra_agrees, options_agree}
 use Rattle.cqlp_message.specs.FrameValues.{Octets, ErrorExtra, Unavailable, WriteTimeout, ReadTimeout, ReadFailure, FunctionFailure, WriteFailure, AlreadyExists, Unprepared, SchemaOptions, Named, Callable, SchemaChange, ServerEvent, Node}
-use Rattle.cqlp_build.specs.declared.held.Held.{Held}
-use Rattle.cqlp_build.specs.Held.{Builds}
+use Rattle.cqlp_build.specs.declared.held.FrameEvents.{FrameEvents}
+use Rattle.cqlp_build.specs.FrameEvents.{Builds}
 use Rattle.cqlp_build.specs.Productions.{is_callable, is_named, is_node}
 use Rattle.cqlp_build.proofs.Optional.{all_true}
 use Rattle.cqlp_build.proofs.Steps.{as_builds}
@@ -69,5 +69,5 @@ node_view (Node change address port) e = ((change, (address, port)), (refl, refl
 node_view d e = absurd cc
 
 -- a value of which the same is asked in other words
-pub asked : {B : Type 0} {g : B → List Event} {P Q : B → Type 0} {b : B} {old new : Held} → ((x : B) → P x → Q x) → ((x : B) → Q x → P x) → Builds g P b old new → Builds g Q b old new
+pub asked : {B : Type 0} {g : B → List Event} {P Q : B → Type 0} {b : B} {old new : FrameEvents} → ((x : B) → P x → Q x) → ((x : B) → Q x → P x) → Builds g P b old new → Builds g Q b old new
 asked {B} {g} {P} {Q} to fro one = as_builds g Q (λ x. x) (λ x p. refl) to (λ x q. (x, fro x q, refl)) one

@@ -11,8 +11,8 @@ use Rattle.cqlp_message.specs.Agreement.{bits, has_its_cells, is_no_result, prep
 use Rattle.cqlp_message.specs.Parts.{cell_fits}
 use Rattle.cqlp_message.specs.Bodies as body
 use Rattle.cqlp_message.specs.FrameValues.{Message, Void, SetKeyspace, Rows, Prepared, Change, UnknownResult, Page, PreparedStatement}
-use Rattle.cqlp_build.specs.declared.held.Held.{Held}
-use Rattle.cqlp_build.specs.Held.{Builds, IsRefused, IsSound, any, left}
+use Rattle.cqlp_build.specs.declared.held.FrameEvents.{FrameEvents}
+use Rattle.cqlp_build.specs.FrameEvents.{Builds, IsRefused, IsSound, any, left}
 use Rattle.cqlp_build.specs.Productions.{BuildsMessage, IsOf, IsPage, cells_parts}
 use Rattle.cqlp_build.specs.Emitted.{emitted}
 use Rattle.cqlp_build.specs.Types.{is_built_statement}
@@ -47,7 +47,7 @@ by_kind (UnknownResult k) es rest i e =
     absurd cc
 by_kind m es rest i e = let o = i.opcode in absurd cc
 
-module _ {z : ℤ} {p : PreparedStatement} {a b c : Held} (is : z ≡ pos code.prepared) (one : Builds (λ y. kind_event y ∷ []) any z a b) (two : Builds (λ s. emitted (body.prepared_parts s)) IsStatement p b c) where
+module _ {z : ℤ} {p : PreparedStatement} {a b c : FrameEvents} (is : z ≡ pos code.prepared) (one : Builds (λ y. kind_event y ∷ []) any z a b) (two : Builds (λ s. emitted (body.prepared_parts s)) IsStatement p b c) where
   first : IsSound b → left a ≡ kind_event (pos code.prepared) ∷ left b
   first s = (one.made s).1 ∙ ap (λ y. kind_event y ∷ left b) is
 
@@ -94,7 +94,7 @@ page_by_kind (UnknownResult k) es rest i e =
     absurd cc
 page_by_kind m es rest i e = let o = i.opcode in absurd cc
 
-module _ {z : ℤ} {p : Page} {a b c : Held} (is : z ≡ pos code.rows) (one : Builds (λ y. kind_event y ∷ []) any z a b) (two : Builds (λ s. emitted (body.page_parts s)) IsPage p b c) where
+module _ {z : ℤ} {p : Page} {a b c : FrameEvents} (is : z ≡ pos code.rows) (one : Builds (λ y. kind_event y ∷ []) any z a b) (two : Builds (λ s. emitted (body.page_parts s)) IsPage p b c) where
   page_first : IsSound b → left a ≡ kind_event (pos code.rows) ∷ left b
   page_first s = (one.made s).1 ∙ ap (λ y. kind_event y ∷ left b) is
 

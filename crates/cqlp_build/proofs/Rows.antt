@@ -9,9 +9,9 @@ use Rattle.cqlp_kind.specs.Types.{Types, NoMore, Type_and, how_many}
 use Rattle.cqlp_value.specs.Values.{Values, value_fits}
 use Rattle.cqlp_message.specs.Bodies.{row_parts, rows_parts}
 use Rattle.cqlp_message.specs.Parts.{Part, Cell_is, cell_fits}
-use Rattle.cqlp_build.specs.declared.held.Held.{Held}
+use Rattle.cqlp_build.specs.declared.held.FrameEvents.{FrameEvents}
 use Rattle.cqlp_build.specs.declared.held.Fault.{Fault}
-use Rattle.cqlp_build.specs.Held.{Builds, IsSound, left}
+use Rattle.cqlp_build.specs.FrameEvents.{Builds, IsSound, left}
 use Rattle.cqlp_build.specs.Productions.{BuildsCell, BuildsRow, column_type}
 use Rattle.cqlp_build.specs.Emitted.{emitted}
 use Rattle.cqlp_build.proofs.Several.{both, join}
@@ -21,7 +21,7 @@ use Rattle.cqlp_build.proofs.Steps.{as_builds, other_value, stuck, emitted_appen
 abbrev pub AreOf : (row column : ℕ) → Types → List Values → Type 0
 AreOf row column ts vs = (length vs ≡ how_many ts) × (list_all cell_fits (row_parts row column ts vs) ≡ true)
 
-abbrev pub BuildsFrom : (row column : ℕ) → Types → List Values → (old new : Held) → Type 0
+abbrev pub BuildsFrom : (row column : ℕ) → Types → List Values → (old new : FrameEvents) → Type 0
 BuildsFrom row column ts vs old new = Builds (λ ws. emitted (row_parts row column ts ws)) (AreOf row column ts) vs old new
 
 module _ (row : ℕ) where
@@ -29,7 +29,7 @@ module _ (row : ℕ) where
   nothing [] e = refl
   nothing (w ∷ ws) e = absurd (omega (arith, e))
 
-  pub none_built : (column : ℕ) (h : Held) → BuildsFrom row column NoMore [] h h
+  pub none_built : (column : ℕ) (h : FrameEvents) → BuildsFrom row column NoMore [] h h
   none_built column h = record {
     made = λ s. (s, refl, (refl, refl));
     only = λ s ws rest p e. (nothing ws p.0, sym e);
@@ -44,7 +44,7 @@ module _ (row : ℕ) where
       ((w, ws), (f.0, (omega (arith, p.0), f.1)), refl)
 
   -- a cell, and those after it
-  pub first_built : (column : ℕ) (k : Kind) (inner ts : Types) {v : Values} {vs : List Values} {a b c : Held}
+  pub first_built : (column : ℕ) (k : Kind) (inner ts : Types) {v : Values} {vs : List Values} {a b c : FrameEvents}
       → BuildsCell row column (Type_and k inner NoMore) v a b → BuildsFrom row (column + 1) ts vs b c → BuildsFrom row column (Type_and k inner ts) (v ∷ vs) a c
   first_built column k inner ts one more =
       as_builds (λ ws. emitted (row_parts row column (Type_and k inner ts) ws)) (AreOf row column (Type_and k inner ts)) (λ p. p.0 ∷ p.1)
@@ -54,22 +54,22 @@ module _ (row : ℕ) where
       (one then more)
 
   -- What is still to be built of a row, when these cells are, and columns of these types are left.
-  pub record Remains (all : Types) (start now : Held) (column : ℕ) (ts : Types) (xs : List Values) : Type 0 where
-    pub remains : (zs : List Values) (end : Held) → BuildsFrom row column ts zs now end → BuildsFrom row 0 all (xs ++ zs) start end
+  pub record Remains (all : Types) (start now : FrameEvents) (column : ℕ) (ts : Types) (xs : List Values) : Type 0 where
+    pub remains : (zs : List Values) (end : FrameEvents) → BuildsFrom row column ts zs now end → BuildsFrom row 0 all (xs ++ zs) start end
 
-  pub remains_all : (all : Types) (start : Held) → Remains all start start 0 all []
+  pub remains_all : (all : Types) (start : FrameEvents) → Remains all start start 0 all []
   remains_all all start = record { remains = λ zs end h. h }
 
-  pub remains_more : (all : Types) (start now next : Held) (column : ℕ) (k : Kind) (inner ts : Types) (xs : List Values) (v : Values)
+  pub remains_more : (all : Types) (start now next : FrameEvents) (column : ℕ) (k : Kind) (inner ts : Types) (xs : List Values) (v : Values)
       → Remains all start now column (Type_and k inner ts) xs → BuildsCell row column (Type_and k inner NoMore) v now next → Remains all start next (column + 1) ts (xs ++ v ∷ [])
   remains_more all start now next column k inner ts xs v r h = record {
     remains = λ zs end more. rw append_assoc (r.remains (v ∷ zs) end (first_built column k inner ts h more));
   }
 
-  pub remains_none : (all : Types) (start now : Held) (column : ℕ) (xs : List Values) → Remains all start now column NoMore xs → BuildsFrom row 0 all xs start now
+  pub remains_none : (all : Types) (start now : FrameEvents) (column : ℕ) (xs : List Values) → Remains all start now column NoMore xs → BuildsFrom row 0 all xs start now
   remains_none all start now column xs r = rw append-nil at (r.remains [] now (none_built column now))
 
-  pub remains_stuck : (all : Types) (start now : Held) (column : ℕ) (ts : Types) (xs ys : List Values) (f : Fault) → now.fault ≡ Some f → Remains all start now column ts xs → BuildsFrom row 0 all ys start now
+  pub remains_stuck : (all : Types) (start now : FrameEvents) (column : ℕ) (ts : Types) (xs ys : List Values) (f : Fault) → now.fault ≡ Some f → Remains all start now column ts xs → BuildsFrom row 0 all ys start now
   remains_stuck all start now column ts xs ys f e r = other_value ys f e (r.remains [] now (stuck [] f e))
 
 -- ---- the columns of a row
@@ -93,21 +93,21 @@ no_column (suc n) NoMore h = refl
 no_column (suc n) (Type_and k inner ts) h = no_column n ts (omega (arith, h))
 
 -- How far a row is built, whose first cells are behind others.
-pub record Row (row : ℕ) (ts : Types) (before : List Values) (start now : Held) (column : ℕ) (cells : List Values) : Type 0 where
+pub record Row (row : ℕ) (ts : Types) (before : List Values) (start now : FrameEvents) (column : ℕ) (cells : List Values) : Type 0 where
   pub made : List Values
   pub same : cells ≡ before ++ made
   pub due : Remains row ts start now column (columns_from column ts) made
   pub sound : IsSound now
 
 -- the cells that are there are others and those of a row
-abbrev pub HasRow : (row : ℕ) → Types → (before cells : List Values) → (start now : Held) → Type 0
+abbrev pub HasRow : (row : ℕ) → Types → (before cells : List Values) → (start now : FrameEvents) → Type 0
 HasRow row ts before cells start now = (made : List Values) × (cells ≡ before ++ made) × BuildsRow row ts made start now
 
-module _ (row : ℕ) (ts : Types) (before : List Values) (start : Held) where
+module _ (row : ℕ) (ts : Types) (before : List Values) (start : FrameEvents) where
   pub row_begins : IsSound start → Row row ts before start start 0 before
   row_begins s = record { made = []; same = sym (append-nil before); due = remains_all row ts start; sound = s }
 
-  module _ (now next : Held) (column : ℕ) (cells : List Values) (v : Values) (within : column < how_many ts) (r : Row row ts before start now column cells) (h : BuildsCell row column (column_type column ts) v now next) where
+  module _ (now next : FrameEvents) (column : ℕ) (cells : List Values) (v : Values) (within : column < how_many ts) (r : Row row ts before start now column cells) (h : BuildsCell row column (column_type column ts) v now next) where
     more : Remains row ts start next (column + 1) (columns_from (suc column) ts) (r.made ++ v ∷ [])
     more =
         let c = next_column column ts within in
@@ -128,7 +128,7 @@ module _ (row : ℕ) (ts : Types) (before : List Values) (start : Held) where
     pub row_stops : (f : Fault) → next.fault ≡ Some f → HasRow row ts before cells start next
     row_stops f e = (r.made, r.same, remains_stuck row ts start next (column + 1) (columns_from (suc column) ts) (r.made ++ v ∷ []) r.made f e more)
 
-  pub row_ends : (now : Held) (column : ℕ) (cells : List Values) → how_many ts ≤ column → Row row ts before start now column cells → HasRow row ts before cells start now
+  pub row_ends : (now : FrameEvents) (column : ℕ) (cells : List Values) → how_many ts ≤ column → Row row ts before start now column cells → HasRow row ts before cells start now
   row_ends now column cells over r =
       (r.made, r.same, remains_none row ts start now column r.made (subst (λ (us : Types). Remains row ts start now column us r.made) (no_column column ts over) r.due))
 
@@ -138,7 +138,7 @@ module _ (row : ℕ) (ts : Types) (before : List Values) (start : Held) where
 abbrev pub AreRows : (row rows : ℕ) → Types → List Values → Type 0
 AreRows row n ts vs = (length vs ≡ n * how_many ts) × (list_all cell_fits (rows_parts row ts n vs) ≡ true)
 
-abbrev pub BuildsRows : (row rows : ℕ) → Types → List Values → (old new : Held) → Type 0
+abbrev pub BuildsRows : (row rows : ℕ) → Types → List Values → (old new : FrameEvents) → Type 0
 BuildsRows row n ts vs old new = Builds (λ ws. emitted (rows_parts row ts n ws)) (AreRows row n ts) vs old new
 
 -- more cells change no row
@@ -151,7 +151,7 @@ rows_more : (row : ℕ) (ts : Types) (n : ℕ) (vs ws : List Values) → length 
 rows_more row ts n vs ws is = rw (row_more row 0 ts vs ws is, drop_at vs ws (how_many ts) is) refl
 
 module _ (ts : Types) where
-  pub no_rows : (row : ℕ) (h : Held) → BuildsRows row 0 ts [] h h
+  pub no_rows : (row : ℕ) (h : FrameEvents) → BuildsRows row 0 ts [] h h
   no_rows row h = record {
     made = λ s. (s, refl, (omega arith, refl));
     only = λ s ws rest p e. (nothing row ws (omega (arith, p.0)), sym e);
@@ -191,26 +191,26 @@ module _ (ts : Types) where
       ((vs, us), ((len, f.0), (rest, f.1)), is)
 
   -- a row, and those after it
-  pub first_row : (row n : ℕ) {vs ws : List Values} {a b c : Held} → BuildsRow row ts vs a b → BuildsRows (row + 1) n ts ws b c → BuildsRows row (suc n) ts (vs ++ ws) a c
+  pub first_row : (row n : ℕ) {vs ws : List Values} {a b c : FrameEvents} → BuildsRow row ts vs a b → BuildsRows (row + 1) n ts ws b c → BuildsRows row (suc n) ts (vs ++ ws) a c
   first_row row n one more =
       as_builds (λ xs. emitted (rows_parts row ts (suc n) xs)) (AreRows row (suc n) ts) both_rows (rows_said row n) (rows_on row n) (rows_view row n)
       (one then more)
 
   -- What is still to be built of rows, when these cells are.
-  pub record RowsRemain (rows : ℕ) (start now : Held) (row : ℕ) (xs : List Values) : Type 0 where
-    pub remain : (k : ℕ) (zs : List Values) (end : Held) → row + k ≡ rows → BuildsRows row k ts zs now end → BuildsRows 0 rows ts (xs ++ zs) start end
+  pub record RowsRemain (rows : ℕ) (start now : FrameEvents) (row : ℕ) (xs : List Values) : Type 0 where
+    pub remain : (k : ℕ) (zs : List Values) (end : FrameEvents) → row + k ≡ rows → BuildsRows row k ts zs now end → BuildsRows 0 rows ts (xs ++ zs) start end
 
-  pub rows_begin : (rows : ℕ) (start : Held) → RowsRemain rows start start 0 []
+  pub rows_begin : (rows : ℕ) (start : FrameEvents) → RowsRemain rows start start 0 []
   rows_begin rows start = record { remain = λ k zs end e h. let is : k ≡ rows = omega (arith, e) in subst (λ (m : ℕ). BuildsRows 0 m ts zs start end) is h }
 
-  pub rows_go : (rows : ℕ) (start now next : Held) (row : ℕ) (xs vs : List Values) → RowsRemain rows start now row xs → BuildsRow row ts vs now next → RowsRemain rows start next (row + 1) (xs ++ vs)
+  pub rows_go : (rows : ℕ) (start now next : FrameEvents) (row : ℕ) (xs vs : List Values) → RowsRemain rows start now row xs → BuildsRow row ts vs now next → RowsRemain rows start next (row + 1) (xs ++ vs)
   rows_go rows start now next row xs vs r h = record {
     remain = λ k zs end e more. rw append_assoc (r.remain (suc k) (vs ++ zs) end (omega (arith, e)) (first_row row k h more));
   }
 
-  pub rows_end : (rows : ℕ) (start now : Held) (row : ℕ) (xs : List Values) → row ≤ rows → rows ≤ row → RowsRemain rows start now row xs → BuildsRows 0 rows ts xs start now
+  pub rows_end : (rows : ℕ) (start now : FrameEvents) (row : ℕ) (xs : List Values) → row ≤ rows → rows ≤ row → RowsRemain rows start now row xs → BuildsRows 0 rows ts xs start now
   rows_end rows start now row xs l m r = rw append-nil at (r.remain 0 [] now (omega (arith, l, m)) (no_rows row now))
 
   -- a fault ends it
-  pub rows_stuck : (rows : ℕ) (start now : Held) (row : ℕ) (xs ys : List Values) (f : Fault) → row ≤ rows → now.fault ≡ Some f → RowsRemain rows start now row xs → BuildsRows 0 rows ts ys start now
+  pub rows_stuck : (rows : ℕ) (start now : FrameEvents) (row : ℕ) (xs ys : List Values) (f : Fault) → row ≤ rows → now.fault ≡ Some f → RowsRemain rows start now row xs → BuildsRows 0 rows ts ys start now
   rows_stuck rows start now row xs ys f l e r = other_value ys f e (r.remain (rows - row) [] now (omega (arith, l)) (stuck [] f e))

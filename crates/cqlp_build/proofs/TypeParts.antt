@@ -22,9 +22,9 @@ use Rattle.cqlp_type.proofs.TreeLengths.{inner_tuple, inner_udt}
 use Rattle.cqlp_type.specs.Trees.{Head, Plain, Custom, ListOf, SetOf, MapOf, TupleOf, UdtOf, Trees, NoTree, Tree_and, trees_in, kind_in, has_names, is_head, are_trees, is_tree, head_items, trees_items, name_items}
 use Rattle.cqlp_grammar.specs.Events.{Event, Holds, Node_of, type_event}
 use Rattle.cqlp_message.specs.FrameValues.{Octets}
-use Rattle.cqlp_build.specs.declared.held.Held.{Held}
+use Rattle.cqlp_build.specs.declared.held.FrameEvents.{FrameEvents}
 use Rattle.cqlp_build.specs.declared.held.Fault.TheVariants as fault
-use Rattle.cqlp_build.specs.Held.{Builds, HoldsNoMore, IsRefused, IsSound, Many, TakesKind, any, first_fault, left}
+use Rattle.cqlp_build.specs.FrameEvents.{Builds, HoldsNoMore, IsRefused, IsSound, Many, TakesKind, any, first_fault, left}
 use Rattle.cqlp_build.specs.Types.{IsOfKind, Wraps, beside, field_events, is_built_field, is_built_type, list_of, map_of, names_count, set_of, events_after_kind, type_events}
 use Rattle.cqlp_build.proofs.Several.{both, join}
 use Rattle.cqlp_build.proofs.Steps.{AreNone, as_builds, no_memory, pair_builds, ◌then◌}
@@ -246,7 +246,7 @@ list_view (Tree_and name h inner others) i =
     let k = list_head h (trees_in inner) i.0 o.fits in
     (inner, to_one inner k.1 o.trees (ap (λ g. names_count (has_names g) inner) (sym k.0) ∙ o.names), alone name h inner others o ∙ ap (λ (g : Head). Tree_and [] g inner NoTree) k.0)
 
-pub list_builds : {a : Trees} {old new : Held} → Builds type_events (λ t. is_built_type t ≡ true) a old new → Builds events_after_kind (IsOfKind kind.List) (list_of a) old new
+pub list_builds : {a : Trees} {old new : FrameEvents} → Builds type_events (λ t. is_built_type t ≡ true) a old new → Builds events_after_kind (IsOfKind kind.List) (list_of a) old new
 list_builds one =
     as_builds events_after_kind (IsOfKind kind.List) list_of (λ a p. refl)
     (λ a p. let q = is_one a p in (refl, of_one ListOf a (eq-eqb (trees_in a) 1 q.0) q.1 q.2)) list_view one
@@ -258,7 +258,7 @@ set_view (Tree_and name h inner others) i =
     let k = set_head h (trees_in inner) i.0 o.fits in
     (inner, to_one inner k.1 o.trees (ap (λ g. names_count (has_names g) inner) (sym k.0) ∙ o.names), alone name h inner others o ∙ ap (λ (g : Head). Tree_and [] g inner NoTree) k.0)
 
-pub set_builds : {a : Trees} {old new : Held} → Builds type_events (λ t. is_built_type t ≡ true) a old new → Builds events_after_kind (IsOfKind kind.Set) (set_of a) old new
+pub set_builds : {a : Trees} {old new : FrameEvents} → Builds type_events (λ t. is_built_type t ≡ true) a old new → Builds events_after_kind (IsOfKind kind.Set) (set_of a) old new
 set_builds one =
     as_builds events_after_kind (IsOfKind kind.Set) set_of (λ a p. refl)
     (λ a p. let q = is_one a p in (refl, of_one SetOf a (eq-eqb (trees_in a) 1 q.0) q.1 q.2)) set_view one
@@ -305,7 +305,7 @@ map_view (Tree_and name h inner others) i =
     let is : inner ≡ beside w.0.0 w.0.1 = v.2 ∙ ap types_all w.2 ∙ sym (two_row w.0.0 w.0.1 w.1.0 w.1.1) in
     (w.0, w.1, alone name h inner others o ∙ ap (λ (g : Head). Tree_and [] g inner NoTree) k.0 ∙ ap (λ (x : Trees). Tree_and [] MapOf x NoTree) is)
 
-pub map_builds : {a b : Trees} {old mid new : Held} → Builds type_events (λ t. is_built_type t ≡ true) a old mid → Builds type_events (λ t. is_built_type t ≡ true) b mid new
+pub map_builds : {a b : Trees} {old mid new : FrameEvents} → Builds type_events (λ t. is_built_type t ≡ true) a old mid → Builds type_events (λ t. is_built_type t ≡ true) b mid new
     → Builds events_after_kind (IsOfKind kind.Map) (map_of a b) old new
 map_builds one two =
     as_builds events_after_kind (IsOfKind kind.Map) (λ p. map_of p.0 p.1) (λ p q. map_said p.0 p.1 q.0 q.1) (λ p q. map_on p.0 p.1 q.0 q.1) map_view (one then two)
@@ -328,7 +328,7 @@ tuple_view (Tree_and name h inner others) i =
     let v = types_view (trees_in inner) inner refl o.trees (ap (λ g. names_count (has_names g) inner) (sym k) ∙ o.names) in
     ((trees_in inner, v.0), (refl, v.1), alone name h inner others o ∙ ap (λ (g : Head). Tree_and [] g inner NoTree) k ∙ ap (λ (x : Trees). Tree_and [] TupleOf x NoTree) v.2)
 
-pub tuple_builds : {n : ℕ} {ts : List Trees} {old mid new : Held} → Builds (λ k. Holds field.Fields (note.Count k) ∷ []) any n old mid → Builds (flat_map type_events) (Many is_built_type n) ts mid new
+pub tuple_builds : {n : ℕ} {ts : List Trees} {old mid new : FrameEvents} → Builds (λ k. Holds field.Fields (note.Count k) ∷ []) any n old mid → Builds (flat_map type_events) (Many is_built_type n) ts mid new
     → Builds events_after_kind (IsOfKind kind.Tuple) (tuple_of (n, ts)) old new
 tuple_builds one two =
     as_builds events_after_kind (IsOfKind kind.Tuple) tuple_of (λ p q. tuple_said p.0 p.1 q.1)
@@ -358,7 +358,7 @@ udt_view (Tree_and name h inner others) i =
     let long : length v.0 ≡ trees_in inner = sym r.many ∙ ap trees_in (sym v.2) in
     (((k.0, k.1), (trees_in inner, v.0)), ((refl, refl), (refl, (long, v.1))), alone name h inner others o ∙ ap (λ (g : Head). Tree_and [] g inner NoTree) k.2 ∙ ap (λ (x : Trees). Tree_and [] (UdtOf k.0 k.1) x NoTree) v.2)
 
-pub udt_builds : {keyspace name : Octets} {n : ℕ} {fs : List (Octets × Trees)} {a b c d e : Held}
+pub udt_builds : {keyspace name : Octets} {n : ℕ} {fs : List (Octets × Trees)} {a b c d e : FrameEvents}
     → Builds (λ t. Holds field.Keyspace (note.Text t) ∷ []) any keyspace a b → Builds (λ t. Holds field.TypeName (note.Text t) ∷ []) any name b c
     → Builds (λ k. Holds field.Fields (note.Count k) ∷ []) any n c d → Builds (flat_map field_events) (Many is_built_field n) fs d e
     → Builds events_after_kind (IsOfKind kind.Udt) (udt_of ((keyspace, name), (n, fs))) a e
@@ -379,7 +379,7 @@ custom_view (Tree_and name h inner others) i =
     let k = custom_head h (trees_in inner) i.0 o.fits in
     (k.0, refl, alone name h inner others o ∙ ap (λ (g : Head). Tree_and [] g inner NoTree) k.1 ∙ ap (λ (x : Trees). Tree_and [] (Custom k.0) x NoTree) (none_in inner k.2))
 
-pub custom_builds : {class : Octets} {old new : Held} → Builds (λ t. Holds field.Class (note.Text t) ∷ []) any class old new → Builds events_after_kind (IsOfKind kind.Custom) (custom_of class) old new
+pub custom_builds : {class : Octets} {old new : FrameEvents} → Builds (λ t. Holds field.Class (note.Text t) ∷ []) any class old new → Builds events_after_kind (IsOfKind kind.Custom) (custom_of class) old new
 custom_builds one =
     as_builds events_after_kind (IsOfKind kind.Custom) custom_of (λ a p. refl) (λ a p. (refl, of_one (Custom a) NoTree refl refl refl)) custom_view one
 
@@ -414,13 +414,13 @@ plain_view k off (Tree_and name h inner others) i =
     let p = plain_head k h (trees_in inner) off i.0 o.fits in
     (tt, p.1, alone name h inner others o ∙ ap (λ (g : Head). Tree_and [] g inner NoTree) p.0 ∙ ap (λ (x : Trees). Tree_and [] (Plain k) x NoTree) (none_in inner p.2))
 
-pub plain_builds : (k : Kind) → has_parameters k ≡ false → {old new : Held} → Builds {A = Unit {0}} (λ _. []) (λ _. is_plain k ≡ true) tt old new → Builds events_after_kind (IsOfKind k) (plain_of k) old new
+pub plain_builds : (k : Kind) → has_parameters k ≡ false → {old new : FrameEvents} → Builds {A = Unit {0}} (λ _. []) (λ _. is_plain k ≡ true) tt old new → Builds events_after_kind (IsOfKind k) (plain_of k) old new
 plain_builds k off one =
     as_builds events_after_kind (IsOfKind k) (λ _. plain_of k) (λ a p. refl) (λ a p. (refl, of_one (Plain k) NoTree (join (is_plain k) true p refl) refl refl)) (plain_view k off) one
 
 -- ---- a type after its kind
 
-pub kind_builds : {k : Kind} {old new : Held} → TakesKind (Some k) old new → Builds (λ j. Node_of j ∷ []) any k old new
+pub kind_builds : {k : Kind} {old new : FrameEvents} → TakesKind (Some k) old new → Builds (λ j. Node_of j ∷ []) any k old new
 kind_builds {k} {old} {new} t = record {
   made = λ s. (t.0, t.1, refl);
   only = λ s j rest p e. let d : Node_of j ∷ rest ≡ Node_of k ∷ left new = sym e ∙ t.1 in (cc, cc);
@@ -445,12 +445,12 @@ of_kind_built : (k : Kind) (t : Trees) → IsOfKind k t → is_built_type t ≡ 
 of_kind_built k NoTree i = absurd i
 of_kind_built k (Tree_and name h inner others) i = i.1
 
-pub tree_builds : {k : Kind} {t : Trees} {old mid new : Held} → TakesKind (Some k) old mid → Builds events_after_kind (IsOfKind k) t mid new → Builds type_events (λ t. is_built_type t ≡ true) t old new
+pub tree_builds : {k : Kind} {t : Trees} {old mid new : FrameEvents} → TakesKind (Some k) old mid → Builds events_after_kind (IsOfKind k) t mid new → Builds type_events (λ t. is_built_type t ≡ true) t old new
 tree_builds one two =
     as_builds type_events (λ t. is_built_type t ≡ true) (λ (p : Kind × Trees). p.1) (λ p q. after_said p.0 p.1 q.1) (λ p q. of_kind_built p.0 p.1 q.1) tree_view (pair_builds (λ k. IsOfKind k) (kind_builds one) two)
 
 -- no type begins where no kind does
-pub no_tree : (t : Trees) (old mid new : Held) → TakesKind None old mid → new.fault ≡ first_fault mid.fault fault.NoFrame → Builds type_events (λ t. is_built_type t ≡ true) t old new
+pub no_tree : (t : Trees) (old mid new : FrameEvents) → TakesKind None old mid → new.fault ≡ first_fault mid.fault fault.NoFrame → Builds type_events (λ t. is_built_type t ≡ true) t old new
 no_tree t old mid new k f = record { made = λ s. absurd (never mid.fault (sym f ∙ s)); only = λ s. absurd (never mid.fault (sym f ∙ s)); none = λ r. refused old.fault refl r }
   where
     never : (o : _) → first_fault o fault.NoFrame ≡ None → ⊥
@@ -467,18 +467,18 @@ no_tree t old mid new k f = record { made = λ s. absurd (never mid.fault (sym f
 
 -- ---- types that are wrapped
 
-pub wrapped : (k : Kind) (t r : Trees) {old mid new : Held} → Builds events_after_kind (IsOfKind k) t old mid → Wraps t r mid new → Builds events_after_kind (IsOfKind k) r old new
+pub wrapped : (k : Kind) (t r : Trees) {old mid new : FrameEvents} → Builds events_after_kind (IsOfKind k) t old mid → Wraps t r mid new → Builds events_after_kind (IsOfKind k) r old new
 wrapped k t r {old} {mid} {new} one (inl w) =
-    subst (λ (h : Held). Builds events_after_kind (IsOfKind k) r old h) (sym w.1) (subst (λ (x : Trees). Builds events_after_kind (IsOfKind k) x old mid) (sym w.0) one)
+    subst (λ (h : FrameEvents). Builds events_after_kind (IsOfKind k) r old h) (sym w.1) (subst (λ (x : Trees). Builds events_after_kind (IsOfKind k) x old mid) (sym w.0) one)
 wrapped k t r one (inr w) = no_memory r w.0
 
-pub wrapped_fewer : (t r : Trees) (old mid new : Held) → HoldsNoMore old mid → Wraps t r mid new → HoldsNoMore old new
-wrapped_fewer t r old mid new l (inl w) = subst (λ (h : Held). HoldsNoMore old h) (sym w.1) l
+pub wrapped_fewer : (t r : Trees) (old mid new : FrameEvents) → HoldsNoMore old mid → Wraps t r mid new → HoldsNoMore old new
+wrapped_fewer t r old mid new l (inl w) = subst (λ (h : FrameEvents). HoldsNoMore old h) (sym w.1) l
 wrapped_fewer t r old mid new l (inr w) = omega (arith, l, ap (λ (q : _). length q.items) w.1)
 
 -- ---- fields
 
-pub field_builds : {name : Octets} {t : Trees} {old mid new : Held} → Builds (λ t. Holds field.FieldName (note.Text t) ∷ []) any name old mid → Builds type_events (λ t. is_built_type t ≡ true) t mid new
+pub field_builds : {name : Octets} {t : Trees} {old mid new : FrameEvents} → Builds (λ t. Holds field.FieldName (note.Text t) ∷ []) any name old mid → Builds type_events (λ t. is_built_type t ≡ true) t mid new
     → Builds field_events (λ f. is_built_field f ≡ true) (name, t) old new
 field_builds one two = as_builds field_events (λ f. is_built_field f ≡ true) (λ (f : Octets × Trees). f) (λ a p. refl) (λ a p. p.1) (λ b q. (b, (refl, q), refl)) (one then two)
 
@@ -503,7 +503,7 @@ udt_tree keyspace name v n = ap (λ (x : Trees). Tree_and [] (UdtOf (string_byte
 
 -- ---- kinds
 
-pub of_kind : {k j : Kind} {t : Trees} {old new : Held} → k ≡ j → Builds events_after_kind (IsOfKind j) t old new → Builds events_after_kind (IsOfKind k) t old new
+pub of_kind : {k j : Kind} {t : Trees} {old new : FrameEvents} → k ≡ j → Builds events_after_kind (IsOfKind j) t old new → Builds events_after_kind (IsOfKind k) t old new
 of_kind {k} {j} {t} {old} {new} e one = subst (λ (x : Kind). Builds events_after_kind (IsOfKind x) t old new) (sym e) one
 
 pub without_parameters : (k : Kind) → (k ≡ kind.Custom → ⊥) → (k ≡ kind.List → ⊥) → (k ≡ kind.Set → ⊥) → (k ≡ kind.Map → ⊥) → (k ≡ kind.Udt → ⊥) → (k ≡ kind.Tuple → ⊥) → has_parameters k ≡ false

@@ -19,8 +19,8 @@ use Rattle.cqlp_build.specs.declared.builder.BuiltFrame.{BuiltFrame}
 use Rattle.cqlp_build.specs.declared.builder.FrameBuilder.{FrameBuilder}
 use Rattle.cqlp_build.specs.declared.error.BuildError.{BuildError}
 use Rattle.cqlp_build.specs.declared.error.BuildError.TheVariants as error
-use Rattle.cqlp_build.specs.declared.held.Held.{Held}
-use Rattle.cqlp_build.specs.Held.{IsRefused, IsSound, left}
+use Rattle.cqlp_build.specs.declared.held.FrameEvents.{FrameEvents}
+use Rattle.cqlp_build.specs.FrameEvents.{IsRefused, IsSound, left}
 use Rattle.cqlp_build.specs.Nesting.{after_event, depth_at}
 use Rattle.cqlp_build.specs.Types.{is_built_metadata, is_built_statement}
 use Rattle.cqlp_build_cells.specs.Building.{is_part, scalar_size}
@@ -63,7 +63,7 @@ pub record BuilderState : Type 0 where
   pub room : ℕ
   pub limits : BuildLimits
 
-abbrev pub events_in : Option Header → Held → List Event
+abbrev pub events_in : Option Header → FrameEvents → List Event
 events_in None held = []
 events_in (Some h) held = Frame h ∷ left held
 
@@ -203,7 +203,7 @@ pub record BeginsWith (h : Header) (f : FrameValue) : Type 0 where
 
 -- What is reported of a frame whose parts were taken: nothing where nothing was refused, nothing is left, and it is of the header
 -- with x bytes more, if it begins with it.
-abbrev pub Reports : Header → (x : ℕ) → FrameValue → Held → Option BuildError → Type 0
+abbrev pub Reports : Header → (x : ℕ) → FrameValue → FrameEvents → Option BuildError → Type 0
 Reports h x f after None = IsSound after × (left after ≡ []) × (BeginsWith h f → IsOfHeader f h x)
 Reports h x f after (Some error.NoFrame) = IsRefused after ⊎ (IsSound after × (((left after ≡ []) → ⊥) ⊎ (BeginsWith h f → IsOfHeader f h x → ⊥)))
 Reports h x f after (Some error.NoMemory) = Unit {0}

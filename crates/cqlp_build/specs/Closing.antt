@@ -9,9 +9,9 @@ use Rattle.cqlp_message.specs.Owned.{frame_of}
 use Rattle.cqlp_message.specs.declared.frame.Frame.{Frame as OwnedFrame}
 use Rattle.cqlp_build.specs.declared.error.BuildError.{BuildError}
 use Rattle.cqlp_build.specs.declared.error.BuildError.TheVariants as error
-use Rattle.cqlp_build.specs.declared.held.Held.{Held}
+use Rattle.cqlp_build.specs.declared.held.FrameEvents.{FrameEvents}
 use Rattle.cqlp_build.specs.Building.{AreEventsOf, AreOfNone, BeginsWith, BuilderState, CanBeBuilt, HaveNoParts, empty}
-use Rattle.cqlp_build.specs.Held.{IsRefused, IsSound, left}
+use Rattle.cqlp_build.specs.FrameEvents.{IsRefused, IsSound, left}
 
 -- this header, of a body of n bytes
 abbrev pub of_length : Header → (n : ℕ) → Header
@@ -51,7 +51,7 @@ IsOfSome h f = (unfit_of f ≡ None) × (same h.response (answers h.opcode) ≡ 
 
 -- What is reported of a frame whose parts were taken: nothing where nothing was refused, nothing is left, and it is of the header
 -- with some length, if it begins with it.
-abbrev pub ReportsOf : Header → FrameValue → Held → Option BuildError → Type 0
+abbrev pub ReportsOf : Header → FrameValue → FrameEvents → Option BuildError → Type 0
 ReportsOf h f after None = IsSound after × (left after ≡ []) × (BeginsWith h f → IsOfSome h f)
 ReportsOf h f after (Some error.NoFrame) = IsRefused after ⊎ (IsSound after × (((left after ≡ []) → ⊥) ⊎ (BeginsWith h f → IsOfSome h f → ⊥)))
 ReportsOf h f after (Some error.NoMemory) = ⊤

@@ -1,5 +1,5 @@
 pub mod Emitted
-pub mod Held
+pub mod FrameEvents
 pub mod Types
 pub mod Nesting
 pub mod Building

@@ -5,7 +5,7 @@ use Rattle.cqlp_note.specs.declared.opcode.Opcode.{Opcode}
 use Rattle.cqlp_kind.specs.CellStep.{CellEvent}
 use Rattle.cqlp_kind.specs.Types.{Types, NoMore, Type_and, how_many}
 use Rattle.cqlp_build_cells.specs.Building.{ends}
-use Rattle.cqlp_build_cells.specs.Held as cell
+use Rattle.cqlp_build_cells.specs.CellEvents as cell
 use Rattle.cqlp_build_cells.specs.declared.error.CellError.{CellError}
 use Rattle.cqlp_build_cells.specs.declared.error.CellError.TheVariants as error
 use Rattle.cqlp_build.specs.declared.held.Fault.{Fault}
@@ -17,19 +17,19 @@ use Rattle.cqlp_message.specs.Agreement.{columns_agree, extra_agrees, metadata_a
 use Rattle.cqlp_message.specs.Bodies.{cell_types, event_parts, extra_parts, message_parts, options_parts, row_parts, rows_parts, spec_parts, specs_parts, table_parts, where_some}
 use Rattle.cqlp_message.specs.FrameValues.{ErrorExtra, Message, Metadata, Page, Node, Named, Callable, SchemaOptions, ServerEvent, Spec, TableName}
 use Rattle.cqlp_build.specs.Building.{has_fit_cells, is_built}
-use Rattle.cqlp_build.specs.declared.held.Held.{Held}
-use Rattle.cqlp_build.specs.Held.{Builds, IsSound, left}
+use Rattle.cqlp_build.specs.declared.held.FrameEvents.{FrameEvents}
+use Rattle.cqlp_build.specs.FrameEvents.{Builds, IsSound, left}
 use Rattle.cqlp_build.specs.Emitted.{emitted}
 use Rattle.cqlp_build.specs.Types.{are_built_columns, are_built_if, is_built_metadata}
 use Rattle.cqlp_build_cells.specs.Said.{Fit, values_said}
 use Rattle.cqlp_message.specs.Parts.{Part, cell_fits}
 
 -- what comes after the message of an error of this code
-abbrev pub BuildsExtra : (code : ℕ) → ErrorExtra → (old new : Held) → Type 0
+abbrev pub BuildsExtra : (code : ℕ) → ErrorExtra → (old new : FrameEvents) → Type 0
 BuildsExtra code x old new = Builds (λ y. emitted (extra_parts y)) (λ y. extra_agrees code y ≡ true) x old new
 
 -- what was changed, of which this test holds
-abbrev pub BuildsOptions : (SchemaOptions → Bool) → SchemaOptions → (old new : Held) → Type 0
+abbrev pub BuildsOptions : (SchemaOptions → Bool) → SchemaOptions → (old new : FrameEvents) → Type 0
 BuildsOptions test o old new = Builds (λ y. emitted (options_parts y)) (λ y. test y ≡ true) o old new
 
 abbrev pub is_named : SchemaOptions → Bool
@@ -41,7 +41,7 @@ is_callable (Callable keyspace name arguments) = true
 is_callable o = false
 
 -- what an event reports, of which this test holds
-abbrev pub BuildsDetail : (ServerEvent → Bool) → ServerEvent → (old new : Held) → Type 0
+abbrev pub BuildsDetail : (ServerEvent → Bool) → ServerEvent → (old new : FrameEvents) → Type 0
 BuildsDetail test e old new = Builds (λ y. emitted (event_parts y)) (λ y. test y ≡ true) e old new
 
 abbrev pub is_node : ServerEvent → Bool
@@ -55,7 +55,7 @@ pub record IsOf (o : Opcode) (m : Message) : Type 0 where
   pub built : is_built m ≡ true
   pub cells : has_fit_cells m ≡ true
 
-abbrev pub BuildsMessage : Opcode → Message → (old new : Held) → Type 0
+abbrev pub BuildsMessage : Opcode → Message → (old new : FrameEvents) → Type 0
 BuildsMessage o m old new = Builds (λ y. emitted (message_parts y)) (IsOf o) m old new
 
 -- ---- columns
@@ -89,7 +89,7 @@ abbrev pub IsPage : Page → Type 0
 IsPage p = (metadata_agrees p.meta ≡ true) × (is_built_metadata p.meta ≡ true) × AreCells p.meta p.rows p.cells
 
 -- One cell, a value of this type.
-abbrev pub BuildsCell : (row column : ℕ) → Types → Values → (old new : Held) → Type 0
+abbrev pub BuildsCell : (row column : ℕ) → Types → Values → (old new : FrameEvents) → Type 0
 BuildsCell row column ts v old new = Builds (λ w. map (cell_event row column) (values_said 0 ts w)) (Fit ts) v old new
 
 -- After the last of these events, and after no other, nothing of the cell comes.
@@ -99,7 +99,7 @@ ends_at_last (e ∷ []) = ends e
 ends_at_last (e ∷ d ∷ es) = not (ends e) && ends_at_last (d ∷ es)
 
 -- All events of the cell of this row and column were taken; or memory was refused, or it did not come.
-abbrev pub Gathers : (row column : ℕ) → Bool → (old new : Held) → Type 0
+abbrev pub Gathers : (row column : ℕ) → Bool → (old new : FrameEvents) → Type 0
 Gathers row column true old new =
     IsSound old × IsSound new × (left old ≡ map (cell_event row column) (cell.left new.cell) ++ left new) × (ends_at_last (cell.left new.cell) ≡ true)
 Gathers row column false old new =
@@ -114,7 +114,7 @@ column_type zero (Type_and k inner ts) = Type_and k inner NoMore
 column_type (suc n) (Type_and k inner ts) = column_type n ts
 
 -- One row, of columns of these types.
-abbrev pub BuildsRow : (row : ℕ) → Types → List Values → (old new : Held) → Type 0
+abbrev pub BuildsRow : (row : ℕ) → Types → List Values → (old new : FrameEvents) → Type 0
 BuildsRow row ts vs old new =
     Builds (λ ws. emitted (row_parts row 0 ts ws)) (λ ws. (length ws ≡ how_many ts) × (list_all cell_fits (row_parts row 0 ts ws) ≡ true)) vs old new
 

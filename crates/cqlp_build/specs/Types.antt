@@ -12,7 +12,7 @@ use Rattle.cqlp_type.specs.declared.tree.TypeTree.{TypeTree}
 use Rattle.cqlp_grammar.specs.Events.{Event, Holds, type_event}
 use Rattle.cqlp_message.specs.FrameValues.{Octets, Spec, Metadata, PreparedStatement}
 use Rattle.cqlp_build.specs.declared.held.Fault.TheVariants as fault
-use Rattle.cqlp_build.specs.declared.held.Held.{Held}
+use Rattle.cqlp_build.specs.declared.held.FrameEvents.{FrameEvents}
 
 -- the events of types side by side
 abbrev pub type_events : Trees → List Event
@@ -63,16 +63,16 @@ abbrev pub map_of : (key value : Trees) → Trees
 map_of t u = Tree_and [] MapOf (beside t u) NoTree
 
 -- memory was refused, and nothing was taken
-abbrev pub WantsMemory : (old new : Held) → Type 0
+abbrev pub WantsMemory : (old new : FrameEvents) → Type 0
 WantsMemory old new = (new.fault ≡ Some fault.NoMemory) × (new.items ≡ old.items)
 
 -- the same type, or memory was refused
-abbrev pub IsBoxed : TypeTree → Option (Box TypeTree Global) → (old new : Held) → Type 0
+abbrev pub IsBoxed : TypeTree → Option (Box TypeTree Global) → (old new : FrameEvents) → Type 0
 IsBoxed t (Some b) old new = (b.value ≡ t) × (new ≡ old)
 IsBoxed t None old new = WantsMemory old new
 
 -- It is this type, or memory was refused.
-abbrev pub Wraps : Trees → Trees → (old new : Held) → Type 0
+abbrev pub Wraps : Trees → Trees → (old new : FrameEvents) → Type 0
 Wraps t r old new = ((r ≡ t) × (new ≡ old)) ⊎ WantsMemory old new
 
 -- ---- columns

@@ -7,16 +7,16 @@ ghost use Rattle.cqlp_grammar.specs.Events.{event_of};
 ghost use Rattle.cqlp_build.specs.Building as building;
 ghost use Rattle.cqlp_build.specs.Building.{BeginsWith, Finishes, IsOfHeader, TakesEvent, Reports, empty, is_inner, state};
 ghost use Rattle.cqlp_build.specs.Closing.{Closes, ClosesAt, IsOfSome, ReportsOf};
-ghost use Rattle.cqlp_build.specs.Held.{left};
+ghost use Rattle.cqlp_build.specs.FrameEvents.{left};
 ghost use Rattle.cqlp_build.specs.Nesting.{depth_at};
 ghost use Rattle.cqlp_note.specs.Heading.{answers, same};
 ghost use Rattle.cqlp_message.specs.Owned.{frame_of};
 
 use crate::error::BuildError;
-use crate::held::{Fault, Held};
+use crate::held::{Fault, FrameEvents};
 use crate::item::own;
 use crate::nesting::Nesting;
-use cqlp_build_cells::{Held as CellEvents, scalar_size};
+use cqlp_build_cells::{CellEvents, scalar_size};
 use cqlp_grammar::Event;
 use cqlp_message::Frame;
 use cqlp_note::{BoundValue, Header};
@@ -66,7 +66,7 @@ pub struct BuiltFrame {
 /// [`Sink`]: cqlp_grammar::Sink
 #[derive(Drop)]
 pub struct FrameBuilder {
-    held: Held,
+    held: FrameEvents,
     /// The header of the frame under way.
     header: Option<Header>,
     nesting: Nesting,
@@ -82,7 +82,7 @@ impl FrameBuilder {
         ensures { state result ≡ empty limits }
     {
         FrameBuilder {
-            held: Held {
+            held: FrameEvents {
                 alloc,
                 items: VecDeque::new(alloc),
                 cell: CellEvents::new(alloc),
@@ -270,7 +270,7 @@ fn content_size(event: &Event<'_>) -> usize
     }
 }
 
-impl Held {
+impl FrameEvents {
     /// The frame of this header whose events after it are those that are held, and then this end.
     fn finish(&mut self, header: &Header, extra: u32) -> Result<BuiltFrame, BuildError>
         ensures { Finishes header.now extra (left self.old) result }
@@ -302,7 +302,7 @@ impl Held {
     }
 }
 
-impl Held {
+impl FrameEvents {
     /// The frame of this header, but for its length, whose events after it are those that are held, and then its end.
     fn close(&mut self, header: &Header) -> Result<Frame, BuildError>
         ensures { ClosesAt header.now (left self.old) result }

@@ -5,7 +5,7 @@ ghost use Rattle.cqlp_note.specs.declared.prim.Address.{Address as AddressValue}
 ghost use Rattle.cqlp_note.specs.Field as note;
 ghost use Rattle.cqlp_message.specs.FrameValues.{Octets};
 ghost use Rattle.cqlp_message.specs.Owned.{bound_of, bytes_of};
-ghost use Rattle.cqlp_build.specs.Held.{Finds, held_in};
+ghost use Rattle.cqlp_build.specs.FrameEvents.{Finds, held_in};
 
 use crate::item::Content;
 use cqlp_message::OwnedBound;

@@ -11,15 +11,15 @@ ghost use Rattle.cqlp_message.specs.Frames.{frame_parts};
 ghost use Rattle.cqlp_message.specs.Owned.{bytes_of, frame_of, texts_of};
 ghost use Rattle.cqlp_message.specs.Parts.{Field_is};
 ghost use Rattle.cqlp_build.specs.Building.{BeginsWith};
-ghost use Rattle.cqlp_build.specs.Held.{Builds};
+ghost use Rattle.cqlp_build.specs.FrameEvents.{Builds};
 ghost use Rattle.cqlp_build.specs.Emitted.{payload_parts, emitted};
 
-use crate::held::{Held, has_flag};
+use crate::held::{FrameEvents, has_flag};
 use crate::lists::Wanted;
 use cqlp_message::Frame;
 use cqlp_note::{Field, Header};
 
-impl Held {
+impl FrameEvents {
     /// Takes the frame of this header.
     pub fn frame(&mut self, header: &Header) -> Frame
         ensures { Builds (λ f. emitted (frame_parts f)) (BeginsWith header.now) (frame_of result) self.old self.new }

@@ -5,11 +5,11 @@ ghost use Rattle.cqlp_note.specs.Field as note;
 ghost use Rattle.cqlp_note.specs.Heading.{has};
 ghost use Rattle.cqlp_grammar.specs.Events.{Holds};
 ghost use Rattle.cqlp_message.specs.Owned.{bound_of, bytes_of};
-ghost use Rattle.cqlp_build.specs.Held.{Builds, HoldsFewer, HoldsNoMore, TakesField, TakesKind, TakesStep, TakesValue, any, first_fault};
+ghost use Rattle.cqlp_build.specs.FrameEvents.{Builds, HoldsFewer, HoldsNoMore, TakesField, TakesKind, TakesStep, TakesValue, any, first_fault};
 
 use crate::content::FromContent;
 use crate::item::{Content, Item};
-use cqlp_build_cells::{Held as CellEvents, Step};
+use cqlp_build_cells::{CellEvents, Step};
 use cqlp_kind::Kind;
 use cqlp_message::OwnedBound;
 use cqlp_note::{Address, Field};
@@ -35,7 +35,7 @@ pub(crate) enum Fault {
 /// The events after a header, each of which is taken once. What takes one gives a value, and where another event was due some
 /// value, and keeps the fault: nothing is taken after it.
 #[derive(Drop)]
-pub(crate) struct Held {
+pub(crate) struct FrameEvents {
     pub alloc: Global,
     pub items: VecDeque<Item>,
     /// The events of the cell that is under way.
@@ -43,7 +43,7 @@ pub(crate) struct Held {
     pub fault: Option<Fault>,
 }
 
-impl Held {
+impl FrameEvents {
     /// Takes the next event, if nothing was refused, and gives what it holds if it is this field.
     fn next(&mut self, field: Field) -> Option<Content>
         ensures is { TakesField field result self.old self.new }

@@ -4,7 +4,7 @@ ghost use Rattle.std.specs.Prelude.{◌≡◌, IfOk, Some, option_map, true};
 ghost use Rattle.cqlp_build_cells.specs.Building.{cell_of, is_whole};
 ghost use Rattle.cqlp_grammar.specs.Events.{bound_of as event_bound, cell_event, event_of};
 ghost use Rattle.cqlp_message.specs.Owned.{bound_of, bytes_of};
-ghost use Rattle.cqlp_build.specs.Held.{IsHeld, item_event};
+ghost use Rattle.cqlp_build.specs.FrameEvents.{IsHeld, item_event};
 
 use cqlp_build_cells::{Step, own as own_step};
 use cqlp_grammar::Event;

@@ -9,11 +9,11 @@ ghost use Rattle.cqlp_message.specs.Bodies as body;
 ghost use Rattle.cqlp_message.specs.FrameValues as value;
 ghost use Rattle.cqlp_message.specs.FrameValues.{Octets};
 ghost use Rattle.cqlp_message.specs.Owned.{bound_of, bytes_of, entry_of, texts_of};
-ghost use Rattle.cqlp_build.specs.Held.{Builds, Many};
+ghost use Rattle.cqlp_build.specs.FrameEvents.{Builds, Many};
 ghost use Rattle.cqlp_build.specs.Emitted.{emitted};
 ghost use Rattle.cqlp_build.specs.declared.lists.Wanted.{Wanted};
 
-use crate::held::{Fault, Held};
+use crate::held::{Fault, FrameEvents};
 use cqlp_message::{BatchEntry, OwnedBound};
 use cqlp_note::Field;
 
@@ -50,7 +50,7 @@ pub(crate) trait FromEvents: Drop {
     ghost is_wanted: { Wanted → Value → Bool };
 
     /// Takes the events of one.
-    fn build(held: &mut Held, wanted: Wanted) -> Self
+    fn build(held: &mut FrameEvents, wanted: Wanted) -> Self
         ensures { Builds (λ v. emitted (parts wanted v)) (λ v. is_wanted wanted v ≡ true) (value result) held.old held.new };
 }
 
@@ -63,7 +63,7 @@ impl FromEvents for String {
 
     ghost is_wanted = { λ w t. true };
 
-    fn build(held: &mut Held, wanted: Wanted) -> Self {
+    fn build(held: &mut FrameEvents, wanted: Wanted) -> Self {
         held.text(wanted.field)
     }
 }
@@ -77,7 +77,7 @@ impl FromEvents for (String, String) {
 
     ghost is_wanted = { λ w o. true };
 
-    fn build(held: &mut Held, _wanted: Wanted) -> Self {
+    fn build(held: &mut FrameEvents, _wanted: Wanted) -> Self {
         let key = held.text(Field::OptionKey);
         let value = held.text(Field::OptionValue);
         (key, value)
@@ -93,7 +93,7 @@ impl FromEvents for (String, Vec<String>) {
 
     ghost is_wanted = { λ w o. true };
 
-    fn build(held: &mut Held, _wanted: Wanted) -> Self {
+    fn build(held: &mut FrameEvents, _wanted: Wanted) -> Self {
         let key = held.text(Field::OptionKey);
         let values = held.texts(Field::OptionValues, Field::OptionValue);
         (key, values)
@@ -109,7 +109,7 @@ impl FromEvents for (String, Option<Vec<u8>>) {
 
     ghost is_wanted = { λ w i. true };
 
-    fn build(held: &mut Held, _wanted: Wanted) -> Self {
+    fn build(held: &mut FrameEvents, _wanted: Wanted) -> Self {
         let key = held.text(Field::PayloadKey);
         let value = held.bytes(Field::PayloadValue);
         (key, value)
@@ -125,7 +125,7 @@ impl FromEvents for OwnedBound {
 
     ghost is_wanted = { λ w v. true };
 
-    fn build(held: &mut Held, _wanted: Wanted) -> Self {
+    fn build(held: &mut FrameEvents, _wanted: Wanted) -> Self {
         held.bound()
     }
 }
@@ -139,7 +139,7 @@ impl FromEvents for (Option<String>, OwnedBound) {
 
     ghost is_wanted = { λ w v. there_if w.named v.0 };
 
-    fn build(held: &mut Held, wanted: Wanted) -> Self {
+    fn build(held: &mut FrameEvents, wanted: Wanted) -> Self {
         let name = held.name_if(wanted.named);
         let value = held.bound();
         (name, value)
@@ -155,7 +155,7 @@ impl FromEvents for BatchEntry {
 
     ghost is_wanted = { λ w e. true };
 
-    fn build(held: &mut Held, _wanted: Wanted) -> Self {
+    fn build(held: &mut FrameEvents, _wanted: Wanted) -> Self {
         match held.byte(Field::EntryKind) {
             0 => {
                 let text = held.text(Field::Query);
@@ -175,7 +175,7 @@ impl FromEvents for BatchEntry {
     }
 }
 
-impl Held {
+impl FrameEvents {
     /// Takes this many items.
     pub fn many<T: FromEvents>(&mut self, count: u32, wanted: Wanted) -> Vec<T>
         ensures { Builds (flat_map (λ v. emitted (T.parts wanted v))) (Many (T.is_wanted wanted) count)

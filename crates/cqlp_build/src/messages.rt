@@ -3,13 +3,13 @@
 ghost use Rattle.cqlp_message.specs.Owned.{message_of};
 ghost use Rattle.cqlp_build.specs.Productions.{BuildsMessage};
 
-use crate::held::{Held, has_flag};
+use crate::held::{FrameEvents, has_flag};
 use crate::lists::Wanted;
 use cqlp_grammar::result_kind;
 use cqlp_message::Message;
 use cqlp_note::{Field, Opcode};
 
-impl Held {
+impl FrameEvents {
     /// Takes the message of a frame of this opcode.
     pub fn message(&mut self, opcode: Opcode) -> Message
         ensures { BuildsMessage opcode (message_of result) self.old self.new }

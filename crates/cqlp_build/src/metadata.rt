@@ -7,12 +7,12 @@ ghost use Rattle.cqlp_message.specs.Agreement.{metadata_agrees, prepared_agrees,
 ghost use Rattle.cqlp_message.specs.Bodies as body;
 ghost use Rattle.cqlp_message.specs.FrameValues as value;
 ghost use Rattle.cqlp_message.specs.Owned.{metadata_of, prepared_of, spec_of, table_of};
-ghost use Rattle.cqlp_build.specs.Held.{Builds, any};
+ghost use Rattle.cqlp_build.specs.FrameEvents.{Builds, any};
 ghost use Rattle.cqlp_build.specs.Productions.{AreColumns, AreColumnsIf, columns_parts, columns_parts_if};
 ghost use Rattle.cqlp_build.specs.Emitted.{emitted};
 ghost use Rattle.cqlp_build.specs.Types.{is_built_metadata, is_built_statement, names_count};
 
-use crate::held::Held;
+use crate::held::FrameEvents;
 use crate::lists::{FromEvents, Wanted};
 use cqlp_grammar::has;
 use cqlp_message::{Metadata, Prepared, Spec};
@@ -33,7 +33,7 @@ impl FromEvents for u16 {
 
     ghost is_wanted = { λ w n. true };
 
-    fn build(held: &mut Held, wanted: Wanted) -> Self {
+    fn build(held: &mut FrameEvents, wanted: Wanted) -> Self {
         held.short(wanted.field)
     }
 }
@@ -47,7 +47,7 @@ impl FromEvents for Spec {
 
     ghost is_wanted = { λ w c. spec_agrees w.named c && names_count false c.tree };
 
-    fn build(held: &mut Held, wanted: Wanted) -> Self {
+    fn build(held: &mut FrameEvents, wanted: Wanted) -> Self {
         let table = held.table_if(wanted.named);
         let name = held.text(Field::ColumnName);
         let tree = held.tree();
@@ -55,7 +55,7 @@ impl FromEvents for Spec {
     }
 }
 
-impl Held {
+impl FrameEvents {
     /// Takes a keyspace and a table, if they are to be there.
     fn table_if(&mut self, there: bool) -> Option<(String, String)>
         ensures { Builds (λ o. emitted (body.table_parts o)) (λ o. there_if there o ≡ true) (table_of result) self.old self.new }

@@ -7,12 +7,12 @@ ghost use Rattle.cqlp_value.specs.Owned.{value_of};
 ghost use Rattle.cqlp_value.specs.Values.{Values};
 ghost use Rattle.cqlp_message.specs.Bodies.{cell_types, page_parts};
 ghost use Rattle.cqlp_message.specs.Owned.{metadata_of, page_of};
-ghost use Rattle.cqlp_build.specs.Held.{Builds, IsSound};
+ghost use Rattle.cqlp_build.specs.FrameEvents.{Builds, IsSound};
 ghost use Rattle.cqlp_build.specs.Productions.{AreCells, AreReadable, BuildsCell, BuildsRow, Gathers, IsPage, cells_parts, column_type, fault_of};
 ghost use Rattle.cqlp_build.specs.Emitted.{emitted};
 ghost use Rattle.cqlp_build_cells.specs.Said.{IsReadable};
 
-use crate::held::{Fault, Held};
+use crate::held::{Fault, FrameEvents};
 use cqlp_build_cells::{CellError, ends};
 use cqlp_kind::Kind;
 use cqlp_message::{Metadata, Rows};
@@ -20,7 +20,7 @@ use cqlp_note::Field;
 use cqlp_type::TypeTree;
 use cqlp_value::Value;
 
-impl Held {
+impl FrameEvents {
     /// Takes a page.
     pub fn page(&mut self) -> Rows
         ensures { Builds (λ p. emitted (page_parts p)) IsPage (page_of result) self.old self.new }

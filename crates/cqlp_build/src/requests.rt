@@ -6,15 +6,15 @@ ghost use Rattle.cqlp_note.specs.declared.field.Field.TheVariants as field;
 ghost use Rattle.cqlp_message.specs.Agreement.{are_named, params_agree, there_if};
 ghost use Rattle.cqlp_message.specs.Bodies as body;
 ghost use Rattle.cqlp_message.specs.Owned.{bound_of, bytes_of, params_of};
-ghost use Rattle.cqlp_build.specs.Held.{Builds, any};
+ghost use Rattle.cqlp_build.specs.FrameEvents.{Builds, any};
 ghost use Rattle.cqlp_build.specs.Emitted.{emitted};
 
-use crate::held::{Held, has_flag};
+use crate::held::{FrameEvents, has_flag};
 use crate::lists::Wanted;
 use cqlp_message::{OwnedBound, QueryParams};
 use cqlp_note::Field;
 
-impl Held {
+impl FrameEvents {
     /// Takes the name of a value, if it is to have one.
     pub fn name_if(&mut self, there: bool) -> Option<String>
         ensures { Builds (λ o. emitted (body.where_some (λ n. body.text field.ValueName n ∷ []) o)) (λ o. there_if there o ≡ true)

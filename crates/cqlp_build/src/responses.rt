@@ -4,17 +4,17 @@ ghost use Rattle.std.specs.Prelude.{◌≡◌, true};
 ghost use Rattle.cqlp_message.specs.Agreement.{change_agrees, event_agrees, extra_agrees, options_agree};
 ghost use Rattle.cqlp_message.specs.Bodies as body;
 ghost use Rattle.cqlp_message.specs.Owned.{change_of, event_of, extra_of, options_of};
-ghost use Rattle.cqlp_build.specs.Held.{Builds};
+ghost use Rattle.cqlp_build.specs.FrameEvents.{Builds};
 ghost use Rattle.cqlp_build.specs.Productions.{BuildsDetail, BuildsExtra, BuildsOptions, is_callable, is_named, is_node};
 ghost use Rattle.cqlp_build.specs.Emitted.{emitted};
 ghost use Rattle.cqlp_grammar.specs.Codes as error;
 
-use crate::held::Held;
+use crate::held::FrameEvents;
 use cqlp_grammar::error_code;
 use cqlp_message::{ErrorExtra, SchemaChange, SchemaOptions, ServerEvent};
 use cqlp_note::Field;
 
-impl Held {
+impl FrameEvents {
     /// Takes what comes after the message of an error of this code.
     pub fn extra(&mut self, code: u32) -> ErrorExtra
         ensures { Builds (λ x. emitted (body.extra_parts x)) (λ x. extra_agrees code x ≡ true) (extra_of result) self.old self.new }

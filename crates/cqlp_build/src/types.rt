@@ -3,16 +3,16 @@
 ghost use Rattle.std.specs.Prelude.{◌≡◌, ◌∷◌, [], map, string_bytes, true};
 ghost use Rattle.std.specs.List.{flat_map};
 ghost use Rattle.cqlp_type.specs.TypeTrees.{tree_of};
-ghost use Rattle.cqlp_build.specs.Held.{Builds, HoldsNoMore, Many};
+ghost use Rattle.cqlp_build.specs.FrameEvents.{Builds, HoldsNoMore, Many};
 ghost use Rattle.cqlp_build.specs.Types.{IsBoxed, IsOfKind, Wraps, field_events, is_built_field, is_built_type};
 ghost use Rattle.cqlp_build.specs.Types.{list_of, map_of, set_of, events_after_kind, type_events};
 
-use crate::held::{Fault, Held};
+use crate::held::{Fault, FrameEvents};
 use cqlp_kind::Kind;
 use cqlp_note::Field;
 use cqlp_type::TypeTree;
 
-impl Held {
+impl FrameEvents {
     /// Takes a type option, with all in it. It calls itself as deep as types are nested.
     #[cycle(types)]
     pub fn tree(&mut self) -> TypeTree

@@ -24,11 +24,11 @@ use Rattle.cqlp_value.proofs.ReadBack.{values_in_after}
 use Rattle.cqlp_value.proofs.ValueFits.{tuple_types, udt_types}
 use Rattle.cqlp_value.proofs.ValuesWritten.{is_the_kind, kind_is}
 use Rattle.cqlp_build_cells.proofs.Types.{and_others}
-use Rattle.cqlp_build_cells.specs.declared.held.Held.{Held}
+use Rattle.cqlp_build_cells.specs.declared.held.CellEvents.{CellEvents}
 use Rattle.cqlp_build_cells.specs.declared.held.Fault.TheVariants as fault
 use Rattle.cqlp_build_cells.specs.declared.step.Step.{Step}
 use Rattle.cqlp_build_cells.specs.declared.step.Step.TheVariants as step
-use Rattle.cqlp_build_cells.specs.Held.{Builds, HoldsFewer, HoldsNoMore, TakesStep, any, begins_with_leave, first_fault, leaves, left, level_of, emitted_at}
+use Rattle.cqlp_build_cells.specs.CellEvents.{Builds, HoldsFewer, HoldsNoMore, TakesStep, any, begins_with_leave, first_fault, leaves, left, level_of, emitted_at}
 use Rattle.cqlp_build_cells.specs.Said.{AreFirst, Fit, IsFirst, counted_said, fields_said, values_said}
 use Rattle.cqlp_build_cells.proofs.Inside.{BuildsInside, Tests, counted_inside, fields_inside, no_inside}
 use Rattle.cqlp_build_cells.proofs.Said.{no_leave}
@@ -36,7 +36,7 @@ use Rattle.cqlp_build_cells.proofs.Several.{BuildsAll}
 use Rattle.cqlp_build_cells.proofs.Steps.{as_builds, as_same, both, join, refused_builds, refused_later, step_builds}
 
 -- the same event in other words
-pub as_step : (level : ℕ) (s r : Step) (a b : Held) → s ≡ r → TakesStep level (Some s) a b → TakesStep level (Some r) a b
+pub as_step : (level : ℕ) (s r : Step) (a b : CellEvents) → s ≡ r → TakesStep level (Some s) a b → TakesStep level (Some r) a b
 as_step level s r a b is t = subst (λ (x : Step). TakesStep level (Some x) a b) is t
 
 -- ---- the end of a value
@@ -44,7 +44,7 @@ as_step level s r a b is t = subst (λ (x : Step). TakesStep level (Some x) a b)
 leave_items : (level m n : ℕ) (es ds : List CellEvent) → Leave level m ∷ es ≡ Leave level n ∷ ds → m ≡ n
 leave_items level m n es ds e = cc
 
-pub leave_built : (level count : ℕ) (o : Option Step) (a b : Held) → TakesStep level o a b → leaves o count ≡ true → Builds {A = Unit {0}} (λ _. Leave level count ∷ []) any tt a b
+pub leave_built : (level count : ℕ) (o : Option Step) (a b : CellEvents) → TakesStep level o a b → leaves o count ≡ true → Builds {A = Unit {0}} (λ _. Leave level count ∷ []) any tt a b
 leave_built level count None a b t e = absurd cc
 leave_built level count (Some (step.Leaf x)) a b t e = absurd cc
 leave_built level count (Some step.Null) a b t e = absurd cc
@@ -62,18 +62,18 @@ leave_other level count (step.Leave n) es rest off e =
     let d : true ≡ false = sym (eq-eqb n count (leave_items level n count es rest e)) ∙ off in
     absurd cc
 
-pub leave_refused : (level count : ℕ) (o : Option Step) (a b c : Held) → TakesStep level o a b → leaves o count ≡ false → c.fault ≡ first_fault b.fault fault.NoValue
+pub leave_refused : (level count : ℕ) (o : Option Step) (a b c : CellEvents) → TakesStep level o a b → leaves o count ≡ false → c.fault ≡ first_fault b.fault fault.NoValue
     → Builds {A = Unit {0}} (λ _. Leave level count ∷ []) any tt a c
 leave_refused level count None a b c t off f = refused_later tt a b c t.0 f (λ s u rest p e. t.1 s (Leave level count) rest e refl)
 leave_refused level count (Some s) a b c t off f =
     refused_later tt a b c (t.2 ∙ sym t.0) f (λ _ u rest p e. leave_other level count s (left b) rest off (sym t.1 ∙ e))
 
-pub fewer_any : (o : Option Step) (a b : Held) → HoldsFewer o a b → HoldsNoMore a b
+pub fewer_any : (o : Option Step) (a b : CellEvents) → HoldsFewer o a b → HoldsNoMore a b
 fewer_any None a b f = f
 fewer_any (Some s) a b f = omega (arith, f)
 
-pub refused_fewer : (o : Option Step) (a b c : Held) → HoldsFewer o a b → c ≡ record b { fault = first_fault b.fault fault.NoValue } → HoldsNoMore a c
-refused_fewer o a b c f e = subst (λ (h : Held). HoldsNoMore a h) (sym e) (fewer_any o a b f)
+pub refused_fewer : (o : Option Step) (a b c : CellEvents) → HoldsFewer o a b → c ≡ record b { fault = first_fault b.fault fault.NoValue } → HoldsNoMore a c
+refused_fewer o a b c f e = subst (λ (h : CellEvents). HoldsNoMore a h) (sym e) (fewer_any o a b f)
 
 -- ---- no value
 
@@ -86,17 +86,17 @@ none_emitted level k inner es rest (Scalar_and v vs) f is but = but _ _ is refl
 none_emitted level k inner es rest (Counted_and j n items vs) f is but = but _ _ is refl
 none_emitted level k inner es rest (Fields_and j items vs) f is but = but _ _ is refl
 
-pub no_step : (level : ℕ) (k : Kind) (inner : Types) (v : Values) (a b c : Held) → TakesStep level None a b → c.fault ≡ first_fault b.fault fault.NoValue → BuildsAll level (Type_and k inner NoMore) v a c
+pub no_step : (level : ℕ) (k : Kind) (inner : Types) (v : Values) (a b c : CellEvents) → TakesStep level None a b → c.fault ≡ first_fault b.fault fault.NoValue → BuildsAll level (Type_and k inner NoMore) v a c
 no_step level k inner v a b c t f = refused_later v a b c t.0 f (λ s w rest fit e. none_emitted level k inner (left a) rest w fit e (t.1 s))
 
-pub leave_step : (level : ℕ) (k : Kind) (inner : Types) (n : ℕ) (v : Values) (a b c : Held) → TakesStep level (Some (step.Leave n)) a b → c.fault ≡ first_fault b.fault fault.NoValue
+pub leave_step : (level : ℕ) (k : Kind) (inner : Types) (n : ℕ) (v : Values) (a b c : CellEvents) → TakesStep level (Some (step.Leave n)) a b → c.fault ≡ first_fault b.fault fault.NoValue
     → BuildsAll level (Type_and k inner NoMore) v a c
 leave_step level k inner n v a b c t f =
     refused_later v a b c (t.2 ∙ sym t.0) f (λ s w rest fit e.
     let d : true ≡ false = sym (ap begins_with_leave t.1) ∙ ap begins_with_leave e ∙ no_leave level k inner NoMore w rest fit in
     absurd cc)
 
-pub none_inside : (level : ℕ) (said k : Kind) (n : ℕ) (inner : Types) (v : Values) (a c : Held) → has_no_items k ≡ true → c.fault ≡ first_fault a.fault fault.NoValue → BuildsInside level (Enter level said n) k inner v a c
+pub none_inside : (level : ℕ) (said k : Kind) (n : ℕ) (inner : Types) (v : Values) (a c : CellEvents) → has_no_items k ≡ true → c.fault ≡ first_fault a.fault fault.NoValue → BuildsInside level (Enter level said n) k inner v a c
 none_inside level said k n inner v a c e f = refused_builds v a c f (λ w rest q is. no_inside level said k n inner w e q)
 
 -- ---- how many
@@ -158,17 +158,17 @@ tests_types t said k n m w is many = record {
 
 -- ---- as a caller owns them
 
-abbrev Checked : Bool → (old new : Held) → Type 0
+abbrev Checked : Bool → (old new : CellEvents) → Type 0
 Checked t old new = Builds {A = Unit {0}} (λ _. []) (λ _. t ≡ true) tt old new
 
-abbrev BuildsOf : (level : ℕ) → CellEvent → TypeTree → Value → (old new : Held) → Type 0
+abbrev BuildsOf : (level : ℕ) → CellEvent → TypeTree → Value → (old new : CellEvents) → Type 0
 BuildsOf level e t v old new = BuildsInside level e (kind_in (head_of t)) (types_in (inner_of t)) (value_of v) old new
 
 module _ (level : ℕ) (said : Kind) (n : ℕ) (t : Bool) (tree : TypeTree) where
-  abbrev Counts : Types → Values → (old new : Held) → Type 0
+  abbrev Counts : Types → Values → (old new : CellEvents) → Type 0
   Counts ts vs old new = Builds (counted_said level ts n) (Fit (type_copies n ts)) vs old new
 
-  pub list_built : (u : TypeTree) (b : Box TypeTree Global) (v : Vec Value Global) {x y z : Held} → tree ≡ ListTree b → u ≡ b.value → t ≡ (is_kind said kind.List && ltb n (2 ^ 31))
+  pub list_built : (u : TypeTree) (b : Box TypeTree Global) (v : Vec Value Global) {x y z : CellEvents} → tree ≡ ListTree b → u ≡ b.value → t ≡ (is_kind said kind.List && ltb n (2 ^ 31))
       → Checked t x y → Counts (types_in (tree_of u)) (listed_values v.items) y z → BuildsOf level (Enter level said n) tree (ListValue v) x z
   list_built u b v {x} {y} {z} is same tests checked one =
       let ts = types_in (tree_of u) in
@@ -181,7 +181,7 @@ module _ (level : ℕ) (said : Kind) (n : ℕ) (t : Bool) (tree : TypeTree) wher
       subst (λ (w : TypeTree). BuildsOf level (Enter level said n) w (ListValue v) x z) (sym is)
       (subst (λ (w : TypeTree). BuildsInside level (Enter level said n) kind.List (types_in (tree_of w)) (value_of (ListValue v)) x z) same own)
 
-  pub set_built : (u : TypeTree) (b : Box TypeTree Global) (v : Vec Value Global) {x y z : Held} → tree ≡ SetTree b → u ≡ b.value → t ≡ (is_kind said kind.Set && ltb n (2 ^ 31))
+  pub set_built : (u : TypeTree) (b : Box TypeTree Global) (v : Vec Value Global) {x y z : CellEvents} → tree ≡ SetTree b → u ≡ b.value → t ≡ (is_kind said kind.Set && ltb n (2 ^ 31))
       → Checked t x y → Counts (types_in (tree_of u)) (listed_values v.items) y z → BuildsOf level (Enter level said n) tree (SetValue v) x z
   set_built u b v {x} {y} {z} is same tests checked one =
       let ts = types_in (tree_of u) in
@@ -194,7 +194,7 @@ module _ (level : ℕ) (said : Kind) (n : ℕ) (t : Bool) (tree : TypeTree) wher
       subst (λ (w : TypeTree). BuildsOf level (Enter level said n) w (SetValue v) x z) (sym is)
       (subst (λ (w : TypeTree). BuildsInside level (Enter level said n) kind.Set (types_in (tree_of w)) (value_of (SetValue v)) x z) same own)
 
-  pub map_built : (u w : TypeTree) (b d : Box TypeTree Global) (v : Vec (Value × Value) Global) {x y z : Held} → tree ≡ MapTree b d → u ≡ b.value → w ≡ d.value → t ≡ (is_kind said kind.Map && ltb n (2 ^ 31))
+  pub map_built : (u w : TypeTree) (b d : Box TypeTree Global) (v : Vec (Value × Value) Global) {x y z : CellEvents} → tree ≡ MapTree b d → u ≡ b.value → w ≡ d.value → t ≡ (is_kind said kind.Map && ltb n (2 ^ 31))
       → Checked t x y → Counts (types_by (λ (i : TypeTree). i) (u ∷ w ∷ [])) (listed_pairs v.items) y z → BuildsOf level (Enter level said n) tree (MapValue v) x z
   map_built u w b d v {x} {y} {z} is same also tests checked one =
       let ts = types_by (λ (i : TypeTree). i) (u ∷ w ∷ []) in
@@ -209,16 +209,16 @@ module _ (level : ℕ) (said : Kind) (n : ℕ) (t : Bool) (tree : TypeTree) wher
       (subst (λ (o : TypeTree). BuildsInside level (Enter level said n) kind.Map (types_by (λ (i : TypeTree). i) (o ∷ w ∷ [])) (value_of (MapValue v)) x z) same own))
 
   -- the fields of these types, one at least
-  some_fields : (vs : List Value) {s : Bool} {y z : Held} → s ≡ ltb 0 (length vs) → Checked s y z → Builds {A = Unit {0}} (λ _. []) (λ _. 0 < values_in (listed_values vs)) tt y z
+  some_fields : (vs : List Value) {s : Bool} {y z : CellEvents} → s ≡ ltb 0 (length vs) → Checked s y z → Builds {A = Unit {0}} (λ _. []) (λ _. 0 < values_in (listed_values vs)) tt y z
   some_fields vs {s} is one =
       as_builds (λ (_ : Unit {0}). []) (λ _. 0 < values_in (listed_values vs)) (λ (u : Unit {0}). u) (λ u p. refl)
       (λ u p. omega (arith, many_values vs, ltb-true 0 (length vs) (sym is ∙ p)))
       (λ u p. (u, is ∙ lt-ltb 0 (length vs) (omega (arith, many_values vs, p)), refl)) one
 
-  abbrev Fields : Types → Values → (old new : Held) → Type 0
+  abbrev Fields : Types → Values → (old new : CellEvents) → Type 0
   Fields ts vs old new = Builds (fields_said level 0 ts) (AreFirst ts) vs old new
 
-  pub tuple_built : (types : Vec TypeTree Global) (ts : List TypeTree) (v : Vec Value Global) (s : Bool) {x y z o : Held} → tree ≡ TupleTree types → ts ≡ types.items → t ≡ (is_kind said kind.Tuple && (n == length ts))
+  pub tuple_built : (types : Vec TypeTree Global) (ts : List TypeTree) (v : Vec Value Global) (s : Bool) {x y z o : CellEvents} → tree ≡ TupleTree types → ts ≡ types.items → t ≡ (is_kind said kind.Tuple && (n == length ts))
       → s ≡ ltb 0 (length v.items) → Checked t x y → Fields (types_by (λ (i : TypeTree). i) ts) (listed_values v.items) y z → Checked s z o → BuildsOf level (Enter level said n) tree (TupleValue v) x o
   tuple_built types ts v s {x} {y} {z} {o} is same tests some checked one three =
       let inner = types_by (λ (i : TypeTree). i) ts in
@@ -228,7 +228,7 @@ module _ (level : ℕ) (said : Kind) (n : ℕ) (t : Bool) (tree : TypeTree) wher
       subst (λ (w : TypeTree). BuildsOf level (Enter level said n) w (TupleValue v) x o) (sym is)
       (subst (λ (w : Types). BuildsInside level (Enter level said n) kind.Tuple w (value_of (TupleValue v)) x o) these own)
 
-  pub udt_built : (keyspace name : String Global) (fields : Vec (String Global × TypeTree) Global) (fs : List (String Global × TypeTree)) (v : Vec Value Global) (s : Bool) {x y z o : Held} → tree ≡ UdtTree keyspace name fields
+  pub udt_built : (keyspace name : String Global) (fields : Vec (String Global × TypeTree) Global) (fs : List (String Global × TypeTree)) (v : Vec Value Global) (s : Bool) {x y z o : CellEvents} → tree ≡ UdtTree keyspace name fields
       → fs ≡ fields.items → t ≡ (is_kind said kind.Udt && (n == length fs)) → s ≡ ltb 0 (length v.items) → Checked t x y → Fields (types_by (λ (i : String Global × TypeTree). i.1) fs) (listed_values v.items) y z → Checked s z o
       → BuildsOf level (Enter level said n) tree (UdtValue v) x o
   udt_built keyspace name fields fs v s {x} {y} {z} {o} is same tests some checked one three =

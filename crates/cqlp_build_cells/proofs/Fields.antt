@@ -12,8 +12,8 @@ use Rattle.cqlp_value.specs.Measures.{types_by}
 use Rattle.cqlp_value.specs.Values.{Values, NoValue, Null_and, Empty_and, Scalar_and, Counted_and, Fields_and, values_in, values_fit, type_copies, has_fields}
 use Rattle.cqlp_value.proofs.ReadBack.{with_others, values_in_after}
 use Rattle.cqlp_build_cells.specs.declared.held.Fault.{Fault}
-use Rattle.cqlp_build_cells.specs.declared.held.Held.{Held}
-use Rattle.cqlp_build_cells.specs.Held.{Builds, any, begins_with_leave, left}
+use Rattle.cqlp_build_cells.specs.declared.held.CellEvents.{CellEvents}
+use Rattle.cqlp_build_cells.specs.CellEvents.{Builds, any, begins_with_leave, left}
 use Rattle.cqlp_build_cells.specs.Said.{AreFirst, Fit, fields_said, values_said}
 use Rattle.cqlp_build_cells.proofs.Said.{fit_both, no_leave, none_fit, others_assoc, others_none, said_both}
 use Rattle.cqlp_build_cells.proofs.Several.{BuildsAll}
@@ -89,21 +89,21 @@ some_emitted level i rest es more (Fields_and j items vs) but is = omega arith
 
 module _ (level : ℕ) where
   -- the first fields of these types are built, after this many, and then the end of the value around them
-  abbrev pub BuildsFirst : (taken : ℕ) → Types → Values → (old new : Held) → Type 0
+  abbrev pub BuildsFirst : (taken : ℕ) → Types → Values → (old new : CellEvents) → Type 0
   BuildsFirst i ts vs old new = Builds (fields_said level i ts) (AreFirst ts) vs old new
 
-  one_first : (i : ℕ) (k : Kind) (inner rest : Types) {v vs : Values} {a b c : Held} → begins_with_leave (left a) ≡ false → BuildsAll (level + 1) (one_type k inner) v a b → BuildsFirst (i + 1) rest vs b c
+  one_first : (i : ℕ) (k : Kind) (inner rest : Types) {v vs : Values} {a b c : CellEvents} → begins_with_leave (left a) ≡ false → BuildsAll (level + 1) (one_type k inner) v a b → BuildsFirst (i + 1) rest vs b c
       → BuildsFirst i (Type_and k inner rest) (with_others v vs) a c
   one_first i k inner rest {v} {vs} {a} {b} {c} but one more =
       free IsSome (λ w es f is. some_emitted level i (Type_and k inner rest) (left a) es w but is)
       (as_builds (fields_said level i (Type_and k inner rest)) (λ w. AreFirst (Type_and k inner rest) w × IsSome w) (λ (p : Values × Values). with_others p.0 p.1)
       (first_said level i k inner rest) (first_on k inner rest) (first_view k inner rest) (one then more))
 
-  abbrev Ends : (taken : ℕ) → (old new : Held) → Type 0
+  abbrev Ends : (taken : ℕ) → (old new : CellEvents) → Type 0
   Ends i old new = Builds {A = Unit {0}} (λ _. Leave level i ∷ []) any tt old new
 
   -- No field is there, where those that are would begin with no end of a value, or there is no type.
-  none_first : (i : ℕ) (rest : Types) {a b : Held} → ((vs : Values) (es : List CellEvent) → AreFirst rest vs → left a ≡ fields_said level i rest vs ++ es → vs ≡ NoValue) → Ends i a b
+  none_first : (i : ℕ) (rest : Types) {a b : CellEvents} → ((vs : Values) (es : List CellEvent) → AreFirst rest vs → left a ≡ fields_said level i rest vs ++ es → vs ≡ NoValue) → Ends i a b
       → BuildsFirst i rest NoValue a b
   none_first i rest {a} {b} says end =
       free (λ vs. vs ≡ NoValue) says
@@ -136,19 +136,19 @@ module _ (level : ℕ) where
           let d : true ≡ false = sym ends ∙ ap begins_with_leave emitted ∙ no_leave (level + 1) k inner NoMore p.0.0 _ p.1.0 in
           absurd cc
 
-  pub end_first : (i : ℕ) (rest : Types) {a b : Held} → begins_with_leave (left a) ≡ true → Ends i a b → BuildsFirst i rest NoValue a b
+  pub end_first : (i : ℕ) (rest : Types) {a b : CellEvents} → begins_with_leave (left a) ≡ true → Ends i a b → BuildsFirst i rest NoValue a b
   end_first i NoMore {a} {b} ends end = none_first i NoMore (λ vs es f is. no_type i vs f) end
   end_first i (Type_and k inner rest) {a} {b} ends end = none_first i (Type_and k inner rest) (λ vs es f is. first_leaves i k inner rest (left a) es vs ends f is) end
 
-  pub over_first : (i : ℕ) {a b : Held} → Ends i a b → BuildsFirst i NoMore NoValue a b
+  pub over_first : (i : ℕ) {a b : CellEvents} → Ends i a b → BuildsFirst i NoMore NoValue a b
   over_first i end = none_first i NoMore (λ vs es f is. no_type i vs f) end
 
   module _ {X : Type 0} (f : X → TypeTree) (xs : List X) where
     -- What is still to be built of the fields, when the first i are.
-    pub record RemainsFirst (start now : Held) (i : ℕ) (vs : Values) : Type 0 where
-      pub remains : (zs : Values) (end : Held) → BuildsFirst i (types_by f (drop i xs)) zs now end → BuildsFirst 0 (types_by f xs) (with_others vs zs) start end
+    pub record RemainsFirst (start now : CellEvents) (i : ℕ) (vs : Values) : Type 0 where
+      pub remains : (zs : Values) (end : CellEvents) → BuildsFirst i (types_by f (drop i xs)) zs now end → BuildsFirst 0 (types_by f xs) (with_others vs zs) start end
 
-    pub first_all : (start : Held) → RemainsFirst start start 0 NoValue
+    pub first_all : (start : CellEvents) → RemainsFirst start start 0 NoValue
     first_all start = record { remains = λ zs end h. h }
 
     at : (i : ℕ) (ys : List X) (x : X) → x ≡ get_or ys i x → i < length ys → types_by f (drop i ys) ≡ Type_and (kind_in (head_of (f x))) (types_in (inner_of (f x))) (types_by f (drop (i + 1) ys))
@@ -158,7 +158,7 @@ module _ (level : ℕ) where
         let next : suc (i + 1) ≡ suc i + 1 = omega arith in
         at i ys x here (omega (arith, lt)) ∙ ap (λ (n : ℕ). Type_and (kind_in (head_of (f x))) (types_in (inner_of (f x))) (types_by f (drop n (y ∷ ys)))) next
 
-    pub first_more : (start now next : Held) (i : ℕ) (x : X) (vs v : Values) → x ≡ get_or xs i x → i < length xs → begins_with_leave (left now) ≡ false → RemainsFirst start now i vs
+    pub first_more : (start now next : CellEvents) (i : ℕ) (x : X) (vs v : Values) → x ≡ get_or xs i x → i < length xs → begins_with_leave (left now) ≡ false → RemainsFirst start now i vs
         → BuildsAll (level + 1) (one_type (kind_in (head_of (f x))) (types_in (inner_of (f x)))) v now next → RemainsFirst start next (i + 1) (with_others vs v)
     first_more start now next i x vs v here lt but r one = record {
       remains = λ zs end more.
@@ -168,11 +168,11 @@ module _ (level : ℕ) where
           (one_first i (kind_in (head_of (f x))) (types_in (inner_of (f x))) (types_by f (drop (i + 1) xs)) but one more)));
     }
 
-    finished : (start now end : Held) (i : ℕ) (vs : Values) → RemainsFirst start now i vs → BuildsFirst i (types_by f (drop i xs)) NoValue now end → BuildsFirst 0 (types_by f xs) vs start end
+    finished : (start now end : CellEvents) (i : ℕ) (vs : Values) → RemainsFirst start now i vs → BuildsFirst i (types_by f (drop i xs)) NoValue now end → BuildsFirst 0 (types_by f xs) vs start end
     finished start now end i vs r h = subst (λ (ws : Values). BuildsFirst 0 (types_by f xs) ws start end) (others_none vs) (r.remains NoValue end h)
 
     -- the end of the value comes
-    pub first_end : (start now end : Held) (i : ℕ) (vs : Values) → begins_with_leave (left now) ≡ true → RemainsFirst start now i vs → Ends i now end → BuildsFirst 0 (types_by f xs) vs start end
+    pub first_end : (start now end : CellEvents) (i : ℕ) (vs : Values) → begins_with_leave (left now) ≡ true → RemainsFirst start now i vs → Ends i now end → BuildsFirst 0 (types_by f xs) vs start end
     first_end start now end i vs ends r h = finished start now end i vs r (end_first i (types_by f (drop i xs)) ends h)
 
     none_left : (i : ℕ) (ys : List X) → length ys ≤ i → types_by f (drop i ys) ≡ NoMore
@@ -182,10 +182,10 @@ module _ (level : ℕ) where
     none_left (suc i) (y ∷ ys) l = none_left i ys (omega (arith, l))
 
     -- all fields are there
-    pub first_over : (start now end : Held) (i : ℕ) (vs : Values) → length xs ≤ i → RemainsFirst start now i vs → Ends i now end → BuildsFirst 0 (types_by f xs) vs start end
+    pub first_over : (start now end : CellEvents) (i : ℕ) (vs : Values) → length xs ≤ i → RemainsFirst start now i vs → Ends i now end → BuildsFirst 0 (types_by f xs) vs start end
     first_over start now end i vs l r h =
         finished start now end i vs r (subst (λ (ts : Types). BuildsFirst i ts NoValue now end) (sym (none_left i xs l)) (over_first i h))
 
     -- a fault ends it
-    pub first_stuck : (start now : Held) (i : ℕ) (vs ys : Values) (e : Fault) → now.fault ≡ Some e → RemainsFirst start now i vs → BuildsFirst 0 (types_by f xs) ys start now
+    pub first_stuck : (start now : CellEvents) (i : ℕ) (vs ys : Values) (e : Fault) → now.fault ≡ Some e → RemainsFirst start now i vs → BuildsFirst 0 (types_by f xs) ys start now
     first_stuck start now i vs ys e is r = other_value ys e is (r.remains NoValue now (stuck NoValue e is))

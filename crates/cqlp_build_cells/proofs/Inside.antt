@@ -9,21 +9,21 @@ use Rattle.cqlp_kind.specs.CellStep.{CellEvent, Leaf, Null, Empty, Enter, Leave}
 use Rattle.cqlp_cell.specs.Sizes.{is_counted}
 use Rattle.cqlp_value.specs.Values.{Values, NoValue, Null_and, Empty_and, Scalar_and, Counted_and, Fields_and, values_in, values_fit, type_copies, has_fields}
 use Rattle.cqlp_value.proofs.ValuesWritten.{is_the_kind, kind_is}
-use Rattle.cqlp_build_cells.specs.declared.held.Held.{Held}
+use Rattle.cqlp_build_cells.specs.declared.held.CellEvents.{CellEvents}
 use Rattle.cqlp_build_cells.specs.declared.step.Step.{Step}
-use Rattle.cqlp_build_cells.specs.Held.{Builds, TakesStep, left, emitted_at}
+use Rattle.cqlp_build_cells.specs.CellEvents.{Builds, TakesStep, left, emitted_at}
 use Rattle.cqlp_build_cells.specs.Said.{AreFirst, Fit, IsFirst, counted_said, fields_said, said_inside, values_said}
 use Rattle.cqlp_build_cells.proofs.Said.{first_and_rest, first_emitted, none_fit}
 use Rattle.cqlp_build_cells.proofs.Several.{BuildsAll}
 use Rattle.cqlp_build_cells.proofs.Steps.{as_builds, both, free, join, nothing_more, pair_builds, step_builds, ◌then◌}
 
 -- a value of this type is built, whose events begin with this one
-abbrev pub BuildsInside : (level : ℕ) → CellEvent → Kind → Types → Values → (old new : Held) → Type 0
+abbrev pub BuildsInside : (level : ℕ) → CellEvent → Kind → Types → Values → (old new : CellEvents) → Type 0
 BuildsInside level e k inner v old new = Builds (said_inside level (Type_and k inner NoMore)) (IsFirst level e (Type_and k inner NoMore)) v old new
 
 -- ---- a value after its first event
 
-pub value_built : (level : ℕ) (s : Step) (k : Kind) (inner : Types) {v : Values} (a b c : Held) → TakesStep level (Some s) a b → BuildsInside level (emitted_at level s) k inner v b c
+pub value_built : (level : ℕ) (s : Step) (k : Kind) (inner : Types) {v : Values} (a b c : CellEvents) → TakesStep level (Some s) a b → BuildsInside level (emitted_at level s) k inner v b c
     → BuildsAll level (Type_and k inner NoMore) v a c
 value_built level s k inner {v} a b c t one =
     let ts = Type_and k inner NoMore in
@@ -42,7 +42,7 @@ one_null level k inner (Scalar_and v vs) f = absurd cc
 one_null level k inner (Counted_and j n items vs) f = absurd cc
 one_null level k inner (Fields_and j items vs) f = absurd cc
 
-pub null_inside : (level : ℕ) (k : Kind) (inner : Types) (h : Held) → BuildsInside level (Null level) k inner (Null_and NoValue) h h
+pub null_inside : (level : ℕ) (k : Kind) (inner : Types) (h : CellEvents) → BuildsInside level (Null level) k inner (Null_and NoValue) h h
 null_inside level k inner h = nothing_more (Null_and NoValue) h refl (refl, refl) (one_null level k inner)
 
 one_empty : (level : ℕ) (k : Kind) (inner : Types) (v : Values) → IsFirst level (Empty level) (Type_and k inner NoMore) v → v ≡ Empty_and NoValue
@@ -53,7 +53,7 @@ one_empty level k inner (Scalar_and v vs) f = absurd cc
 one_empty level k inner (Counted_and j n items vs) f = absurd cc
 one_empty level k inner (Fields_and j items vs) f = absurd cc
 
-pub empty_inside : (level : ℕ) (k : Kind) (inner : Types) (h : Held) → BuildsInside level (Empty level) k inner (Empty_and NoValue) h h
+pub empty_inside : (level : ℕ) (k : Kind) (inner : Types) (h : CellEvents) → BuildsInside level (Empty level) k inner (Empty_and NoValue) h h
 empty_inside level k inner h = nothing_more (Empty_and NoValue) h refl (refl, refl) (one_empty level k inner)
 
 one_scalar : (level : ℕ) (x : ScalarValue) (k : Kind) (inner : Types) (v : Values) → IsFirst level (Leaf level x) (Type_and k inner NoMore) v → v ≡ Scalar_and x NoValue
@@ -67,7 +67,7 @@ one_scalar level x k inner (Scalar_and v vs) f =
 one_scalar level x k inner (Counted_and j n items vs) f = absurd cc
 one_scalar level x k inner (Fields_and j items vs) f = absurd cc
 
-pub scalar_inside : (level : ℕ) (x : ScalarValue) (k : Kind) (inner : Types) {a b : Held} → Builds {A = Unit {0}} (λ _. []) (λ _. Fit (Type_and k inner NoMore) (Scalar_and x NoValue)) tt a b
+pub scalar_inside : (level : ℕ) (x : ScalarValue) (k : Kind) (inner : Types) {a b : CellEvents} → Builds {A = Unit {0}} (λ _. []) (λ _. Fit (Type_and k inner NoMore) (Scalar_and x NoValue)) tt a b
     → BuildsInside level (Leaf level x) k inner (Scalar_and x NoValue) a b
 scalar_inside level x k inner one =
     let ts = Type_and k inner NoMore in
@@ -140,7 +140,7 @@ module _ (level : ℕ) (said k : Kind) (n : ℕ) (inner : Types) (t : Bool) wher
         let r = both (own && has_fields k) (ltb 0 (values_in items)) q.0 in
         absurd (counted_no_fields k counted (both own (has_fields k) r.0).1)
 
-    pub counted_inside : {vs : Values} {a b c : Held} → Builds {A = Unit {0}} (λ _. []) (λ _. t ≡ true) tt a b → Builds (counted_said level inner n) (Fit (type_copies n inner)) vs b c
+    pub counted_inside : {vs : Values} {a b c : CellEvents} → Builds {A = Unit {0}} (λ _. []) (λ _. t ≡ true) tt a b → Builds (counted_said level inner n) (Fit (type_copies n inner)) vs b c
         → BuildsInside level (Enter level said n) k inner (Counted_and k n vs NoValue) a c
     counted_inside one two =
         as_builds (said_inside level T) (IsFirst level (Enter level said n) T) (λ (p : Unit {0} × Values). Counted_and k n p.1 NoValue) (λ p q. refl) counted_on counted_view (one then two)
@@ -195,7 +195,7 @@ module _ (level : ℕ) (said k : Kind) (n : ℕ) (inner : Types) (t : Bool) wher
         let none = none_fit vs p.1 in
         (((tt, items), tt), ((is.back same many, q.1), ltb-true 0 (values_in items) r.1), λ i. Fields_and (named i) items (none i))
 
-    pub fields_inside : {vs : Values} {a b c d : Held} → Builds {A = Unit {0}} (λ _. []) (λ _. t ≡ true) tt a b → Builds (fields_said level 0 inner) (AreFirst inner) vs b c
+    pub fields_inside : {vs : Values} {a b c d : CellEvents} → Builds {A = Unit {0}} (λ _. []) (λ _. t ≡ true) tt a b → Builds (fields_said level 0 inner) (AreFirst inner) vs b c
         → Builds {A = Unit {0}} (λ _. []) (λ _. 0 < values_in vs) tt c d → BuildsInside level (Enter level said n) k inner (Fields_and k vs NoValue) a d
     fields_inside one two three =
         as_builds (said_inside level T) (IsFirst level (Enter level said n) T) fielded fields_emitted fields_on fields_view

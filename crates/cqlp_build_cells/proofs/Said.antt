@@ -7,7 +7,7 @@ use Rattle.cqlp_kind.specs.CellStep.{CellEvent, Leaf, Null, Empty, Enter, Leave}
 use Rattle.cqlp_cell.specs.Sizes.{is_counted}
 use Rattle.cqlp_value.specs.Values.{Values, NoValue, Null_and, Empty_and, Scalar_and, Counted_and, Fields_and, values_in, values_fit, type_copies, has_fields}
 use Rattle.cqlp_value.proofs.ReadBack.{with_others}
-use Rattle.cqlp_build_cells.specs.Held.{begins_with_leave}
+use Rattle.cqlp_build_cells.specs.CellEvents.{begins_with_leave}
 use Rattle.cqlp_build_cells.specs.Said.{Fit, values_said}
 use Rattle.cqlp_build_cells.proofs.Steps.{both, join}
 

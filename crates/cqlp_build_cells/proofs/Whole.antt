@@ -6,13 +6,13 @@ use Rattle.cqlp_kind.specs.Scalars.{ScalarValue, content_of}
 use Rattle.cqlp_kind.specs.Types.{Types, NoMore, Type_and, first_types, how_many}
 use Rattle.cqlp_kind.specs.CellStep.{CellEvent, Leaf, Null, Empty, Enter, Leave, Part}
 use Rattle.cqlp_value.specs.Values.{Values, NoValue, Null_and, Empty_and, Scalar_and, Counted_and, Fields_and, values_in, values_size, type_copies, in_parts, part_items, scalar_items, values_items}
-use Rattle.cqlp_build_cells.specs.declared.held.Held.{Held}
+use Rattle.cqlp_build_cells.specs.declared.held.CellEvents.{CellEvents}
 use Rattle.cqlp_build_cells.specs.declared.held.Fault.{Fault}
 use Rattle.cqlp_build_cells.specs.declared.held.Fault.TheVariants as fault
 use Rattle.cqlp_build_cells.specs.declared.step.Step.{Step}
 use Rattle.cqlp_build_cells.specs.declared.step.Step.TheVariants as step
 use Rattle.cqlp_build_cells.specs.Building.{AreEventsOf, AreOfNone, FinishesAs, IsBuiltOf, refusal_of}
-use Rattle.cqlp_build_cells.specs.Held.{Builds, left, emitted_by}
+use Rattle.cqlp_build_cells.specs.CellEvents.{Builds, left, emitted_by}
 use Rattle.cqlp_build_cells.specs.Said.{values_said}
 use Rattle.cqlp_build_cells.proofs.Several.{BuildsAll}
 use Rattle.cqlp_build_cells.proofs.Steps.{both, join}
@@ -139,12 +139,12 @@ whole_limits = record { text = 0; cell = 0; entries = 0; depth = 0; part = 0; ty
 
 -- ---- the whole cell
 
-pub are_said : (h : Held) (ts : Types) (w : Values) → AreEventsOf (left h) ts w → left h ≡ values_said 0 ts w ++ []
+pub are_said : (h : CellEvents) (ts : Types) (w : Values) → AreEventsOf (left h) ts w → left h ≡ values_said 0 ts w ++ []
 are_said h ts w e =
     let none : have_none (map (λ x. x.1) (values_items e.rules 0 e.at ts w)) ≡ true = ap have_none e.are ∙ steps_none h.items.items in
     sym e.are ∙ items_said e.rules 0 e.at ts w (inr none) ∙ sym (append-nil (values_said 0 ts w))
 
-module _ (ts : Types) (old mid new : Held) (v : Values) (over : Bool) (all : BuildsAll 0 ts v old mid)
+module _ (ts : Types) (old mid new : CellEvents) (v : Values) (over : Bool) (all : BuildsAll 0 ts v old mid)
     (checked : Builds {A = Unit {0}} (λ _. []) (λ _. over ≡ true) tt mid new) (none : over ≡ true → left mid ≡ []) where
   pub built_whole : new.fault ≡ None → IsBuiltOf (left old) ts v
   built_whole s =

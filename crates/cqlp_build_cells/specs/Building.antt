@@ -19,8 +19,8 @@ use Rattle.cqlp_build_cells.specs.declared.error.CellError.{CellError}
 use Rattle.cqlp_build_cells.specs.declared.error.CellError.TheVariants as error
 use Rattle.cqlp_build_cells.specs.declared.held.Fault.{Fault}
 use Rattle.cqlp_build_cells.specs.declared.held.Fault.TheVariants as fault
-use Rattle.cqlp_build_cells.specs.declared.held.Held.{Held}
-use Rattle.cqlp_build_cells.specs.Held.{left}
+use Rattle.cqlp_build_cells.specs.declared.held.CellEvents.{CellEvents}
+use Rattle.cqlp_build_cells.specs.CellEvents.{left}
 
 -- ---- the events of a value
 
@@ -75,7 +75,7 @@ pub record CellState : Type 0 where
   pub room : ℕ
   pub limits : CellLimits
 
-abbrev pub events_in : Option (ℕ × ℕ) → Held → List CellEvent
+abbrev pub events_in : Option (ℕ × ℕ) → CellEvents → List CellEvent
 events_in None held = []
 events_in (Some p) held = left held
 

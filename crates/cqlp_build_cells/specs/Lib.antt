@@ -1,4 +1,4 @@
 pub mod Said
-pub mod Held
+pub mod CellEvents
 pub mod Building
 pub mod Laws

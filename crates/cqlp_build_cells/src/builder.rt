@@ -8,11 +8,11 @@ ghost use Rattle.cqlp_type.specs.TypeTrees.{tree_of};
 ghost use Rattle.cqlp_value.specs.Owned.{cell_type};
 ghost use Rattle.cqlp_build_cells.specs.Building as model;
 ghost use Rattle.cqlp_build_cells.specs.Building.{Finishes, FinishesAs, TakesEvent, empty, is_whole, state};
-ghost use Rattle.cqlp_build_cells.specs.Held.{left};
+ghost use Rattle.cqlp_build_cells.specs.CellEvents.{left};
 ghost use Rattle.cqlp_build_cells.specs.Said.{IsReadable};
 
 use crate::error::CellError;
-use crate::held::{Fault, Held};
+use crate::held::{CellEvents, Fault};
 use crate::step::{own, scalar_size};
 use cqlp_grammar::Event;
 use cqlp_kind::Kind;
@@ -46,7 +46,7 @@ pub struct CellLimits {
 /// What it does not build are scalars in parts, which come where the limits of the decoder ask for parts.
 #[derive(Drop)]
 pub struct CellBuilder {
-    held: Held,
+    held: CellEvents,
     /// The row and the column of the cell under way.
     place: Option<(u32, u32)>,
     limits: CellLimits,
@@ -61,7 +61,7 @@ impl CellBuilder {
         ensures { state result ≡ empty limits }
     {
         CellBuilder {
-            held: Held::new(alloc),
+            held: CellEvents::new(alloc),
             place: None,
             limits,
             room: limits.bytes as usize,
@@ -177,7 +177,7 @@ impl CellBuilder {
     }
 }
 
-impl Held {
+impl CellEvents {
     /// The value of this type whose events are those that are held, or of a cell without a type where that is a plain `Raw`.
     ///
     /// # Errors

@@ -1,8 +1,8 @@
 //! The events that are held of a cell, and what is taken of them.
 
 ghost use Rattle.std.specs.Prelude.{◌≡◌, ◌↔◌, ◌∷◌, ◌++◌, IsTrue, OnOk, [], true};
-ghost use Rattle.cqlp_build_cells.specs.Held as model;
-ghost use Rattle.cqlp_build_cells.specs.Held.{Builds, HoldsFewer, HoldsNoMore, TakesStep, any, begins_with_leave, first_fault, left, emitted_at};
+ghost use Rattle.cqlp_build_cells.specs.CellEvents as model;
+ghost use Rattle.cqlp_build_cells.specs.CellEvents.{Builds, HoldsFewer, HoldsNoMore, TakesStep, any, begins_with_leave, first_fault, left, emitted_at};
 ghost use Rattle.cqlp_kind.specs.CellStep.{Leave};
 
 use crate::step::Step;
@@ -21,19 +21,19 @@ pub enum Fault {
 /// The events of a cell, each of which is taken once. What takes one gives a value, and where another event was due some value, and
 /// keeps the fault: nothing is taken after it.
 #[derive(Drop)]
-pub struct Held {
+pub struct CellEvents {
     pub(crate) alloc: Global,
     /// Each at its level.
     pub(crate) items: VecDeque<(u32, Step)>,
     pub(crate) fault: Option<Fault>,
 }
 
-impl Held {
+impl CellEvents {
     /// No events, for which it asks for no memory.
-    pub fn new(alloc: Global) -> Held
+    pub fn new(alloc: Global) -> CellEvents
         ensures { left result ≡ [] }
     {
-        Held {
+        CellEvents {
             alloc,
             items: VecDeque::new(alloc),
             fault: None,

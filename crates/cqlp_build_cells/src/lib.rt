@@ -10,5 +10,5 @@ mod values;
 
 pub use builder::{CellBuilder, CellLimits, ends_cell};
 pub use error::CellError;
-pub use held::Held;
+pub use held::CellEvents;
 pub use step::{Step, ends, own, scalar_size};

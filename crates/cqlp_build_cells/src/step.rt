@@ -6,7 +6,7 @@ ghost use Rattle.cqlp_kind.specs.Contents.{value_of};
 ghost use Rattle.cqlp_value.specs.Owned.{atom_of};
 ghost use Rattle.cqlp_build_cells.specs.Building as model;
 ghost use Rattle.cqlp_build_cells.specs.Building.{cell_of, is_whole};
-ghost use Rattle.cqlp_build_cells.specs.Held.{emitted_at, emitted_by};
+ghost use Rattle.cqlp_build_cells.specs.CellEvents.{emitted_at, emitted_by};
 
 use cqlp_grammar::Event;
 use cqlp_kind::{Kind, Scalar};

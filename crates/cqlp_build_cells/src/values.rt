@@ -10,10 +10,10 @@ ghost use Rattle.cqlp_value.specs.Measures.{listed_pairs, listed_values, types_b
 ghost use Rattle.cqlp_value.specs.Owned.{atom_of, value_of};
 ghost use Rattle.cqlp_value.specs.Values.{Scalar_and, NoValue as none_after, type_copies};
 ghost use Rattle.cqlp_build_cells.specs.declared.held.Fault.TheVariants as fault;
-ghost use Rattle.cqlp_build_cells.specs.Held.{Builds, HoldsNoMore, first_fault};
+ghost use Rattle.cqlp_build_cells.specs.CellEvents.{Builds, HoldsNoMore, first_fault};
 ghost use Rattle.cqlp_build_cells.specs.Said.{AreFirst, Fit, IsFirst, IsReadable, counted_said, fields_said, said_inside, values_said};
 
-use crate::held::{Fault, Held};
+use crate::held::{CellEvents, Fault};
 use crate::step::Step;
 use cqlp_kind::Kind;
 use cqlp_type::TypeTree;
@@ -22,7 +22,7 @@ use cqlp_value::{Atom, Value, fits};
 /// The most items that a count says.
 const MOST: u32 = i32::MAX as u32;
 
-impl Held {
+impl CellEvents {
     /// Takes a value of this type, with this many values around it. It calls itself as deep as the type is nested.
     #[cycle(value)]
     pub fn value(&mut self, level: usize, tree: &TypeTree) -> Value

@@ -20,7 +20,7 @@ use Rattle.cqlp_build_cells.specs.Building.{ends_cell}
 use Rattle.cqlp_compose.specs.Composing.{ComposerState, bound_of, refusal_of, start, with_next}
 use Rattle.cqlp_decode.specs.Reading.{Says, Waits, start as first_state}
 use Rattle.cqlp_laws.proofs.WrittenFrames.{written_is_read}
-use Rattle.cqlp_compose.specs.declared.place.PagePlace.{PagePlace}
+use Rattle.cqlp_compose.specs.declared.place.PageProgress.{PageProgress}
 use Rattle.cqlp_compose.specs.Cells.{CellsState}
 use Rattle.cqlp_compose.specs.declared.error.PutError.TheVariants as put_error
 use Rattle.cqlp_compose.specs.declared.error.Unended.{Unended}
@@ -69,7 +69,7 @@ Next None old bytes new = (bytes ≡ []) × (new.place ≡ old.place) × (new.fr
 Next (Some len) old bytes new = new ≡ fresh old new.place
 
 next_by : (ends : Bool) (old : PutterState) (mid : CellsState) (n : ℕ) (len : Option ℕ) (bytes : List ℕ) (new : PutterState) → GoesOn ends (within old mid) n (Ok len) bytes new → Next len old bytes new
-next_by true old mid n (Some len) bytes new g = g.3 ∙ ap (λ (p : PagePlace). fresh old p) (sym (ap (λ (x : PutterState). x.place) g.3))
+next_by true old mid n (Some len) bytes new g = g.3 ∙ ap (λ (p : PageProgress). fresh old p) (sym (ap (λ (x : PutterState). x.place) g.3))
 next_by true old mid n None bytes new g = absurd g
 next_by false old mid n None bytes new g =
     (g.0, ap (λ (x : PutterState). x.place) g.1, ap (λ (x : PutterState). x.frame) g.1, ap (λ (x : PutterState). x.limits) g.1)
@@ -115,7 +115,7 @@ module _ (room size : ℕ) (n : ℕ) (c : CqlpEvent) (cs : List CqlpEvent) (t ne
         events = y.0;
         out = y.1;
         puts = subst (λ (es : List Event). CellsPut t.cells es bytes (fresh t.cells new.cells.place)) (sym (written_on 0))
-            (m, Some len, bytes, [], mid, p, (refl, sym (x ∙ ap (λ (q : PagePlace). fresh t.cells q) (sym place))), sym none);
+            (m, Some len, bytes, [], mid, p, (refl, sym (x ∙ ap (λ (q : PageProgress). fresh t.cells q) (sym place))), sym none);
       })
   goes (Some len) m p x (inr s) =
       inr (more (Some len) m [] p s (λ i. fresh_putter ((ap (λ (y : PutterState). y.frame) x) i) new.cells.place ((ap (λ (y : PutterState). y.limits) x) i)))
@@ -181,7 +181,7 @@ module _ (p q : OpenPage) (cs : List CqlpEvent) (contents before after : List �
   batch_by : Put 0 cs first x.1.last → IsBatch p.frame p.place (events_from_c x.1.last.written.events cs contents) x.1.last.out x.1.last.cells.place
   batch_by (inl y) = record {
     limits = longest_cell;
-    puts = subst (λ (m : ℕ). CellsPut putter (events_from_c m cs contents) x.1.last.out (fresh putter x.1.last.cells.place)) (sym y.0) (y.1, ap (λ (l : PagePlace). fresh putter l) y.2);
+    puts = subst (λ (m : ℕ). CellsPut putter (events_from_c m cs contents) x.1.last.out (fresh putter x.1.last.cells.place)) (sym y.0) (y.1, ap (λ (l : PageProgress). fresh putter l) y.2);
   }
   batch_by (inr s) = record {
     limits = longest_cell;
@@ -194,7 +194,7 @@ module _ (p q : OpenPage) (cs : List CqlpEvent) (contents before after : List �
       let b = batch_by (put_from (length before) (length contents) cs 0 first x.1.last x.1.stop x.1.puts) in
       subst (λ (m : ℕ). IsBatch p.frame p.place (events_from_c m cs contents) (take answer.0.length after) q.place) (sym many_are)
       (subst (λ (bs : List ℕ). IsBatch p.frame p.place (events_from_c x.1.last.written.events cs contents) bs q.place) (sym bytes_are)
-      (subst (λ (l : PagePlace). IsBatch p.frame p.place (events_from_c x.1.last.written.events cs contents) x.1.last.out l) (sym place_is) b))
+      (subst (λ (l : PageProgress). IsBatch p.frame p.place (events_from_c x.1.last.written.events cs contents) x.1.last.out l) (sym place_is) b))
 
 the_page : (a b : OpenPage) → Some a ≡ Some b → a ≡ b
 the_page a b e = cc

@@ -5,8 +5,8 @@ use Rattle.std.specs.Ptr.{Ptr}
 use Rattle.cqlp_kind.specs.declared.kind.Kind.{Kind}
 use Rattle.cqlp_columns.specs.declared.layout.Layout.{Layout}
 use Rattle.cqlp_columns.specs.declared.layout.Layout.TheVariants.{Bits, Fixed, Variable}
-use Rattle.cqlp_columns.specs.declared.column.Refusal.{Refusal}
-use Rattle.cqlp_columns.specs.declared.column.Refusal.TheVariants.{Full, NotOfKind}
+use Rattle.cqlp_columns.specs.declared.column.ColumnRefusal.{ColumnRefusal}
+use Rattle.cqlp_columns.specs.declared.column.ColumnRefusal.TheVariants.{Full, NotOfKind}
 use Rattle.cqlp_columns.specs.Bits.{Spells}
 use Rattle.cqlp_columns.specs.Cells.{Cell, cell_bits, cell_bytes, is_empty, is_of, is_valid}
 
@@ -99,7 +99,7 @@ abbrev pub is_long : (content : ℕ) → Cell → Column → Bool
 is_long content c a = nat_lt content (length (cell_bytes a.layout c))
 
 -- why a column does not take a cell
-abbrev pub refusal_of : Cell → Column → Option Refusal
+abbrev pub refusal_of : Cell → Column → Option ColumnRefusal
 refusal_of c a = if is_of a.kind c then (if fits c a then None else Some Full) else Some NotOfKind
 
 -- the bytes of a column's values
@@ -112,7 +112,7 @@ abbrev pub AreBytesOf : Column → List ℕ → Type 0
 AreBytesOf a bytes = AreBytes a.layout a.values a.truths bytes
 
 -- what a call answers, where this is the reason why not
-abbrev pub IsAnswer : Option Refusal → Result (Unit {0}) Refusal → Type 0
+abbrev pub IsAnswer : Option ColumnRefusal → Result (Unit {0}) ColumnRefusal → Type 0
 IsAnswer why (Ok u) = why ≡ None
 IsAnswer why (Err e) = why ≡ Some e
 

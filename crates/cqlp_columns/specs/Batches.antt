@@ -8,8 +8,8 @@ use Rattle.cqlp_grammar.specs.Events.{Event}
 use Rattle.cqlp_columns.specs.declared.layout.Layout.TheVariants.{Variable}
 use Rattle.cqlp_columns.specs.declared.column.MakeError.{MakeError}
 use Rattle.cqlp_columns.specs.declared.column.MakeError.TheVariants.{NoMemory, TooManyColumns, Unsupported}
-use Rattle.cqlp_columns.specs.declared.column.Refusal.{Refusal}
-use Rattle.cqlp_columns.specs.declared.column.Refusal.TheVariants as no
+use Rattle.cqlp_columns.specs.declared.column.ColumnRefusal.{ColumnRefusal}
+use Rattle.cqlp_columns.specs.declared.column.ColumnRefusal.TheVariants as no
 use Rattle.cqlp_columns.specs.declared.columns.BatchLimits.{BatchLimits}
 use Rattle.cqlp_columns.specs.declared.columns.TakeError.{TakeError}
 use Rattle.cqlp_columns.specs.declared.columns.TakeError.TheVariants.{Full, Part as APart, OutOfOrder, NotOfKind, TooLong}
@@ -150,7 +150,7 @@ IsAnswerOf why (Ok u) = why ≡ None
 IsAnswerOf why (Err e) = why ≡ Some e
 
 -- why the column of a number does not take a cell by itself
-abbrev pub refusal_among : (column : ℕ) → Cell → List Column → Option Refusal
+abbrev pub refusal_among : (column : ℕ) → Cell → List Column → Option ColumnRefusal
 refusal_among k c [] = Some no.Full
 refusal_among zero c (a ∷ cols) = refusal_of c a
 refusal_among (suc k) c (a ∷ cols) = refusal_among k c cols

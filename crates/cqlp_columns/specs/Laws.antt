@@ -1,7 +1,7 @@
 -- Laws of columns.
 use Rattle.std.specs.Prelude.{◌≡◌, ◌<◌, ◌%◌, ◌++◌, ◌∷◌, [], ℕ, Bool, true, false, List, Result, Some, length}
 use Rattle.std.specs.List.{AllByRecursion}
-use Rattle.cqlp_columns.specs.declared.column.Refusal.{Refusal}
+use Rattle.cqlp_columns.specs.declared.column.ColumnRefusal.{ColumnRefusal}
 use Rattle.cqlp_columns.specs.declared.layout.Layout.{Layout}
 use Rattle.cqlp_columns.specs.Arrays.{Column, IsAnswer, Site, column_of, refusal_of}
 use Rattle.cqlp_grammar.specs.Events.{Event}
@@ -16,7 +16,7 @@ use Rattle.cqlp_columns.specs.Findings.{cell_count, found_in}
 -- Where a column has these cells, there is one answer to one more; and where it is taken, one column after it.
 abbrev pub OneAnswerOfTake : Type 0
 OneAnswerOfTake =
-    (s : Site) (l : Layout) (rows size : ℕ) (cells : List Cell) (c : Cell) (a a' b b' : Column) (r r' : Result (Unit {0}) Refusal)
+    (s : Site) (l : Layout) (rows size : ℕ) (cells : List Cell) (c : Cell) (a a' b b' : Column) (r r' : Result (Unit {0}) ColumnRefusal)
     → a ≡ column_of s l rows size cells → a' ≡ column_of s l rows size cells → IsAnswer (refusal_of c a) r → IsAnswer (refusal_of c a') r'
     → b ≡ column_of s l rows size (cells ++ c ∷ []) → b' ≡ column_of s l rows size (cells ++ c ∷ []) → (r' ≡ r) × (b' ≡ b)
 

@@ -36,7 +36,7 @@ pub enum MakeError {
 
 /// Why a column does not take a cell.
 #[derive(Clone, Copy, Debug, PartialEq, Eq, Error)]
-pub enum Refusal {
+pub enum ColumnRefusal {
     /// It is none of the column's kind.
     #[error("a value of another kind")]
     NotOfKind,
@@ -268,7 +268,7 @@ impl<A: Allocator> Column<A> {
     ///
     /// `NotOfKind` for a scalar of another kind than the column's; else `Full` where there is no room for it. Nothing changes then.
     #[inline(always)]
-    pub fn take(&mut self, cell: &Cell<'_>) -> Result<(), Refusal>
+    pub fn take(&mut self, cell: &Cell<'_>) -> Result<(), ColumnRefusal>
         ensures answer { IsAnswer (refusal_of (cell_of cell.now) self.old) result }
         ensures taken { IsOk result → (cells : List CellValue) → HasCells cells self.old → HasCells (cells ++ cell_of cell.now ∷ []) self.new }
         ensures room { OnOk result (self.new ≡ with_cell (cell_of cell.now) self.old) }
@@ -285,16 +285,16 @@ impl<A: Allocator> Column<A> {
 
     /// Why it does not take a cell.
     #[inline(always)]
-    pub fn refusal(&self, cell: &Cell<'_>) -> Option<Refusal>
+    pub fn refusal(&self, cell: &Cell<'_>) -> Option<ColumnRefusal>
         ensures { result ≡ refusal_of (cell_of cell.now) self.now }
     {
         if !is_of(self.kind, cell) {
-            return Some(Refusal::NotOfKind);
+            return Some(ColumnRefusal::NotOfKind);
         }
         if self.fits(cell) {
             None
         } else {
-            Some(Refusal::Full)
+            Some(ColumnRefusal::Full)
         }
     }
 

@@ -7,7 +7,7 @@ use Rattle.cqlp_build.specs.declared.error.BuildError.{BuildError}
 use Rattle.cqlp_build.specs.declared.error.BuildError.TheVariants as build_error
 use Rattle.cqlp_build.specs.Closing.{Ends}
 use Rattle.cqlp_compose.specs.Composing.{ComposerState, Takes}
-use Rattle.cqlp_compose.specs.declared.place.PagePlace.{PagePlace}
+use Rattle.cqlp_compose.specs.declared.place.PageProgress.{PageProgress}
 use Rattle.cqlp_compose.specs.Places.{first_place, place_unless}
 use Rattle.cqlp_compose.specs.declared.error.BeginError.{BeginError}
 use Rattle.cqlp_compose.specs.declared.error.BeginError.TheVariants as error
@@ -67,6 +67,6 @@ pub no_place : (o : Option Unfit) (n : ℕ) (why : Unfit) → Err why ≡ place_
 no_place None n why e = absurd cc
 no_place (Some other) n why e = let same : why ≡ other = cc in ap Some (sym same)
 
-pub a_place : (o : Option Unfit) (n : ℕ) (p : PagePlace) → Ok p ≡ place_unless o n → (o ≡ None) × (p ≡ first_place n)
+pub a_place : (o : Option Unfit) (n : ℕ) (p : PageProgress) → Ok p ≡ place_unless o n → (o ≡ None) × (p ≡ first_place n)
 a_place None n p e = (refl, cc)
 a_place (Some other) n p e = absurd cc

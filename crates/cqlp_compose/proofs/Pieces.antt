@@ -6,7 +6,7 @@ use Rattle.cqlp_message.specs.Pages.{page_unfit_of}
 use Rattle.cqlp_message.specs.declared.frame.Frame.{Frame as OwnedFrame}
 use Rattle.cqlp_build_cells.specs.declared.builder.CellLimits.{CellLimits}
 use Rattle.cqlp_kind.specs.CellStep.{CellEvent}
-use Rattle.cqlp_compose.specs.declared.place.PagePlace.{PagePlace}
+use Rattle.cqlp_compose.specs.declared.place.PageProgress.{PageProgress}
 use Rattle.cqlp_build_cells.specs.Building.{ends_cell}
 use Rattle.cqlp_compose.specs.Cells.{CellsState, begun, next_column, next_row, within}
 use Rattle.cqlp_compose.specs.PageLaws.{ArePieces, IsPiece, TakesAll, all_bytes, all_events}
@@ -23,7 +23,7 @@ module _ (f : OwnedFrame) (n : ℕ) (begins : page_unfit_of (frame_of f) n ≡ N
   all_between [] old new b t = rw t b
   all_between (e ∷ es) old new b t = all_between es t.0 new (goes_between (ends_cell e) (within old t.1.1) t.0 t.1.3) t.2
 
-  at_begin : (es : List Event) (bytes : List ℕ) (p : PagePlace) (limits : CellLimits) → Conforms (frame_of f) n es bytes p → IsWithin f n es bytes (begun f p limits)
+  at_begin : (es : List Event) (bytes : List ℕ) (p : PageProgress) (limits : CellLimits) → Conforms (frame_of f) n es bytes p → IsWithin f n es bytes (begun f p limits)
   at_begin es bytes p limits s = record {
     frame = refl;
     before = es;
@@ -37,15 +37,15 @@ module _ (f : OwnedFrame) (n : ℕ) (begins : page_unfit_of (frame_of f) n ≡ N
       let same : es ≡ w.before = w.events ∙ ap (λ (cs : List CellEvent). w.before ++ map (cell_event (next_row s) (next_column s)) cs) none ∙ append-nil w.before in
       subst (λ (x : List Event). Conforms (frame_of f) n x (bytes ++ s.bytes) s.place) (sym same) w.conforms
 
-  piece_conforms : (es bytes_es : List Event) (bytes : List ℕ) (old : PagePlace) (more : List ℕ) (new : PagePlace) → Conforms (frame_of f) n es bytes old → IsPiece f old bytes_es more new → Conforms (frame_of f) n (es ++ bytes_es) (bytes ++ more) new
+  piece_conforms : (es bytes_es : List Event) (bytes : List ℕ) (old : PageProgress) (more : List ℕ) (new : PageProgress) → Conforms (frame_of f) n es bytes old → IsPiece f old bytes_es more new → Conforms (frame_of f) n (es ++ bytes_es) (bytes ++ more) new
   piece_conforms es came bytes old more new s p =
       let w = all_within came es bytes (begun f old p.limits) p.end (at_begin es bytes old p.limits s) p.taken in
       let none = all_between came (begun f old p.limits) p.end (λ e. refl) p.taken p.given.0 in
       let e = at_end (es ++ came) bytes p.end w none in
-      subst (λ (x : PagePlace). Conforms (frame_of f) n (es ++ came) (bytes ++ more) x) (sym (p.place ∙ p.given.1))
+      subst (λ (x : PageProgress). Conforms (frame_of f) n (es ++ came) (bytes ++ more) x) (sym (p.place ∙ p.given.1))
       (subst (λ (b : List ℕ). Conforms (frame_of f) n (es ++ came) (bytes ++ b) p.end.place) (sym (p.bytes_are ∙ p.given.2)) e)
 
-  pub pieces_conform : (ps : List (List Event × List ℕ)) (es : List Event) (bytes : List ℕ) (old new : PagePlace) → Conforms (frame_of f) n es bytes old → ArePieces f old ps new → Conforms (frame_of f) n (es ++ all_events ps) (bytes ++ all_bytes ps) new
+  pub pieces_conform : (ps : List (List Event × List ℕ)) (es : List Event) (bytes : List ℕ) (old new : PageProgress) → Conforms (frame_of f) n es bytes old → ArePieces f old ps new → Conforms (frame_of f) n (es ++ all_events ps) (bytes ++ all_bytes ps) new
   pieces_conform [] es bytes old new s a =
       subst (λ (x : List Event). Conforms (frame_of f) n x (bytes ++ []) new) (sym (append-nil es))
       (subst (λ (b : List ℕ). Conforms (frame_of f) n es b new) (sym (append-nil bytes)) (rw a s))

@@ -30,7 +30,7 @@ use Rattle.cqlp_build.proofs.Steps.{emitted_append}
 use Rattle.cqlp_build_cells.specs.Building.{AreEventsOf, CellState, Finishes, IsBuiltOf, cell_of, ends_cell, is_part, with_event}
 use Rattle.cqlp_build_cells.specs.Said.{values_said}
 use Rattle.cqlp_build_cells.proofs.Whole.{have_none, is_no_part, items_said}
-use Rattle.cqlp_compose.specs.declared.place.PagePlace.{PagePlace}
+use Rattle.cqlp_compose.specs.declared.place.PageProgress.{PageProgress}
 use Rattle.cqlp_compose.specs.Places.{described_type}
 use Rattle.cqlp_compose.specs.Cells.{CellsState, GoesOn, Takes, is_at, next_column, next_row, page, room, with_cell, within}
 use Rattle.cqlp_compose.proofs.Columns.{column_is, type_is}
@@ -92,7 +92,7 @@ whole_is (Cell_at r s d) c off is =
 -- ---- after whole cells
 
 -- These events are of whole cells, these are their bytes, and the page is behind them.
-pub record Conforms (f : FrameValue) (n : ℕ) (es : List Event) (bytes : List ℕ) (p : PagePlace) : Type 0 where
+pub record Conforms (f : FrameValue) (n : ℕ) (es : List Event) (bytes : List ℕ) (p : PageProgress) : Type 0 where
   pub cells : List Values
   pub count : p.cells ≡ length cells
   pub few : length cells ≤ cells_wanted f.message
@@ -126,7 +126,7 @@ metadata_in : (f : FrameValue) → frame_agrees f ≡ true → message_agrees f.
 metadata_in f e =
     (both (not (has f.flags 0x01) && there_if (is_response f.message && has f.flags 0x02) f.tracing && there_if (is_response f.message && has f.flags 0x08) f.warnings && there_if (has f.flags 0x04) f.payload) (message_agrees f.message) e).1
 
-module _ (f : OwnedFrame) (n : ℕ) (begins : page_unfit_of (frame_of f) n ≡ None) (es : List Event) (bytes : List ℕ) (p : PagePlace) (w : Values) (cs : List CellEvent) (s : Conforms (frame_of f) n es bytes p)
+module _ (f : OwnedFrame) (n : ℕ) (begins : page_unfit_of (frame_of f) n ≡ None) (es : List Event) (bytes : List ℕ) (p : PageProgress) (w : Values) (cs : List CellEvent) (s : Conforms (frame_of f) n es bytes p)
     (some : p.cells < cells_wanted (frame_of f).message) (short : values_size w ≤ p.free) (none : have_none cs ≡ true)
     (are : AreEventsOf cs (cell_type (described_type f (p.cells % page_columns (frame_of f).message))) w) (fits : values_fit (cell_type (described_type f (p.cells % page_columns (frame_of f).message))) w ≡ true) (range : AreInRange w) where
   abbrev g : FrameValue

@@ -19,7 +19,7 @@ use Rattle.cqlp_message.proofs.PageFrames.{cell_parts, columns_described, front_
 use Rattle.cqlp_build.specs.Emitted.{emitted}
 use Rattle.cqlp_build.proofs.FrameViews.{body_events, frame_said}
 use Rattle.cqlp_build.proofs.Steps.{emitted_append}
-use Rattle.cqlp_compose.specs.declared.place.PagePlace.{PagePlace}
+use Rattle.cqlp_compose.specs.declared.place.PageProgress.{PageProgress}
 use Rattle.cqlp_compose.specs.Places.{first_place, is_done}
 use Rattle.cqlp_compose.specs.PageLaws.{IsPageOf, PageHasItsEvents, all_bytes, all_events, own_header}
 use Rattle.cqlp_compose.specs.Measures.{events_size}
@@ -47,7 +47,7 @@ module _ (f : FrameValue) (n : ℕ) (begins : page_unfit_of f n ≡ None) where
     range = All-nil AreInRange;
   }
 
-  module _ (es : List Event) (bytes : List ℕ) (p : PagePlace) (s : Conforms f n es bytes p) (done : is_done f p ≡ true) where
+  module _ (es : List Event) (bytes : List ℕ) (p : PageProgress) (s : Conforms f n es bytes p) (done : is_done f p ≡ true) where
     ends : (p.cells ≡ cells_wanted f.message) × (p.free ≡ 0)
     ends =
         let b = both (p.cells == cells_wanted f.message) (p.free == 0) done in

@@ -28,7 +28,7 @@ use Rattle.cqlp_build.proofs.Several.{join}
 use Rattle.cqlp_build.proofs.Steps.{emitted_append}
 use Rattle.cqlp_build_cells.specs.declared.builder.CellLimits.{CellLimits}
 use Rattle.cqlp_build_cells.specs.Building.{ends_cell}
-use Rattle.cqlp_compose.specs.declared.place.PagePlace.{PagePlace}
+use Rattle.cqlp_compose.specs.declared.place.PageProgress.{PageProgress}
 use Rattle.cqlp_compose.specs.Cells.{CellsState, Takes, begun, within as cell_within}
 use Rattle.cqlp_compose.specs.Cells as cells
 use Rattle.cqlp_compose.specs.PageLaws.{ArePieces, IsPageOf, IsPiece, TakesAll, all_bytes, all_events}
@@ -187,7 +187,7 @@ module _ (f : OwnedFrame) (limits : CellLimits) where
     more : TakesAll (begun f s.place limits) (under ++ e ∷ []) mid
     more = takes_more (begun f s.place limits) s.cells mid under e w.taken t
 
-    fresh_conforms : (p : PagePlace) → Conforms (fresh s p) []
+    fresh_conforms : (p : PageProgress) → Conforms (fresh s p) []
     fresh_conforms p = record {
       frame = w.frame;
       limits_are = w.limits_are;
@@ -224,23 +224,23 @@ module _ (f : OwnedFrame) (limits : CellLimits) where
   next s under e n len bytes new w p = next_by s under e w p.0 p.1 (ends_cell e) n len bytes new refl p.2
 
   -- The pieces of the events that came, the first with those of the cell under way.
-  record Cut (old new : PagePlace) (es : List Event) (bytes : List ℕ) : Type 0 where
+  record Cut (old new : PageProgress) (es : List Event) (bytes : List ℕ) : Type 0 where
     pieces : List (List Event × List ℕ)
     are : ArePieces f old pieces new
     events : all_events pieces ≡ es
     all : all_bytes pieces ≡ bytes
 
-  never_cut : (s : PutterState) (under : List Event) (new : PagePlace) → s ≡ fresh_putter f new limits → (under ≡ []) ⊎ (s.cells.cut ≡ true) → under ≡ []
+  never_cut : (s : PutterState) (under : List Event) (new : PageProgress) → s ≡ fresh_putter f new limits → (under ≡ []) ⊎ (s.cells.cut ≡ true) → under ≡ []
   never_cut s under new is (inl e) = e
   never_cut s under new is (inr e) = let d : true ≡ false = sym e ∙ ap (λ (x : PutterState). x.cells.cut) is in absurd cc
 
-  pieces_on : (len : Option ℕ) (s mid : PutterState) (new : PagePlace) (came es : List Event) (bytes others : List ℕ) → Next s came len bytes mid
+  pieces_on : (len : Option ℕ) (s mid : PutterState) (new : PageProgress) (came es : List Event) (bytes others : List ℕ) → Next s came len bytes mid
       → ((under : List Event) → Conforms mid under → Cut mid.place new (under ++ es) others) → Cut s.place new (came ++ es) (bytes ++ others)
   pieces_on None s mid new came es bytes others x rest =
       let c = rest came x.2 in
       record {
         pieces = c.pieces;
-        are = subst (λ (p : PagePlace). ArePieces f p c.pieces new) x.1 c.are;
+        are = subst (λ (p : PageProgress). ArePieces f p c.pieces new) x.1 c.are;
         events = c.events;
         all = c.all ∙ ap (λ (b : List ℕ). b ++ others) (sym x.0);
       }
@@ -253,7 +253,7 @@ module _ (f : OwnedFrame) (limits : CellLimits) where
         all = ap (λ (b : List ℕ). bytes ++ b) c.all;
       }
 
-  cut_all : (es : List Event) (s : PutterState) (under : List Event) (bytes : List ℕ) (new : PagePlace) → Conforms s under → PutsAll s es bytes (fresh_putter f new limits)
+  cut_all : (es : List Event) (s : PutterState) (under : List Event) (bytes : List ℕ) (new : PageProgress) → Conforms s under → PutsAll s es bytes (fresh_putter f new limits)
       → Cut s.place new (under ++ es) bytes
   cut_all [] s under bytes new w p =
       let is : s ≡ fresh_putter f new limits = sym p.1 in
@@ -269,22 +269,22 @@ module _ (f : OwnedFrame) (limits : CellLimits) where
       subst (λ (xs : List Event). Cut s.place new xs bytes) (append_assoc under (e ∷ []) es)
       (subst (λ (b : List ℕ). Cut s.place new ((under ++ e ∷ []) ++ es) b) (sym p.7) c)
 
-at_first : (f : OwnedFrame) (limits : CellLimits) (p : PagePlace) → Conforms f limits (fresh_putter f p limits) []
+at_first : (f : OwnedFrame) (limits : CellLimits) (p : PageProgress) → Conforms f limits (fresh_putter f p limits) []
 at_first f limits p = record { frame = refl; limits_are = refl; taken = refl; cut = inl refl }
 
-pieces_append : (f : OwnedFrame) (ps qs : List (List Event × List ℕ)) (a b c : PagePlace) → ArePieces f a ps b → ArePieces f b qs c → ArePieces f a (ps ++ qs) c
-pieces_append f [] qs a b c x y = subst (λ (p : PagePlace). ArePieces f p qs c) x y
+pieces_append : (f : OwnedFrame) (ps qs : List (List Event × List ℕ)) (a b c : PageProgress) → ArePieces f a ps b → ArePieces f b qs c → ArePieces f a (ps ++ qs) c
+pieces_append f [] qs a b c x y = subst (λ (p : PageProgress). ArePieces f p qs c) x y
 pieces_append f (p ∷ ps) qs a b c x y = (x.0, x.1, pieces_append f ps qs x.0 b c x.2 y)
 
 -- Batches as pieces.
-record InPieces (f : OwnedFrame) (old new : PagePlace) (es : List Event) (bytes : List ℕ) : Type 0 where
+record InPieces (f : OwnedFrame) (old new : PageProgress) (es : List Event) (bytes : List ℕ) : Type 0 where
   pieces : List (List Event × List ℕ)
   are : ArePieces f old pieces new
   events : all_events pieces ≡ es
   all : all_bytes pieces ≡ bytes
   whole : HaveNoParts es
 
-in_pieces : (f : OwnedFrame) (bs : List (List Event × List ℕ)) (old new : PagePlace) → AreBatches f old bs new → InPieces f old new (events_of bs) (bytes_of bs)
+in_pieces : (f : OwnedFrame) (bs : List (List Event × List ℕ)) (old new : PageProgress) → AreBatches f old bs new → InPieces f old new (events_of bs) (bytes_of bs)
 in_pieces f [] old new a = record { pieces = []; are = a; events = refl; all = refl; whole = refl }
 in_pieces f (b ∷ bs) old new a =
     let one = cut_all f a.1.limits b.0 (fresh_putter f old a.1.limits) [] b.1 a.0 (at_first f a.1.limits old) a.1.puts in
@@ -304,7 +304,7 @@ done_by true true e = refl
 done_by true false e = absurd cc
 done_by false b e = absurd cc
 
-done : (f : FrameValue) (p : PagePlace) → ends f p ≡ Ok tt → is_done f p ≡ true
+done : (f : FrameValue) (p : PageProgress) → ends f p ≡ Ok tt → is_done f p ≡ true
 done f p e = done_by (p.cells == cells_wanted f.message) (p.free == 0) e
 
 -- the events of the frame without rows begin with the header
@@ -320,7 +320,7 @@ page_is_written s h fields rows len b bs end first begins batches ended =
     let is : v ≡ frame_with_rows rows (frame_of g) = begins.2.1 ∙ begins.1.3.1 in
     let can : page_unfit_of v k ≡ None = ap (λ (f : FrameValue). page_unfit_of f k) begins.2.1 ∙ begins.2.0 in
     let cut = in_pieces b.page.frame bs b.page.place end batches in
-    let from = subst (λ (p : PagePlace). ArePieces b.page.frame p cut.pieces end) begins.2.2 cut.are in
+    let from = subst (λ (p : PageProgress). ArePieces b.page.frame p cut.pieces end) begins.2.2 cut.are in
     let law = has_its_events b.page.frame k cut.pieces end can from (done v end ended) in
     let bytes : page_head v k ++ all_bytes cut.pieces ≡ b.head.items ++ bytes_of bs =
     (λ i. ap (λ (f : FrameValue). page_head f k) begins.2.1 i ++ cut.all i) ∙ ap (λ (xs : List ℕ). xs ++ bytes_of bs) (sym begins.2.3) in

@@ -16,7 +16,7 @@ use Rattle.cqlp_compose.specs.Composing.{ComposerState, IsOfNone, IsWrittenOf}
 use Rattle.cqlp_build_cells.specs.declared.builder.CellLimits.{CellLimits}
 use Rattle.cqlp_build_cells.specs.declared.error.CellError.TheVariants as cell_error
 use Rattle.cqlp_compose.specs.declared.error.PageCellError.TheVariants as page_error
-use Rattle.cqlp_compose.specs.declared.place.PagePlace.{PagePlace}
+use Rattle.cqlp_compose.specs.declared.place.PageProgress.{PageProgress}
 use Rattle.cqlp_compose.specs.PageLaws.{IsPageOf}
 use Rattle.cqlp_compose.specs.declared.error.BeginError.{BeginError}
 use Rattle.cqlp_compose.specs.declared.error.BeginError.TheVariants as error
@@ -64,14 +64,14 @@ PutsAll s (e ∷ es) bytes new =
     × Puts s e n (Ok len) first mid × PutsAll mid es rest new × (bytes ≡ first ++ rest)
 
 -- From one place of a page to another these events were put as whole cells.
-pub record IsBatch (f : OwnedFrame) (old : PagePlace) (es : List Event) (bytes : List ℕ) (new : PagePlace) : Type 0 where
+pub record IsBatch (f : OwnedFrame) (old : PageProgress) (es : List Event) (bytes : List ℕ) (new : PageProgress) : Type 0 where
   pub limits : CellLimits
   pub puts : PutsAll (fresh_putter f old limits) es bytes (fresh_putter f new limits)
 
 -- Batches one after the other, each with its events and its bytes.
-abbrev pub AreBatches : OwnedFrame → PagePlace → List (List Event × List ℕ) → PagePlace → Type 0
+abbrev pub AreBatches : OwnedFrame → PageProgress → List (List Event × List ℕ) → PageProgress → Type 0
 AreBatches f old [] new = new ≡ old
-AreBatches f old (b ∷ bs) new = (mid : PagePlace) × IsBatch f old b.0 b.1 mid × AreBatches f mid bs new
+AreBatches f old (b ∷ bs) new = (mid : PageProgress) × IsBatch f old b.0 b.1 mid × AreBatches f mid bs new
 
 abbrev pub events_of : List (List Event × List ℕ) → List Event
 events_of bs = flat_map (λ b. b.0) bs
@@ -95,7 +95,7 @@ pub record IsFrameWith (h : Header) (fields : List Event) (bytes : List ℕ) : T
 -- these events.
 abbrev pub PageIsWritten : Type 0
 PageIsWritten =
-    (s : ComposerState) (h : Header) (fields : List Event) (rows len : ℕ) (b : BegunPage) (batches : List (List Event × List ℕ)) (end : PagePlace)
+    (s : ComposerState) (h : Header) (fields : List Event) (rows len : ℕ) (b : BegunPage) (batches : List (List Event × List ℕ)) (end : PageProgress)
     → s.frame.events ≡ Frame h ∷ fields → Begins s rows len (Ok b)
     → AreBatches b.page.frame b.page.place batches end → ends (frame_of b.page.frame) end ≡ Ok tt
     → IsFrameWith h (fields ++ rows_event rows ∷ events_of batches) (b.head.items ++ bytes_of batches)

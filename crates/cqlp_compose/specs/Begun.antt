@@ -11,7 +11,7 @@ use Rattle.cqlp_message.specs.Pages.{cells_wanted, page_head, page_unfit_of}
 use Rattle.cqlp_build.specs.declared.error.BuildError.TheVariants as build_error
 use Rattle.cqlp_build.specs.Closing.{Ends}
 use Rattle.cqlp_compose.specs.Composing.{ComposerState, refusal_of, with_next}
-use Rattle.cqlp_compose.specs.declared.place.PagePlace.{PagePlace}
+use Rattle.cqlp_compose.specs.declared.place.PageProgress.{PageProgress}
 use Rattle.cqlp_compose.specs.Places.{first_place}
 use Rattle.cqlp_compose.specs.declared.error.BeginError.{BeginError}
 use Rattle.cqlp_compose.specs.declared.error.BeginError.TheVariants as error
@@ -96,5 +96,5 @@ ends_where true false = Err unended.BytesMissing
 ends_where true true = Ok tt
 
 -- All cells of a page have come, and all bytes that they were to have; or what it still wants.
-abbrev pub ends : FrameValue → PagePlace → Result (Unit {0}) Unended
+abbrev pub ends : FrameValue → PageProgress → Result (Unit {0}) Unended
 ends f p = ends_where (p.cells == cells_wanted f.message) (p.free == 0)

@@ -19,14 +19,14 @@ use Rattle.cqlp_compose.specs.declared.cells.PageCells.{PageCells}
 use Rattle.cqlp_compose.specs.declared.cells.WrittenCells.{WrittenCells}
 use Rattle.cqlp_compose.specs.declared.error.PageCellError.{PageCellError}
 use Rattle.cqlp_compose.specs.declared.error.PageCellError.TheVariants as error
-use Rattle.cqlp_compose.specs.declared.place.PagePlace.{PagePlace}
+use Rattle.cqlp_compose.specs.declared.place.PageProgress.{PageProgress}
 use Rattle.cqlp_compose.specs.Places.{described_type}
 
 -- The page without its cells, and where it is behind those that were written; the cell under way, and whether it has begun; and
 -- the bytes of those that were written here.
 pub record CellsState : Type 0 where
   pub frame : Frame
-  pub place : PagePlace
+  pub place : PageProgress
   pub under : CellState
   pub cut : Bool
   pub bytes : List ℕ
@@ -39,7 +39,7 @@ abbrev pub page : CellsState → FrameValue
 page s = frame_of s.frame
 
 -- none has come behind this place
-abbrev pub begun : Frame → PagePlace → CellLimits → CellsState
+abbrev pub begun : Frame → PageProgress → CellLimits → CellsState
 begun f p limits = record { frame = f; place = p; under = empty limits; cut = false; bytes = [] }
 
 -- ---- the next cell

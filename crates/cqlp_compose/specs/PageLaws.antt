@@ -18,7 +18,7 @@ use Rattle.cqlp_build_cells.specs.declared.error.CellError.TheVariants as cell_e
 use Rattle.cqlp_compose.specs.declared.cells.WrittenCells.{WrittenCells}
 use Rattle.cqlp_compose.specs.declared.error.PageCellError.{PageCellError}
 use Rattle.cqlp_compose.specs.declared.error.PageCellError.TheVariants as error
-use Rattle.cqlp_compose.specs.declared.place.PagePlace.{PagePlace}
+use Rattle.cqlp_compose.specs.declared.place.PageProgress.{PageProgress}
 use Rattle.cqlp_compose.specs.Places.{first_place, is_done}
 use Rattle.cqlp_compose.specs.Cells.{CellsState, Gives, Takes, begun, without_cell}
 use Rattle.cqlp_compose.specs.Measures.{events_size}
@@ -46,7 +46,7 @@ TakesAll s [] new = new ≡ s
 TakesAll s (e ∷ es) new = (mid : CellsState) × Takes s e (Ok tt) mid × TakesAll mid es new
 
 -- Behind this place of a page these events were taken, and these bytes given, behind which the page is there.
-pub record IsPiece (f : OwnedFrame) (old : PagePlace) (es : List Event) (bytes : List ℕ) (new : PagePlace) : Type 0 where
+pub record IsPiece (f : OwnedFrame) (old : PageProgress) (es : List Event) (bytes : List ℕ) (new : PageProgress) : Type 0 where
   pub limits : CellLimits
   pub end : CellsState
   pub taken : TakesAll (begun f old limits) es end
@@ -56,9 +56,9 @@ pub record IsPiece (f : OwnedFrame) (old : PagePlace) (es : List Event) (bytes :
   pub bytes_are : bytes ≡ cells.bytes.items
 
 -- Pieces one after the other, each with its events and its bytes.
-abbrev pub ArePieces : OwnedFrame → PagePlace → List (List Event × List ℕ) → PagePlace → Type 0
+abbrev pub ArePieces : OwnedFrame → PageProgress → List (List Event × List ℕ) → PageProgress → Type 0
 ArePieces f old [] new = new ≡ old
-ArePieces f old (p ∷ ps) new = (mid : PagePlace) × IsPiece f old p.0 p.1 mid × ArePieces f mid ps new
+ArePieces f old (p ∷ ps) new = (mid : PageProgress) × IsPiece f old p.0 p.1 mid × ArePieces f mid ps new
 
 abbrev pub all_events : List (List Event × List ℕ) → List Event
 all_events ps = flat_map (λ p. p.0) ps
@@ -83,7 +83,7 @@ pub record IsPageOf (f : FrameValue) (n : ℕ) (es : List Event) (bytes : List �
 -- A page that is begun, and whose cells are all written in pieces, of their events: what is written in all is the frame that has these events.
 abbrev pub PageHasItsEvents : Type 0
 PageHasItsEvents =
-    (f : OwnedFrame) (n : ℕ) (pieces : List (List Event × List ℕ)) (end : PagePlace)
+    (f : OwnedFrame) (n : ℕ) (pieces : List (List Event × List ℕ)) (end : PageProgress)
     → page_unfit_of (frame_of f) n ≡ None → ArePieces f (first_place n) pieces end → is_done (frame_of f) end ≡ true
     → IsPageOf (frame_of f) n (all_events pieces) (page_head (frame_of f) n ++ all_bytes pieces)
 

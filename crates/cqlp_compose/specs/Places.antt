@@ -11,19 +11,19 @@ use Rattle.cqlp_message.specs.FrameValues.{FrameValue}
 use Rattle.cqlp_message.specs.Pages.{cells_wanted, page_head, page_unfit_of}
 use Rattle.cqlp_compose.specs.declared.error.HeadError.{HeadError}
 use Rattle.cqlp_compose.specs.declared.error.HeadError.TheVariants as error
-use Rattle.cqlp_compose.specs.declared.place.PagePlace.{PagePlace}
+use Rattle.cqlp_compose.specs.declared.place.PageProgress.{PageProgress}
 
 -- before the first cell, where all cells are to have n bytes
-abbrev pub first_place : (n : ℕ) → PagePlace
+abbrev pub first_place : (n : ℕ) → PageProgress
 first_place n = record { cells = 0; free = n }
 
 -- there, unless something keeps the frame from being such a page
-abbrev pub place_unless : Option Unfit → (n : ℕ) → Result PagePlace Unfit
+abbrev pub place_unless : Option Unfit → (n : ℕ) → Result PageProgress Unfit
 place_unless None n = Ok (first_place n)
 place_unless (Some why) n = Err why
 
 -- all cells of a page have come, and all bytes that they were to have
-abbrev pub is_done : FrameValue → PagePlace → Bool
+abbrev pub is_done : FrameValue → PageProgress → Bool
 is_done f p = (p.cells == cells_wanted f.message) && (p.free == 0)
 
 -- What comes before the first cell; or why the frame is no page that can be written with cells of n bytes.

@@ -4,7 +4,7 @@ use Rattle.cqlp_grammar.specs.Events.{Event}
 use Rattle.cqlp_message.specs.declared.frame.Frame.{Frame}
 use Rattle.cqlp_build_cells.specs.declared.builder.CellLimits.{CellLimits}
 use Rattle.cqlp_build_cells.specs.Building.{ends_cell}
-use Rattle.cqlp_compose.specs.declared.place.PagePlace.{PagePlace}
+use Rattle.cqlp_compose.specs.declared.place.PageProgress.{PageProgress}
 use Rattle.cqlp_compose.specs.declared.cells.WrittenCells.{WrittenCells}
 use Rattle.cqlp_compose.specs.Cells.{CellsState, Gives, Takes, begun, state}
 use Rattle.cqlp_compose.specs.declared.put.PutCells.{PutCells}
@@ -15,18 +15,18 @@ use Rattle.cqlp_compose.specs.declared.error.PutError.TheVariants as error
 pub record PutterState : Type 0 where
   pub frame : Frame
   pub limits : CellLimits
-  pub place : PagePlace
+  pub place : PageProgress
   pub cells : CellsState
 
 abbrev pub putter : PutCells → PutterState
 putter c = record { frame = c.frame.now; limits = c.limits; place = c.place; cells = state c.cells }
 
 -- no event came after this place
-abbrev pub fresh_putter : Frame → PagePlace → CellLimits → PutterState
+abbrev pub fresh_putter : Frame → PageProgress → CellLimits → PutterState
 fresh_putter f p limits = record { frame = f; limits = limits; place = p; cells = begun f p limits }
 
 -- after this place no event of the next cell came
-abbrev pub fresh : PutterState → PagePlace → PutterState
+abbrev pub fresh : PutterState → PageProgress → PutterState
 fresh s p = fresh_putter s.frame p s.limits
 
 abbrev pub Answer : Type 0

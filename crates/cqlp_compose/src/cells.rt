@@ -12,8 +12,8 @@ ghost use Rattle.cqlp_compose.specs.Cells.{Ends, Gives, GoesOn, Puts, Takes, beg
 
 use crate::column::column_type;
 use crate::error::PageCellError;
-use crate::memory::InMemory;
-use crate::place::PagePlace;
+use crate::memory::VecTarget;
+use crate::place::PageProgress;
 use cqlp_build_cells::{CellBuilder, CellError, CellLimits, ends_cell};
 use cqlp_encode::write_value;
 use cqlp_grammar::Event;
@@ -27,7 +27,7 @@ use std::alloc::Global;
 /// `native_protocol_v4.spec`.
 ///
 /// It takes what a decoder says of the cells, in that order, each event with its row and its column, and holds what it writes and the
-/// events of one cell. The page itself, a [`Frame`] without cells and a [`PagePlace`], is the caller's, and is behind the cells only once
+/// events of one cell. The page itself, a [`Frame`] without cells and a [`PageProgress`], is the caller's, and is behind the cells only once
 /// the caller puts [`WrittenCells::place`] there. Until then, and where an event was refused, nothing has changed. A page of any size is
 /// written in as many pieces as the caller likes:
 ///
@@ -46,18 +46,18 @@ use std::alloc::Global;
 #[derive(Drop)]
 pub struct PageCells<'a> {
     frame: &'a Frame,
-    place: PagePlace,
+    place: PageProgress,
     cell: CellBuilder,
     /// Whether a cell has begun and not ended.
     cut: bool,
-    target: InMemory,
+    target: VecTarget,
 }
 
 /// Cells of a page that were written.
 #[derive(Debug, PartialEq, Eq, Drop)]
 pub struct WrittenCells {
     /// Where the page is behind them.
-    pub place: PagePlace,
+    pub place: PageProgress,
     /// The bytes of these cells, to be written behind those of the cells before them.
     pub bytes: Vec<u8>,
 }
@@ -68,7 +68,7 @@ impl<'a> PageCells<'a> {
     pub fn new(
         alloc: Global,
         frame: &'a Frame,
-        place: PagePlace,
+        place: PageProgress,
         limits: CellLimits,
     ) -> PageCells<'a>
         ensures { state result ≡ begun frame.now place limits }
@@ -78,7 +78,7 @@ impl<'a> PageCells<'a> {
             place,
             cell: CellBuilder::new(alloc, limits),
             cut: false,
-            target: InMemory::new(Vec::new(alloc)),
+            target: VecTarget::new(Vec::new(alloc)),
         }
     }
 
@@ -221,7 +221,7 @@ impl<'a> PageCells<'a> {
         let len = self.target.len();
         match write_value(value, of, &mut self.target) {
             Ok(size) => {
-                self.place = PagePlace {
+                self.place = PageProgress {
                     cells: self.place.cells + 1,
                     free: self.place.free - size,
                 };

@@ -10,7 +10,7 @@ ghost use Rattle.cqlp_build.specs.Building.{is_end};
 ghost use Rattle.cqlp_build.specs.Closing.{Ends};
 ghost use Rattle.cqlp_compose.specs.Composing.{IsOfNone, IsWrittenOf, Takes, composed, start};
 
-use crate::memory::InMemory;
+use crate::memory::VecTarget;
 use cqlp_build::{BuildError, BuildLimits, FrameBuilder};
 use cqlp_encode::encode;
 use cqlp_grammar::Event;
@@ -140,7 +140,7 @@ fn written(alloc: Global, frame: &Frame) -> Result<Vec<u8>, BuildError>
     let Ok(room) = Vec::with_capacity(alloc, len as usize) else {
         return Err(BuildError::NoMemory);
     };
-    let mut target = InMemory::new(room);
+    let mut target = VecTarget::new(room);
     match encode(frame, &mut target) {
         Ok(_) => Ok(target.into_bytes()),
         Err(_) => Err(BuildError::NoMemory),

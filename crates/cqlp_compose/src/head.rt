@@ -4,7 +4,7 @@ ghost use Rattle.cqlp_message.specs.Owned.{frame_of};
 ghost use Rattle.cqlp_compose.specs.Places.{IsHeadOf};
 
 use crate::error::HeadError;
-use crate::memory::InMemory;
+use crate::memory::VecTarget;
 use cqlp_encode::{PageError, PageWriter};
 use cqlp_message::Frame;
 use std::alloc::Global;
@@ -19,7 +19,7 @@ use std::alloc::Global;
 pub fn page_head(alloc: Global, frame: &Frame, cells_len: u32) -> Result<Vec<u8>, HeadError>
     ensures { IsHeadOf (frame_of frame.now) cells_len result }
 {
-    let mut target = InMemory::new(Vec::new(alloc));
+    let mut target = VecTarget::new(Vec::new(alloc));
     let begun = match PageWriter::begin(frame, cells_len, &mut target) {
         Ok(_) => None,
         Err(PageError::Unfit(why)) => Some(HeadError::Unfit(why)),

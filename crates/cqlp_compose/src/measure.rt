@@ -11,7 +11,7 @@ use cqlp_kind::{Kind, Scalar};
 use cqlp_note::Address;
 
 /// How many bytes of a page an event of a cell covers. Those of all events of its cells, added up, are what
-/// [`page_head`](crate::page_head) and [`PagePlace::start`](crate::PagePlace::start) take.
+/// [`page_head`](crate::page_head) and [`PageProgress::start`](crate::PageProgress::start) take.
 ///
 /// None of a part of a scalar, which is not written, and of an event that is none of a cell.
 #[must_use]

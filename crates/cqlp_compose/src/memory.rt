@@ -6,7 +6,7 @@ use cqlp_note::{IoFault, Target};
 
 /// Takes bytes behind those that it has. It fails where memory is refused.
 #[derive(Drop)]
-pub struct InMemory {
+pub struct VecTarget {
     bytes: Vec<u8>,
     /// How many calls found no memory, up to 2^64 - 1.
     failures: u64,
@@ -14,12 +14,12 @@ pub struct InMemory {
     writes: u64,
 }
 
-impl InMemory {
+impl VecTarget {
     /// With these bytes, and no call made.
-    pub fn new(bytes: Vec<u8>) -> InMemory
+    pub fn new(bytes: Vec<u8>) -> VecTarget
         ensures { result ≡ record { bytes = bytes; failures = 0; writes = 0 } }
     {
-        InMemory {
+        VecTarget {
             bytes,
             failures: 0,
             writes: 0,
@@ -44,7 +44,7 @@ impl InMemory {
     pub fn into_bytes(self) -> Vec<u8>
         ensures { result ≡ self.bytes }
     {
-        let InMemory {
+        let VecTarget {
             bytes,
             failures: _,
             writes: _,
@@ -53,7 +53,7 @@ impl InMemory {
     }
 }
 
-impl Target for InMemory {
+impl Target for VecTarget {
     ghost contents = { λ target. Some target.bytes.items };
 
     ghost failures = { λ target. target.failures };

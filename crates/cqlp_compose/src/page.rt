@@ -9,7 +9,7 @@ ghost use Rattle.cqlp_compose.specs.Begun.{Begins, BeginsBare, IsBare, SetsRows,
 use crate::composer::Composer;
 use crate::error::{BeginError, HeadError, Unended};
 use crate::head::page_head;
-use crate::place::PagePlace;
+use crate::place::PageProgress;
 use cqlp_build::BuildError;
 use cqlp_grammar::Event;
 use cqlp_message::{Frame, Message};
@@ -38,7 +38,7 @@ use std::alloc::Global;
 #[derive(Drop)]
 pub struct OpenPage {
     pub(crate) frame: Frame,
-    pub(crate) place: PagePlace,
+    pub(crate) place: PageProgress,
 }
 
 /// A page that is begun, and what is to be written of it before its first cell.
@@ -76,14 +76,14 @@ impl OpenPage {
 
     /// Where it is.
     #[must_use]
-    pub fn place(&self) -> PagePlace
+    pub fn place(&self) -> PageProgress
         ensures { result ≡ self.now.place }
     {
         self.place
     }
 
     /// Goes on to the place after cells that were put.
-    pub fn set_place(&mut self, place: PagePlace)
+    pub fn set_place(&mut self, place: PageProgress)
         ensures { self.new ≡ record self.old { place = place } }
     {
         self.place = place;
@@ -119,7 +119,7 @@ fn said_len(cells_len: u64) -> u32
 fn begun(alloc: Global, frame: Frame, cells_len: u32) -> Result<BegunPage, BeginError>
     ensures { BeginsBare (frame_of frame) cells_len result }
 {
-    let place = match PagePlace::start(&frame, cells_len) {
+    let place = match PageProgress::start(&frame, cells_len) {
         Ok(place) => place,
         Err(why) => return Err(BeginError::Unfit(why)),
     };

@@ -7,7 +7,7 @@ ghost use Rattle.cqlp_compose.specs.Put.{Ended, Puts, fresh, fresh_putter, putte
 use crate::cells::PageCells;
 use crate::error::PutError;
 use crate::page::OpenPage;
-use crate::place::PagePlace;
+use crate::place::PageProgress;
 use cqlp_build_cells::{CellLimits, ends_cell};
 use cqlp_grammar::Event;
 use cqlp_message::Frame;
@@ -25,7 +25,7 @@ pub struct PutCells<'a> {
     frame: &'a Frame,
     limits: CellLimits,
     /// Behind the last cell that was put.
-    place: PagePlace,
+    place: PageProgress,
     /// The cell under way.
     cells: PageCells<'a>,
 }
@@ -48,7 +48,7 @@ impl<'a> PutCells<'a> {
 
     /// Where the page is after the cells that were put.
     #[must_use]
-    pub fn place(&self) -> PagePlace
+    pub fn place(&self) -> PageProgress
         ensures { result ≡ self.now.place }
     {
         self.place

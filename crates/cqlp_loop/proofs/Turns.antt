@@ -12,21 +12,21 @@ use Rattle.cqlp_loop.specs.Callers.{CallerState, Prints, done_line}
 use Rattle.cqlp_loop.specs.Callers as caller
 use Rattle.cqlp_loop.specs.Hosts.{HostState}
 use Rattle.cqlp_loop.specs.Hosts as host
-use Rattle.cqlp_loop.specs.Script.{Turn, Asks, Takes, Answers, Hears, Closes, End, Wires, Scene, wires, scene, with_out}
+use Rattle.cqlp_loop.specs.Script.{LoopStep, Asks, Takes, Answers, Hears, Closes, End, Wires, Scene, wires, scene, with_out}
 use Rattle.cqlp_loop.specs.Script.{Comes, Does, Plays, Breaks, Ends, exchange, exchange_pair, pairs, last}
 use Rattle.cqlp_loop.specs.Script.{IsFresh, Talks, Converses, setting_up, queries}
 
 -- ---- one turn
 
-pub does_first : (r : Result (Unit {0}) LoopFault) (t : Turn) (turns : List Turn) (a mid b : Scene) → Does t a mid → Ends turns mid r b → Ends (t ∷ turns) a r b
+pub does_first : (r : Result (Unit {0}) LoopFault) (t : LoopStep) (turns : List LoopStep) (a mid b : Scene) → Does t a mid → Ends turns mid r b → Ends (t ∷ turns) a r b
 does_first (Ok u) t turns a mid b d e = (mid, d, e)
 does_first (Err f) t turns a mid b d e = inr (mid, d, e)
 
-pub ends_at : (r : Result (Unit {0}) LoopFault) (t : Turn) (a b : Scene) → Comes t a r b → Ends (t ∷ []) a r b
+pub ends_at : (r : Result (Unit {0}) LoopFault) (t : LoopStep) (a b : Scene) → Comes t a r b → Ends (t ∷ []) a r b
 ends_at (Ok u) t a b c = (b, c, refl)
 ends_at (Err f) t a b c = inl (b, c, refl)
 
-pub breaks_first : (e : LoopFault) (t : Turn) (turns : List Turn) (a b : Scene) → Comes t a (Err e) b → Breaks e (t ∷ turns) a b.wires
+pub breaks_first : (e : LoopFault) (t : LoopStep) (turns : List LoopStep) (a b : Scene) → Comes t a (Err e) b → Breaks e (t ∷ turns) a b.wires
 breaks_first e t turns a b c = inl (b, c, refl)
 
 -- the turns of a client whose server is as it was
@@ -48,20 +48,20 @@ replied q z id c h h' ids s t from client out r is a = (id, refl, subst (λ (x :
 
 -- ---- turns after turns
 
-pub plays_then : (t u : List Turn) (a b c : Scene) → Plays t a b → Plays u b c → Plays (t ++ u) a c
+pub plays_then : (t u : List LoopStep) (a b c : Scene) → Plays t a b → Plays u b c → Plays (t ++ u) a c
 plays_then [] u a b c p q = rw p at q
 plays_then (x ∷ t) u a b c p q = (p.0, p.1, plays_then t u p.0 b c p.2 q)
 
-pub breaks_then : (e : LoopFault) (t u : List Turn) (a b : Scene) (w : Wires) → Plays t a b → Breaks e u b w → Breaks e (t ++ u) a w
+pub breaks_then : (e : LoopFault) (t u : List LoopStep) (a b : Scene) (w : Wires) → Plays t a b → Breaks e u b w → Breaks e (t ++ u) a w
 breaks_then e [] u a b w p q = rw p at q
 breaks_then e (x ∷ t) u a b w p q = inr (p.0, p.1, breaks_then e t u p.0 b w p.2 q)
 
-pub breaks_more : (e : LoopFault) (t u : List Turn) (a : Scene) (w : Wires) → Breaks e t a w → Breaks e (t ++ u) a w
+pub breaks_more : (e : LoopFault) (t u : List LoopStep) (a : Scene) (w : Wires) → Breaks e t a w → Breaks e (t ++ u) a w
 breaks_more e [] u a w p = absurd p
 breaks_more e (x ∷ t) u a w (inl p) = inl p
 breaks_more e (x ∷ t) u a w (inr p) = inr (p.0, p.1, breaks_more e t u p.0 w p.2)
 
-pub ends_then : (r : Result (Unit {0}) LoopFault) (t u : List Turn) (a b c : Scene) → Plays t a b → Ends u b r c → Ends (t ++ u) a r c
+pub ends_then : (r : Result (Unit {0}) LoopFault) (t u : List LoopStep) (a b c : Scene) → Plays t a b → Ends u b r c → Ends (t ++ u) a r c
 ends_then (Ok x) t u a b c p q = plays_then t u a b c p q
 ends_then (Err e) t u a b c p q = breaks_then e t u a b c.wires p q
 
@@ -69,7 +69,7 @@ ends_then (Err e) t u a b c p q = breaks_then e t u a b c.wires p q
 
 pub pairs_both : (m n : ℕ) → pairs (m + n) ≡ pairs m ++ pairs n
 pairs_both zero n = let e : 0 + n ≡ n = omega arith in ap (λ (k : ℕ). pairs k) e
-pairs_both (suc m) n = let e : suc m + n ≡ suc (m + n) = omega arith in ap (λ (k : ℕ). pairs k) e ∙ ap (λ (z : List Turn). exchange_pair ++ z) (pairs_both m n)
+pairs_both (suc m) n = let e : suc m + n ≡ suc (m + n) = omega arith in ap (λ (k : ℕ). pairs k) e ∙ ap (λ (z : List LoopStep). exchange_pair ++ z) (pairs_both m n)
 
 pub last_is : (n : ℕ) → n ≢ 0 → last n ≡ exchange Query
 last_is zero some = absurd (some refl)
@@ -82,9 +82,9 @@ last_none (suc n) none = absurd cc
 pub pairs_more : (n : ℕ) (a b c : Scene) → Plays (pairs n) a b → Plays exchange_pair b c → Plays (pairs (n + 1)) a c
 pairs_more n a b c p q = rw (pairs_both n 1) (plays_then (pairs n) (pairs 1) a b c p q)
 
-pub pairs_break : (e : LoopFault) (n m : ℕ) (rest : List Turn) (a b : Scene) (w : Wires) → Plays (pairs n) a b → Breaks e exchange_pair b w → Breaks e (pairs (n + suc m) ++ rest) a w
+pub pairs_break : (e : LoopFault) (n m : ℕ) (rest : List LoopStep) (a b : Scene) (w : Wires) → Plays (pairs n) a b → Breaks e exchange_pair b w → Breaks e (pairs (n + suc m) ++ rest) a w
 pairs_break e n m rest a b w p q =
-    let same : pairs (n + suc m) ++ rest ≡ pairs n ++ (exchange_pair ++ (pairs m ++ rest)) = ap (λ (z : List Turn). z ++ rest) (pairs_both n (suc m)) ∙ append_assoc (pairs n) (pairs (suc m)) rest in
+    let same : pairs (n + suc m) ++ rest ≡ pairs n ++ (exchange_pair ++ (pairs m ++ rest)) = ap (λ (z : List LoopStep). z ++ rest) (pairs_both n (suc m)) ∙ append_assoc (pairs n) (pairs (suc m)) rest in
     rw same (breaks_then e (pairs n) (exchange_pair ++ (pairs m ++ rest)) a b w p (breaks_more e exchange_pair (pairs m ++ rest) b w q))
 
 -- ---- the whole conversation

@@ -21,40 +21,40 @@ use Rattle.cqlp_loop.specs.Hosts as host
 
 -- what happens next: the client asks; the server takes a request; it answers the one that it took last of those that
 -- are open; the client hears a reply; the last line is printed
-pub data Turn : Type 0 where
-  Asks : Request → Turn
-  Takes : Turn
-  Answers : Request → Turn
-  Hears : Turn
-  Closes : (count : ℕ) → Turn
+pub data LoopStep : Type 0 where
+  Asks : Request → LoopStep
+  Takes : LoopStep
+  Answers : Request → LoopStep
+  Hears : LoopStep
+  Closes : (count : ℕ) → LoopStep
 
 -- one request and its reply
-abbrev pub exchange : Request → List Turn
+abbrev pub exchange : Request → List LoopStep
 exchange r = Asks r ∷ Takes ∷ Answers r ∷ Hears ∷ []
 
 -- two queries at a time, of which the later is answered first
-abbrev pub exchange_pair : List Turn
+abbrev pub exchange_pair : List LoopStep
 exchange_pair =
     Asks Query ∷ Asks Query ∷ Takes ∷ Takes ∷ Answers Query ∷ Answers Query ∷ Hears ∷ Hears ∷ []
 
-abbrev pub pairs : ℕ → List Turn
+abbrev pub pairs : ℕ → List LoopStep
 pairs zero = []
 pairs (suc n) = exchange_pair ++ pairs n
 
 -- a query alone, where one is left
-abbrev pub last : ℕ → List Turn
+abbrev pub last : ℕ → List LoopStep
 last zero = []
 last (suc n) = exchange Query
 
-abbrev pub setting_up : List Turn
+abbrev pub setting_up : List LoopStep
 setting_up = exchange Options ++ exchange Startup
 
-abbrev pub queries : (count : ℕ) → List Turn
+abbrev pub queries : (count : ℕ) → List LoopStep
 queries count = pairs (count / 2) ++ last (count % 2)
 
 -- The connection is set up, then come the queries, two at a time, and the last alone where their number is odd; and
 -- then the last line.
-abbrev pub script : (count : ℕ) → List Turn
+abbrev pub script : (count : ℕ) → List LoopStep
 script count = (setting_up ++ queries count) ++ Closes count ∷ []
 
 -- ---- the scene
@@ -121,7 +121,7 @@ TakesOne a r b =
     × host.Accepts a.host a.wires.server.source (Err e) b.host b.wires.server.source × (b.unanswered ≡ a.unanswered))
 
 -- What comes of a turn: it is done, or a fault ends the conversation.
-abbrev pub Comes : Turn → Scene → Result (Unit {0}) LoopFault → Scene → Type 0
+abbrev pub Comes : LoopStep → Scene → Result (Unit {0}) LoopFault → Scene → Type 0
 Comes (Asks q) a r b =
     caller.Asks q a.caller a.wires.client.target r b.caller b.wires.client.target
     × (b ≡ with_client a b.caller (record a.wires.client { target = b.wires.client.target }))
@@ -138,25 +138,25 @@ Comes Hears a r b =
 Comes (Closes count) a r b =
     Prints (done_line count) a.wires.out r b.wires.out × (b ≡ with_out a b.wires.out)
 
-abbrev pub Does : Turn → (before after : Scene) → Type 0
+abbrev pub Does : LoopStep → (before after : Scene) → Type 0
 Does t a b = Comes t a (Ok tt) b
 
 -- ---- turns
 
 -- one turn after the other
-abbrev pub Plays : List Turn → (before after : Scene) → Type 0
+abbrev pub Plays : List LoopStep → (before after : Scene) → Type 0
 Plays [] a b = b ≡ a
 Plays (t ∷ turns) a b = (mid : Scene) × Does t a mid × Plays turns mid b
 
 -- The first of these turns are played, and the next ends the conversation by this fault, which leaves these streams.
-abbrev pub Breaks : LoopFault → List Turn → Scene → Wires → Type 0
+abbrev pub Breaks : LoopFault → List LoopStep → Scene → Wires → Type 0
 Breaks e [] a left = ⊥
 Breaks e (t ∷ turns) a left =
     ((b : Scene) × Comes t a (Err e) b × (b.wires ≡ left))
     ⊎ ((mid : Scene) × Does t a mid × Breaks e turns mid left)
 
 -- What comes of these turns.
-abbrev pub Ends : List Turn → Scene → Result (Unit {0}) LoopFault → Scene → Type 0
+abbrev pub Ends : List LoopStep → Scene → Result (Unit {0}) LoopFault → Scene → Type 0
 Ends turns a (Ok u) b = Plays turns a b
 Ends turns a (Err e) b = Breaks e turns a b.wires
 

@@ -6,18 +6,18 @@ use cqlp_note::{IoFault, Source};
 
 /// Gives bytes that lie in memory, from the first on. No read of it fails.
 #[derive(Drop)]
-pub struct InMemory<'a> {
+pub struct SliceSource<'a> {
     bytes: &'a [u8],
     reads: u64,
     asked: u64,
 }
 
-impl<'a> InMemory<'a> {
+impl<'a> SliceSource<'a> {
     /// With all of these bytes still to come.
-    pub fn new(bytes: &'a [u8]) -> InMemory<'a>
+    pub fn new(bytes: &'a [u8]) -> SliceSource<'a>
         ensures { result.bytes.now ≡ bytes.now }
     {
-        InMemory {
+        SliceSource {
             bytes,
             reads: 0,
             asked: 0,
@@ -25,7 +25,7 @@ impl<'a> InMemory<'a> {
     }
 }
 
-impl Source for InMemory<'_> {
+impl Source for SliceSource<'_> {
     ghost left = { λ source. Some source.bytes.now };
 
     ghost failures = { λ _. 0 };

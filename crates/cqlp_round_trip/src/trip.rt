@@ -9,7 +9,7 @@ ghost use Rattle.cqlp_round_trip.specs.RoundTrip.{CanTravel, ComesBack, Explains
 ghost use Rattle.cqlp_round_trip.specs.RoundTrip.{KeepsDecoder, LeavesSink, ReadsAll, StopsReading};
 ghost use Rattle.cqlp_note.specs.declared.limits.Limits.{Limits as Given};
 
-use crate::memory::InMemory;
+use crate::memory::SliceSource;
 use cqlp_decode::{Decoder, NewError, Outcome, run};
 use cqlp_encode::encode;
 use cqlp_grammar::{Finish, Sink, SinkFault};
@@ -127,7 +127,7 @@ fn read<A: Allocator, S: Sink>(
         (λ end. ReadsAll S.after (rules_of limits) bytes.now end (S.view sink.old) (S.view sink.new))
         (λ e. FailsReading S.after S.faulted (rules_of limits) bytes.now (S.view sink.old) (S.view sink.new)) }
 {
-    let mut source = InMemory::new(bytes);
+    let mut source = SliceSource::new(bytes);
     match run(decoder, &mut source, sink, u64::MAX) {
         Outcome::Finished(finish) => Ok(finish),
         Outcome::SinkFault => Err(SinkFault),

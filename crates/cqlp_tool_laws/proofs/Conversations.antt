@@ -7,7 +7,7 @@ use Rattle.cqlp_loop.specs.declared.fault.LoopFault.{LoopFault}
 use Rattle.cqlp_loop.specs.declared.fault.LoopFault.TheVariants as fault
 use Rattle.cqlp_loop.specs.Hearing.{Hearing, idle}
 use Rattle.cqlp_loop.specs.Inboxes.{Supply, InboxState, IsNew}
-use Rattle.cqlp_loop.specs.Script.{End, Wires, Scene, Turn, Comes, Does, Ends, IsFresh, Talks, script}
+use Rattle.cqlp_loop.specs.Script.{End, Wires, Scene, LoopStep, Comes, Does, Ends, IsFresh, Talks, script}
 use Rattle.cqlp_loop.specs.Script as turn
 use Rattle.cqlp_tool_laws.specs.Conversations.{IsSound, ReadTo, BothReadTheSame, IsDecided, SaidTheSame, SaidMore, TalksOver, IsOneAnswerOfTalk, OneGoesOnFromOther, DecidedGoesFurthest}
 use Rattle.cqlp_tool_laws.proofs.Receipts.{Conformed}
@@ -23,7 +23,7 @@ record CountsKept (a b : Wires) : Type 0 where
   pub server_source : b.server.source.failures ≡ a.server.source.failures
   pub server_target : b.server.target.failures ≡ a.server.target.failures
 
-counts_kept : (t : Turn) (a b : Scene) → Does t a b → CountsKept a.wires b.wires
+counts_kept : (t : LoopStep) (a b : Scene) → Does t a b → CountsKept a.wires b.wires
 counts_kept (turn.Asks q) a b (inl (t, ok, new, w), e) = record {
   client_source = ap (λ (z : Scene). z.wires.client.source.failures) e;
   client_target = w.1;
@@ -77,12 +77,12 @@ decided_on (Err fault.WriteFault) a b c k d = absurd d
 -- ---- turn by turn
 
 -- the first turn is done, and the others come; or it ends the conversation
-abbrev First : Turn → List Turn → Scene → Result (Unit {0}) LoopFault → Scene → Type 0
+abbrev First : LoopStep → List LoopStep → Scene → Result (Unit {0}) LoopFault → Scene → Type 0
 First t turns a r b =
     ((mid : Scene) × Does t a mid × Ends turns mid r b)
     ⊎ ((e : LoopFault) × (stop : Scene) × (r ≡ Err e) × Comes t a (Err e) stop × (stop.wires ≡ b.wires))
 
-first : (t : Turn) (turns : List Turn) (a b : Scene) (r : Result (Unit {0}) LoopFault) → Ends (t ∷ turns) a r b → First t turns a r b
+first : (t : LoopStep) (turns : List LoopStep) (a b : Scene) (r : Result (Unit {0}) LoopFault) → Ends (t ∷ turns) a r b → First t turns a r b
 first t turns a b (Ok u) p = inl p
 first t turns a b (Err e) (inl p) = inr (e, p.0, refl, p.1, p.2)
 first t turns a b (Err e) (inr p) = inl p
@@ -94,12 +94,12 @@ said_nothing a b a' b' same same' = record {
   lines = given_nothing _ _ _ _ (ap (λ (z : Wires). z.out) same) (ap (λ (z : Wires). z.out) same');
 }
 
-gave_first : (t : Turn) (turns : List Turn) (on : (a b : Scene) (r : Result (Unit {0}) LoopFault) → Ends turns a r b → Gave a.wires b.wires) (a b : Scene) (r : Result (Unit {0}) LoopFault) → First t turns a r b → Gave a.wires b.wires
+gave_first : (t : LoopStep) (turns : List LoopStep) (on : (a b : Scene) (r : Result (Unit {0}) LoopFault) → Ends turns a r b → Gave a.wires b.wires) (a b : Scene) (r : Result (Unit {0}) LoopFault) → First t turns a r b → Gave a.wires b.wires
 gave_first t turns on a b r (inl (mid, x, q)) = gave_then a.wires mid.wires b.wires (gave_in t a mid (Ok tt) x) (on mid b r q)
 gave_first t turns on a b r (inr (e, stop, is, c, same)) = subst (λ (z : Wires). Gave a.wires z) same (gave_in t a stop (Err e) c)
 
 -- each target was given something
-gave_on : (turns : List Turn) (a b : Scene) (r : Result (Unit {0}) LoopFault) → Ends turns a r b → Gave a.wires b.wires
+gave_on : (turns : List LoopStep) (a b : Scene) (r : Result (Unit {0}) LoopFault) → Ends turns a r b → Gave a.wires b.wires
 gave_on [] a b (Ok u) p = gave_as a.wires b.wires (ap (λ (z : Scene). z.wires) p)
 gave_on [] a b (Err e) p = absurd p
 gave_on (t ∷ turns) a b r p = gave_first t turns (gave_on turns) a b r (first t turns a b r p)
@@ -130,19 +130,19 @@ module _ (l : Rules) (to_client to_server : List ℕ) where
   abbrev AreOne : (r r' : Result (Unit {0}) LoopFault) (a b a' b' : Wires) → Type 0
   AreOne r r' a b a' b' = (r' ≡ r) × SaidTheSame a b a' b' × (r ≡ Ok tt → BothReadTheSame to_client to_server b b')
 
-  stopped : (t : Turn) (a b a' b' : Scene) (r r' : Result (Unit {0}) LoopFault) (e e' : LoopFault) (stop stop' : Scene) → Alike l to_client to_server a a' → r ≡ Err e → r' ≡ Err e' → Comes t a (Err e) stop → Comes t a' (Err e') stop' → stop.wires ≡ b.wires → stop'.wires ≡ b'.wires → IsDecided r a.wires b.wires → IsDecided r' a'.wires b'.wires → AreOne r r' a.wires b.wires a'.wires b'.wires
+  stopped : (t : LoopStep) (a b a' b' : Scene) (r r' : Result (Unit {0}) LoopFault) (e e' : LoopFault) (stop stop' : Scene) → Alike l to_client to_server a a' → r ≡ Err e → r' ≡ Err e' → Comes t a (Err e) stop → Comes t a' (Err e') stop' → stop.wires ≡ b.wires → stop'.wires ≡ b'.wires → IsDecided r a.wires b.wires → IsDecided r' a'.wires b'.wires → AreOne r r' a.wires b.wires a'.wires b'.wires
   stopped t a b a' b' r r' e e' stop stop' al is is' c c' same same' d d' =
       let o = once l to_client to_server (Err e) (Err e') a stop a' stop' al (rw (← same, is) at d) (rw (← same', is') at d') t c c' in
       (is' ∙ o.answer ∙ sym is, rw (same, same') at o.said, λ ok. absurd cc)
 
   -- all conversations of these turns
-  abbrev Plays_once : List Turn → Type 0
+  abbrev Plays_once : List LoopStep → Type 0
   Plays_once turns =
       (a b a' b' : Scene) (r r' : Result (Unit {0}) LoopFault) → Alike l to_client to_server a a'
       → Ends turns a r b → Ends turns a' r' b' → IsDecided r a.wires b.wires → IsDecided r' a'.wires b'.wires
       → AreOne r r' a.wires b.wires a'.wires b'.wires
 
-  first_once : (t : Turn) (turns : List Turn) (on : Plays_once turns) (a b a' b' : Scene) (r r' : Result (Unit {0}) LoopFault) → Alike l to_client to_server a a' → First t turns a r b → First t turns a' r' b' → IsDecided r a.wires b.wires → IsDecided r' a'.wires b'.wires → AreOne r r' a.wires b.wires a'.wires b'.wires
+  first_once : (t : LoopStep) (turns : List LoopStep) (on : Plays_once turns) (a b a' b' : Scene) (r r' : Result (Unit {0}) LoopFault) → Alike l to_client to_server a a' → First t turns a r b → First t turns a' r' b' → IsDecided r a.wires b.wires → IsDecided r' a'.wires b'.wires → AreOne r r' a.wires b.wires a'.wires b'.wires
   first_once t turns on a b a' b' r r' al (inl (mid, x, q)) (inl (mid', x', q')) d d' =
       let o = once l to_client to_server (Ok tt) (Ok tt) a mid a' mid' al tt tt t x x' in
       let later = on mid b mid' b' r r' (o.alike refl) q q' (decided_on r a.wires mid.wires b.wires (counts_kept t a mid x) d) (decided_on r' a'.wires mid'.wires b'.wires (counts_kept t a' mid' x') d') in
@@ -157,27 +157,27 @@ module _ (l : Rules) (to_client to_server : List ℕ) where
       absurd cc
   first_once t turns on a b a' b' r r' al (inr (e, stop, is, c, same)) (inr (e', stop', is', c', same')) d d' = stopped t a b a' b' r r' e e' stop stop' al is is' c c' same same' d d'
 
-  plays_once : (turns : List Turn) → Plays_once turns
+  plays_once : (turns : List LoopStep) → Plays_once turns
   plays_once [] a b a' b' (Ok u) (Ok u') al p p' d d' = (refl, said_nothing a.wires b.wires a'.wires b'.wires (ap (λ (z : Scene). z.wires) p) (ap (λ (z : Scene). z.wires) p'), λ ok. rw (p, p') (both_read l to_client to_server a a' al))
   plays_once [] a b a' b' (Ok u) (Err e') al p p' d d' = absurd p'
   plays_once [] a b a' b' (Err e) r' al p p' d d' = absurd p
   plays_once (t ∷ turns) a b a' b' r r' al p p' d d' = first_once t turns (plays_once turns) a b a' b' r r' al (first t turns a b r p) (first t turns a' b' r' p') d d'
 
   -- the same of what each said: one is a front of the other, and so it is of each with one that the bytes decided
-  abbrev Fronts_of : List Turn → Type 0
+  abbrev Fronts_of : List LoopStep → Type 0
   Fronts_of turns =
       (a b a' b' : Scene) (r r' : Result (Unit {0}) LoopFault) → Alike l to_client to_server a a'
       → Ends turns a r b → Ends turns a' r' b'
       → (SaidMore a.wires b.wires a'.wires b'.wires ⊎ SaidMore a'.wires b'.wires a.wires b.wires)
       × (IsDecided r' a'.wires b'.wires → SaidMore a.wires b.wires a'.wires b'.wires)
 
-  decided_stop : (e : LoopFault) (t : Turn) (a mid a' stop' b' : Scene) (r' : Result (Unit {0}) LoopFault) → Alike l to_client to_server a a' → Does t a mid → Comes t a' (Err e) stop' → r' ≡ Err e → stop'.wires ≡ b'.wires → IsDecided r' a'.wires b'.wires → ⊥
+  decided_stop : (e : LoopFault) (t : LoopStep) (a mid a' stop' b' : Scene) (r' : Result (Unit {0}) LoopFault) → Alike l to_client to_server a a' → Does t a mid → Comes t a' (Err e) stop' → r' ≡ Err e → stop'.wires ≡ b'.wires → IsDecided r' a'.wires b'.wires → ⊥
   decided_stop e t a mid a' stop' b' r' al x c' is' same' d' =
       let o = once l to_client to_server (Ok tt) (Err e) a mid a' stop' al tt (rw (← same', is') at d') t x c' in
       let wrong = o.answer in
       cc
 
-  first_fronts : (t : Turn) (turns : List Turn) (on : Fronts_of turns) (a b a' b' : Scene) (r r' : Result (Unit {0}) LoopFault) → Alike l to_client to_server a a' → First t turns a r b → First t turns a' r' b' → (SaidMore a.wires b.wires a'.wires b'.wires ⊎ SaidMore a'.wires b'.wires a.wires b.wires) × (IsDecided r' a'.wires b'.wires → SaidMore a.wires b.wires a'.wires b'.wires)
+  first_fronts : (t : LoopStep) (turns : List LoopStep) (on : Fronts_of turns) (a b a' b' : Scene) (r r' : Result (Unit {0}) LoopFault) → Alike l to_client to_server a a' → First t turns a r b → First t turns a' r' b' → (SaidMore a.wires b.wires a'.wires b'.wires ⊎ SaidMore a'.wires b'.wires a.wires b.wires) × (IsDecided r' a'.wires b'.wires → SaidMore a.wires b.wires a'.wires b'.wires)
   first_fronts t turns on a b a' b' r r' al (inl (mid, x, q)) (inl (mid', x', q')) =
       let o = once l to_client to_server (Ok tt) (Ok tt) a mid a' mid' al tt tt t x x' in
       let later = on mid b mid' b' r r' (o.alike refl) q q' in (
@@ -199,7 +199,7 @@ module _ (l : Rules) (to_client to_server : List ℕ) where
     λ d'. rw (same, same') at (furthest l to_client to_server (Err e) (Err e') a stop a' stop' al t c c' (rw (← same', is') at d')),
   )
 
-  plays_fronts : (turns : List Turn) → Fronts_of turns
+  plays_fronts : (turns : List LoopStep) → Fronts_of turns
   plays_fronts [] a b a' b' (Ok u) (Ok u') al p p' =
       let all = more_than_nothing a.wires b.wires a'.wires b'.wires (ap (λ (z : Scene). z.wires) p) (gave_as a'.wires b'.wires (ap (λ (z : Scene). z.wires) p')) in
       (inl all, λ d'. all)

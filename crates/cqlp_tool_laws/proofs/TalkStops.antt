@@ -21,7 +21,7 @@ use Rattle.cqlp_loop.specs.declared.request.Request.{Request}
 use Rattle.cqlp_loop.specs.Exchanges.{Writes, kind_of, opcode_of, request_frame, reply_frame}
 use Rattle.cqlp_loop.specs.Callers.{Prints, Listens, reply_line, done_line}
 use Rattle.cqlp_loop.specs.Callers as caller
-use Rattle.cqlp_loop.specs.Script.{End, Wires, Scene, Turn, Comes}
+use Rattle.cqlp_loop.specs.Script.{End, Wires, Scene, LoopStep, Comes}
 use Rattle.cqlp_loop.specs.Script as turn
 use Rattle.cqlp_tool_laws.specs.Conversations.{AreGivenTheSame, IsDecided, IsGivenMore, SaidTheSame, SaidMore}
 use Rattle.cqlp_tool_laws.proofs.Receipts.{one_header, not_other}
@@ -165,7 +165,7 @@ said_same_then a b c a' b' c' p q = record {
 gave_part : (text : List ℕ) (o n : Output) → Part text o n → GivenSome o n
 gave_part text o n p = record { bytes = p.bytes; given = p.given }
 
-pub gave_in : (t : Turn) (a b : Scene) (r : Result (Unit {0}) LoopFault) → Comes t a r b → Gave a.wires b.wires
+pub gave_in : (t : LoopStep) (a b : Scene) (r : Result (Unit {0}) LoopFault) → Comes t a r b → Gave a.wires b.wires
 gave_in (turn.Asks q) a b r (inl (t, ok, new, w), e) = record {
   client = gave_part (frame_bytes (request_frame q t.id)) _ _ (wrote_part (request_frame q t.id) a.wires.client.target b.wires.client.target r w);
   server = gave_nothing _ _ (ap (λ (z : Scene). z.wires.server.target) e);
@@ -223,7 +223,7 @@ module _ (l : Rules) (to_client to_server : List ℕ) (r r' : Result (Unit {0}) 
       ap (λ (t : Ticket). reply_line t x'.1) ticket ∙ ap (λ (o : Opcode). reply_line x.0 o) code
 
   -- what a turn said that the bytes decided is not less than what it said in the other conversation
-  pub furthest : (t : Turn) → Comes t a r b → Comes t a' r' b' → IsDecided r' a'.wires b'.wires → SaidMore a.wires b.wires a'.wires b'.wires
+  pub furthest : (t : LoopStep) → Comes t a r b → Comes t a' r' b' → IsDecided r' a'.wires b'.wires → SaidMore a.wires b.wires a'.wires b'.wires
   furthest (turn.Asks q) (inl (t, ok, new, w), e) (inl (t', ok', new', w'), e') d =
       let whole = wrote (request_frame q t'.id) a'.wires.client.target b'.wires.client.target r' (not_memory r' a'.wires b'.wires d) (λ is. (both_sound r' a'.wires b'.wires d is).0.1) w' in
       record {
@@ -293,7 +293,7 @@ module _ (l : Rules) (to_client to_server : List ℕ) (r r' : Result (Unit {0}) 
   Either = SaidMore a.wires b.wires a'.wires b'.wires ⊎ SaidMore a'.wires b'.wires a.wires b.wires
 
   -- of what a turn said in both, one is a front of the other
-  pub either_front : (t : Turn) → Comes t a r b → Comes t a' r' b' → Either
+  pub either_front : (t : LoopStep) → Comes t a r b → Comes t a' r' b' → Either
   either_front (turn.Asks q) (inl (t, ok, new, w), e) (inl (t', ok', new', w'), e') =
       let there = subst (λ (u : Ticket). Part (frame_bytes (request_frame q u.id)) a'.wires.client.target b'.wires.client.target) (same_request q t t' ok ok') (wrote_part (request_frame q t'.id) a'.wires.client.target b'.wires.client.target r' w') in
       elim (more_either (frame_bytes (request_frame q t.id)) _ _ _ _ (wrote_part (request_frame q t.id) a.wires.client.target b.wires.client.target r w) there) [

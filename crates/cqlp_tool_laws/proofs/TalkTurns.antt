@@ -29,7 +29,7 @@ use Rattle.cqlp_loop.specs.Inboxes.{InboxState}
 use Rattle.cqlp_loop.specs.Callers as caller
 use Rattle.cqlp_loop.specs.Hosts.{HostState}
 use Rattle.cqlp_loop.specs.Hosts as host
-use Rattle.cqlp_loop.specs.Script.{End, Wires, Scene, Turn, Comes}
+use Rattle.cqlp_loop.specs.Script.{End, Wires, Scene, LoopStep, Comes}
 use Rattle.cqlp_loop.specs.Script as turn
 use Rattle.cqlp_tool_laws.specs.Conversations.{IsSound, IsSoundEnd, IsDecided, AreGivenTheSame, SaidTheSame}
 use Rattle.cqlp_tool_laws.proofs.Receipts.{Conformed, IsDecidedBy, counts_up, conformed_as, one_header, conform_on, not_other, not_one, one_fault}
@@ -384,7 +384,7 @@ module _ (l : Rules) (to_client to_server : List ℕ) where
           );
         }
 
-    pub once : (t : Turn) → Comes t a r b → Comes t a' r' b' → Once r r' a b a' b'
+    pub once : (t : LoopStep) → Comes t a r b → Comes t a' r' b' → Once r r' a b a' b'
     once (turn.Asks q) c c' = asks q c c'
     once turn.Takes c c' = takes c c'
     once (turn.Answers q) c c' = answers q c c'

@@ -477,7 +477,7 @@ pub use names::{Consistency, ErrorCode, ResultKind, UnknownName, header_flag, qu
 /// Columns of pages, in the layout of Apache Arrow.
 pub mod columns {
     pub use crate::cqlp_columns::{
-        BatchLimits, Cell, Column, Columns, Filled, Layout, MakeError, PageColumns, Refusal, Stop, TakeError, Went, layout_of,
+        BatchLimits, Cell, Column, ColumnRefusal, Columns, Filled, Layout, MakeError, PageColumns, Stop, TakeError, Went, layout_of,
     };
 }
 
@@ -489,7 +489,7 @@ pub mod columns {
 /// pieces:
 ///
 /// ```
-/// use cqlp::cells::{CellLimits, PageCells, PagePlace, event_size, page_head};
+/// use cqlp::cells::{CellLimits, PageCells, PageProgress, event_size, page_head};
 /// use cqlp::frame::{Frame, Message, Metadata, Rows, Spec, TypeTree};
 /// use cqlp::{Event, Global, Kind, Scalar};
 ///
@@ -507,7 +507,7 @@ pub mod columns {
 ///
 /// // The header says how long the cells are, so that is known before the first of them.
 /// let len = rows.iter().flatten().map(event_size).sum::<u64>() as u32;
-/// let mut place = PagePlace::start(&frame, len)?;
+/// let mut place = PageProgress::start(&frame, len)?;
 /// let mut bytes = page_head(Global, &frame, len)?.into_std();
 /// for row in &rows {
 ///     let mut cells = PageCells::new(Global, &frame, place, CellLimits { events: 100, bytes: 1_000 });
@@ -525,7 +525,7 @@ pub mod columns {
 pub mod cells {
     pub use crate::cqlp_build_cells::{CellBuilder, CellError, CellLimits, ends_cell};
     pub use crate::cqlp_compose::{
-        BeginError, BegunPage, HeadError, OpenPage, PageCellError, PageCells, PagePlace, PutCells, PutError, Unended, WrittenCells,
+        BeginError, BegunPage, HeadError, OpenPage, PageCellError, PageCells, PageProgress, PutCells, PutError, Unended, WrittenCells,
         event_size, page_head,
     };
 }

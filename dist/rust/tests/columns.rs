@@ -1,9 +1,9 @@
 //! The arrays of columns: each kind of layout, cells without a value, and where there is no room; and batches of rows.
-use cqlp::columns::{BatchLimits, Cell, Column, Columns, Layout, MakeError, Refusal, TakeError, layout_of};
+use cqlp::columns::{BatchLimits, Cell, Column, ColumnRefusal, Columns, Layout, MakeError, TakeError, layout_of};
 use cqlp::{Address, Event, Global, Kind, Scalar};
 
 /// A column of these cells, or of those before the first that is refused.
-fn filled(kind: Kind, rows: u32, size: usize, cells: &[Cell<'_>]) -> (Column, Option<Refusal>) {
+fn filled(kind: Kind, rows: u32, size: usize, cells: &[Cell<'_>]) -> (Column, Option<ColumnRefusal>) {
     let mut column = Column::new(Global, kind, rows, size).unwrap();
     for cell in cells {
         if let Err(why) = column.take(cell) {
@@ -24,7 +24,7 @@ fn numbers_have_their_lowest_byte_first() {
     assert_eq!((refusal, column.len(), column.layout()), (None, 10, Layout::Fixed(4)));
     assert_eq!(column.values()[..12], [251, 255, 255, 255, 0, 0, 0, 0, 253, 255, 255, 255]);
     assert_eq!((column.validity(), column.empties()), (&[0b0110_1101, 0b11][..], &[0, 0][..]));
-    assert_eq!(column.take(&Cell::Null), Err(Refusal::Full));
+    assert_eq!(column.take(&Cell::Null), Err(ColumnRefusal::Full));
     column.clear();
     assert_eq!((column.len(), column.values().len(), column.validity().len()), (0, 0, 0));
     assert_eq!(column.take(&Cell::Null), Ok(()));
@@ -36,8 +36,8 @@ fn each_layout_has_its_arrays() {
     let decimal = Cell::Holds(Scalar::Decimal { scale: 1, unscaled: &[9, 9] });
     let inet = Cell::Holds(Scalar::Inet(Address::V4([127, 0, 0, 1])));
     let (yes, no) = (Cell::Holds(Scalar::Boolean(true)), Cell::Holds(Scalar::Boolean(false)));
-    let (full, other) = (Some(Refusal::Full), Some(Refusal::NotOfKind));
-    type Row<'a> = (Kind, usize, &'a [Cell<'a>], Option<Refusal>, &'a [u8], &'a [u64], u8, u8);
+    let (full, other) = (Some(ColumnRefusal::Full), Some(ColumnRefusal::NotOfKind));
+    type Row<'a> = (Kind, usize, &'a [Cell<'a>], Option<ColumnRefusal>, &'a [u8], &'a [u64], u8, u8);
     let rows: [Row<'_>; 7] = [
         (Kind::Varchar, 5, &[text("ab"), Cell::Empty, Cell::Null, text("cde"), text("f")], full, b"abcde", &[0, 2, 2, 2, 5], 0b1011, 0b10),
         (Kind::Boolean, 0, &[yes, Cell::Empty, yes, no], None, &[0b101], &[], 0b1101, 0b10),

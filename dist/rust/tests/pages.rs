@@ -5,7 +5,9 @@
 mod common;
 
 use common::Numbers;
-use cqlp::cells::{CellBuilder, CellError, CellLimits, HeadError, PageCellError, PageCells, PagePlace, ends_cell, event_size, page_head};
+use cqlp::cells::{
+    CellBuilder, CellError, CellLimits, HeadError, PageCellError, PageCells, PageProgress, ends_cell, event_size, page_head,
+};
 use cqlp::frame::{Atom, Frame, LentError, Message, Metadata, PageWriter, Rows, Spec, TypeTree, Unfit, Value, encode, encode_rows};
 use cqlp::memory::Box;
 use cqlp::{Decoder, Event, Global, Kind, Limits, OfStd, Scalar, Step};
@@ -85,8 +87,8 @@ fn cells_copied_of_their_events() {
     let len = len as u32;
 
     let mut copied = page_head(Global, &bare, len).unwrap().into_std();
-    let mut cells = Some(PageCells::new(Global, &bare, PagePlace::start(&bare, len).unwrap(), ALL));
-    let mut place = PagePlace::start(&bare, len).unwrap();
+    let mut cells = Some(PageCells::new(Global, &bare, PageProgress::start(&bare, len).unwrap(), ALL));
+    let mut place = PageProgress::start(&bare, len).unwrap();
     each_event_of_cells(&bytes, |event| {
         let mut page = cells.take().unwrap();
         page.take(event).unwrap();
@@ -179,7 +181,7 @@ fn events_of_no_next_cell() {
     let bare = page(1, vec![]);
     let cell = |why| Err(PageCellError::Cell(why));
     let part = Event::Part { row: 0, column: 0, level: 0, offset: 0, bytes: b"x", last: true };
-    let mut cells = PageCells::new(Global, &bare, PagePlace::start(&bare, 20).unwrap(), CellLimits { events: 2, bytes: 3 });
+    let mut cells = PageCells::new(Global, &bare, PageProgress::start(&bare, 20).unwrap(), CellLimits { events: 2, bytes: 3 });
     let one = |text| Event::Leaf { row: 0, column: 1, level: 1, scalar: Scalar::Varchar(text) };
     for (event, wanted) in [
         (leaf(1, 0, Scalar::Int(1)), cell(CellError::Misplaced)),
@@ -202,8 +204,8 @@ fn events_of_no_next_cell() {
 #[test]
 fn cells_of_more_bytes_than_were_said() {
     let bare = page(1, vec![]);
-    assert!(PagePlace::start(&bare, 3).is_ok());
-    let mut cells = PageCells::new(Global, &bare, PagePlace::start(&bare, 18).unwrap(), ALL);
+    assert!(PageProgress::start(&bare, 3).is_ok());
+    let mut cells = PageCells::new(Global, &bare, PageProgress::start(&bare, 18).unwrap(), ALL);
     let item = Event::Leaf { row: 0, column: 1, level: 1, scalar: Scalar::Varchar("x") };
     for event in [leaf(0, 0, Scalar::Int(1)), enter(1), item] {
         assert_eq!(cells.take(&event), Ok(()));
@@ -221,9 +223,9 @@ fn cells_of_more_bytes_than_were_said() {
 #[test]
 fn pages_that_cannot_begin() {
     let options = Frame::plain(0, Message::Options);
-    assert!(PagePlace::start(&options, 0).is_err());
+    assert!(PageProgress::start(&options, 0).is_err());
     assert!(matches!(page_head(Global, &options, 0), Err(HeadError::Unfit(_))));
-    assert_eq!(PagePlace::start(&page(1, vec![]), u32::MAX), Err(Unfit::BodyTooLong));
+    assert_eq!(PageProgress::start(&page(1, vec![]), u32::MAX), Err(Unfit::BodyTooLong));
 }
 
 #[test]

@@ -2,7 +2,7 @@
 //! made until then is given back.
 
 use cqlp::capture::{CaptureEnd, CaptureLimits, CaptureReader, CaptureStep, Control, Stream, StreamSegment, StreamStep};
-use cqlp::cells::{CellError, CellLimits, PageCellError, PageCells, PagePlace};
+use cqlp::cells::{CellError, CellLimits, PageCellError, PageCells, PageProgress};
 use cqlp::columns::{BatchLimits, Columns, MakeError, TakeError};
 use cqlp::frame::{
     AppendError, Atom, BindError, BuildError, BuildLimits, Composer, Frame, FrameBuilder, Message, Metadata, OwnedBound, ReadError, Rows,
@@ -325,7 +325,7 @@ fn frames_appended() {
 fn cells_of_events() {
     let meta = Metadata { flags: 4, columns: 1, paging: None, table: None, specs: None };
     let frame = Frame::plain(0, Message::Rows(Rows { meta, rows: 1, cells: Vec::new(Global) }));
-    let place = PagePlace::start(&frame, 5).unwrap();
+    let place = PageProgress::start(&frame, 5).unwrap();
     finds_just_what_is_there(3, || {
         let mut cells = PageCells::new(Global, &frame, place, CellLimits { events: 1, bytes: 1 });
         let taken = cells.take(&Event::Leaf { row: 0, column: 0, level: 0, scalar: Scalar::Raw(b"x") });

@@ -2,10 +2,10 @@
 //! Frames, built of their events.
 
 use crate::cqlp_build::error::BuildError;
-use crate::cqlp_build::held::{Fault, Held};
+use crate::cqlp_build::held::{Fault, FrameEvents};
 use crate::cqlp_build::item::own;
 use crate::cqlp_build::nesting::Nesting;
-use crate::cqlp_build_cells::{Held as CellEvents, scalar_size};
+use crate::cqlp_build_cells::{CellEvents, scalar_size};
 use crate::cqlp_grammar::Event;
 use crate::cqlp_message::Frame;
 use crate::cqlp_note::{BoundValue, Header};
@@ -54,7 +54,7 @@ pub struct BuiltFrame {
 /// [`Decoder::next`]: https://docs.rs/cqlp_decode
 /// [`Sink`]: crate::cqlp_grammar::Sink
 pub struct FrameBuilder {
-    held: Held,
+    held: FrameEvents,
     /// The header of the frame under way.
     header: Option<Header>,
     nesting: Nesting,
@@ -68,7 +68,7 @@ impl FrameBuilder {
     #[must_use]
     pub fn new(alloc: Global, limits: BuildLimits) -> FrameBuilder {
         FrameBuilder {
-            held: Held {
+            held: FrameEvents {
                 alloc,
                 items: VecDeque::new(alloc),
                 cell: CellEvents::new(alloc),
@@ -227,7 +227,7 @@ fn content_size(event: &Event<'_>) -> usize {
     }
 }
 
-impl Held {
+impl FrameEvents {
     /// The frame of this header whose events after it are those that are held, and then this end.
     fn finish(&mut self, header: &Header, extra: u32) -> Result<BuiltFrame, BuildError> {
         self.fault = None;
@@ -255,7 +255,7 @@ impl Held {
     }
 }
 
-impl Held {
+impl FrameEvents {
     /// The frame of this header, but for its length, whose events after it are those that are held, and then its end.
     fn close(&mut self, header: &Header) -> Result<Frame, BuildError> {
         self.fault = None;

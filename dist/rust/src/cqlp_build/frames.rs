@@ -2,12 +2,12 @@
 //! Frames.
 
 use crate::kit_std::prelude::{String, Vec};
-use crate::cqlp_build::held::{Held, has_flag};
+use crate::cqlp_build::held::{FrameEvents, has_flag};
 use crate::cqlp_build::lists::Wanted;
 use crate::cqlp_message::Frame;
 use crate::cqlp_note::{Field, Header};
 
-impl Held {
+impl FrameEvents {
     /// Takes the frame of this header.
     pub fn frame(&mut self, header: &Header) -> Frame {
         self.check(!has_flag(header.flags, 0x01));

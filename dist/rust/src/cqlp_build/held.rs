@@ -4,7 +4,7 @@
 use crate::kit_std::prelude::{String, Vec};
 use crate::cqlp_build::content::FromContent;
 use crate::cqlp_build::item::{Content, Item};
-use crate::cqlp_build_cells::{Held as CellEvents, Step};
+use crate::cqlp_build_cells::{CellEvents, Step};
 use crate::cqlp_kind::Kind;
 use crate::cqlp_message::OwnedBound;
 use crate::cqlp_note::{Address, Field};
@@ -27,7 +27,7 @@ pub(crate) enum Fault {
 
 /// The events after a header, each of which is taken once. What takes one gives a value, and where another event was due some
 /// value, and keeps the fault: nothing is taken after it.
-pub(crate) struct Held {
+pub(crate) struct FrameEvents {
     pub alloc: Global,
     pub items: VecDeque<Item>,
     /// The events of the cell that is under way.
@@ -35,7 +35,7 @@ pub(crate) struct Held {
     pub fault: Option<Fault>,
 }
 
-impl Held {
+impl FrameEvents {
     /// Takes the next event, if nothing was refused, and gives what it holds if it is this field.
     fn next(&mut self, field: Field) -> Option<Content> {
         if self.fault.is_some() {

@@ -2,7 +2,7 @@
 //! Items that come one after the other.
 
 use crate::kit_std::prelude::{String, Vec};
-use crate::cqlp_build::held::{Fault, Held};
+use crate::cqlp_build::held::{Fault, FrameEvents};
 use crate::cqlp_message::{BatchEntry, OwnedBound};
 use crate::cqlp_note::Field;
 
@@ -26,17 +26,17 @@ impl Wanted {
 /// What is built of the events that come next.
 pub(crate) trait FromEvents: Sized {
     /// Takes the events of one.
-    fn build(held: &mut Held, wanted: Wanted) -> Self;
+    fn build(held: &mut FrameEvents, wanted: Wanted) -> Self;
 }
 
 impl FromEvents for String {
-    fn build(held: &mut Held, wanted: Wanted) -> Self {
+    fn build(held: &mut FrameEvents, wanted: Wanted) -> Self {
         held.text(wanted.field)
     }
 }
 
 impl FromEvents for (String, String) {
-    fn build(held: &mut Held, _wanted: Wanted) -> Self {
+    fn build(held: &mut FrameEvents, _wanted: Wanted) -> Self {
         let key = held.text(Field::OptionKey);
         let value = held.text(Field::OptionValue);
         (key, value)
@@ -44,7 +44,7 @@ impl FromEvents for (String, String) {
 }
 
 impl FromEvents for (String, Vec<String>) {
-    fn build(held: &mut Held, _wanted: Wanted) -> Self {
+    fn build(held: &mut FrameEvents, _wanted: Wanted) -> Self {
         let key = held.text(Field::OptionKey);
         let values = held.texts(Field::OptionValues, Field::OptionValue);
         (key, values)
@@ -52,7 +52,7 @@ impl FromEvents for (String, Vec<String>) {
 }
 
 impl FromEvents for (String, Option<Vec<u8>>) {
-    fn build(held: &mut Held, _wanted: Wanted) -> Self {
+    fn build(held: &mut FrameEvents, _wanted: Wanted) -> Self {
         let key = held.text(Field::PayloadKey);
         let value = held.bytes(Field::PayloadValue);
         (key, value)
@@ -60,13 +60,13 @@ impl FromEvents for (String, Option<Vec<u8>>) {
 }
 
 impl FromEvents for OwnedBound {
-    fn build(held: &mut Held, _wanted: Wanted) -> Self {
+    fn build(held: &mut FrameEvents, _wanted: Wanted) -> Self {
         held.bound()
     }
 }
 
 impl FromEvents for (Option<String>, OwnedBound) {
-    fn build(held: &mut Held, wanted: Wanted) -> Self {
+    fn build(held: &mut FrameEvents, wanted: Wanted) -> Self {
         let name = held.name_if(wanted.named);
         let value = held.bound();
         (name, value)
@@ -74,7 +74,7 @@ impl FromEvents for (Option<String>, OwnedBound) {
 }
 
 impl FromEvents for BatchEntry {
-    fn build(held: &mut Held, _wanted: Wanted) -> Self {
+    fn build(held: &mut FrameEvents, _wanted: Wanted) -> Self {
         match held.byte(Field::EntryKind) {
             0 => {
                 let text = held.text(Field::Query);
@@ -94,7 +94,7 @@ impl FromEvents for BatchEntry {
     }
 }
 
-impl Held {
+impl FrameEvents {
     /// Takes this many items.
     pub fn many<T: FromEvents>(&mut self, count: u32, wanted: Wanted) -> Vec<T> {
         let mut items = Vec::new(self.alloc);

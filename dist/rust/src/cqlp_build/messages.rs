@@ -1,13 +1,13 @@
 // Written by dist/erase from crates/cqlp_build/src/messages.rt.
 //! Messages.
 
-use crate::cqlp_build::held::{Held, has_flag};
+use crate::cqlp_build::held::{FrameEvents, has_flag};
 use crate::cqlp_build::lists::Wanted;
 use crate::cqlp_grammar::result_kind;
 use crate::cqlp_message::Message;
 use crate::cqlp_note::{Field, Opcode};
 
-impl Held {
+impl FrameEvents {
     /// Takes the message of a frame of this opcode.
     pub fn message(&mut self, opcode: Opcode) -> Message {
         match opcode {

@@ -2,7 +2,7 @@
 //! Metadata, and prepared statements.
 
 use crate::kit_std::prelude::{String, Vec};
-use crate::cqlp_build::held::Held;
+use crate::cqlp_build::held::FrameEvents;
 use crate::cqlp_build::lists::{FromEvents, Wanted};
 use crate::cqlp_grammar::has;
 use crate::cqlp_message::{Metadata, Prepared, Spec};
@@ -15,13 +15,13 @@ type Columns = (Option<(String, String)>, Vec<Spec>);
 type ColumnsIf = (Option<(String, String)>, Option<Vec<Spec>>);
 
 impl FromEvents for u16 {
-    fn build(held: &mut Held, wanted: Wanted) -> Self {
+    fn build(held: &mut FrameEvents, wanted: Wanted) -> Self {
         held.short(wanted.field)
     }
 }
 
 impl FromEvents for Spec {
-    fn build(held: &mut Held, wanted: Wanted) -> Self {
+    fn build(held: &mut FrameEvents, wanted: Wanted) -> Self {
         let table = held.table_if(wanted.named);
         let name = held.text(Field::ColumnName);
         let tree = held.tree();
@@ -29,7 +29,7 @@ impl FromEvents for Spec {
     }
 }
 
-impl Held {
+impl FrameEvents {
     /// Takes a keyspace and a table, if they are to be there.
     fn table_if(&mut self, there: bool) -> Option<(String, String)> {
         if there {

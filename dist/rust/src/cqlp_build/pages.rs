@@ -2,7 +2,7 @@
 //! Pages of rows. Section 4.2.5.2 of `native_protocol_v4.spec`.
 
 use crate::kit_std::prelude::{Vec};
-use crate::cqlp_build::held::{Fault, Held};
+use crate::cqlp_build::held::{Fault, FrameEvents};
 use crate::cqlp_build_cells::{CellError, ends};
 use crate::cqlp_kind::Kind;
 use crate::cqlp_message::{Metadata, Rows};
@@ -10,7 +10,7 @@ use crate::cqlp_note::Field;
 use crate::cqlp_type::TypeTree;
 use crate::cqlp_value::Value;
 
-impl Held {
+impl FrameEvents {
     /// Takes a page.
     pub fn page(&mut self) -> Rows {
         let meta = self.metadata();

@@ -2,12 +2,12 @@
 //! Parts of requests.
 
 use crate::kit_std::prelude::{String, Vec};
-use crate::cqlp_build::held::{Held, has_flag};
+use crate::cqlp_build::held::{FrameEvents, has_flag};
 use crate::cqlp_build::lists::Wanted;
 use crate::cqlp_message::{OwnedBound, QueryParams};
 use crate::cqlp_note::Field;
 
-impl Held {
+impl FrameEvents {
     /// Takes the name of a value, if it is to have one.
     pub fn name_if(&mut self, there: bool) -> Option<String> {
         if there {

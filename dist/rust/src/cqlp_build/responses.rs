@@ -1,12 +1,12 @@
 // Written by dist/erase from crates/cqlp_build/src/responses.rt.
 //! Parts of responses.
 
-use crate::cqlp_build::held::Held;
+use crate::cqlp_build::held::FrameEvents;
 use crate::cqlp_grammar::error_code;
 use crate::cqlp_message::{ErrorExtra, SchemaChange, SchemaOptions, ServerEvent};
 use crate::cqlp_note::Field;
 
-impl Held {
+impl FrameEvents {
     /// Takes what comes after the message of an error of this code.
     pub fn extra(&mut self, code: u32) -> ErrorExtra {
         match code {

@@ -2,12 +2,12 @@
 //! Types, of the events of their options.
 
 use crate::kit_std::prelude::{Box, String, Vec};
-use crate::cqlp_build::held::{Fault, Held};
+use crate::cqlp_build::held::{Fault, FrameEvents};
 use crate::cqlp_kind::Kind;
 use crate::cqlp_note::Field;
 use crate::cqlp_type::TypeTree;
 
-impl Held {
+impl FrameEvents {
     /// Takes a type option, with all in it. It calls itself as deep as types are nested.
     pub fn tree(&mut self) -> TypeTree {
         match self.next_kind() {

@@ -2,7 +2,7 @@
 //! Cells, built of their events.
 
 use crate::cqlp_build_cells::error::CellError;
-use crate::cqlp_build_cells::held::{Fault, Held};
+use crate::cqlp_build_cells::held::{CellEvents, Fault};
 use crate::cqlp_build_cells::step::{own, scalar_size};
 use crate::cqlp_grammar::Event;
 use crate::cqlp_kind::Kind;
@@ -35,7 +35,7 @@ pub struct CellLimits {
 ///
 /// What it does not build are scalars in parts, which come where the limits of the decoder ask for parts.
 pub struct CellBuilder {
-    held: Held,
+    held: CellEvents,
     /// The row and the column of the cell under way.
     place: Option<(u32, u32)>,
     limits: CellLimits,
@@ -48,7 +48,7 @@ impl CellBuilder {
     #[must_use]
     pub fn new(alloc: Global, limits: CellLimits) -> CellBuilder {
         CellBuilder {
-            held: Held::new(alloc),
+            held: CellEvents::new(alloc),
             place: None,
             limits,
             room: limits.bytes as usize,
@@ -148,7 +148,7 @@ impl CellBuilder {
     }
 }
 
-impl Held {
+impl CellEvents {
     /// The value of this type whose events are those that are held, or of a cell without a type where that is a plain `Raw`.
     ///
     /// # Errors

@@ -16,17 +16,17 @@ pub enum Fault {
 
 /// The events of a cell, each of which is taken once. What takes one gives a value, and where another event was due some value, and
 /// keeps the fault: nothing is taken after it.
-pub struct Held {
+pub struct CellEvents {
     pub(crate) alloc: Global,
     /// Each at its level.
     pub(crate) items: VecDeque<(u32, Step)>,
     pub(crate) fault: Option<Fault>,
 }
 
-impl Held {
+impl CellEvents {
     /// No events, for which it asks for no memory.
-    pub fn new(alloc: Global) -> Held {
-        Held {
+    pub fn new(alloc: Global) -> CellEvents {
+        CellEvents {
             alloc,
             items: VecDeque::new(alloc),
             fault: None,

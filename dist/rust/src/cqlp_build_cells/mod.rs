@@ -9,6 +9,6 @@ mod values;
 
 pub use builder::{CellBuilder, CellLimits, ends_cell};
 pub use error::CellError;
-pub use held::Held;
+pub use held::CellEvents;
 pub use step::{Step, ends, scalar_size};
 pub(crate) use step::{own};

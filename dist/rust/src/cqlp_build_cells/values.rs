@@ -2,7 +2,7 @@
 //! Values, of the events that are held.
 
 use crate::kit_std::prelude::{String, Vec};
-use crate::cqlp_build_cells::held::{Fault, Held};
+use crate::cqlp_build_cells::held::{CellEvents, Fault};
 use crate::cqlp_build_cells::step::Step;
 use crate::cqlp_kind::Kind;
 use crate::cqlp_type::TypeTree;
@@ -11,7 +11,7 @@ use crate::cqlp_value::{Atom, Value, fits};
 /// The most items that a count says.
 const MOST: u32 = i32::MAX as u32;
 
-impl Held {
+impl CellEvents {
     /// Takes a value of this type, with this many values around it. It calls itself as deep as the type is nested.
     pub(crate) fn value(&mut self, level: usize, tree: &TypeTree) -> Value {
         match self.next(level) {

@@ -28,7 +28,7 @@ pub enum MakeError {
 error! {
 /// Why a column does not take a cell.
 #[derive(Clone, Copy, Debug, PartialEq, Eq)]
-pub enum Refusal {
+pub enum ColumnRefusal {
     /// It is none of the column's kind.
     #[error("a value of another kind")]
     NotOfKind,
@@ -189,7 +189,7 @@ impl<A: Allocator> Column<A> {
     ///
     /// `NotOfKind` for a scalar of another kind than the column's; else `Full` where there is no room for it. Nothing changes then.
     #[inline(always)]
-    pub fn take(&mut self, cell: &Cell<'_>) -> Result<(), Refusal> {
+    pub fn take(&mut self, cell: &Cell<'_>) -> Result<(), ColumnRefusal> {
         match self.refusal(cell) {
             Some(why) => Err(why),
             None => {
@@ -201,14 +201,14 @@ impl<A: Allocator> Column<A> {
 
     /// Why it does not take a cell.
     #[inline(always)]
-    pub fn refusal(&self, cell: &Cell<'_>) -> Option<Refusal> {
+    pub fn refusal(&self, cell: &Cell<'_>) -> Option<ColumnRefusal> {
         if !is_of(self.kind, cell) {
-            return Some(Refusal::NotOfKind);
+            return Some(ColumnRefusal::NotOfKind);
         }
         if self.fits(cell) {
             None
         } else {
-            Some(Refusal::Full)
+            Some(ColumnRefusal::Full)
         }
     }
 

@@ -12,7 +12,7 @@ mod layout;
 mod page_columns;
 
 pub use cell::Cell;
-pub use column::{Column, MakeError, Refusal};
+pub use column::{Column, ColumnRefusal, MakeError};
 pub use columns::{BatchLimits, Columns, TakeError};
 pub use filled::{Filled, Stop};
 pub use layout::{Layout, layout_of};

@@ -4,8 +4,8 @@
 use crate::kit_std::prelude::{Vec};
 use crate::cqlp_compose::column::column_type;
 use crate::cqlp_compose::error::PageCellError;
-use crate::cqlp_compose::memory::InMemory;
-use crate::cqlp_compose::place::PagePlace;
+use crate::cqlp_compose::memory::VecTarget;
+use crate::cqlp_compose::place::PageProgress;
 use crate::cqlp_build_cells::{CellBuilder, CellError, CellLimits, ends_cell};
 use crate::cqlp_encode::write_value;
 use crate::cqlp_grammar::Event;
@@ -19,7 +19,7 @@ use crate::kit_std::alloc::Global;
 /// `native_protocol_v4.spec`.
 ///
 /// It takes what a decoder says of the cells, in that order, each event with its row and its column, and holds what it writes and the
-/// events of one cell. The page itself, a [`Frame`] without cells and a [`PagePlace`], is the caller's, and is behind the cells only once
+/// events of one cell. The page itself, a [`Frame`] without cells and a [`PageProgress`], is the caller's, and is behind the cells only once
 /// the caller puts [`WrittenCells::place`] there. Until then, and where an event was refused, nothing has changed. A page of any size is
 /// written in as many pieces as the caller likes:
 ///
@@ -37,18 +37,18 @@ use crate::kit_std::alloc::Global;
 /// [`page_head`](crate::cqlp_compose::page_head), are the frame with these events.
 pub struct PageCells<'a> {
     frame: &'a Frame,
-    place: PagePlace,
+    place: PageProgress,
     cell: CellBuilder,
     /// Whether a cell has begun and not ended.
     cut: bool,
-    target: InMemory,
+    target: VecTarget,
 }
 
 /// Cells of a page that were written.
 #[derive(Debug, PartialEq, Eq)]
 pub struct WrittenCells {
     /// Where the page is behind them.
-    pub place: PagePlace,
+    pub place: PageProgress,
     /// The bytes of these cells, to be written behind those of the cells before them.
     pub bytes: Vec<u8>,
 }
@@ -59,7 +59,7 @@ impl<'a> PageCells<'a> {
     pub fn new(
         alloc: Global,
         frame: &'a Frame,
-        place: PagePlace,
+        place: PageProgress,
         limits: CellLimits,
     ) -> PageCells<'a> {
         PageCells {
@@ -67,7 +67,7 @@ impl<'a> PageCells<'a> {
             place,
             cell: CellBuilder::new(alloc, limits),
             cut: false,
-            target: InMemory::new(Vec::new(alloc)),
+            target: VecTarget::new(Vec::new(alloc)),
         }
     }
 
@@ -183,7 +183,7 @@ impl<'a> PageCells<'a> {
         let len = self.target.len();
         match write_value(value, of, &mut self.target) {
             Ok(size) => {
-                self.place = PagePlace {
+                self.place = PageProgress {
                     cells: self.place.cells + 1,
                     free: self.place.free - size,
                 };

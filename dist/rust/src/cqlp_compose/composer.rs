@@ -2,7 +2,7 @@
 //! The events of one frame, and its bytes.
 
 use crate::kit_std::prelude::{Vec};
-use crate::cqlp_compose::memory::InMemory;
+use crate::cqlp_compose::memory::VecTarget;
 use crate::cqlp_build::{BuildError, BuildLimits, FrameBuilder};
 use crate::cqlp_encode::encode;
 use crate::cqlp_grammar::Event;
@@ -110,7 +110,7 @@ fn written(alloc: Global, frame: &Frame) -> Result<Vec<u8>, BuildError> {
     let Ok(room) = Vec::with_capacity(alloc, len as usize) else {
         return Err(BuildError::NoMemory);
     };
-    let mut target = InMemory::new(room);
+    let mut target = VecTarget::new(room);
     match encode(frame, &mut target) {
         Ok(_) => Ok(target.into_bytes()),
         Err(_) => Err(BuildError::NoMemory),

@@ -3,7 +3,7 @@
 
 use crate::kit_std::prelude::{Vec};
 use crate::cqlp_compose::error::HeadError;
-use crate::cqlp_compose::memory::InMemory;
+use crate::cqlp_compose::memory::VecTarget;
 use crate::cqlp_encode::{PageError, PageWriter};
 use crate::cqlp_message::Frame;
 use crate::kit_std::alloc::Global;
@@ -16,7 +16,7 @@ use crate::kit_std::alloc::Global;
 /// [`HeadError::Unfit`] where [`Frame::page_unfit`] says why the frame is no page that can be written with cells of as many bytes, and
 /// [`HeadError::NoMemory`] where memory was refused.
 pub fn page_head(alloc: Global, frame: &Frame, cells_len: u32) -> Result<Vec<u8>, HeadError> {
-    let mut target = InMemory::new(Vec::new(alloc));
+    let mut target = VecTarget::new(Vec::new(alloc));
     let begun = match PageWriter::begin(frame, cells_len, &mut target) {
         Ok(_) => None,
         Err(PageError::Unfit(why)) => Some(HeadError::Unfit(why)),

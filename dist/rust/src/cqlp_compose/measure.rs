@@ -6,7 +6,7 @@ use crate::cqlp_kind::{Kind, Scalar};
 use crate::cqlp_note::Address;
 
 /// How many bytes of a page an event of a cell covers. Those of all events of its cells, added up, are what
-/// [`page_head`](crate::cqlp_compose::page_head) and [`PagePlace::start`](crate::cqlp_compose::PagePlace::start) take.
+/// [`page_head`](crate::cqlp_compose::page_head) and [`PageProgress::start`](crate::cqlp_compose::PageProgress::start) take.
 ///
 /// None of a part of a scalar, which is not written, and of an event that is none of a cell.
 #[must_use]

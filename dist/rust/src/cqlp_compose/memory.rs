@@ -5,7 +5,7 @@ use crate::kit_std::prelude::{Vec};
 use crate::cqlp_note::{IoFault, Target};
 
 /// Takes bytes behind those that it has. It fails where memory is refused.
-pub struct InMemory {
+pub struct VecTarget {
     bytes: Vec<u8>,
     /// How many calls found no memory, up to 2^64 - 1.
     failures: u64,
@@ -13,10 +13,10 @@ pub struct InMemory {
     writes: u64,
 }
 
-impl InMemory {
+impl VecTarget {
     /// With these bytes, and no call made.
-    pub fn new(bytes: Vec<u8>) -> InMemory {
-        InMemory {
+    pub fn new(bytes: Vec<u8>) -> VecTarget {
+        VecTarget {
             bytes,
             failures: 0,
             writes: 0,
@@ -35,7 +35,7 @@ impl InMemory {
 
     /// The bytes.
     pub fn into_bytes(self) -> Vec<u8> {
-        let InMemory {
+        let VecTarget {
             bytes,
             failures: _,
             writes: _,
@@ -44,7 +44,7 @@ impl InMemory {
     }
 }
 
-impl Target for InMemory {
+impl Target for VecTarget {
     fn write(&mut self, bytes: &[u8]) -> Result<usize, IoFault> {
         match self.bytes.extend_from_slice(bytes) {
             Ok(()) => {

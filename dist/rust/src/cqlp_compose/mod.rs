@@ -20,5 +20,5 @@ pub use error::{BeginError, HeadError, PageCellError, PutError, Unended};
 pub use head::page_head;
 pub use measure::event_size;
 pub use page::{BegunPage, OpenPage};
-pub use place::PagePlace;
+pub use place::PageProgress;
 pub use put::PutCells;

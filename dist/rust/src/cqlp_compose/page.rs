@@ -5,7 +5,7 @@ use crate::kit_std::prelude::{Vec};
 use crate::cqlp_compose::composer::Composer;
 use crate::cqlp_compose::error::{BeginError, HeadError, Unended};
 use crate::cqlp_compose::head::page_head;
-use crate::cqlp_compose::place::PagePlace;
+use crate::cqlp_compose::place::PageProgress;
 use crate::cqlp_build::BuildError;
 use crate::cqlp_grammar::Event;
 use crate::cqlp_message::{Frame, Message};
@@ -33,7 +33,7 @@ use crate::kit_std::alloc::Global;
 /// ```
 pub struct OpenPage {
     pub(crate) frame: Frame,
-    pub(crate) place: PagePlace,
+    pub(crate) place: PageProgress,
 }
 
 /// A page that is begun, and what is to be written of it before its first cell.
@@ -67,12 +67,12 @@ impl OpenPage {
 
     /// Where it is.
     #[must_use]
-    pub fn place(&self) -> PagePlace {
+    pub fn place(&self) -> PageProgress {
         self.place
     }
 
     /// Goes on to the place after cells that were put.
-    pub fn set_place(&mut self, place: PagePlace) {
+    pub fn set_place(&mut self, place: PageProgress) {
         self.place = place;
     }
 
@@ -99,7 +99,7 @@ fn said_len(cells_len: u64) -> u32 {
 
 /// A page without cells, begun with cells of this many bytes.
 fn begun(alloc: Global, frame: Frame, cells_len: u32) -> Result<BegunPage, BeginError> {
-    let place = match PagePlace::start(&frame, cells_len) {
+    let place = match PageProgress::start(&frame, cells_len) {
         Ok(place) => place,
         Err(why) => return Err(BeginError::Unfit(why)),
     };

@@ -8,22 +8,22 @@ use crate::cqlp_message::{Frame, Unfit};
 /// It is a copy of two numbers, and knows nothing of its page: each call is given both. So whoever holds a page holds the frame without its
 /// cells, and this.
 #[derive(Clone, Copy, Debug, PartialEq, Eq)]
-pub struct PagePlace {
+pub struct PageProgress {
     pub(crate) cells: u64,
     pub(crate) free: u32,
 }
 
-impl PagePlace {
+impl PageProgress {
     /// Before the first cell of a page, whose cells are to have `cells_len` bytes, as [`event_size`](crate::cqlp_compose::event_size) counts those of
     /// each event.
     ///
     /// # Errors
     ///
     /// What [`Frame::page_unfit`] says, where the frame is no page that can be written with cells of as many bytes.
-    pub fn start(frame: &Frame, cells_len: u32) -> Result<PagePlace, Unfit> {
+    pub fn start(frame: &Frame, cells_len: u32) -> Result<PageProgress, Unfit> {
         match frame.page_unfit(cells_len) {
             Some(why) => Err(why),
-            None => Ok(PagePlace {
+            None => Ok(PageProgress {
                 cells: 0,
                 free: cells_len,
             }),

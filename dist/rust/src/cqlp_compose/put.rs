@@ -4,7 +4,7 @@
 use crate::cqlp_compose::cells::PageCells;
 use crate::cqlp_compose::error::PutError;
 use crate::cqlp_compose::page::OpenPage;
-use crate::cqlp_compose::place::PagePlace;
+use crate::cqlp_compose::place::PageProgress;
 use crate::cqlp_build_cells::{CellLimits, ends_cell};
 use crate::cqlp_grammar::Event;
 use crate::cqlp_message::Frame;
@@ -21,7 +21,7 @@ pub struct PutCells<'a> {
     frame: &'a Frame,
     limits: CellLimits,
     /// Behind the last cell that was put.
-    place: PagePlace,
+    place: PageProgress,
     /// The cell under way.
     cells: PageCells<'a>,
 }
@@ -42,7 +42,7 @@ impl<'a> PutCells<'a> {
 
     /// Where the page is after the cells that were put.
     #[must_use]
-    pub fn place(&self) -> PagePlace {
+    pub fn place(&self) -> PageProgress {
         self.place
     }
 

@@ -2,7 +2,7 @@
 
 use crate::words::all_of;
 use crate::written::{LIMITS, tell_events, write};
-use cqlp::cells::{CellBuilder, CellLimits, PageCellError, PageCells, PagePlace, ends_cell, event_size, page_head};
+use cqlp::cells::{CellBuilder, CellLimits, PageCellError, PageCells, PageProgress, ends_cell, event_size, page_head};
 use cqlp::frame::{BuildError, BuildLimits, Frame, FrameBuilder, Message, TypeTree};
 use cqlp::{Event, Global, Limits, Scalar, SinkFault};
 
@@ -125,7 +125,7 @@ pub fn said_of_pieces(line: &str) -> String {
 
 /// Writes a page again of the events of its bytes, and says whether it is the same.
 fn written_again(page: &Frame, size: u32, each: u32, bytes: &[u8]) -> &'static str {
-    let (Ok(head), Ok(place)) = (page_head(Global, page, size), PagePlace::start(page, size)) else {
+    let (Ok(head), Ok(place)) = (page_head(Global, page, size), PageProgress::start(page, size)) else {
         return "no page";
     };
     let mut again = Pieces { page, place, cells: PageCells::new(Global, page, place, CELL), each, held: 0, bytes: head.into_std() };
@@ -146,7 +146,7 @@ fn written_again(page: &Frame, size: u32, each: u32, bytes: &[u8]) -> &'static s
 /// Writes the cells of a page, of their events, so many in each piece.
 struct Pieces<'a> {
     page: &'a Frame,
-    place: PagePlace,
+    place: PageProgress,
     cells: PageCells<'a>,
     /// How many cells a piece is to have, and how many have come of it.
     each: u32,

@@ -1,6 +1,6 @@
 use Rattle.std.proofs.Common.{ap}
 use Rattle.cqlp_build.specs.Building.{events_in, state}
-use Rattle.cqlp_build.specs.Held.{left}
+use Rattle.cqlp_build.specs.FrameEvents.{left}
 use Rattle.cqlp_build.proofs.Finishing.{end_refused}
 use Rattle.cqlp_build.proofs.builder.FrameBuilder.end.Goals as goal
 

@@ -1,0 +1,6 @@
+use Rattle.std.proofs.Common.{rules, w32}
+use Rattle.std.proofs.lemmas.Int.{to_z-of_z}
+use Rattle.cqlp_build.proofs.held.FrameEvents.int.Goals as goal
+
+pub returns : goal.returns
+returns c = rw (to_z-of_z w32 c.take.result (search rules)) c.take.ensures.is

@@ -1,0 +1,11 @@
+use Rattle.std.proofs.Common.{refl, rules, w32}
+use Rattle.std.proofs.lemmas.Int.{to_z-of_z}
+use Rattle.cqlp_build.proofs.Steps.{made_of, ◌then◌}
+use Rattle.cqlp_build.proofs.ResponseParts.{write_timeout_view}
+use Rattle.cqlp_message.specs.FrameValues.{WriteTimeout}
+use Rattle.cqlp_build.proofs.held.FrameEvents.write_timeout.Goals as goal
+
+pub returns : goal.returns
+returns c =
+    rw (to_z-of_z w32 c.int-received.result (search rules), to_z-of_z w32 c.int-block_for.result (search rules))
+    (made_of (c.short-consistency.ensures then c.int-received.ensures then c.int-block_for.ensures then c.text-write_type.ensures.is) _ _ (λ a. WriteTimeout a.0.0.0 a.0.0.1 a.0.1 a.1) (λ a p. refl) (λ a p. refl) write_timeout_view)
