@@ -17,7 +17,7 @@ from ._encode import BadEvent, encode_frames
 from ._events import Event
 from ._message_decoder import MessageDecoder, OtherVersion
 from ._message_events import encode
-from ._missing import Missing, ValuesMissing
+from ._missing import ColumnsMissing, Missing, ValuesMissing
 from ._names import name, version, version_number
 from ._paged import PageWriter, cells_size
 from ._pages import Page, Pages, Types, rows
@@ -67,6 +67,7 @@ __all__ = [
     "Code",
     "Column",
     "ColumnArray",
+    "ColumnsMissing",
     "columns",
     "Consistency",
     "Cut",

@@ -12,7 +12,7 @@ from . import _arrow, _native
 from ._decoder import _KINDS, BadCall, Behind, Decoder, Limits, Placed, Refusal, Refused, Skip, _address, _must_be_done, event_of
 from ._events import Event
 from ._item_arrays import ITEMS, Members, members_of
-from ._missing import Missing, numpy_of
+from ._missing import ColumnsMissing, Missing, numpy_of
 from ._pages import _NO_METADATA, _ROWS_RESULT, Row, Types, _cells, _Metadata
 from ._sources import Progress, Source, _must_be_whole, _pieces, _pieces_of_frames
 from ._turns import Error
@@ -508,6 +508,7 @@ class _Reader:
         metadata, columns, typed = self.metadata, tuple(self.metadata.columns), self.arrays.limits.types
         if self.given and metadata.flags & _NO_METADATA and metadata.width == len(self.given):
             columns = self.given
+        self.must_have_names(columns)
         page, self.first = _Page(columns, self.pages, rows, metadata.state), 0
         self.pages += 1
         if not metadata.width:
@@ -557,6 +558,13 @@ class _Reader:
                 found.append(_array_of_members(column.type.kind, column, len(rows), members))
         return found
 
+    def must_have_names(self, columns: Tuple[Column, ...]) -> None:
+        """Raises ColumnsMissing where one of the names is of no column. A page without metadata has no names."""
+        found = tuple(column.name for column in columns)
+        missing = (self.names or frozenset()).difference(found)
+        if columns and missing:
+            raise ColumnsMissing(self.pages, tuple(sorted(missing)), found)
+
     def is_wanted(self, column: Optional[Column]) -> bool:
         """Whether the array of a column is handed out. Those without metadata all are."""
         return self.names is None or column is None or column.name in self.names
@@ -602,8 +610,9 @@ def arrays(
     """The rows of all pages of a stream as arrays in the layout of Apache Arrow, in batches of at most this many rows. A page has a batch at
     least, also where it has no rows. Each batch is a copy, and lives on.
 
-    With `columns`, names, only these columns are handed out, and of others with texts, bytes or items nothing is kept. `decimals` says what decimals
-    and varints are in Arrow: by default numbers where all of a batch have one scale, else texts; "text" or "bytes".
+    With `columns`, names, only these columns are handed out, and of others with texts, bytes or items nothing is kept. A page that lacks one of them
+    raises ColumnsMissing, but a page without metadata, of which all columns are handed out. `decimals` says what decimals and varints are in Arrow: by
+    default numbers where all of a batch have one scale, else texts; "text" or "bytes".
 
     The arrays of a batch have no more than `memory` bytes, and what `Limits` say comes beside them. A batch is shorter where its columns are many or its
     values long. A value for which there is no room even so raises CellTooLong: one longer than a quarter of a column's share of the memory, or that in a

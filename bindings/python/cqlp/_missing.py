@@ -1,12 +1,15 @@
-"""Arrays of NumPy, and the values that are missing in them."""
+"""Values that are missing in arrays of NumPy, and columns that are missing in pages."""
 
 import importlib
-from typing import Any, Callable, Literal
+from typing import Any, Callable, Literal, Tuple
 
 from ._turns import Error
 
 Missing = Literal["refuse", "mask", "zero"]
 """What becomes of values that are missing: they are refused, or masked, or zeros."""
+
+# How many names an error lists.
+_MOST = 20
 
 
 class ValuesMissing(Error, ValueError):
@@ -16,6 +19,20 @@ class ValuesMissing(Error, ValueError):
         text = '%d values of %s are missing: pass missing="mask" for a masked array, or missing="zero" for zeros in their place'
         super().__init__(text % (count, column))
         self.count = count
+
+
+class ColumnsMissing(Error, ValueError):
+    """A page has no columns of these names, which were asked for."""
+
+    def __init__(self, page: int, names: Tuple[str, ...], found: Tuple[str, ...]) -> None:
+        super().__init__("page %d has no column %s: it has %s" % (page, _listed(names), _listed(found)))
+        self.page, self.names = page, names
+
+
+def _listed(names: Tuple[str, ...]) -> str:
+    """The first names, and how many more there are."""
+    more = " and %d more" % (len(names) - _MOST) if len(names) > _MOST else ""
+    return (", ".join(map(repr, names[:_MOST])) or "none") + more
 
 
 def numpy_of(numbers: memoryview, column: Any, missing: str, count: int, mask: Callable[[Any], Any]) -> Any:

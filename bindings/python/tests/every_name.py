@@ -63,6 +63,7 @@ def read(data: bytes) -> None:
         assert len(view) == arrays.count == one.cells
         missing: cqlp.Missing = "mask"
         assert missing in ("mask", "zero") and issubclass(cqlp.ValuesMissing, cqlp.Error)
+        assert issubclass(cqlp.ColumnsMissing, ValueError)
 
 
 def read_given() -> None:

@@ -263,7 +263,8 @@ class Arrays(unittest.TestCase):
         for stream in streams():
             for limits in (replace(stream.limits, parts=False), replace(stream.limits, parts=False, types=False)):
                 whole, end = read(stream.bytes, limits, rows=4)
-                names = sorted({one.column.name for batch in whole for one in batch.arrays if one.column})
+                pages = [{one.column.name for one in batch.arrays if one.column} for batch in whole]
+                names = sorted(set.intersection(*filter(None, pages)) if any(pages) else ())
                 for kept in ([], names[:1], names[1:], names):
                     batches, ending = read(stream.bytes, limits, rows=4, columns=kept)
                     for one, all_of in zip(batches, whole):
@@ -393,6 +394,17 @@ class Arrays(unittest.TestCase):
         for name in ("column0", b"column0"):  # else each letter would be a name, and no column have it
             self.assertRaises(TypeError, cqlp.arrays, SMALL, columns=name)
         self.assertRaises(cqlp.BadLimits, list, cqlp.arrays(SMALL, cqlp.Limits(cell=1)))
+
+    def test_columns_that_a_page_lacks(self) -> None:
+        """The batches of the pages before come first."""
+        first, second = page([INT, INT], [[cell(b"\0\0\0\1")] * 2]), page([INT], [[cell(b"\0\0\0\2")]])
+        for data, before, number in ((second, 0, 0), (first + second, 1, 1)):
+            batches = cqlp.arrays(data, columns=["c1", "c0"])
+            self.assertEqual([next(batches).count for _ in range(before)], [1] * before)
+            with self.assertRaises(cqlp.ColumnsMissing) as raised:
+                next(batches)
+            self.assertEqual((raised.exception.page, raised.exception.names), (number, ("c1",)))
+            self.assertEqual(str(raised.exception), "page %d has no column 'c1': it has 'c0'" % number)
 
     def test_a_number_of_columns_that_lies_takes_no_memory(self) -> None:
         body = struct.pack(">iiii", 2, 4, 0x7FFFFFFF, 1)

@@ -19,6 +19,7 @@ RAISED = (
     cqlp.BadEvent(cqlp.Code.NO_EVENT, 1, cqlp.Event(tag=cqlp.Tag.TEXT, content=b"\xff")),
     cqlp.CellTooLong(3, 4),
     cqlp.Closed("the page"),
+    cqlp.ColumnsMissing(1, ("nope",), ("id", "name")),
     cqlp.Cut(9, 12),
     cqlp.FrameTooLong(5, 1 << 20),
     cqlp.InUse(),
