@@ -16,8 +16,9 @@ use Rattle.cqlp_decode.specs.declared.progress.StreamStage.TheVariants as stage
 use Rattle.cqlp_decode.specs.declared.progress.StreamProgress.{StreamProgress}
 use Rattle.cqlp_decode.specs.Reading.{Event}
 use Rattle.cqlp_decode.specs.Progress.{StreamState, PartsState, IsConsistent, StageHolds, ends_due, nodes_of, parts, state_of}
-use Rattle.cqlp_decode.specs.Items.{TakesItem, at_level}
-use Rattle.cqlp_decode.specs.Cells.{FailsAfter, HandsOut, StaysWithin, UsesWithin}
+use Rattle.cqlp_decode.specs.declared.item_loop.ItemsHanded.{ItemsHanded}
+use Rattle.cqlp_decode.specs.Items.{AtItems, TakesItem, at_level}
+use Rattle.cqlp_decode.specs.Cells.{FailsAfter, HandsItems, HandsOut, StaysWithin, UsesWithin}
 use Rattle.cqlp_decode.proofs.Taken.{hands_none, hands_then, fails_then, item_drains, item_fails}
 
 none_over : (os : List OpenValue) → 0 < length os → done_by next.Items os ≡ false
@@ -31,6 +32,17 @@ level_goes d l e = let own = (level_own d l e).0 in rw own.items (none_over d.op
 -- the level in a loop's hands is that of a cell whose values are in the table
 pub level_conforms : (s : StreamProgress) (q : PartsState) (p : CellCursor) → s.stage ≡ stage.InCell p → (l : Level) → IsConsistent s (at_level q l) → Conforms (nodes_of q p.columns) (with_level q.cells l)
 level_conforms s q p here l law = (subst (λ (t : StreamStage). StageHolds s (at_level q l) t) here law.stage).0.conforms
+
+-- the reading is still among the items of its value after some of them were handed out
+pub still_at : {S : Type 0} {Gets Fails : S → ℕ → Event → S → Type 0} {s : StreamProgress} {q : PartsState} {p : CellCursor} {l m : Level} {input : List ℕ} {items : ItemsHanded} {before after : S}
+    → AtItems s q l p → HandsItems Gets Fails s q l m input items before after → AtItems s q m p
+still_at ready handed = record {
+  lawful = handed.lawful;
+  inside = handed.inside;
+  here = ready.here;
+  unrefused = ready.unrefused;
+  empty = ready.empty;
+}
 
 -- ---- one cell after the other
 

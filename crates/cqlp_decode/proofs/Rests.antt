@@ -1,7 +1,7 @@
 -- Loops over the items of a value that go on in what is left of the input, which is cut to the value.
-use Rattle.std.proofs.Common.{◌≡◌, ℕ, ◌+◌, ◌-◌, ◌^◌, ◌<◌, ◌≤◌, Bool, true, false, List, [], ◌++◌, length, take, drop}
+use Rattle.std.proofs.Common.{◌≡◌, ℕ, ◌+◌, ◌-◌, ◌^◌, ◌<◌, ◌≤◌, Bool, true, false, List, ◌++◌, length, take, drop}
 use Rattle.std.proofs.Common.{drop-drop, refl, sym, ap, subst, ◌∙◌, arith}
-use Rattle.std.specs.Prelude.{None, Some, Ok, ◌==◌}
+use Rattle.std.specs.Prelude.{Some, ◌==◌}
 use Rattle.std.proofs.lemmas.List.{length-append, length-drop, drop-append-le, take-append-drop}
 use Rattle.cqlp_note.specs.Limits.{Rules, rules_asked, with_lenient}
 use Rattle.cqlp_kind.specs.CellStep.{Leaf, value_step}
@@ -20,15 +20,15 @@ use Rattle.cqlp_cell.specs.Progress.{after_item_by, is_over, over_by}
 use Rattle.cqlp_decode.specs.declared.page.CellCursor.{CellCursor}
 use Rattle.cqlp_decode.specs.declared.progress.StreamProgress.{StreamProgress}
 use Rattle.cqlp_decode.specs.declared.progress.StreamStage.TheVariants as stage
-use Rattle.cqlp_decode.specs.Cells.{FailsAfter, UsesWithin}
-use Rattle.cqlp_decode.specs.Items.{SaysLeaf, at_level}
+use Rattle.cqlp_decode.specs.Cells.{HandsItems}
+use Rattle.cqlp_decode.specs.Items.{AtItems, SaysLeaf, at_level}
 use Rattle.cqlp_decode.specs.Progress.{PartsState, IsConsistent, nodes_of}
 use Rattle.cqlp_decode.specs.Reading.{Event, cell_event}
 use Rattle.cqlp_cell.proofs.Coming.{value_due}
 use Rattle.cqlp_cell.proofs.Levels.{level_due}
 use Rattle.cqlp_decode.proofs.Lists.{level_conforms}
 use Rattle.cqlp_decode.proofs.Rooms.{says_on, value_on}
-use Rattle.cqlp_decode.proofs.Pairs.{ConformsAt, conforming, conforms_first, further_place, further_inside, further_lawful}
+use Rattle.cqlp_decode.proofs.Pairs.{ConformsAt, conforms_first, further_place, further_inside, further_lawful}
 use Rattle.cqlp_decode.proofs.Pairs.{further_within, further_conforms, further_fails}
 
 -- ---- what bytes say of a scalar in a smaller room, they say in a larger one, whatever follows them
@@ -108,18 +108,28 @@ module _ {S : Type 0} (Gets : S → ℕ → Event → S → Type 0) (s : StreamP
     pub split : rest ++ beyond ≡ drop (length within - length rest) input
 
   pub before_first : (within : List ℕ) → within ≡ take (first.value.stop - first.offset) input
-      → length within ≤ first.value.stop - first.offset → first.offset ≤ first.value.stop → IsInLevel q.cells first
-      → IsConsistent s (at_level q first) → LiesBefore within within first before
-  before_first within is few room inside lawful = record {
+      → length within ≤ first.value.stop - first.offset → first.offset ≤ first.value.stop → {p : CellCursor}
+      → AtItems s q first p → LiesBefore within within first before
+  before_first within is few room ready = record {
     shorter = omega arith;
     conforms =
         subst (λ (n : ℕ). ConformsAt Gets s q first input before first n before) (none_used (length within))
-        (conforms_first Gets s q first input before inside lawful);
+        (conforms_first Gets s q first input before ready.inside ready.lawful);
     fits = omega (arith, room, few);
     beyond = drop (first.value.stop - first.offset) input;
     split =
         ap (λ (z : List ℕ). z ++ drop (first.value.stop - first.offset) input) is
         ∙ (take-append-drop (first.value.stop - first.offset) input ∙ ap (λ (n : ℕ). drop n input) (none_used (length within)));
+  }
+
+  -- there the loop stops
+  pub stops : (Fails : S → ℕ → Event → S → Type 0) {rest within : List ℕ} {l : Level} {after : S} → LiesBefore rest within l after
+      → HandsItems Gets Fails s q first l input (record { used = length within - length rest; failed = false }) before after
+  stops Fails i = record {
+    lawful = i.conforms.lawful;
+    inside = i.conforms.inside;
+    within = (i.conforms.within, i.conforms.pays);
+    drains = i.conforms.drained;
   }
 
 -- ---- how far offsets go
@@ -143,7 +153,7 @@ module _ (s : StreamProgress) (q : PartsState) (p : CellCursor) (here : s.stage 
 -- ---- one item more
 
 module _ {S : Type 0} {Gets : S → ℕ → Event → S → Type 0} {s : StreamProgress} {q : PartsState} {first : Level} {input : List ℕ} {before : S}
-    {p : CellCursor} (here : s.stage ≡ stage.InCell p) (unrefused : s.refusal ≡ None) (empty : q.partial.content ≡ [])
+    {p : CellCursor} (ready : AtItems s q first p)
     {rest within : List ℕ} {l : Level} {mid : S} (i : LiesBefore Gets s q first input before rest within l mid)
     {k : Kind} (of_kind : k ≡ (node_at (nodes_of q p.columns) l.value.node).kind) (more : is_over l.value l.offset ≡ false)
     {n : ℕ} {Holds : Event → Type 0}
@@ -164,38 +174,33 @@ module _ {S : Type 0} {Gets : S → ℕ → Event → S → Type 0} {s : StreamP
 
   pub next_place : l.offset + n < 2 ^ 64
   next_place =
-      further_place Gets s q first input before p here unrefused empty l gone mid i.conforms k of_kind more (due_of_kind l k) refl n Holds whole
+      further_place Gets s q first input before p ready.here ready.unrefused ready.empty l gone mid i.conforms k of_kind more (due_of_kind l k) refl n Holds whole
 
   -- the level after the item, and what is left after it
   module _ {m : Level} (goes : m ≡ passed (nodes_of q p.columns) l n) where
-    pub next_lawful : IsConsistent s (at_level q m)
-    next_lawful =
-        further_lawful Gets s q first input before p here unrefused empty l gone mid i.conforms k of_kind more
-        (due_of_kind l k) refl n Holds whole m goes
-
-    pub next_inside : IsInLevel q.cells m
-    next_inside =
-        further_inside Gets s q first input before p here unrefused empty l gone mid i.conforms k of_kind more
-        (due_of_kind l k) refl n Holds whole m goes
-
     module _ {left : List ℕ} (is : left ≡ drop n rest) where
       used : gone + n ≡ length within - length left
       used = omega (arith, i.shorter, one.says.within, ap (λ (z : List ℕ). length z) is, length-drop n rest)
 
-      pub next_within : UsesWithin (conforming Gets s q first input before first) input (Ok (length within - length left))
-          (conforming Gets s q first input before m)
-      next_within =
-          rw (← used)
-          (further_within Gets s q first input before p here unrefused empty l gone mid i.conforms k of_kind more
-          (due_of_kind l k) refl n Holds whole m goes)
-
+      -- the sink failed at the item's event
       pub next_fails : (Fails : S → ℕ → Event → S → Type 0) {after : S} → Fails mid l.offset emitted after
-          → FailsAfter Gets Fails (conforming Gets s q first input before first) (conforming Gets s q first input before m) input
-          (length within - length left) before after
-      next_fails Fails {after} fault =
-          rw (← used)
-          (further_fails Gets s q first input before p here unrefused empty l gone mid i.conforms k of_kind more
-          (due_of_kind l k) refl n Holds whole m goes Fails after fault)
+          → HandsItems Gets Fails s q first m input (record { used = length within - length left; failed = true }) before after
+      next_fails Fails {after} fault = record {
+        lawful =
+            further_lawful Gets s q first input before p ready.here ready.unrefused ready.empty l gone mid i.conforms k of_kind more
+            (due_of_kind l k) refl n Holds whole m goes;
+        inside =
+            further_inside Gets s q first input before p ready.here ready.unrefused ready.empty l gone mid i.conforms k of_kind more
+            (due_of_kind l k) refl n Holds whole m goes;
+        within =
+            rw (← used)
+            (further_within Gets s q first input before p ready.here ready.unrefused ready.empty l gone mid i.conforms k of_kind more
+            (due_of_kind l k) refl n Holds whole m goes);
+        drains =
+            rw (← used)
+            (further_fails Gets s q first input before p ready.here ready.unrefused ready.empty l gone mid i.conforms k of_kind more
+            (due_of_kind l k) refl n Holds whole m goes Fails after fault);
+      }
 
       pub next_conforms : {after : S} → Gets mid l.offset emitted after → LiesBefore Gets s q first input before left within m after
       next_conforms {after} got =
@@ -206,7 +211,7 @@ module _ {S : Type 0} {Gets : S → ℕ → Event → S → Type 0} {s : StreamP
             shorter = omega (arith, i.shorter, shorter);
             conforms =
                 subst (λ (z : ℕ). ConformsAt Gets s q first input before m z after) used
-                (further_conforms Gets s q first input before p here unrefused empty l gone mid i.conforms k of_kind more
+                (further_conforms Gets s q first input before p ready.here ready.unrefused ready.empty l gone mid i.conforms k of_kind more
                 (due_of_kind l k) refl n Holds whole m goes after got);
             fits = omega (arith, i.fits, one.says.within, shorter, stop, offset);
             beyond = i.beyond;

@@ -6,6 +6,9 @@ use Rattle.cqlp_note.specs.Limits.{Rules}
 use Rattle.cqlp_kind.specs.declared.kind.Kind.{Kind}
 use Rattle.cqlp_kind.specs.Types.{Types}
 use Rattle.cqlp_kind.specs.CellStep.{CellEvent, CellSymbol, CellPlace, Null, Empty, place_after, value_step}
+use Rattle.cqlp_cell.specs.Levels.{IsInLevel}
+use Rattle.cqlp_cell.specs.declared.level.Level.{Level}
+use Rattle.cqlp_decode.specs.declared.progress.StreamProgress.{StreamProgress}
 use Rattle.cqlp_decode.specs.declared.step.FaultAfter.{FaultAfter}
 use Rattle.cqlp_decode.specs.declared.item_loop.ItemsHanded.{ItemsHanded}
 use Rattle.cqlp_decode.specs.declared.page_loop.Handed.{Handed}
@@ -13,8 +16,8 @@ use Rattle.cqlp_decode.specs.declared.page_loop.Handed.TheVariants as handed
 use Rattle.cqlp_decode.specs.declared.page_loop.Bare.{Bare}
 use Rattle.cqlp_decode.specs.declared.page_loop.Bare.TheVariants as bare
 use Rattle.cqlp_decode.specs.Reading.{Event, cell_event}
-use Rattle.cqlp_decode.specs.Progress.{StreamState, ends_due}
-use Rattle.cqlp_decode.specs.Items.{TakesItem}
+use Rattle.cqlp_decode.specs.Progress.{StreamState, PartsState, IsConsistent, ends_due, state_of}
+use Rattle.cqlp_decode.specs.Items.{TakesItem, at_level}
 
 -- Where a cell of this kind is read, in a frame with this much room: these bytes say that all of it is this event.
 pub record SaysCell (l : Rules) (k : Kind) (room : ℕ) (input : List ℕ) (used : ℕ) (e : CellEvent) : Type 0 where
@@ -127,3 +130,15 @@ module _ {S : Type 0} (Gets : S → ℕ → Event → S → Type 0) where
     -- the same of items of one value
     abbrev pub DrainsItems : StreamState → List ℕ → ItemsHanded → StreamState → (before after : S) → Type 0
     DrainsItems old input items new before after = EndsBy items.failed old new input items.used before after
+
+    -- Items of a value were handed out, and its level is after them; the parts stay.
+    pub record HandsItems (s : StreamProgress) (q : PartsState) (old new : Level) (input : List ℕ) (items : ItemsHanded)
+        (before after : S) : Type 0 where
+      -- the progress and the parts are consistent, with the new level as the innermost value
+      pub lawful : IsConsistent s (at_level q new)
+      -- as many values are open as the new level says, and nothing of the next item has come
+      pub inside : IsInLevel q.cells new
+      -- no more bytes are used than there are, and two for each value that was opened
+      pub within : UsesWithin (state_of s (at_level q old)) input (Ok items.used) (state_of s (at_level q new))
+      -- the sink has got just the events of these items, or failed at the last
+      pub drains : DrainsItems (state_of s (at_level q old)) input items (state_of s (at_level q new)) before after

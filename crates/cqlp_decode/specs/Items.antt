@@ -1,5 +1,5 @@
 -- The items of cells, handed straight to a sink.
-use Rattle.std.specs.Prelude.{◌≡◌, ◌==◌, ℕ, false, List, Option, Some, None, ⊤}
+use Rattle.std.specs.Prelude.{◌≡◌, ◌==◌, ℕ, false, List, [], length, Option, Some, None, ⊤}
 use Rattle.cqlp_note.specs.Limits.{Rules, with_lenient}
 use Rattle.cqlp_kind.specs.declared.kind.Kind.{Kind}
 use Rattle.cqlp_kind.specs.declared.node.Node.{Node}
@@ -70,6 +70,17 @@ PassesItem nodes old handed.Left new = new ≡ old
 PassesItem nodes old (handed.Taken used) new = new ≡ passed nodes old used
 PassesItem nodes old (handed.Fault used) new = new ≡ passed nodes old used
 
+-- What became of the next item of a level: it was handed out as a scalar of this kind, or it is left.
+pub record HandsNext {S : Type 0} (Gets Fails : S → ℕ → Event → S → Type 0) (l : Rules) (k : Kind) (old new : Level)
+    (page : CellCursor) (rest : List ℕ) (result : Handed) (before after : S) : Type 0 where
+  -- the sink stays, if the item is left
+  pub left : result ≡ handed.Left → after ≡ before
+  -- the level goes on after the item, if it was handed out
+  pub passes : (nodes : List Node) → PassesItem nodes old result new
+  -- the bytes say the item, and the sink has got its event, or failed there
+  pub hands : HandsLeaf l k (length rest) old.level rest page.row page.column (λ e. Gets before old.offset e after)
+      (λ e. Fails before old.offset e after) result
+
 -- An item was taken, and of its offset and its event this holds.
 pub record TakesOne (old : StreamState) (input : List ℕ) (used : ℕ) (Holds : ℕ → Event → Type 0) (new : StreamState)
     : Type 0 where
@@ -87,6 +98,20 @@ HandsItem old input HasGot Failed (handed.Fault used) new = TakesOne old input u
 -- the parts of a decoder, where the innermost value is this
 abbrev pub at_level : PartsState → Level → PartsState
 at_level q l = parts q.partial q.types (with_level q.cells l) q.table q.given
+
+-- The reading is between two items of a value of this cell. The caller has the level of that value; the one that the parts
+-- have may lag behind it.
+pub record AtItems (s : StreamProgress) (q : PartsState) (l : Level) (page : CellCursor) : Type 0 where
+  -- the progress and the parts are consistent, with this level as the innermost value
+  pub lawful : IsConsistent s (at_level q l)
+  -- as many values are open as the level says, and nothing of the next item has come
+  pub inside : IsInLevel q.cells l
+  -- the cell is under way
+  pub here : s.stage ≡ stage.InCell page
+  -- nothing is refused
+  pub unrefused : s.refusal ≡ None
+  -- the buffer is empty
+  pub empty : q.partial.content ≡ []
 
 -- What is next is this part, which has no content, or nothing is done.
 abbrev pub TakesPart : StreamState → List ℕ → (row column : ℕ) → Option PartTaken → StreamState → Type 0

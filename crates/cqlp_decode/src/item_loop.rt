@@ -8,13 +8,12 @@
 ghost use Rattle.std.specs.Prelude.{◌≡◌, ◌-◌, ◌≤◌, length, Ok, OnErr, OnOk, None, Some, []};
 ghost use Rattle.cqlp_note.specs.declared.refusal.Refusal.{Refusal};
 ghost use Rattle.cqlp_decode.specs.declared.progress.StreamStage.TheVariants as stage;
-ghost use Rattle.cqlp_decode.specs.Cells.{DrainsCells, DrainsItems, StaysWithin, UsesWithin};
-ghost use Rattle.cqlp_decode.specs.Items.{IsIn, StaysIn, TakesPart, at_level, part_emitted};
+ghost use Rattle.cqlp_decode.specs.Cells.{DrainsCells, DrainsItems, HandsItems, StaysWithin, UsesWithin};
+ghost use Rattle.cqlp_decode.specs.Items.{AtItems, IsIn, StaysIn, TakesPart, part_emitted};
 ghost use Rattle.cqlp_type.specs.Forests.{node_at};
 ghost use Rattle.cqlp_cell.specs.declared.open_values.Order.TheVariants as order;
-ghost use Rattle.cqlp_cell.specs.Levels.{IsInLevel};
 ghost use Rattle.cqlp_decode.specs.Sinks.{Gets, Fails};
-ghost use Rattle.cqlp_decode.specs.Progress.{IsConsistent, IsLawful, nodes_of, parts_state, state_of, state_with};
+ghost use Rattle.cqlp_decode.specs.Progress.{IsLawful, nodes_of, parts_state, state_with};
 
 use crate::leaf::{hand_kind, hand_leaf};
 use crate::list_loop::is_counted;
@@ -231,17 +230,9 @@ impl StreamProgress {
         input: &[u8],
         sink: &mut S,
     ) -> ItemsHanded
-        requires lawful { IsConsistent self.now (at_level (parts_state parts.now) level.old) }
-        requires inside { IsInLevel parts.now.cells level.old }
-        requires here { self.now.stage ≡ stage.InCell page }
-        requires unrefused { self.now.refusal ≡ None }
-        requires empty { parts.now.partial.content ≡ [] }
-        ensures lawful { IsConsistent self.now (at_level (parts_state parts.now) level.new) }
-        ensures inside { IsInLevel parts.now.cells level.new }
-        ensures within { UsesWithin (state_of self.now (at_level (parts_state parts.now) level.old)) input.now
-            (Ok result.used) (state_of self.now (at_level (parts_state parts.now) level.new)) }
-        ensures drains { DrainsItems (Gets S.Sink) (Fails S.Sink) (state_of self.now (at_level (parts_state parts.now) level.old)) input.now
-            result (state_of self.now (at_level (parts_state parts.now) level.new)) sink.old sink.new }
+        requires ready { AtItems self.now (parts_state parts.now) level.old page }
+        ensures handed { HandsItems (Gets S.Sink) (Fails S.Sink) self.now (parts_state parts.now) level.old level.new
+            input.now result sink.old sink.new }
     {
         let table = page_table(page.columns, &parts.table, &parts.given);
         if !level.is_list() {
@@ -266,17 +257,9 @@ impl StreamProgress {
         input: &[u8],
         sink: &mut S,
     ) -> ItemsHanded
-        requires lawful { IsConsistent self.now (at_level (parts_state parts.now) level.old) }
-        requires inside { IsInLevel parts.now.cells level.old }
-        requires here { self.now.stage ≡ stage.InCell page }
-        requires unrefused { self.now.refusal ≡ None }
-        requires empty { parts.now.partial.content ≡ [] }
-        ensures lawful { IsConsistent self.now (at_level (parts_state parts.now) level.new) }
-        ensures inside { IsInLevel parts.now.cells level.new }
-        ensures within { UsesWithin (state_of self.now (at_level (parts_state parts.now) level.old)) input.now
-            (Ok result.used) (state_of self.now (at_level (parts_state parts.now) level.new)) }
-        ensures drains { DrainsItems (Gets S.Sink) (Fails S.Sink) (state_of self.now (at_level (parts_state parts.now) level.old)) input.now
-            result (state_of self.now (at_level (parts_state parts.now) level.new)) sink.old sink.new }
+        requires ready { AtItems self.now (parts_state parts.now) level.old page }
+        ensures handed { HandsItems (Gets S.Sink) (Fails S.Sink) self.now (parts_state parts.now) level.old level.new
+            input.now result sink.old sink.new }
     {
         let table = page_table(page.columns, &parts.table, &parts.given);
         let limits = self.limits;
@@ -316,19 +299,11 @@ impl StreamProgress {
         input: &[u8],
         sink: &mut S,
     ) -> ItemsHanded
-        requires lawful { IsConsistent self.now (at_level (parts_state parts.now) level.old) }
-        requires inside { IsInLevel parts.now.cells level.old }
+        requires ready { AtItems self.now (parts_state parts.now) level.old page }
         requires list { level.old.value.order ≡ order.Elements }
         requires kind { kind ≡ (node_at (nodes_of (parts_state parts.now) page.columns) level.old.value.node).kind }
-        requires here { self.now.stage ≡ stage.InCell page }
-        requires unrefused { self.now.refusal ≡ None }
-        requires empty { parts.now.partial.content ≡ [] }
-        ensures lawful { IsConsistent self.now (at_level (parts_state parts.now) level.new) }
-        ensures inside { IsInLevel parts.now.cells level.new }
-        ensures within { UsesWithin (state_of self.now (at_level (parts_state parts.now) level.old)) input.now
-            (Ok result.used) (state_of self.now (at_level (parts_state parts.now) level.new)) }
-        ensures drains { DrainsItems (Gets S.Sink) (Fails S.Sink) (state_of self.now (at_level (parts_state parts.now) level.old)) input.now
-            result (state_of self.now (at_level (parts_state parts.now) level.new)) sink.old sink.new }
+        ensures handed { HandsItems (Gets S.Sink) (Fails S.Sink) self.now (parts_state parts.now) level.old level.new
+            input.now result sink.old sink.new }
     {
         // An arm for each kind, so that each has a loop of its own.
         match kind {
@@ -371,19 +346,11 @@ impl StreamProgress {
         input: &[u8],
         sink: &mut S,
     ) -> ItemsHanded
-        requires lawful { IsConsistent self.now (at_level (parts_state parts.now) level.old) }
-        requires inside { IsInLevel parts.now.cells level.old }
+        requires ready { AtItems self.now (parts_state parts.now) level.old page }
         requires list { level.old.value.order ≡ order.Elements }
         requires kind { kind ≡ (node_at (nodes_of (parts_state parts.now) page.columns) level.old.value.node).kind }
-        requires here { self.now.stage ≡ stage.InCell page }
-        requires unrefused { self.now.refusal ≡ None }
-        requires empty { parts.now.partial.content ≡ [] }
-        ensures lawful { IsConsistent self.now (at_level (parts_state parts.now) level.new) }
-        ensures inside { IsInLevel parts.now.cells level.new }
-        ensures within { UsesWithin (state_of self.now (at_level (parts_state parts.now) level.old)) input.now
-            (Ok result.used) (state_of self.now (at_level (parts_state parts.now) level.new)) }
-        ensures drains { DrainsItems (Gets S.Sink) (Fails S.Sink) (state_of self.now (at_level (parts_state parts.now) level.old)) input.now
-            result (state_of self.now (at_level (parts_state parts.now) level.new)) sink.old sink.new }
+        ensures handed { HandsItems (Gets S.Sink) (Fails S.Sink) self.now (parts_state parts.now) level.old level.new
+            input.now result sink.old sink.new }
     {
         let limits = self.limits;
         let mut here = *level;

@@ -4,19 +4,18 @@
 //! in the loop's hands. What is elsewhere is left, with the reading where it would be: its items to the loop over
 //! the items of cells, and all else to `Decoder::next`.
 
-ghost use Rattle.std.specs.Prelude.{◌≡◌, ◌+◌, ◌^◌, ◌<◌, ◌≤◌, List, length, Ok, None, Some, []};
+ghost use Rattle.std.specs.Prelude.{◌≡◌, ◌+◌, ◌^◌, ◌<◌, ◌≤◌, length, Ok, None, Some, []};
 ghost use Rattle.cqlp_note.specs.declared.refusal.Refusal.{Refusal};
 ghost use Rattle.cqlp_note.specs.Limits.{rules_asked};
-ghost use Rattle.cqlp_kind.specs.declared.node.Node.{Node};
 ghost use Rattle.cqlp_cell.specs.declared.open_values.Order.TheVariants as order;
 ghost use Rattle.cqlp_decode.specs.declared.progress.StreamStage.TheVariants as stage;
-ghost use Rattle.cqlp_decode.specs.Cells.{DrainsCells, DrainsItems, StaysWithin, UsesWithin};
-ghost use Rattle.cqlp_decode.specs.Items.{GoesToNext, HandsLeaf, IsIn, LeavesCell, PassesItem, ConformsIn, TakesEntry, at_level};
+ghost use Rattle.cqlp_decode.specs.Cells.{DrainsCells, HandsItems, StaysWithin};
+ghost use Rattle.cqlp_decode.specs.Items.{AtItems, GoesToNext, HandsNext, IsIn, LeavesCell, ConformsIn, TakesEntry, at_level};
 ghost use Rattle.cqlp_cell.specs.Sizes.{is_counted as has_count};
-ghost use Rattle.cqlp_cell.specs.Levels.{IsInLevel, IsPair};
+ghost use Rattle.cqlp_cell.specs.Levels.{IsPair};
 ghost use Rattle.cqlp_cell.specs.Whole.{Ends};
 ghost use Rattle.cqlp_decode.specs.Sinks.{Gets, Fails};
-ghost use Rattle.cqlp_decode.specs.Progress.{IsConsistent, IsLawful, nodes_of, parts_state, state_of, state_with};
+ghost use Rattle.cqlp_decode.specs.Progress.{IsLawful, nodes_of, parts_state, state_of, state_with};
 
 use crate::item_loop::{ItemsHanded, due_in, hand_part, stop_at};
 use crate::leaf::hand_leaf;
@@ -102,11 +101,8 @@ fn hand_key<S: Sink>(
     requires next { 0 < here.old.value.left }
     requires inside { here.old.offset ≤ here.old.value.stop }
     requires place { here.old.offset + length rest.now < 2 ^ 64 }
-    ensures left { result ≡ Handed.Left → sink.new ≡ sink.old }
-    ensures passes { (nodes : List Node) → PassesItem nodes here.old result here.new }
-    ensures hands { HandsLeaf (rules_asked limits.now) kind (length rest.now) here.old.level rest.now page.row page.column
-        (λ e. Gets S.Sink sink.old here.old.offset e sink.new)
-        (λ e. Fails S.Sink sink.old here.old.offset e sink.new) result }
+    ensures handed { HandsNext (Gets S.Sink) (Fails S.Sink) (rules_asked limits.now) kind here.old here.new page rest.now
+        result sink.old sink.new }
 {
     let due = due_in(rest, here.due_in_pair(kind));
     match hand_leaf(limits, due, page, rest, sink) {
@@ -135,11 +131,8 @@ fn hand_value<S: Sink>(
     requires value { here.old.value.order ≡ order.Values }
     requires inside { here.old.offset ≤ here.old.value.stop }
     requires place { here.old.offset + length rest.now < 2 ^ 64 }
-    ensures left { result ≡ Handed.Left → sink.new ≡ sink.old }
-    ensures passes { (nodes : List Node) → PassesItem nodes here.old result here.new }
-    ensures hands { HandsLeaf (rules_asked limits.now) kind (length rest.now) here.old.level rest.now page.row page.column
-        (λ e. Gets S.Sink sink.old here.old.offset e sink.new)
-        (λ e. Fails S.Sink sink.old here.old.offset e sink.new) result }
+    ensures handed { HandsNext (Gets S.Sink) (Fails S.Sink) (rules_asked limits.now) kind here.old here.new page rest.now
+        result sink.old sink.new }
 {
     let due = due_in(rest, here.due_in_pair(kind));
     match hand_leaf(limits, due, page, rest, sink) {
@@ -212,17 +205,9 @@ impl StreamProgress {
         input: &[u8],
         sink: &mut S,
     ) -> ItemsHanded
-        requires lawful { IsConsistent self.now (at_level (parts_state parts.now) level.old) }
-        requires inside { IsInLevel parts.now.cells level.old }
-        requires here { self.now.stage ≡ stage.InCell page }
-        requires unrefused { self.now.refusal ≡ None }
-        requires empty { parts.now.partial.content ≡ [] }
-        ensures lawful { IsConsistent self.now (at_level (parts_state parts.now) level.new) }
-        ensures inside { IsInLevel parts.now.cells level.new }
-        ensures within { UsesWithin (state_of self.now (at_level (parts_state parts.now) level.old)) input.now
-            (Ok result.used) (state_of self.now (at_level (parts_state parts.now) level.new)) }
-        ensures drains { DrainsItems (Gets S.Sink) (Fails S.Sink) (state_of self.now (at_level (parts_state parts.now) level.old)) input.now
-            result (state_of self.now (at_level (parts_state parts.now) level.new)) sink.old sink.new }
+        requires ready { AtItems self.now (parts_state parts.now) level.old page }
+        ensures handed { HandsItems (Gets S.Sink) (Fails S.Sink) self.now (parts_state parts.now) level.old level.new
+            input.now result sink.old sink.new }
     {
         let table = page_table(page.columns, &parts.table, &parts.given);
         let Some(kinds) = level.pair_kinds(table) else {
@@ -251,18 +236,10 @@ impl StreamProgress {
         input: &[u8],
         sink: &mut S,
     ) -> ItemsHanded
-        requires lawful { IsConsistent self.now (at_level (parts_state parts.now) level.old) }
-        requires inside { IsInLevel parts.now.cells level.old }
+        requires ready { AtItems self.now (parts_state parts.now) level.old page }
         requires pair { IsPair (nodes_of (parts_state parts.now) page.columns) level.old kinds.key kinds.value }
-        requires here { self.now.stage ≡ stage.InCell page }
-        requires unrefused { self.now.refusal ≡ None }
-        requires empty { parts.now.partial.content ≡ [] }
-        ensures lawful { IsConsistent self.now (at_level (parts_state parts.now) level.new) }
-        ensures inside { IsInLevel parts.now.cells level.new }
-        ensures within { UsesWithin (state_of self.now (at_level (parts_state parts.now) level.old)) input.now
-            (Ok result.used) (state_of self.now (at_level (parts_state parts.now) level.new)) }
-        ensures drains { DrainsItems (Gets S.Sink) (Fails S.Sink) (state_of self.now (at_level (parts_state parts.now) level.old)) input.now
-            result (state_of self.now (at_level (parts_state parts.now) level.new)) sink.old sink.new }
+        ensures handed { HandsItems (Gets S.Sink) (Fails S.Sink) self.now (parts_state parts.now) level.old level.new
+            input.now result sink.old sink.new }
     {
         let limits = self.limits;
         let mut here = *level;
@@ -300,11 +277,7 @@ impl StreamProgress {
         input: &[u8],
         sink: &mut S,
     ) -> Result<usize, FaultAfter>
-        requires lawful { IsConsistent self.old (at_level (parts_state parts.old) start) }
-        requires inside { IsInLevel parts.old.cells start }
-        requires here { self.old.stage ≡ stage.InCell first }
-        requires unrefused { self.old.refusal ≡ None }
-        requires empty { parts.old.partial.content ≡ [] }
+        requires ready { AtItems self.old (parts_state parts.old) start first }
         ensures lawful { IsLawful self.new parts.new }
         ensures stays { StaysWithin (state_of self.old (at_level (parts_state parts.old) start)) input.now result
             (state_with self.new parts.new) }
@@ -360,12 +333,8 @@ impl StreamProgress {
         level: Level,
         end: BareItem,
     )
-        requires lawful { IsConsistent self.old (at_level (parts_state parts.old) level) }
-        requires inside { IsInLevel parts.old.cells level }
+        requires ready { AtItems self.old (parts_state parts.old) level page }
         requires ends { Ends (nodes_of (parts_state parts.old) page.columns) parts.old.cells level (Some end) }
-        requires here { self.old.stage ≡ stage.InCell page }
-        requires unrefused { self.old.refusal ≡ None }
-        requires empty { parts.old.partial.content ≡ [] }
         ensures lawful { IsLawful self.new parts.new }
         ensures leaves { LeavesCell (state_of self.old (at_level (parts_state parts.old) level)) page.row page.column
             end (state_with self.new parts.new) }
@@ -386,13 +355,9 @@ impl StreamProgress {
         end: BareItem,
         input: &[u8],
     ) -> Option<NextList>
-        requires lawful { IsConsistent self.old (at_level (parts_state parts.now) level) }
-        requires inside { IsInLevel parts.now.cells level }
+        requires ready { AtItems self.old (parts_state parts.now) level page }
         requires alone { level.level ≤ 1 }
         requires ends { Ends (nodes_of (parts_state parts.now) page.columns) parts.now.cells level (Some end) }
-        requires here { self.old.stage ≡ stage.InCell page }
-        requires unrefused { self.old.refusal ≡ None }
-        requires empty { parts.now.partial.content ≡ [] }
         ensures goes { GoesToNext self.old (parts_state parts.now) level page end input.now result self.new }
     {
         let table = page_table(page.columns, &parts.table, &parts.given);

@@ -1,5 +1,6 @@
-use Rattle.std.proofs.Common.{◌≡◌, ◌+◌, ◌∙◌, drop, sym, subst}
+use Rattle.std.proofs.Common.{◌≡◌, ◌+◌, ◌∙◌, drop, sym, ap, subst}
 use Rattle.std.specs.Prelude.{Ok}
+use Rattle.cqlp_cell.proofs.Levels.{level_own}
 use Rattle.cqlp_decode.specs.Cells.{StaysWithin}
 use Rattle.cqlp_decode.specs.Progress.{IsConsistent, PartsState, StreamState, parts_state, state_of, state_with}
 use Rattle.cqlp_decode.specs.Items.{TakesItem, at_level, part_emitted}
@@ -9,9 +10,20 @@ use Rattle.cqlp_decode.proofs.Taken.{fails_then}
 use Rattle.cqlp_decode.proofs.Lists.{back_level, entered_at, entry_faults, not_some, conformed_entered, conformed_items, conformed_stays}
 use Rattle.cqlp_decode.proofs.list_loop.take_lists.Goals as goal
 
-pub hand_lists-requires-clause-lawful : goal.hand_lists-requires-clause-lawful
-hand_lists-requires-clause-lawful g c =
-    subst (λ (z : PartsState). IsConsistent c.begin_list.new.self z) (back_level (parts_state c.enter_list.new.parts) c.in-Some-enter_list.entered.level c.in-Some-enter_list.ensures.inside) c.in-Some-enter_list.ensures.lawful
+pub hand_lists-requires : goal.hand_lists-requires
+hand_lists-requires g c =
+    let q = parts_state c.enter_list.new.parts in
+    let l = c.in-Some-enter_list.entered.level in
+    let within = c.in-Some-enter_list.ensures.inside in
+    record {
+      ready = record {
+        lawful = subst (λ (z : PartsState). IsConsistent c.begin_list.new.self z) (back_level q l within) c.in-Some-enter_list.ensures.lawful;
+        inside = (level_own q.cells l within).0;
+        here = c.in-Some.ensures.here;
+        unrefused = ap (λ (z : StreamState). z.refusal) c.in-Some.ensures.same ∙ not_some _ (sym c.is_some.ensures ∙ c.if-is_some.false);
+        empty = c.in-Some-enter_list.ensures.empty;
+      };
+    }
 
 pub returns-in-Err-clause-drains : goal.returns-in-Err-clause-drains
 returns-in-Err-clause-drains g c =

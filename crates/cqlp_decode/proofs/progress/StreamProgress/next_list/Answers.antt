@@ -10,10 +10,10 @@ enter_next-requires-clause-conforms g c =
     let s = c.args.self.now in
     let q = parts_state c.args.parts.now in
     let p = c.args.page in
-    let r = c.requires in
+    let r = c.requires.ready in
     let page = (subst (λ (t : StreamStage). StageHolds s (at_level q c.args.level) t) r.here r.lawful.stage).0.page in
     let turns = (rw c.page_table-table.ensures at c.in-Some.ensures) s.limits.depth page in
-    rw (c.page_table-table.ensures, sym turns.2) (next_conforms s q p r.here c.args.level r.lawful r.empty r.unrefused c.args.end r.ends c.in-Some.following turns c.in-Some-node.node (sym c.in-Some-node.ensures))
+    rw (c.page_table-table.ensures, sym turns.2) (next_conforms s q p r.here c.args.level r.lawful r.empty r.unrefused c.args.end c.requires.ends c.in-Some.following turns c.in-Some-node.node (sym c.in-Some-node.ensures))
 
 pub returns : goal.returns
 returns g c =
@@ -21,7 +21,7 @@ returns g c =
     let q = parts_state c.args.parts.now in
     let p = c.args.page in
     let l = c.args.level in
-    let r = c.requires in
+    let r = c.requires.ready in
     let page = (subst (λ (t : StreamStage). StageHolds s (at_level q l) t) r.here r.lawful.stage).0.page in
     let turns = (rw c.page_table-table.ensures at c.in-Some.ensures) s.limits.depth page in
     let f = c.in-Some.following in
@@ -32,11 +32,11 @@ returns g c =
     let input = c.args.input.now in
     record {
       goes = (
-        state_of (after s q p r.here l r.lawful r.empty r.unrefused c.args.end r.ends f turns) (idle s q p r.here l r.lawful r.empty r.unrefused c.args.end r.ends f turns),
-        after_takes s q p r.here l r.lawful r.empty r.unrefused c.args.end r.ends f turns,
-        next_takes s q p r.here l r.lawful r.empty r.unrefused c.args.end r.ends f turns node column input t enters,
-        next_lawful s q p r.here l r.lawful r.empty r.unrefused c.args.end r.ends f turns node column input t enters,
-        next_inside s q p r.here l r.lawful r.empty r.unrefused c.args.end r.ends f turns node column input t enters r.inside,
+        state_of (after s q p r.here l r.lawful r.empty r.unrefused c.args.end c.requires.ends f turns) (idle s q p r.here l r.lawful r.empty r.unrefused c.args.end c.requires.ends f turns),
+        after_takes s q p r.here l r.lawful r.empty r.unrefused c.args.end c.requires.ends f turns,
+        next_takes s q p r.here l r.lawful r.empty r.unrefused c.args.end c.requires.ends f turns node column input t enters,
+        next_lawful s q p r.here l r.lawful r.empty r.unrefused c.args.end c.requires.ends f turns node column input t enters,
+        next_inside s q p r.here l r.lawful r.empty r.unrefused c.args.end c.requires.ends f turns node column input t enters r.inside,
         refl,
         refl,
       );
